@@ -1,0 +1,7 @@
+pub mod formers
+pub mod Hashes
+pub mod Marked
+pub mod RowLaws
+pub mod Rows
+pub mod ValueLaws
+pub mod Values
