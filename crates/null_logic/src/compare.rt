@@ -1,7 +1,10 @@
 ghost use Rattle.std.specs.Prelude.{◌≡◌, IfOk};
+ghost use Rattle.null_logic.specs.Comparison.{holds, compare_values};
 
-use perm_values::{Copyable, NoMemory};
+use crate::Truth;
+use perm_values::{Copyable, NoMemory, Value};
 use std::alloc::Global;
+use std::cmp::Ordering;
 
 /// A comparison (ISO/IEC 9075-2, 'comparison predicate').
 #[derive(Clone, Copy, Debug, PartialEq, Eq)]
@@ -12,6 +15,31 @@ pub enum Compare {
     LessEqual,
     Greater,
     GreaterEqual,
+}
+
+impl Compare {
+    fn holds(self, order: Ordering) -> bool
+        ensures { result ≡ holds self order }
+    {
+        match self {
+            Compare::Equal => order.is_eq(),
+            Compare::NotEqual => order.is_ne(),
+            Compare::Less => order.is_lt(),
+            Compare::LessEqual => order.is_le(),
+            Compare::Greater => order.is_gt(),
+            Compare::GreaterEqual => order.is_ge(),
+        }
+    }
+}
+
+/// The truth of a comparison: unknown beside NULL, otherwise by the order of values.
+pub fn compare_values(op: Compare, left: &Value, right: &Value) -> Truth
+    ensures { result ≡ compare_values op left.now right.now }
+{
+    match (left, right) {
+        (Value::Null, _) | (_, Value::Null) => Truth::Unknown,
+        _ => Truth::known(op.holds(left.order(right))),
+    }
 }
 
 impl Copyable for Compare {

@@ -7,8 +7,8 @@ mod operator;
 mod run_fault;
 mod truth;
 
-pub use arith::Arith;
-pub use compare::Compare;
+pub use arith::{Arith, calculate, negate};
+pub use compare::{Compare, compare_values};
 pub use operator::{Needs, OpRow, OpTable, Operator};
 pub use run_fault::RunFault;
 pub use truth::Truth;
