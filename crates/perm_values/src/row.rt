@@ -113,9 +113,10 @@ impl Row {
     }
 
     /// The values of this row, then those of the other. It fails only for want of memory.
-    pub fn joined(&self, alloc: Global, other: &Row) -> Result<Row, NoMemory>
+    pub fn joined(&self, other: &Row) -> Result<Row, NoMemory>
         ensures { IfOk result (λ row. row ≡ self.now ++ other.now) }
     {
+        let alloc = *self.values.allocator();
         let mut values = Vec::new(alloc);
         add_copies(alloc, &mut values, self.values.as_slice())?;
         add_copies(alloc, &mut values, other.values.as_slice())?;
@@ -123,10 +124,11 @@ impl Row {
     }
 
     /// The values at the places, in their order. It fails only for want of memory.
-    pub fn picked(&self, alloc: Global, places: &[usize]) -> Result<Row, NoMemory>
+    pub fn picked(&self, places: &[usize]) -> Result<Row, NoMemory>
         requires { PlacesWithin (length self.now) places.now }
         ensures { IfOk result (λ row. row ≡ picked places.now self.now) }
     {
+        let alloc = *self.values.allocator();
         let mut values = Vec::new(alloc);
         for place in places {
             values.push(self.values[*place].copy(alloc)?)?;

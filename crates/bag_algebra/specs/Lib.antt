@@ -1,0 +1,10 @@
+pub mod Bags
+pub mod Expressions
+pub mod Kinds
+pub mod Meaning
+pub mod Means
+pub mod Outcome
+pub mod Patterns
+pub mod TableRows
+pub mod WorkedRows
+pub mod Built

@@ -1,0 +1,14 @@
+//! Queries over bags, their expressions, and what they mean.
+#![tactic(auto)]
+
+mod env;
+mod expr;
+mod place;
+mod query;
+mod tables;
+
+pub use env::Env;
+pub use expr::{Arm, ChainStep, Expr, Item};
+pub use place::Place;
+pub use query::{AggFn, Aggr, Answer, JoinKind, Label, Query, SubKind, Sublink};
+pub use tables::Tables;

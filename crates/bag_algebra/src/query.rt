@@ -1,0 +1,128 @@
+use crate::expr::{Expr, Item};
+use null_logic::Compare;
+use perm_values::{Boxed, Chars, Key, Kind, List};
+
+/// What a sublink asks of its query's rows.
+#[derive(Clone, Copy, Debug, PartialEq, Eq)]
+pub enum SubKind {
+    Exists,
+    Any(Compare),
+    All(Compare),
+    Scalar,
+}
+
+/// A subquery that stands in an expression of a node.
+#[derive(Debug, Drop)]
+#[cycle(query)]
+pub struct Sublink {
+    pub kind: SubKind,
+    pub tested: Option<Expr>,
+    pub query: Query,
+}
+
+/// An aggregate function.
+#[derive(Clone, Copy, Debug, PartialEq, Eq)]
+pub enum AggFn {
+    CountRows,
+    Count,
+    CountDistinct,
+    Sum,
+    Min,
+    Max,
+}
+
+/// An aggregate of a grouping, with its kind.
+#[derive(Debug, Drop)]
+pub struct Aggr {
+    pub function: AggFn,
+    pub argument: Option<Expr>,
+    pub kind: Kind,
+}
+
+/// Which side of a join keeps its unmatched rows.
+#[derive(Clone, Copy, Debug, PartialEq, Eq)]
+pub enum JoinKind {
+    Inner,
+    Left,
+    Right,
+    Full,
+}
+
+/// How the columns of a source are named in a provenance answer.
+#[derive(Debug, Drop)]
+pub enum Label {
+    Relation { name: Chars, columns: List<Chars> },
+    External { columns: List<Chars> },
+}
+
+/// A query over bags.
+#[derive(Debug, Drop)]
+#[cycle(query)]
+pub enum Query {
+    Table {
+        id: u64,
+        kinds: List<Kind>,
+    },
+    Single,
+    Base {
+        input: Boxed<Query>,
+        places: List<usize>,
+        label: Label,
+    },
+    Filter {
+        input: Boxed<Query>,
+        condition: Expr,
+        subs: List<Sublink>,
+    },
+    Project {
+        input: Boxed<Query>,
+        items: List<Item>,
+        subs: List<Sublink>,
+    },
+    Join {
+        kind: JoinKind,
+        left: Boxed<Query>,
+        right: Boxed<Query>,
+        condition: Expr,
+        subs: List<Sublink>,
+    },
+    Union {
+        all: bool,
+        left: Boxed<Query>,
+        right: Boxed<Query>,
+    },
+    Intersect {
+        all: bool,
+        left: Boxed<Query>,
+        right: Boxed<Query>,
+    },
+    Except {
+        all: bool,
+        left: Boxed<Query>,
+        right: Boxed<Query>,
+    },
+    Distinct {
+        input: Boxed<Query>,
+    },
+    Aggregate {
+        input: Boxed<Query>,
+        groups: List<usize>,
+        aggregates: List<Aggr>,
+    },
+    Limit {
+        input: Boxed<Query>,
+        keys: List<Key>,
+        count: u64,
+    },
+    Prov {
+        input: Boxed<Query>,
+    },
+}
+
+/// A query with the names of its columns and the order in which its rows are printed.
+#[derive(Debug, Drop)]
+pub struct Answer {
+    pub query: Query,
+    pub names: List<Chars>,
+    pub keys: List<Key>,
+}
