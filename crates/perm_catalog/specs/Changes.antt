@@ -1,0 +1,78 @@
+-- What the calls of a catalog make of what it holds.
+use Rattle.std.specs.Prelude.{ℕ, ◌+◌, Bool, cond, not, ◌&&◌, List, [], ◌∷◌, ◌++◌, Option, Some, None, is_some, nat_eq, unwrap_or}
+use Rattle.std.specs.Cmp.Lexicographic.{pointwise}
+use Rattle.std.specs.FinMap as map
+use Rattle.std.specs.Map.{lookup, remove_entry}
+use Rattle.perm_values.specs.Marked.{unmarked}
+use Rattle.bag_algebra.specs.Bags.{Bag}
+use Rattle.perm_catalog.specs.Contents.{Contents}
+use Rattle.perm_catalog.specs.declared.column.Column.{Column}
+use Rattle.perm_catalog.specs.declared.entries.Mark.{Mark}
+use Rattle.perm_catalog.specs.declared.entries.TableEntry.{TableEntry}
+use Rattle.perm_catalog.specs.declared.entries.ViewEntry.{ViewEntry}
+
+-- what has this name
+abbrev pub named : {X : Type 0} → List (List ℕ × X) → List ℕ → Option X
+named entries name = lookup (pointwise nat_eq name) entries
+
+abbrev pub table_named : Contents → List ℕ → Option TableEntry
+table_named c name = named c.tables name
+
+abbrev pub view_named : Contents → List ℕ → Option ViewEntry
+view_named c name = named c.views name
+
+-- tables and views share one set of names
+abbrev pub is_free : Contents → List ℕ → Bool
+is_free c name = not (is_some (table_named c name)) && not (is_some (view_named c name))
+
+-- the rows of an identity
+abbrev pub rows_at : Contents → ℕ → Bag
+rows_at c id = unwrap_or (map.get c.rows id) []
+
+-- a table comes last, with the number drawn as its identity and version
+abbrev pub with_table : Contents → List ℕ → List Column → Bag → Option Mark → Contents
+with_table c name columns rows mark = record {
+  tables = c.tables ++ (name, record { id = c.next; version = c.next; columns = columns; mark = mark }) ∷ [];
+  views = c.views;
+  rows = map.insert c.rows c.next rows;
+  next = c.next + 1;
+}
+
+-- the entry of this name changed, in its place
+abbrev pub changed : {X : Type 0} → (X → X) → List ℕ → List (List ℕ × X) → List (List ℕ × X)
+changed f name [] = []
+changed f name (e ∷ es) = cond (pointwise nat_eq name e.0) ((e.0, f e.1) ∷ es) (e ∷ changed f name es)
+
+-- the number drawn is the new version, and what provenance the table stored it stores no more
+abbrev pub renewed : ℕ → TableEntry → TableEntry
+renewed version entry = record entry { version = version; mark = None }
+
+-- the rows of a table of this identity replaced, under a new version
+abbrev pub with_rows_of : Contents → List ℕ → ℕ → Bag → Contents
+with_rows_of c name id rows = record {
+  tables = changed (renewed c.next) name c.tables;
+  views = c.views;
+  rows = map.insert c.rows id rows;
+  next = c.next + 1;
+}
+
+-- rows added at the end of the table that has this identity
+abbrev pub with_more_rows : Contents → List ℕ → ℕ → Bag → Contents
+with_more_rows c name id rows = with_rows_of c name id (rows_at c id ++ rows)
+
+-- the flagged rows gone
+abbrev pub with_fewer_rows : Contents → List ℕ → ℕ → List Bool → Contents
+with_fewer_rows c name id doomed = with_rows_of c name id (unmarked doomed (rows_at c id))
+
+abbrev pub without_table : Contents → List ℕ → ℕ → Contents
+without_table c name id = record c { tables = remove_entry (pointwise nat_eq name) c.tables; rows = map.remove c.rows id }
+
+abbrev pub with_view : Contents → List ℕ → ViewEntry → Contents
+with_view c name entry = record c { views = c.views ++ (name, entry) ∷ [] }
+
+abbrev pub without_view : Contents → List ℕ → Contents
+without_view c name = record c { views = remove_entry (pointwise nat_eq name) c.views }
+
+-- nothing, with this number to be drawn next
+abbrev pub nothing_held : ℕ → Contents
+nothing_held next = record { tables = []; views = []; rows = map.empty; next = next }
