@@ -5,6 +5,7 @@ pub mod Meaning
 pub mod Means
 pub mod Outcome
 pub mod Patterns
+pub mod PlaceNames
 pub mod TableRows
 pub mod WorkedRows
 pub mod Built
