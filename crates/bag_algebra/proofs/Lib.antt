@@ -1,3 +1,4 @@
 pub mod BagLaws
 mod FiniteMap
+pub mod Members
 pub mod SortedBags
