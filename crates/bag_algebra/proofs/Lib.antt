@@ -1,4 +1,5 @@
 pub mod BagLaws
+pub mod Columns
 mod FiniteMap
 pub mod Members
 pub mod SortedBags

@@ -1,7 +1,6 @@
 -- What is in a list, and how it came there.
 use Rattle.std.proofs.Common.{◌≡◌, ◌⊎◌, inl, inr, Bool, true, false, cond, ◌||◌, List, [], ◌∷◌, ◌++◌, map, filter, refl, sym, ap, ◌∙◌, subst}
 use Rattle.std.specs.List.{flat_map}
-use Rattle.std.specs.Bool.{Decides}
 use Rattle.std.specs.Cmp.{both_ways}
 use mathlib.Core.Bool.{true≢false}
 use Rattle.perm_values.specs.Rows.{same_row}
@@ -45,8 +44,9 @@ in-flat_map f y x (z ∷ xs) (inr h) g = in-append_right y (f z) (flat_map f xs)
 pub from-flat_map : {X Y : Type 0} (f : X → List Y) (y : Y) (xs : List X) → IsIn y (flat_map f xs) → (x : X) × IsIn x xs × IsIn y (f x)
 from-flat_map f y [] h = absurd h
 from-flat_map f y (x ∷ xs) h = elim (from-append y (f x) (flat_map f xs) h) [
-      inl l ↦ (x, inl refl, l)
-    | inr r ↦ let found = from-flat_map f y xs r in (found.0, inr found.1, found.2) ]
+  | inl l ↦ (x, inl refl, l)
+  | inr r ↦ let found = from-flat_map f y xs r in (found.0, inr found.1, found.2)
+]
 
 in-filter-head : {X : Type 0} (test : X → Bool) (x y : X) (ys : List X) (b : Bool) → test y ≡ b → test x ≡ true → y ≡ x → IsIn x (cond b (y ∷ filter test ys) (filter test ys))
 in-filter-head test x y ys true e h same = inl same
@@ -87,8 +87,9 @@ or-first false b h = absurd (true≢false (sym h))
 pub member-in : (t : Row) (us : Bag) → member t us ≡ true → IsIn t us
 member-in t [] h = absurd (true≢false (sym h))
 member-in t (u ∷ us) h = elim (one_of (same_row u t) (member t us) h) [
-      inl e ↦ inl ((row_decides u t).0 e)
-    | inr m ↦ inr (member-in t us m) ]
+  | inl e ↦ inl ((row_decides u t).0 e)
+  | inr m ↦ inr (member-in t us m)
+]
 
 pub in-member : (t : Row) (us : Bag) → IsIn t us → member t us ≡ true
 in-member t [] h = absurd h
