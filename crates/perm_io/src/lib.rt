@@ -3,9 +3,11 @@
 
 mod count;
 mod failed;
+mod failures;
 mod files;
 mod named_file;
 mod reading;
+mod shelf;
 mod sink;
 mod writing;
 
