@@ -2,3 +2,4 @@ pub mod Answers
 pub mod Counts
 pub mod Named
 pub mod Shelves
+pub mod Sinks
