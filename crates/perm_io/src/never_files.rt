@@ -1,4 +1,7 @@
-ghost use Rattle.std.specs.Prelude.{◌≡◌, [], Some, false};
+ghost use Rattle.std.specs.Prelude.{◌≡◌, [], Some, false, IsOk, IfOk};
+ghost use Rattle.perm_io.specs.Answers.{is_absent};
+ghost use Rattle.perm_io.specs.Counts.{next_count};
+ghost use Rattle.perm_io.specs.Named.{IsBegun};
 
 use crate::shelf::Shelf;
 use crate::{BeginError, Failed, Files, NamedFile};
@@ -28,11 +31,11 @@ impl NeverFiles {
 
 impl Files for NeverFiles {
     ghost use Rattle.std.specs.Prelude.{Some};
-    ghost use Rattle.perm_io.specs.Shelves.{left_of};
+    ghost use Rattle.perm_io.specs.NeverFiles.{files_of, left_in};
 
-    ghost held = { λ f. Some f.shelf.files };
+    ghost held = { λ f. Some (files_of f) };
 
-    ghost rest = { λ f. Some (left_of f.shelf) };
+    ghost rest = { λ f. Some (left_in f) };
 
     ghost faults = { λ _. 0 };
 
@@ -42,7 +45,14 @@ impl Files for NeverFiles {
 
     ghost absent = { λ f. f.shelf.absent };
 
-    fn begin(&mut self, _alloc: Global, name: &Chars) -> Result<bool, BeginError> {
+    fn begin(&mut self, _alloc: Global, name: &Chars) -> Result<bool, BeginError>
+        ensures sure { IsOk result }
+        ensures found { IfOk result (λ found. IsBegun (files_of self.old) name.now found (left_in self.new)) }
+        ensures held { files_of self.new ≡ files_of self.old }
+        ensures begun { ⟦<NeverFiles as Files>⟧.begun self.new ≡ next_count (⟦<NeverFiles as Files>⟧.begun self.old) }
+        ensures taken { ⟦<NeverFiles as Files>⟧.taken self.new ≡ 0 }
+        ensures absent { ⟦<NeverFiles as Files>⟧.absent self.new ≡ is_absent result }
+    {
         Ok(self.shelf.begin(name))
     }
 

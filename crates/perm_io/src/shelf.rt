@@ -1,7 +1,7 @@
 //! Files in memory, of which one may be open.
 ghost use Rattle.std.specs.Prelude.{◌≡◌, ◌+◌, ◌<◌, ◌≤◌, true, false, not, length, take, drop, [], ◌++◌, None, Some, MatchOption, option_map, ◌^◌};
 ghost use Rattle.perm_io.specs.Counts.{next_count, raised};
-ghost use Rattle.perm_io.specs.Named.{file_named, bytes_at};
+ghost use Rattle.perm_io.specs.Named.{file_named, bytes_at, IsBegun};
 
 use crate::NamedFile;
 use crate::count::next_count;
@@ -59,8 +59,7 @@ impl Shelf {
     /// Opens the first file of that name, and says whether there is one.
     pub(crate) fn begin(&mut self, name: &Chars) -> bool
         ensures files { self.new.files ≡ self.old.files }
-        ensures found { MatchOption (file_named self.old.files name.now)
-            ((result ≡ false) × (left_of self.new ≡ [])) (λ bytes. (result ≡ true) × (left_of self.new ≡ bytes)) }
+        ensures found { IsBegun self.old.files name.now result (left_of self.new) }
         ensures begun { self.new.begun ≡ next_count self.old.begun }
         ensures taken { self.new.taken ≡ 0 }
         ensures absent { self.new.absent ≡ not result }
