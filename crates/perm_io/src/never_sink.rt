@@ -1,4 +1,5 @@
-ghost use Rattle.std.specs.Prelude.{◌≡◌, false};
+ghost use Rattle.std.specs.Prelude.{◌≡◌, ◌<◌, ◌||◌, length, nat_lt, false, Ok};
+ghost use Rattle.perm_io.specs.Counts.{raised};
 
 use crate::{Failed, Sink};
 
@@ -10,7 +11,7 @@ pub struct NeverSink {
 }
 
 impl NeverSink {
-    ghost use Rattle.perm_io.specs.Sinks.{taken_by};
+    ghost use Rattle.perm_io.specs.NeverSink.{taken_by};
 
     /// Nothing is taken.
     pub fn new() -> NeverSink
@@ -32,6 +33,7 @@ impl NeverSink {
 }
 
 impl Sink for NeverSink {
+    ghost use Rattle.perm_io.specs.NeverSink.{taken_by};
     ghost use Rattle.std.specs.Prelude.{None};
 
     ghost written = { λ _. None };
@@ -40,13 +42,21 @@ impl Sink for NeverSink {
 
     ghost unflushed = { λ s. s.unflushed };
 
-    fn write(&mut self, from: &[u8]) -> Result<usize, Failed> {
+    fn write(&mut self, from: &[u8]) -> Result<usize, Failed>
+        ensures whole { result ≡ Ok (length from.now) }
+        ensures taken { taken_by self.new ≡ raised (taken_by self.old) (length from.now) }
+        ensures unflushed { ⟦<NeverSink as Sink>⟧.unflushed self.new ≡ (⟦<NeverSink as Sink>⟧.unflushed self.old || nat_lt 0 (length from.now)) }
+    {
         self.taken = self.taken.saturating_add(from.len() as u64);
         self.unflushed = self.unflushed || !from.is_empty();
         Ok(from.len())
     }
 
-    fn flush(&mut self) -> Result<(), Failed> {
+    fn flush(&mut self) -> Result<(), Failed>
+        ensures flushed { result ≡ Ok tt }
+        ensures taken { taken_by self.new ≡ taken_by self.old }
+        ensures unflushed { ⟦<NeverSink as Sink>⟧.unflushed self.new ≡ false }
+    {
         self.unflushed = false;
         Ok(())
     }
