@@ -2,6 +2,7 @@
 #![tactic(auto)]
 
 mod count;
+mod disk_files;
 mod failed;
 mod failures;
 mod files;
@@ -13,8 +14,10 @@ mod never_sink;
 mod reading;
 mod shelf;
 mod sink;
+mod std_sink;
 mod writing;
 
+pub use disk_files::DiskFiles;
 pub use failed::Failed;
 pub use files::{BeginError, Files};
 pub use memory_files::MemoryFiles;
@@ -24,4 +27,5 @@ pub use never_files::NeverFiles;
 pub use never_sink::NeverSink;
 pub use reading::{ReadError, read_all};
 pub use sink::Sink;
+pub use std_sink::StdSink;
 pub use writing::{WriteFault, write_all};
