@@ -1,5 +1,5 @@
 -- Bytes that are told, if they are, with others before or behind them.
-use Rattle.std.proofs.Common.{◌≡◌, ◌∙◌, ℕ, ◌+◌, ◌-◌, Bool, true, false, ◌||◌, nat_lt, List, [], ◌++◌, length, take, drop, length-drop, refl, sym, ap, append_assoc, append-nil, arith}
+use Rattle.std.proofs.Common.{◌≡◌, ◌∙◌, ℕ, ◌+◌, ◌-◌, Bool, ◌||◌, nat_lt, List, [], ◌++◌, length, take, drop, length-drop, refl, sym, ap, append_assoc, append-nil, arith}
 use Rattle.std.proofs.lemmas.List.{take_all}
 use Rattle.std.proofs.lemmas.Bool.Decides.{nat_tests}
 use Rattle.std.proofs.Math.Bool.{or_assoc}
@@ -33,7 +33,7 @@ written_more known now next bytes m n first second =
     let all : take (length bytes - m) (drop m bytes) ≡ drop m bytes = take_all _ (drop m bytes) (omega (arith, length-drop m bytes)) in
     let piece : next ≡ append_known now (take n (drop m bytes)) = second ∙ ap (λ rest. append_known now (take n rest)) all in
     let both : next ≡ append_known (append_known known (take m bytes)) (take n (drop m bytes)) =
-        piece ∙ ap (λ w. append_known w (take n (drop m bytes))) first in
+    piece ∙ ap (λ w. append_known w (take n (drop m bytes))) first in
     both ∙ append_known-append_known known (take m bytes) (take n (drop m bytes)) ∙ ap (append_known known) (sym (take-add m n bytes))
 
 one_of : (m n : ℕ) → (nat_lt 0 m || nat_lt 0 n) ≡ nat_lt 0 (m + n)

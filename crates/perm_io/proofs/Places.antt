@@ -1,6 +1,6 @@
 -- The first file of a name, and what is left of a file after a read.
-use Rattle.std.proofs.Common.{◌≡◌, ◌∙◌, ℕ, suc, ◌+◌, ◌<◌, ◌≤◌, true, cond, nat_eq, List, [], ◌∷◌, ◌++◌, length, take, drop, get_or, refl, sym, ap, subst, arith, add-one, drop-cons, drop-drop, length-take, append_assoc}
-use Rattle.std.specs.Prelude.{Option, None, Some, slice_get}
+use Rattle.std.proofs.Common.{◌≡◌, ◌∙◌, ℕ, suc, ◌+◌, ◌<◌, ◌≤◌, true, cond, nat_eq, List, [], ◌∷◌, ◌++◌, length, take, drop, get_or, sym, ap, drop-cons, drop-drop}
+use Rattle.std.specs.Prelude.{None, Some, slice_get}
 use Rattle.std.specs.Cmp.Lexicographic.{pointwise}
 use Rattle.std.proofs.lemmas.List.{take_at, take-append-drop, length-take-le}
 use Rattle.std.proofs.lemmas.Option.{slice_get-get_or}
@@ -16,7 +16,7 @@ pub file_named-here : (files : List NamedFile) (i : ℕ) (file : NamedFile) (nam
 file_named-here files i file name within is same none =
     let here : drop i files ≡ file ∷ drop (suc i) files = drop-cons files i file within ∙ ap (λ f. f ∷ drop (suc i) files) (sym is) in
     let found : file_named (drop i files) name ≡ Some file.bytes =
-        ap (λ l. file_named l name) here ∙ ap (λ t. cond t (Some file.bytes) (file_named (drop (suc i) files) name)) same in
+    ap (λ l. file_named l name) here ∙ ap (λ t. cond t (Some file.bytes) (file_named (drop (suc i) files) name)) same in
     let item : slice_get files i ≡ Some file = slice_get-get_or files i file within ∙ ap Some (sym is) in
     sym none ∙ found ∙ ap Some (sym (bytes_at-is files i file item))
 

@@ -1,5 +1,5 @@
 -- Files in memory, of which one may be open.
-use Rattle.std.specs.Prelude.{ℕ, List, [], drop}
+use Rattle.std.specs.Prelude.{ℕ, List, drop}
 use Rattle.perm_io.specs.Named.{bytes_at}
 use Rattle.perm_io.specs.declared.shelf.Shelf.{Shelf}
 

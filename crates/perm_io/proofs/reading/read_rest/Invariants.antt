@@ -10,7 +10,7 @@ invariant-loop-bytes g l = record {
   faults : g.F.Files.faults l.files ≡ g.F.Files.faults l.fn.files;
   taken : g.F.Files.taken l.files ≡ length l.bytes;
   within : length l.bytes ≤ l.limit;
-  moved : g.F.Files.rest l.fn.files ≡ prepend_known l.bytes (g.F.Files.rest l.files)
+  moved : g.F.Files.rest l.fn.files ≡ prepend_known l.bytes (g.F.Files.rest l.files);
 }
 
 abbrev pub decreases-loop-bytes : goal.decreases-loop-bytes

@@ -1,5 +1,4 @@
 use Rattle.std.proofs.Common.{◌∙◌, ◌||◌, nat_lt, ap, arith}
-use Rattle.std.specs.Io.KnownBytes.{append_known}
 use Rattle.std.proofs.lemmas.Grind.{common_steps}
 use Rattle.perm_io.proofs.Known.{written_more, unflushed_more}
 use Rattle.perm_io.proofs.writing.write_all.Goals as goal

@@ -7,7 +7,7 @@ invariant-loop-done g l = record {
   within : l.done ≤ length l.bytes;
   written : g.K.Sink.written l.out ≡ append_known (g.K.Sink.written l.fn.out) (take l.done l.bytes);
   unflushed : g.K.Sink.unflushed l.out ≡ (g.K.Sink.unflushed l.fn.out || nat_lt 0 l.done);
-  faults : g.K.Sink.faults l.out ≡ g.K.Sink.faults l.fn.out
+  faults : g.K.Sink.faults l.out ≡ g.K.Sink.faults l.fn.out;
 }
 
 abbrev pub decreases-loop-done : goal.decreases-loop-done
