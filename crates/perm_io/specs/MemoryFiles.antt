@@ -1,0 +1,21 @@
+-- What files in memory keep.
+use Rattle.std.specs.Prelude.{ℕ, List}
+use Rattle.perm_io.specs.Shelves.{left_of}
+use Rattle.perm_io.specs.declared.named_file.NamedFile.{NamedFile}
+use Rattle.perm_io.specs.declared.memory_files.MemoryFiles.{MemoryFiles}
+
+-- all files
+abbrev pub files_of : MemoryFiles → List NamedFile
+files_of files = files.shelf.files
+
+-- what is left of the file begun
+abbrev pub left_in : MemoryFiles → List ℕ
+left_in files = left_of files.shelf
+
+-- the numbers of the calls that are to fail
+abbrev pub failing_of : MemoryFiles → List ℕ
+failing_of files = files.failures.listed.items
+
+-- how many calls were made
+abbrev pub calls_of : MemoryFiles → ℕ
+calls_of files = files.failures.calls

@@ -1,0 +1,19 @@
+-- What an output into memory keeps.
+use Rattle.std.specs.Prelude.{ℕ, ◌-◌, List, length}
+use Rattle.perm_io.specs.declared.memory_sink.MemorySink.{MemorySink}
+
+-- the bytes written
+abbrev pub bytes_in : MemorySink → List ℕ
+bytes_in sink = sink.bytes.items
+
+-- how many more bytes have room
+abbrev pub room_in : MemorySink → ℕ
+room_in sink = sink.room - length (bytes_in sink)
+
+-- the numbers of the calls that are to fail
+abbrev pub failing_of : MemorySink → List ℕ
+failing_of sink = sink.failures.listed.items
+
+-- how many calls were made
+abbrev pub calls_of : MemorySink → ℕ
+calls_of sink = sink.failures.calls

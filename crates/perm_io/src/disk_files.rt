@@ -1,0 +1,103 @@
+ghost use Rattle.std.specs.Prelude.{◌≡◌, ◌≢◌, ◌↔◌, true, false};
+
+use crate::count::next_count;
+use crate::{BeginError, Failed, Files};
+use perm_values::Chars;
+use std::alloc::Global;
+use std::io::{ErrorKind, Read};
+use std::{fs, rt};
+
+/// The files of the system. What they hold isn't told.
+#[derive(Drop)]
+pub struct DiskFiles<'a, R: rt::Files> {
+    rt: &'a R,
+    file: Option<R::File>,
+    faults: u64,
+    begun: u64,
+    taken: u64,
+    absent: bool,
+}
+
+impl<'a, R: rt::Files> DiskFiles<'a, R> {
+    /// No file is begun, and no call failed.
+    pub fn new(rt: &'a R) -> DiskFiles<'a, R>
+        ensures faults { ⟦<DiskFiles<'a, R> as Files>⟧.faults result ≡ 0 }
+        ensures begun { ⟦<DiskFiles<'a, R> as Files>⟧.begun result ≡ 0 }
+        ensures taken { ⟦<DiskFiles<'a, R> as Files>⟧.taken result ≡ 0 }
+        ensures absent { ⟦<DiskFiles<'a, R> as Files>⟧.absent result ≡ false }
+    {
+        DiskFiles {
+            rt,
+            file: None,
+            faults: 0,
+            begun: 0,
+            taken: 0,
+            absent: false,
+        }
+    }
+}
+
+impl<'a, R: rt::Files> Files for DiskFiles<'a, R> {
+    ghost use Rattle.std.specs.Prelude.{None};
+
+    ghost held = { λ _. None };
+
+    ghost rest = { λ _. None };
+
+    ghost faults = { λ f. f.faults };
+
+    ghost begun = { λ f. f.begun };
+
+    ghost taken = { λ f. f.taken };
+
+    ghost absent = { λ f. f.absent };
+
+    fn begin(&mut self, _alloc: Global, name: &Chars) -> Result<bool, BeginError> {
+        self.begun = next_count(self.begun);
+        self.taken = 0;
+        self.file = None;
+        let answer = match fs::open(self.rt, name.as_str()) {
+            Ok(file) => {
+                self.file = Some(file);
+                Ok(true)
+            }
+            Err(error) => unopened(error.kind()),
+        };
+        self.absent = answer == Ok(false);
+        if answer == Err(BeginError::Failed) {
+            self.faults = next_count(self.faults);
+        }
+        answer
+    }
+
+    fn read(&mut self, into: &mut [u8]) -> Result<usize, Failed> {
+        let answer = match &mut self.file {
+            Some(file) => file.read(into),
+            None => Ok(0),
+        };
+        match answer {
+            Ok(count) => {
+                self.taken = self.taken.saturating_add(count as u64);
+                Ok(count)
+            }
+            Err(_) => {
+                self.faults = next_count(self.faults);
+                Err(Failed)
+            }
+        }
+    }
+}
+
+/// What a begin answers where the system opened no file: a name that isn't there and want of memory are told apart
+/// from every other failure.
+fn unopened(kind: ErrorKind) -> Result<bool, BeginError>
+    ensures absent { (result ≡ Ok false) ↔ (kind ≡ ErrorKind.NotFound) }
+    ensures memory { (result ≡ Err BeginError.NoMemory) ↔ (kind ≡ ErrorKind.OutOfMemory) }
+    ensures not_found { result ≢ Ok true }
+{
+    match kind {
+        ErrorKind::NotFound => Ok(false),
+        ErrorKind::OutOfMemory => Err(BeginError::NoMemory),
+        _ => Err(BeginError::Failed),
+    }
+}

@@ -1,0 +1,34 @@
+//! Files to read, an output to write, and counts of their faults.
+#![tactic(auto)]
+
+mod count;
+mod disk_files;
+mod failed;
+mod failures;
+mod files;
+mod memory_files;
+mod memory_sink;
+mod named_file;
+mod never_files;
+mod never_sink;
+mod reading;
+mod shelf;
+mod sink;
+mod std_sink;
+mod writing;
+
+pub use disk_files::DiskFiles;
+pub use failed::Failed;
+pub use files::{BeginError, Files};
+pub use memory_files::MemoryFiles;
+pub use memory_sink::MemorySink;
+pub use named_file::NamedFile;
+pub use never_files::NeverFiles;
+pub use never_sink::NeverSink;
+pub use reading::{ReadError, read_all};
+pub use sink::Sink;
+pub use std_sink::StdSink;
+pub use writing::{WriteFault, write_all};
+
+#[cfg(test)]
+mod tests;
