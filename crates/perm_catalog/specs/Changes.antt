@@ -29,6 +29,10 @@ is_free c name = not (is_some (table_named c name)) && not (is_some (view_named 
 abbrev pub rows_at : Contents → ℕ → Bag
 rows_at c id = unwrap_or (map.get c.rows id) []
 
+-- a table comes last, with its rows under its identity
+abbrev pub with_entry : Contents → List ℕ → TableEntry → Bag → Contents
+with_entry c name entry rows = record c { tables = c.tables ++ (name, entry) ∷ []; rows = map.insert c.rows entry.id rows }
+
 -- a table comes last, with the number drawn as its identity and version
 abbrev pub with_table : Contents → List ℕ → List Column → Bag → Option Mark → Contents
 with_table c name columns rows mark = record {

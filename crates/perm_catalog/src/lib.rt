@@ -4,6 +4,7 @@
 mod catalog;
 mod column;
 mod entries;
+mod last;
 
 pub use catalog::{Catalog, CatalogRefusal};
 pub use column::Column;

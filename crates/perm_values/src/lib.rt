@@ -11,6 +11,8 @@ mod laws;
 mod list;
 mod no_memory;
 mod row;
+#[cfg(test)]
+mod tests;
 mod value;
 
 pub use boxed::Boxed;

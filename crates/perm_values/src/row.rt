@@ -83,13 +83,16 @@ impl Row {
         self.values.as_slice().cmp(&other.values.as_slice())
     }
 
-    /// The order that one key asks for.
+    /// The order that one key asks for; a place out of range reads NULL.
     fn order_at(&self, key: Key, other: &Row) -> Ordering
-        requires within { key.place < length self.now }
-        requires other_within { key.place < length other.now }
         ensures { result ≡ key_cmp key self.now other.now }
     {
-        let order = self.get(key.place).order(other.get(key.place));
+        let order = match (self.values.get(key.place), other.values.get(key.place)) {
+            (Some(left), Some(right)) => left.order(right),
+            (Some(left), None) => left.order(&Value::Null),
+            (None, Some(right)) => Value::Null.order(right),
+            (None, None) => Ordering::Equal,
+        };
         if key.descending {
             order.reverse()
         } else {
@@ -97,10 +100,9 @@ impl Row {
         }
     }
 
-    /// The printed order: by the keys one after another, then by all columns ascending.
+    /// The printed order: by the keys one after another, then by all columns ascending. A key's place out of range reads
+    /// NULL.
     pub fn order_by(&self, keys: &[Key], other: &Row) -> Ordering
-        requires widths { length self.now ≡ length other.now }
-        requires places { KeysWithin (length self.now) keys.now }
         ensures { result ≡ printed_cmp keys.now self.now other.now }
     {
         for key in keys {
