@@ -1,26 +1,19 @@
--- Bytes that are told, if they are, with others before or behind them.
+-- Bytes written, where they are told, with others behind them.
 use Rattle.std.proofs.Common.{◌≡◌, ◌∙◌, ℕ, ◌+◌, ◌-◌, Bool, ◌||◌, nat_lt, List, [], ◌++◌, length, take, drop, length-drop, refl, sym, ap, append_assoc, append-nil, arith}
 use Rattle.std.proofs.lemmas.List.{take_all}
 use Rattle.std.proofs.lemmas.Bool.Decides.{nat_tests}
 use Rattle.std.proofs.Math.Bool.{or_assoc}
 use Rattle.std.proofs.Math.Seq.{take-add}
 use Rattle.std.specs.Prelude.{Option, None, Some}
-use Rattle.std.specs.Io.KnownBytes.{append_known, prepend_known}
+use Rattle.std.specs.Io.KnownBytes.{append_known}
 
-pub prepend_known-prepend_known : (xs ys : List ℕ) (known : Option (List ℕ)) →
-    prepend_known xs (prepend_known ys known) ≡ prepend_known (xs ++ ys) known
-prepend_known-prepend_known xs ys None = refl
-prepend_known-prepend_known xs ys (Some known) = ap Some (sym (append_assoc xs ys known))
-
+-- two pieces written are one
 pub append_known-append_known : (known : Option (List ℕ)) (xs ys : List ℕ) →
     append_known (append_known known xs) ys ≡ append_known known (xs ++ ys)
 append_known-append_known None xs ys = refl
 append_known-append_known (Some known) xs ys = ap Some (append_assoc known xs ys)
 
-pub prepend_known-nil : (known : Option (List ℕ)) → prepend_known [] known ≡ known
-prepend_known-nil None = refl
-prepend_known-nil (Some known) = refl
-
+-- no piece written changes nothing
 pub append_known-nil : (known : Option (List ℕ)) → append_known known [] ≡ known
 append_known-nil None = refl
 append_known-nil (Some known) = ap Some (append-nil known)

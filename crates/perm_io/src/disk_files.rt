@@ -7,7 +7,8 @@ use std::alloc::Global;
 use std::io::{ErrorKind, Read};
 use std::{fs, rt};
 
-/// The files of the system. What they hold isn't told.
+/// The files of the system, by their paths. What they hold isn't told. A file that the system doesn't find is absent,
+/// want of memory to open one is `NoMemory`, and every other failure is a fault, as that to read a folder.
 #[derive(Drop)]
 pub struct DiskFiles<'a, R: rt::Files> {
     rt: &'a R,

@@ -11,7 +11,7 @@ use crate::Failed;
 use perm_values::Chars;
 use std::alloc::Global;
 
-/// Why no file was begun.
+/// Why no file was begun: a fault, or want of memory.
 #[derive(Clone, Copy, Debug, PartialEq, Eq)]
 pub enum BeginError {
     Failed,
@@ -39,7 +39,8 @@ pub trait Files {
     ghost absent: { Self → Bool };
 
     /// Begins a file, in place of the one before. `Ok(false)` says that there is none of that name. `Failed` comes only
-    /// where the count of faults rises, or stands at its last value; every other answer leaves it.
+    /// where the count of faults rises, or stands at its last value; every other answer leaves it, `NoMemory` too, which
+    /// says that memory is wanting.
     fn begin(&mut self, alloc: Global, name: &Chars) -> Result<bool, BeginError>
         ensures held { held self.new ≡ held self.old }
         ensures begun { begun self.new ≡ next_count (begun self.old) }

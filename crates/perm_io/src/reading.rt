@@ -7,7 +7,8 @@ use crate::{BeginError, Failed, Files};
 use perm_values::{Bytes, Chars, NoMemory};
 use std::alloc::Global;
 
-/// Why a file wasn't read whole.
+/// Why a file wasn't read whole: there is none of the name, it has more bytes than may be, a call on it failed, or memory
+/// is wanting.
 #[derive(Clone, Copy, Debug, PartialEq, Eq)]
 pub enum ReadError {
     Missing,
@@ -24,17 +25,6 @@ impl From<BeginError> for ReadError {
             BeginError::Failed => ReadError::Fault,
             BeginError::NoMemory => ReadError::NoMemory,
         }
-    }
-}
-
-impl From<Failed> for ReadError {
-    ghost use Rattle.std.specs.Prelude.{◌≡◌};
-    ghost use Rattle.perm_io.specs.declared.reading.ReadError.TheVariants.{Fault};
-
-    ghost from_gives = { λ _ made. made ≡ Fault };
-
-    fn from(_error: Failed) -> ReadError {
-        ReadError::Fault
     }
 }
 
@@ -105,13 +95,11 @@ fn read_rest<F: Files>(alloc: Global, files: &mut F, limit: usize) -> Result<Byt
     let mut bytes = Bytes::new(alloc);
     loop {
         let room = limit - bytes.len();
-        let count = files.read(&mut piece[..room.min(PIECE - 1) + 1])?;
-        if count == 0 {
-            return Ok(bytes);
+        match files.read(&mut piece[..room.min(PIECE - 1) + 1]) {
+            Ok(0) => return Ok(bytes),
+            Ok(count) if count > room => return Err(ReadError::TooLarge),
+            Ok(count) => bytes.add(&piece[..count])?,
+            Err(Failed) => return Err(ReadError::Fault),
         }
-        if count > room {
-            return Err(ReadError::TooLarge);
-        }
-        bytes.add(&piece[..count])?;
     }
 }

@@ -3,7 +3,8 @@ ghost use Rattle.std.specs.Prelude.{◌≡◌, false};
 use crate::count::next_count;
 use crate::{Failed, Sink};
 
-/// The standard output, which keeps no byte back. What it took isn't told.
+/// The standard output, which keeps no byte back. What it took isn't told. A failure to write is a fault, as into a
+/// pipe that nobody reads or onto a full disk, and so is a write that takes none of some bytes.
 #[derive(Drop)]
 pub struct StdSink<'a, R: Print> {
     rt: &'a R,
