@@ -1,5 +1,5 @@
--- Arithmetic of unbounded integers, with the two causes of a fault beside it
--- (ISO/IEC 9075-2, 'numeric value expression'; that a result of more than 64 bits is a fault is this project's own).
+-- Arithmetic of unbounded integers, with the two causes of a fault beside it (ISO/IEC 9075-2, 'numeric value expression';
+-- the 64 bits, the rounding of a quotient and `%` are this project's own).
 use Rattle.std.specs.Prelude.{ℤ, pos, negsuc, ◌+ℤ◌, ◌-ℤ◌, ◌*ℤ◌, neg_ℤ, int_div, int_rem, int_le, int_lt, ◌^◌, ◌-◌, Bool, true, false, cond, ◌&&◌}
 use Rattle.std.specs.Prelude.{Result, Ok, Err}
 use Rattle.std.specs.Ordering.{int_eq}

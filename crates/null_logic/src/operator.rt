@@ -106,7 +106,7 @@ impl<const N: usize> OpTable<N> {
     }
 }
 
-// Writes the rows of a table: level, place, operator, what its operands need and what comes of them.
+// Keeps each row of a table on one line: level, place, operator, what its operands need and what comes of them.
 macro_rules! rows {
     ($($level:literal $place:ident $operator:expr, $needs:ident => $gives:ident;)*) => {
         [$(OpRow {

@@ -49,7 +49,7 @@ fn next_step<'a>(text: &'a str, pattern: &'a str) -> Step<'a>
 /// Whether the whole text matches the pattern: `%` stands for any run of characters, `_` for any one character, and
 /// every other character for itself (ISO/IEC 9075-2, 'like predicate').
 ///
-/// It takes no memory, and at most as many steps as the product of the two lengths.
+/// It takes no memory, and time that grows at most as the product of the two lengths.
 pub fn like(text: &Chars, pattern: &Chars) -> bool
     ensures { result ≡ like (chars text.now) (chars pattern.now) }
 {

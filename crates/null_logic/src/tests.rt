@@ -75,7 +75,7 @@ fn comparisons(rt: HostRuntime) -> Result<(), Fail> {
 }
 
 #[test]
-fn arithmetic(rt: HostRuntime) {
+fn arithmetic(rt: HostRuntime) -> Result<(), Fail> {
     let cases = [
         (Arith::Add, i64::MAX, 1, Err(RunFault::OutOfRange)),
         (Arith::Add, i64::MAX, -1, Ok(i64::MAX - 1)),
@@ -106,6 +106,7 @@ fn arithmetic(rt: HostRuntime) {
     }
     assert_eq!(rt; negate(i64::MIN), Err(RunFault::OutOfRange));
     assert_eq!(rt; negate(i64::MAX), Ok(i64::MIN + 1));
+    Ok(())
 }
 
 #[test]
@@ -138,7 +139,7 @@ fn patterns(rt: HostRuntime) -> Result<(), Fail> {
 }
 
 #[test]
-fn operators(rt: HostRuntime) {
+fn operators(rt: HostRuntime) -> Result<(), Fail> {
     let cases = [
         ("OR", false, 1),
         ("AND", false, 2),
@@ -169,4 +170,6 @@ fn operators(rt: HostRuntime) {
     assert!(rt; OPERATORS.find(b"NOT", false).is_none());
     assert!(rt; OPERATORS.find(b"or", false).is_none());
     assert_eq!(rt; Operator::Coalesce.spelling(), "COALESCE");
+    assert_eq!(rt; Operator::Coalesce.copy(rt.alloc())?, Operator::Coalesce);
+    Ok(())
 }
