@@ -1,15 +1,14 @@
 -- Words, numbers and symbols are ASCII, and so are UTF-8.
-use Rattle.std.proofs.Common.{◌≡◌, ℕ, zero, suc, ◌<◌, ◌≤◌, Bool, true, false, List, [], ◌∷◌, take, arith}
-use Rattle.std.specs.List.{list_all, prefix_len}
+use Rattle.std.proofs.Common.{◌≡◌, ℕ, zero, suc, ◌<◌, Bool, true, List, [], ◌∷◌, arith}
+use Rattle.std.specs.List.{list_all}
 use Rattle.std.specs.Char.{to_ascii_lowercase}
 use Rattle.std.specs.Str.{IsAscii, IsUtf8, str_to_ascii_lowercase}
 use Rattle.std.proofs.lemmas.Bool.Decides.{nat_tests}
 use Rattle.std.proofs.lemmas.Str.{IsUtf8-from_ascii}
 use Rattle.std.proofs.lemmas.Str.Ascii.{IsAscii-map}
-use Rattle.sql_lexer.specs.declared.scan.Class.TheVariants.{Mark}
-use Rattle.sql_lexer.specs.Bytes.{class_of, is_word, is_digit}
-use Rattle.sql_lexer.proofs.Classes.{word_ascii, digit_ascii, mark_ascii}
-use Rattle.sql_lexer.proofs.Fronts.{and_parts, front_passes}
+use Rattle.sql_lexer.specs.Bytes.{is_word, is_digit}
+use Rattle.sql_lexer.proofs.Classes.{word_ascii, digit_ascii}
+use Rattle.sql_lexer.proofs.Fronts.{and_parts}
 
 all_ascii : (p : ℕ → Bool) → ((b : ℕ) → p b ≡ true → b < 128) → (bytes : List ℕ) → list_all p bytes ≡ true → IsAscii bytes
 all_ascii p low [] all i = omega arith

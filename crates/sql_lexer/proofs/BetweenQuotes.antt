@@ -1,9 +1,9 @@
 -- What stands between quotes, read byte by byte.
-use Rattle.std.proofs.Common.{◌≡◌, ◌≢◌, ℕ, zero, suc, ◌+◌, ◌<◌, ◌≤◌, ◌⊎◌, Bool, true, false, cond, eqb, List, [], ◌∷◌, ◌++◌, length, take, drop, get_or, Option, Some, None, refl, sym, ap, ◌∙◌, inl, inr, ⊎_elim, arith, rules, add_assoc, append_assoc, eq-eqb}
+use Rattle.std.proofs.Common.{◌≡◌, ◌≢◌, ℕ, ◌+◌, ◌<◌, ◌≤◌, Bool, true, false, List, [], ◌∷◌, ◌++◌, length, drop, get_or, Option, Some, None, refl, sym, ap, ◌∙◌, ⊎_elim, arith, add_assoc, append_assoc, eq-eqb}
 use Rattle.std.specs.Prelude.{nat_eq}
 use Rattle.std.proofs.lemmas.Bool.Decides.{nat_tests}
 use Rattle.std.proofs.lemmas.Bool.{eqb-true, cases_Bool}
-use Rattle.std.proofs.lemmas.List.{drop_more, drop_all, append-nil, length-drop, length-append}
+use Rattle.std.proofs.lemmas.List.{drop_more, drop_all, append-nil, length-drop}
 use Rattle.sql_lexer.specs.declared.quotes.Unquoted.{Unquoted}
 use Rattle.sql_lexer.specs.Bytes.{next_is, doubled}
 use Rattle.sql_lexer.specs.Reading.{before, closing, unquoted}

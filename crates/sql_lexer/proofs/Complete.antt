@@ -1,26 +1,25 @@
 -- What stands at the front of a text is read there.
-use Rattle.std.proofs.Common.{◌≡◌, ◌≢◌, ◌⊎◌, ◌≤◌, ◌<◌, ◌^◌, inl, inr, ℕ, ℤ, pos, zero, suc, ◌+◌, Bool, true, false, cond, not, ◌&&◌, ◌||◌, ltb, List, [], ◌∷◌, ◌++◌, length, take, drop, get_or, Option, Some, None, refl, sym, ap, subst, ◌∙◌, ⊎_elim, arith, append_assoc, rules, eq-eqb}
+use Rattle.std.proofs.Common.{◌≡◌, ◌≤◌, ◌<◌, ◌^◌, ℕ, ℤ, pos, ◌+◌, Bool, true, false, ◌&&◌, ◌||◌, List, [], ◌∷◌, ◌++◌, length, Option, Some, None, refl, sym, ap, ◌∙◌, ⊎_elim, arith, append_assoc}
 use Rattle.std.specs.Prelude.{nat_eq, is_some}
-use Rattle.std.specs.List.{prefix_len, list_all}
+use Rattle.std.specs.List.{list_all}
 use Rattle.std.specs.Str.{str_to_ascii_lowercase}
 use Rattle.std.specs.Str.Parse.{digits_value}
-use Rattle.std.proofs.lemmas.Bool.{eqb-true, lt-ltb, le-ltb, cond-true, cond-false, cases_Bool}
-use Rattle.std.proofs.lemmas.List.{length-append, append-nil}
+use Rattle.std.proofs.lemmas.Bool.{eqb-true, lt-ltb, le-ltb, cases_Bool}
+use Rattle.std.proofs.lemmas.List.{length-append}
 use Rattle.std.proofs.Math.Seq.{take-append_seam}
 use Rattle.sql_lexer.specs.declared.token.Token.{Token}
 use Rattle.sql_lexer.specs.declared.token.TokenKind.{TokenKind}
 use Rattle.sql_lexer.specs.declared.token.TokenKind.TheVariants.{Word, Quoted, Number, Text, Symbol}
 use Rattle.sql_lexer.specs.declared.scan.Class.{Class}
 use Rattle.sql_lexer.specs.declared.scan.Class.TheVariants.{Blank, Letter, Digit, Quote, Mark, Other}
-use Rattle.sql_lexer.specs.declared.quotes.Unquoted.{Unquoted}
 use Rattle.sql_lexer.specs.declared.lex_error.LexError.{LexError}
 use Rattle.sql_lexer.specs.declared.lex_error.LexError.TheVariants.{NotUtf8, BadCharacter, Unterminated, NumberRange, NoMemory}
-use Rattle.sql_lexer.specs.Bytes.{class_of, is_word, is_digit, is_comment, is_mark, pair, held, are_dashes, next_is, doubled, in_quotes, stands_alone}
-use Rattle.sql_lexer.specs.Lexes.{IsWord, IsNumber, Spells, goes_on, IsToken, Piece, blank, comment, token, IsWrong, BeginsNothing, IsOpen, IsTooLarge}
-use Rattle.sql_lexer.specs.Reading.{Front, Nothing, Ends, Fault, one, token_of, word, number, closed, kind_of, unquoted, pair_at, single, symbol, mark, by_class, next}
+use Rattle.sql_lexer.specs.Bytes.{class_of, is_word, is_digit, is_comment, is_mark, pair, held, next_is, doubled, in_quotes}
+use Rattle.sql_lexer.specs.Lexes.{IsNumber, Spells, goes_on, Piece, blank, comment, token, IsWrong}
+use Rattle.sql_lexer.specs.Reading.{Ends, Fault, one, token_of, word, number, closed, kind_of, unquoted, pair_at, symbol, mark, by_class, next}
 use Rattle.sql_lexer.proofs.BetweenQuotes.{unquoted_found, unquoted_none}
 use Rattle.sql_lexer.proofs.Classes.{blank_class, letter_joins, digit_joins, mark_class, pair_class, dash_class}
-use Rattle.sql_lexer.proofs.Fronts.{and_parts, front_is}
+use Rattle.sql_lexer.proofs.Fronts.{front_is}
 use Rattle.sql_lexer.proofs.Numbers.{and_true}
 
 -- by the class of the first byte

@@ -1,8 +1,7 @@
 -- Each script is split into tokens or refused.
-use Rattle.std.proofs.Common.{◌≡◌, ◌⊎◌, inl, inr, ◌≤◌, ◌<◌, ℕ, zero, suc, ◌+◌, ◌-◌, Bool, true, false, List, [], ◌∷◌, ◌++◌, length, take, drop, refl, sym, ap, subst, ◌∙◌, ⊎_elim, arith}
-use Rattle.std.specs.Str.{IsUtf8, is_utf8, IsValidUpTo}
-use Rattle.std.specs.Str.Lossy.{utf8_valid_len, valid_len_up_to}
-use Rattle.std.proofs.lemmas.Bool.{cases_Bool, cond_both}
+use Rattle.std.proofs.Common.{◌≡◌, ◌⊎◌, inl, inr, ◌≤◌, ◌<◌, ℕ, zero, suc, ◌+◌, true, false, List, [], ◌++◌, length, take, drop, refl, sym, ap, subst, ◌∙◌, ⊎_elim, arith}
+use Rattle.std.specs.Str.{IsUtf8, is_utf8}
+use Rattle.std.proofs.lemmas.Bool.{cases_Bool}
 use Rattle.std.proofs.lemmas.List.{length-drop, take_all}
 use Rattle.std.proofs.lemmas.Str.{IsUtf8-nil, IsUtf8-from_is_utf8, is_utf8-from_IsUtf8}
 use Rattle.sql_lexer.specs.declared.token.Token.{Token}
@@ -11,7 +10,7 @@ use Rattle.sql_lexer.specs.declared.lex_error.LexError.TheVariants.{NotUtf8, Bad
 use Rattle.sql_lexer.specs.Lexes.{LexesTo, nothing, Lexes, StopsFor, Refuses}
 use Rattle.sql_lexer.specs.Reading.{Front, Nothing, Ends, Fault, next}
 use Rattle.sql_lexer.proofs.Sound.{IsRead, is_read}
-use Rattle.sql_lexer.proofs.OneReading.{Turn, turn, all_read, stops}
+use Rattle.sql_lexer.proofs.OneReading.{turn, all_read, stops}
 
 abbrev Answer : List ℕ → Type 0
 Answer bytes = ((ts : List Token) × Lexes bytes ts) ⊎ ((e : LexError) × Refuses bytes e)

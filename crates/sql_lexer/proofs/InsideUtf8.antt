@@ -1,11 +1,9 @@
 -- What stands between the quotes of a text that is UTF-8 is UTF-8.
-use Rattle.std.proofs.Common.{◌≡◌, ◌≢◌, ◌⊎◌, inl, inr, eq-eqb, ℕ, zero, suc, ◌+◌, ◌-◌, take, drop, add-zero, ◌<◌, ◌≤◌, Bool, true, false, List, [], ◌∷◌, ◌++◌, length, get_or, Option, Some, None, refl, sym, ap, subst, ◌∙◌, ⊎_elim, arith, append_assoc, rules}
+use Rattle.std.proofs.Common.{◌≡◌, ◌≢◌, ◌⊎◌, inl, inr, eq-eqb, ℕ, suc, ◌-◌, take, drop, add-zero, ◌<◌, true, false, List, [], ◌∷◌, ◌++◌, length, get_or, Some, refl, sym, ap, subst, ◌∙◌, ⊎_elim, arith}
 use Rattle.std.specs.Prelude.{nat_eq}
 use Rattle.std.specs.Str.{IsUtf8}
-use Rattle.std.specs.Char.{IsScalar}
 use Rattle.std.proofs.Math.Utf8.{scalar, scalars, encode, encodes}
 use Rattle.std.proofs.lemmas.Bool.{eqb-true, cases_Bool}
-use Rattle.std.proofs.lemmas.Bool.Decides.{nat_tests}
 use Rattle.std.proofs.lemmas.List.{append-nil, length-append, get_or-drop, take_rest}
 use Rattle.std.proofs.lemmas.Str.{encode_ascii, encode_same, inside_one, IsUtf8-nil, IsUtf8-append, IsUtf8-encode, IsUtf8-past_char, IsUtf8-drop, IsCharBoundary-before_ascii}
 use Rattle.sql_lexer.specs.declared.quotes.Unquoted.{Unquoted}

@@ -1,6 +1,5 @@
 -- Digits, and the number that `parse` reads from them.
-use Rattle.std.proofs.Common.{◌≡◌, ℕ, ℤ, pos, ◌+◌, ◌<◌, ◌≤◌, ◌^◌, ◌&&◌, Bool, true, false, cond, ltb, List, [], ◌∷◌, length, take, drop, get_or, Result, Ok, Err, refl, sym, ap, ◌∙◌, arith, w64}
-use Rattle.std.specs.Int.{IsInRange}
+use Rattle.std.proofs.Common.{◌≡◌, ℕ, ℤ, ◌+◌, ◌<◌, ◌≤◌, ◌^◌, ◌&&◌, Bool, true, ltb, List, [], ◌∷◌, length, take, get_or, Result, Ok, Err, refl, ◌∙◌, arith, w64}
 use Rattle.std.specs.List.{list_all, prefix_len}
 use Rattle.std.specs.Str.Parse.{digits_value, ParsesSigned}
 use Rattle.std.proofs.lemmas.Bool.{lt-ltb, le-ltb, ltb-true, ltb-false, false_from_ne_true, cond-true, cond-false}
@@ -10,7 +9,7 @@ use Rattle.sql_lexer.specs.declared.lex_error.LexError.TheVariants.{NumberRange}
 use Rattle.sql_lexer.specs.declared.token.TokenKind.TheVariants.{Number}
 use Rattle.sql_lexer.specs.declared.scan.Class.TheVariants.{Digit}
 use Rattle.sql_lexer.specs.Bytes.{class_of, is_digit}
-use Rattle.sql_lexer.specs.Reading.{Front, Fault, one, number}
+use Rattle.sql_lexer.specs.Reading.{Fault, one, number}
 use Rattle.sql_lexer.proofs.Classes.{digit_range, digit_class, digit_is, digit_joins}
 use Rattle.sql_lexer.proofs.Fronts.{and_parts, front_more, front_passes}
 

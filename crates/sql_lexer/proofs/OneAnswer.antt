@@ -1,11 +1,10 @@
 -- A script has one list of tokens or one refusal.
-use Rattle.std.proofs.Common.{◌≡◌, ◌≢◌, ℕ, ◌<◌, ◌≤◌, List, [], length, Option, Some, None, Result, Ok, Err, IfOk, IfErr, refl, sym, ap, ◌∙◌, arith}
-use Rattle.std.specs.Str.{IsUtf8, IsValidUpTo}
+use Rattle.std.proofs.Common.{◌≡◌, ℕ, List, Some, None, Result, Ok, Err, IfOk, IfErr, refl, sym, ap, ◌∙◌}
 use Rattle.std.proofs.lemmas.Str.{utf8_valid_len-IsValidUpTo}
 use Rattle.sql_lexer.specs.declared.token.Token.{Token}
 use Rattle.sql_lexer.specs.declared.lex_error.LexError.{LexError}
 use Rattle.sql_lexer.specs.declared.lex_error.LexError.TheVariants.{NotUtf8, BadCharacter, Unterminated, NumberRange, NoMemory}
-use Rattle.sql_lexer.specs.Lexes.{LexesTo, Lexes, StopsFor, Refuses, MayRefuse, GivesList, GivesRefusal}
+use Rattle.sql_lexer.specs.Lexes.{Lexes, StopsFor, Refuses, MayRefuse, GivesList, GivesRefusal}
 use Rattle.sql_lexer.proofs.OneReading.{one_outcome}
 
 pub one_list : (bytes : List ℕ) (ts us : List Token) → Lexes bytes ts → Lexes bytes us → ts ≡ us

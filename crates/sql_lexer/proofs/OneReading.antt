@@ -1,5 +1,5 @@
 -- A script is split in one way only, and a loop that reads one piece after another finds it.
-use Rattle.std.proofs.Common.{◌≡◌, ◌≢◌, ◌⊎◌, ◌≤◌, ◌<◌, ℕ, zero, suc, ◌+◌, Bool, true, false, List, [], ◌∷◌, ◌++◌, length, take, drop, Option, Some, None, Result, Ok, Err, refl, sym, ap, subst, ◌∙◌, ⊎_elim, arith, append_assoc, rules}
+use Rattle.std.proofs.Common.{◌≡◌, ◌≤◌, ◌<◌, ℕ, ◌+◌, List, [], ◌∷◌, ◌++◌, length, take, drop, Option, Some, None, Err, refl, sym, ap, subst, ◌∙◌, arith, append_assoc}
 use Rattle.std.specs.Str.{IsUtf8}
 use Rattle.std.proofs.lemmas.List.{length-append, length-drop, append-nil, drop-drop, drop_all}
 use Rattle.std.proofs.Math.Seq.{take-append_seam, drop-append_seam}
@@ -8,8 +8,8 @@ use Rattle.sql_lexer.specs.declared.token.TokenKind.{TokenKind}
 use Rattle.sql_lexer.specs.declared.token.TokenKind.TheVariants.{Word, Quoted, Number, Text, Symbol}
 use Rattle.sql_lexer.specs.declared.lex_error.LexError.{LexError}
 use Rattle.sql_lexer.specs.declared.lex_error.LexError.TheVariants.{NotUtf8, BadCharacter, Unterminated, NumberRange, NoMemory}
-use Rattle.sql_lexer.specs.Bytes.{doubled, in_quotes}
-use Rattle.sql_lexer.specs.Lexes.{Spells, IsToken, Piece, blank, comment, token, LexesTo, nothing, piece, Lexes, IsWrong, StopsFor, Refuses, MayRefuse}
+use Rattle.sql_lexer.specs.Bytes.{in_quotes}
+use Rattle.sql_lexer.specs.Lexes.{Spells, IsToken, Piece, token, LexesTo, nothing, piece, Lexes, IsWrong, StopsFor, MayRefuse}
 use Rattle.sql_lexer.specs.Reading.{Front, Nothing, Ends, Fault, next, Reads}
 use Rattle.sql_lexer.proofs.Sound.{IsRead, is_read}
 use Rattle.sql_lexer.proofs.Complete.{piece_reads, wrong_reads}

@@ -1,14 +1,11 @@
 -- Tokens that are printed with a space behind each are read again.
-use Rattle.std.proofs.Common.{◌≡◌, ◌≢◌, ◌<◌, ◌≤◌, ◌^◌, ℕ, ℤ, pos, zero, suc, ◌+◌, Bool, true, false, cond, ◌&&◌, ◌||◌, List, [], ◌∷◌, ◌++◌, length, map, get_or, zero-add, Option, Some, None, refl, sym, ap, subst, ◌∙◌, ⊎_elim, arith, append_assoc, add-zero, eq-eqb}
-use Rattle.std.specs.Prelude.{nat_eq, is_some}
-use Rattle.std.specs.Fmt.{decimal, signed_decimal}
-use Rattle.std.specs.List.{list_all, flat_map, AllByRecursion}
-use Rattle.std.specs.Char.{to_ascii_lowercase}
-use Rattle.std.specs.Str.{IsUtf8, str_to_ascii_lowercase}
-use Rattle.std.specs.Str.Parse.{digits_value}
+use Rattle.std.proofs.Common.{◌≡◌, ◌≢◌, ◌<◌, ◌^◌, ℕ, ℤ, pos, suc, ◌+◌, Bool, true, false, cond, ◌&&◌, List, [], ◌∷◌, ◌++◌, length, get_or, zero-add, Some, refl, sym, ap, subst, ◌∙◌, ⊎_elim, arith, append_assoc, add-zero, eq-eqb}
+use Rattle.std.specs.Prelude.{nat_eq}
+use Rattle.std.specs.Fmt.{decimal}
+use Rattle.std.specs.List.{list_all, AllByRecursion}
+use Rattle.std.specs.Str.{IsUtf8}
 use Rattle.std.proofs.Math.Utf8.{scalar, scalars, encode, encodes}
 use Rattle.std.proofs.lemmas.Bool.{cases_Bool, eqb-true, false_from_ne_true}
-use Rattle.std.proofs.lemmas.Bool.Decides.{nat_tests}
 use Rattle.std.proofs.lemmas.Fmt.{digits_decimal, digits_value-decimal, decimal_nonempty, IsAscii-decimal}
 use Rattle.std.proofs.lemmas.Grind.{flat_map-append}
 use Rattle.std.proofs.lemmas.List.{length-append, append-nil}
@@ -16,10 +13,8 @@ use Rattle.std.proofs.lemmas.Str.{IsUtf8-nil, IsUtf8-append, IsUtf8-encode, IsUt
 use Rattle.sql_lexer.specs.declared.token.Token.{Token}
 use Rattle.sql_lexer.specs.declared.token.TokenKind.{TokenKind}
 use Rattle.sql_lexer.specs.declared.token.TokenKind.TheVariants.{Word, Quoted, Number, Text, Symbol}
-use Rattle.sql_lexer.specs.declared.scan.Class.{Class}
-use Rattle.sql_lexer.specs.declared.scan.Class.TheVariants.{Blank, Letter, Digit}
-use Rattle.sql_lexer.specs.Bytes.{class_of, is_word, is_digit, pair, held, are_dashes, next_is, doubled, in_quotes}
-use Rattle.sql_lexer.specs.Lexes.{IsWord, IsNumber, Spells, goes_on, IsToken, Piece, blank, token, LexesTo, nothing, piece, Lexes}
+use Rattle.sql_lexer.specs.Bytes.{class_of, is_word, is_digit, held, next_is, doubled, in_quotes}
+use Rattle.sql_lexer.specs.Lexes.{IsNumber, Spells, goes_on, Piece, blank, token, LexesTo, nothing, piece, Lexes}
 use Rattle.sql_lexer.specs.Printing.{bytes_of, spelling, CanSpell, IsSpellable, plain_spelled, at_place, spaced, placed}
 use Rattle.sql_lexer.proofs.Ascii.{one_utf8}
 use Rattle.sql_lexer.proofs.BetweenQuotes.{doubled_quote, doubled_other}

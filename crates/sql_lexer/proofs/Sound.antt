@@ -1,21 +1,18 @@
 -- What is read at the front of a text stands there.
-use Rattle.std.proofs.Common.{◌≡◌, ◌≢◌, ◌⊎◌, ◌≤◌, ◌<◌, ◌^◌, inl, inr, ℕ, ℤ, pos, zero, suc, ◌+◌, Bool, true, false, cond, not, ◌&&◌, ◌||◌, ltb, List, [], ◌∷◌, ◌++◌, length, take, drop, get_or, Option, Some, None, refl, sym, ap, subst, ◌∙◌, ⊎_elim, arith, append_assoc, rules}
+use Rattle.std.proofs.Common.{◌≡◌, ◌⊎◌, ◌^◌, inl, inr, ℕ, pos, ◌+◌, Bool, true, false, ◌&&◌, ◌||◌, ltb, List, [], ◌∷◌, ◌++◌, length, take, drop, Option, Some, None, refl, sym, ap, subst, ◌∙◌, ⊎_elim, arith, append_assoc}
 use Rattle.std.specs.Prelude.{nat_eq, is_some}
-use Rattle.std.specs.List.{prefix_len, list_all}
-use Rattle.std.specs.Str.{str_to_ascii_lowercase}
+use Rattle.std.specs.List.{prefix_len}
 use Rattle.std.specs.Str.Parse.{digits_value}
 use Rattle.std.proofs.lemmas.Bool.{eqb-true, ltb-true, ltb-false, cond_both}
 use Rattle.std.proofs.lemmas.List.{length-append, take-append-drop}
 use Rattle.std.proofs.lemmas.List.Folds.{length-prefix_len}
-use Rattle.sql_lexer.specs.declared.token.Token.{Token}
-use Rattle.sql_lexer.specs.declared.token.TokenKind.{TokenKind}
-use Rattle.sql_lexer.specs.declared.token.TokenKind.TheVariants.{Word, Quoted, Number, Text, Symbol}
+use Rattle.sql_lexer.specs.declared.token.TokenKind.TheVariants.{Number, Symbol}
 use Rattle.sql_lexer.specs.declared.scan.Class.{Class}
 use Rattle.sql_lexer.specs.declared.scan.Class.TheVariants.{Blank, Letter, Digit, Quote, Mark, Other}
 use Rattle.sql_lexer.specs.declared.quotes.Unquoted.{Unquoted}
-use Rattle.sql_lexer.specs.declared.lex_error.LexError.TheVariants.{BadCharacter, Unterminated, NumberRange}
-use Rattle.sql_lexer.specs.Bytes.{class_of, is_word, is_digit, is_comment, is_mark, pair, held, are_dashes, next_is, doubled, in_quotes, stands_alone}
-use Rattle.sql_lexer.specs.Lexes.{IsWord, IsNumber, Spells, goes_on, IsToken, Piece, blank, comment, token, IsWrong}
+use Rattle.sql_lexer.specs.declared.lex_error.LexError.TheVariants.{BadCharacter, NumberRange}
+use Rattle.sql_lexer.specs.Bytes.{class_of, is_word, is_digit, is_comment, pair, held, next_is, doubled, in_quotes, stands_alone}
+use Rattle.sql_lexer.specs.Lexes.{IsWord, IsNumber, goes_on, Piece, blank, comment, token, IsWrong}
 use Rattle.sql_lexer.specs.Reading.{Front, Nothing, Ends, Fault, one, token_of, word, number, closed, kind_of, unquoted, pair_at, single, symbol, mark, by_class, next}
 use Rattle.sql_lexer.proofs.BetweenQuotes.{Says, says}
 use Rattle.sql_lexer.proofs.Classes.{blank_test, letter_joins, digit_joins, quote_cases, mark_test}

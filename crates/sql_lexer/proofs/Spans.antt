@@ -1,10 +1,10 @@
 -- Where the tokens of a script stand.
-use Rattle.std.proofs.Common.{◌≡◌, ◌≤◌, ◌<◌, ℕ, zero, suc, ◌+◌, ◌-◌, List, [], ◌∷◌, ◌++◌, length, take, drop, refl, sym, ap, subst, ◌∙◌, arith}
+use Rattle.std.proofs.Common.{◌≡◌, ◌≤◌, ◌<◌, ℕ, ◌+◌, ◌-◌, List, [], ◌∷◌, ◌++◌, length, take, drop, sym, ap, subst, ◌∙◌, arith}
 use Rattle.std.specs.List.{AllByRecursion}
 use Rattle.std.proofs.lemmas.List.{length-append, length-drop, drop-drop}
 use Rattle.std.proofs.Math.Seq.{take-append_seam, drop-append_seam}
 use Rattle.sql_lexer.specs.declared.token.Token.{Token}
-use Rattle.sql_lexer.specs.Lexes.{Spells, IsToken, Piece, blank, comment, token, LexesTo, nothing, piece}
+use Rattle.sql_lexer.specs.Lexes.{Spells, IsToken, blank, comment, token, LexesTo, nothing, piece}
 use Rattle.sql_lexer.specs.Printing.{IsSpanned, Rises}
 use Rattle.sql_lexer.proofs.OneReading.{token_some}
 

@@ -1,5 +1,5 @@
 -- What a script is split into can be printed.
-use Rattle.std.proofs.Common.{◌≡◌, ◌<◌, ◌≤◌, ◌^◌, ◌-◌, ℕ, ℤ, pos, zero, suc, ◌+◌, Bool, true, false, cond, ◌&&◌, List, [], ◌∷◌, ◌++◌, length, map, take, drop, Option, Some, None, refl, sym, ap, subst, ◌∙◌, ⊎_elim, arith}
+use Rattle.std.proofs.Common.{◌≡◌, ℕ, ℤ, true, ◌&&◌, List, [], ◌∷◌, Option, Some, None, refl, ap, subst, ◌∙◌, ⊎_elim, arith}
 use Rattle.std.specs.Prelude.{nat_eq, codes}
 use Rattle.std.specs.List.{list_all, AllByRecursion}
 use Rattle.std.specs.Char.{to_ascii_lowercase}
@@ -13,7 +13,7 @@ use Rattle.sql_lexer.specs.declared.token.TokenKind.TheVariants.{Word, Quoted, N
 use Rattle.sql_lexer.specs.declared.scan.Class.{Class}
 use Rattle.sql_lexer.specs.declared.scan.Class.TheVariants.{Blank, Letter, Digit, Quote, Mark, Other}
 use Rattle.sql_lexer.specs.Bytes.{class_of, is_word, joins_word, is_mark, pair, held}
-use Rattle.sql_lexer.specs.Lexes.{IsWord, Spells, Piece, blank, comment, token, LexesTo, nothing, piece}
+use Rattle.sql_lexer.specs.Lexes.{IsWord, Spells, blank, comment, token, LexesTo, nothing, piece}
 use Rattle.sql_lexer.specs.Printing.{CanSpell, IsSpellable}
 use Rattle.sql_lexer.proofs.Classes.{letter_joins}
 use Rattle.sql_lexer.proofs.Fronts.{and_parts}

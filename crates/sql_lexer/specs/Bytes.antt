@@ -1,5 +1,5 @@
 -- The bytes of which tokens are made (ISO/IEC 9075-2, 'SQL terminal character').
-use Rattle.std.specs.Prelude.{ℕ, Bool, true, false, not, ◌||◌, ◌&&◌, ◌++◌, if◌then◌else◌, ◌==◌, List, [], ◌∷◌, Option, Some, None, is_some, codes}
+use Rattle.std.specs.Prelude.{ℕ, Bool, true, false, not, ◌||◌, ◌&&◌, ◌++◌, if◌then◌else◌, ◌==◌, List, [], ◌∷◌, Option, Some, None, codes}
 use Rattle.std.specs.Char.{is_ascii_alphabetic, is_ascii_digit}
 use Rattle.std.specs.List.{flat_map, list_any}
 use Rattle.std.specs.Str.{byte}

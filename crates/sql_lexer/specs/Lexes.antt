@@ -1,5 +1,5 @@
 -- Which tokens a script is split into, and which script is refused (ISO/IEC 9075-2, 'token and separator').
-use Rattle.std.specs.Prelude.{Result, Ok, Err, ◌≡◌, ◌≤◌, ◌<◌, ◌^◌, ℕ, ℤ, pos, ◌+◌, Bool, true, false, ◌||◌, ◌==◌, List, [], ◌∷◌, ◌++◌, length, Option, Some, None, is_some}
+use Rattle.std.specs.Prelude.{Result, Ok, Err, ◌≡◌, ◌≤◌, ◌<◌, ◌^◌, ℕ, ℤ, pos, ◌+◌, Bool, true, false, ◌||◌, ◌==◌, List, [], ◌∷◌, ◌++◌, length, Some, is_some}
 use Rattle.std.specs.List.{list_all}
 use Rattle.std.specs.Str.{IsUtf8, IsValidUpTo, byte, str_to_ascii_lowercase}
 use Rattle.std.specs.Str.Parse.{digits_value}
@@ -9,7 +9,7 @@ use Rattle.sql_lexer.specs.declared.token.TokenKind.TheVariants.{Word, Quoted, N
 use Rattle.sql_lexer.specs.declared.scan.Class.TheVariants.{Letter, Digit, Quote, Other}
 use Rattle.sql_lexer.specs.declared.lex_error.LexError.{LexError}
 use Rattle.sql_lexer.specs.declared.lex_error.LexError.TheVariants.{NotUtf8, BadCharacter, Unterminated, NumberRange, NoMemory}
-use Rattle.sql_lexer.specs.Bytes.{is_blank, class_of, is_word, is_digit, is_comment, is_mark, pair, held, are_dashes, next_is, doubled, in_quotes}
+use Rattle.sql_lexer.specs.Bytes.{is_blank, class_of, is_word, is_digit, is_comment, pair, held, are_dashes, next_is, doubled, in_quotes}
 
 -- a letter, then letters and digits; `_` is a letter
 abbrev pub IsWord : List ℕ → Type 0

@@ -1,4 +1,3 @@
-use Rattle.std.proofs.Common.{◌≡◌, sym, ◌∙◌}
 use Rattle.sql_lexer.proofs.Classes.{mark_ascii}
 use Rattle.sql_lexer.proofs.Ascii.{one_utf8}
 use Rattle.sql_lexer.proofs.marks.single.Goals as goal

@@ -1,4 +1,4 @@
-use Rattle.std.proofs.Common.{◌≡◌, ◌<◌, ◌-◌, ◌∙◌, List, ℕ, length, take, drop, get_or, arith, sym, subst}
+use Rattle.std.proofs.Common.{drop, arith, sym, subst}
 use Rattle.std.specs.Str.{IsUtf8}
 use Rattle.std.proofs.lemmas.List.{take_rest, length-drop}
 use Rattle.sql_lexer.proofs.Classes.{quote_ascii}

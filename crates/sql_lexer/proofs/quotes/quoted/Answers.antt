@@ -1,4 +1,4 @@
-use Rattle.std.proofs.Common.{◌≡◌, ◌∙◌, sym}
+use Rattle.std.proofs.Common.{◌∙◌, sym}
 use Rattle.sql_lexer.proofs.Classes.{quote_ascii}
 use Rattle.sql_lexer.proofs.InsideUtf8.{found_utf8}
 use Rattle.sql_lexer.proofs.quotes.quoted.Goals as goal

@@ -1,4 +1,4 @@
-use Rattle.std.proofs.Common.{◌≡◌, ◌∙◌, arith, sym}
+use Rattle.std.proofs.Common.{◌∙◌, arith, sym}
 use Rattle.std.proofs.lemmas.List.{take_rest}
 use Rattle.sql_lexer.proofs.BetweenQuotes.{at_other, at_pair, at_close, at_end}
 use Rattle.sql_lexer.proofs.quotes.up_to_quote.Goals as goal

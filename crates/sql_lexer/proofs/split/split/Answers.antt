@@ -1,9 +1,8 @@
-use Rattle.std.proofs.Common.{◌≡◌, ◌++◌, ◌<◌, ◌≤◌, ◌-◌, ℕ, List, [], ◌∷◌, length, arith, sym, subst}
+use Rattle.std.proofs.Common.{[], ◌∷◌, arith}
 use Rattle.std.proofs.lemmas.List.{append-nil}
 use Rattle.std.proofs.lemmas.Result.{err_from_is_err_and}
-use Rattle.sql_lexer.specs.declared.token.Token.{Token}
-use Rattle.sql_lexer.specs.Lexes.{LexesTo, nothing}
-use Rattle.sql_lexer.proofs.OneReading.{Turn, turn, all_read, may_refuse}
+use Rattle.sql_lexer.specs.Lexes.{nothing}
+use Rattle.sql_lexer.proofs.OneReading.{turn, may_refuse}
 use Rattle.sql_lexer.proofs.split.split.Goals as goal
 
 pub loop-at-init : goal.loop-at-init

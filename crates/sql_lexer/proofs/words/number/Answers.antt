@@ -1,4 +1,4 @@
-use Rattle.std.proofs.Common.{◌≡◌, ◌∙◌, ℕ, ℤ, take, ap, sym, w64}
+use Rattle.std.proofs.Common.{◌≡◌, take, w64}
 use Rattle.std.specs.List.{prefix_len}
 use Rattle.std.proofs.lemmas.Int.{to_z-of_z}
 use Rattle.sql_lexer.specs.Bytes.{is_digit}
