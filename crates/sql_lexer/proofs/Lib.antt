@@ -1,0 +1,15 @@
+pub mod Classes
+pub mod Fronts
+pub mod Ascii
+pub mod BetweenQuotes
+pub mod Numbers
+pub mod InsideUtf8
+pub mod Sound
+pub mod Complete
+pub mod OneReading
+pub mod OneAnswer
+pub mod Printed
+pub mod Listed
+pub mod Spellable
+pub mod EachScript
+pub mod Spans

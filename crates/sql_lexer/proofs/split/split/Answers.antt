@@ -1,0 +1,34 @@
+use Rattle.std.proofs.Common.{[], ◌∷◌, arith}
+use Rattle.std.proofs.lemmas.List.{append-nil}
+use Rattle.std.proofs.lemmas.Result.{err_from_is_err_and}
+use Rattle.sql_lexer.specs.Lexes.{nothing}
+use Rattle.sql_lexer.proofs.OneReading.{turn, may_refuse}
+use Rattle.sql_lexer.proofs.split.split.Goals as goal
+
+pub loop-at-init : goal.loop-at-init
+loop-at-init c = (omega arith, rw c.new-found.ensures nothing)
+
+pub returns-in_err-end-clause-refused : goal.returns-in_err-end-clause-refused
+returns-in_err-end-clause-refused c =
+    let p = err_from_is_err_and c.from_residual.result c.from_residual.ensures.1 in
+    rw (p.1, p.2) (may_refuse c.args.bytes.now c.loop-at.at c.loop-at.found c.in_err-end.field-0.0 c.requires c.loop-at.invariant.1 c.in_err-end.ensures)
+
+pub loop-at-smaller-in-Skipped : goal.loop-at-smaller-in-Skipped
+loop-at-smaller-in-Skipped c =
+    let t = turn c.args.bytes.now c.loop-at.at c.in-Skipped.end c.loop-at.found [] c.loop-at.invariant.0 c.loop-at.invariant.1 (rw c.in-Skipped.is at c.in_ok-end.ensures) in
+    omega (arith, t.goes, t.within)
+
+pub loop-at-preserved-in-Skipped : goal.loop-at-preserved-in-Skipped
+loop-at-preserved-in-Skipped c =
+    let t = turn c.args.bytes.now c.loop-at.at c.in-Skipped.end c.loop-at.found [] c.loop-at.invariant.0 c.loop-at.invariant.1 (rw c.in-Skipped.is at c.in_ok-end.ensures) in
+    (t.within, rw append-nil at t.lexes)
+
+pub loop-at-smaller : goal.loop-at-smaller
+loop-at-smaller c =
+    let t = turn c.args.bytes.now c.loop-at.at c.in-Found.token.end c.loop-at.found (c.in-Found.token ∷ []) c.loop-at.invariant.0 c.loop-at.invariant.1 (rw c.in-Found.is at c.in_ok-end.ensures) in
+    omega (arith, t.goes, t.within)
+
+pub loop-at-preserved : goal.loop-at-preserved
+loop-at-preserved c =
+    let t = turn c.args.bytes.now c.loop-at.at c.in-Found.token.end c.loop-at.found (c.in-Found.token ∷ []) c.loop-at.invariant.0 c.loop-at.invariant.1 (rw c.in-Found.is at c.in_ok-end.ensures) in
+    (t.within, rw c.in_ok-push-in-Found.ensures.ok t.lexes)

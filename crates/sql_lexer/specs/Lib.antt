@@ -1,0 +1,5 @@
+pub mod Bytes
+pub mod Lexes
+pub mod Reading
+pub mod Reserved
+pub mod Printing

@@ -1,0 +1,37 @@
+ghost use Rattle.std.specs.Prelude.{◌≡◌, ◌<◌, drop, length};
+ghost use Rattle.std.specs.Str.{IsUtf8};
+ghost use Rattle.sql_lexer.specs.Reading as spec;
+
+use crate::marks::mark;
+use crate::quotes::quoted;
+use crate::scan::{Class, class_of};
+use crate::words::{number, word};
+use crate::{LexError, Token};
+use std::alloc::Global;
+
+/// What stands at the front of a text.
+#[derive(Debug, Drop)]
+pub(crate) enum Piece {
+    /// A blank or a comment, which ends here.
+    Skipped(usize),
+    Found(Token),
+}
+
+/// What stands at a place of a script.
+#[tactic(auto, unfolding(crate::specs::Reading::next))]
+pub(crate) fn piece_at(alloc: Global, bytes: &[u8], at: usize) -> Result<Piece, LexError>
+    requires utf8 { IsUtf8 bytes.now }
+    requires within { at < length bytes.now }
+    ensures { spec.Reads result (spec.next at (drop at bytes.now)) }
+{
+    let text = &bytes[at..];
+    let first = text[0];
+    let rest = &text[1..];
+    match class_of(first) {
+        Class::Blank => Ok(Piece::Skipped(at + 1)),
+        Class::Letter => word(alloc, at, text),
+        Class::Digit => number(alloc, at, text),
+        Class::Quote => quoted(alloc, at, first, rest),
+        Class::Mark | Class::Other => mark(alloc, at, first, rest),
+    }
+}
