@@ -9,3 +9,4 @@ pub mod PlaceNames
 pub mod TableRows
 pub mod WorkedRows
 pub mod Built
+pub mod Children
