@@ -1,1 +1,5 @@
 pub mod Joining
+pub mod Fields
+pub mod Records
+pub mod Rules
+pub mod InLoop

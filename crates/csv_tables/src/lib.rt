@@ -2,5 +2,9 @@
 #![tactic(auto)]
 
 mod answer;
+mod data_error;
+mod loading;
 
 pub use answer::answer_text;
+pub use data_error::DataError;
+pub use loading::load;

@@ -1,0 +1,103 @@
+ghost use Rattle.std.specs.Prelude.{◌≡◌, ◌≢◌, ◌+◌, ◌<◌, ◌^◌, [], All, IfOk, IfErr, length, List};
+ghost use Rattle.csv.specs.Records.{fields_of};
+ghost use Rattle.csv_tables.specs.Loading.{broken_rules, field_breaks, field_value, integer_of, IsFirstBroken, record_breaks, row_values, spelled_rows};
+
+use crate::DataError;
+use csv::{ByteRecord, ReaderBuilder};
+use perm_values::{Chars, Kind, List, Row, Rows, Value};
+use std::alloc::Global;
+
+/// The columns that records are read into.
+#[derive(Clone, Copy)]
+struct Columns<'a> {
+    alloc: Global,
+    kinds: &'a [Kind],
+    mark: &'a [u8],
+}
+
+fn integer(field: &[u8]) -> Option<i64>
+    ensures { result ≡ integer_of field.now }
+{
+    match std::str::from_utf8(field) {
+        Ok(text) => text.parse().ok(),
+        Err(_) => None,
+    }
+}
+
+impl Columns<'_> {
+    fn value(&self, kind: Kind, field: &[u8], row: u64, place: u64) -> Result<Value, DataError>
+        requires { kind ≢ Kind.Boolean }
+        ensures ok { IfOk result (λ value. (field_breaks self.now.mark.now row place kind field.now ≡ []) × (value ≡ field_value self.now.mark.now kind field.now)) }
+        ensures err { IfErr result (λ error. IsFirstBroken (field_breaks self.now.mark.now row place kind field.now) error) }
+    {
+        if field == self.mark {
+            return Ok(Value::Null);
+        }
+        match kind {
+            Kind::Integer => match integer(field) {
+                Some(number) => Ok(Value::Integer(number)),
+                None => Err(DataError::NotInteger { row, field: place }),
+            },
+            Kind::Text => match Chars::new(self.alloc, field)? {
+                Some(text) => Ok(Value::Text(text)),
+                None => Err(DataError::NotText { row, field: place }),
+            },
+            Kind::Boolean => unreachable!(),
+        }
+    }
+
+    fn row(&self, fields: &ByteRecord, number: u64) -> Result<Row, DataError>
+        requires { All (λ kind. kind ≢ Kind.Boolean) self.now.kinds.now }
+        ensures ok { IfOk result (λ row. (record_breaks self.now.mark.now self.now.kinds.now number (fields_of fields.now) ≡ []) × (row ≡ row_values self.now.mark.now self.now.kinds.now (fields_of fields.now))) }
+        ensures err { IfErr result (λ error. IsFirstBroken (record_breaks self.now.mark.now self.now.kinds.now number (fields_of fields.now)) error) }
+    {
+        if fields.len() != self.kinds.len() {
+            return Err(DataError::Width { row: number });
+        }
+        let mut row = Row::new(self.alloc);
+        for (place, kind) in self.kinds.iter().enumerate() {
+            let Some(field) = fields.get(place) else {
+                unreachable!()
+            };
+            row.push(self.value(*kind, field, number, place as u64 + 1)?)?;
+        }
+        Ok(row)
+    }
+}
+
+/// The rows that the bytes of a CSV file spell, one for each record.
+///
+/// Records and their fields are those that the `csv` crate reads by default: commas, double quotes, any line end, no
+/// blank lines (RFC 4180). With `header` the first record is left out, whatever it holds. A field whose bytes equal
+/// `mark` is NULL in every column. Any other field of an integer column is an optional sign and digits that fit
+/// 64 bits, and of a text column UTF-8. It refuses a file whose records break a rule, and names the first in the order of the
+/// records; in a record the width comes first, then the fields from left to right.
+pub fn load(
+    alloc: Global,
+    bytes: &[u8],
+    kinds: &[Kind],
+    mark: &[u8],
+    header: bool,
+) -> Result<Rows, DataError>
+    requires { All (λ kind. kind ≢ Kind.Boolean) kinds.now }
+    ensures ok { IfOk result (λ rows. (broken_rules mark.now kinds.now header bytes.now ≡ []) × (rows ≡ spelled_rows mark.now kinds.now header bytes.now)) }
+    ensures err { IfErr result (λ error. IsFirstBroken (broken_rules mark.now kinds.now header bytes.now) error) }
+{
+    let columns = Columns { alloc, kinds, mark };
+    let reader = ReaderBuilder::new()
+        .has_headers(false)
+        .flexible(true)
+        .from_reader(alloc, bytes);
+    let mut rows = List::new(alloc);
+    let mut skip = header;
+    for entry in reader.into_byte_records() {
+        let fields = entry?;
+        if skip {
+            skip = false;
+        } else {
+            let number = rows.len() as u64 + u64::from(header) + 1;
+            rows.push(columns.row(&fields, number)?)?;
+        }
+    }
+    Ok(rows)
+}
