@@ -42,6 +42,24 @@ is_null (Boolean a) = false
 abbrev pub compare_values : Compare → Value → Value → Truth
 compare_values op a b = cond (is_null a || is_null b) Unknown (known (holds op (value_cmp a b)))
 
+-- the comparison that holds where this one doesn't
+abbrev pub opposite : Compare → Compare
+opposite Equal = NotEqual
+opposite NotEqual = Equal
+opposite Less = GreaterEqual
+opposite LessEqual = Greater
+opposite Greater = LessEqual
+opposite GreaterEqual = Less
+
+-- the comparison that says the same of the operands in each other's place
+abbrev pub mirrored : Compare → Compare
+mirrored Equal = Equal
+mirrored NotEqual = NotEqual
+mirrored Less = Greater
+mirrored LessEqual = GreaterEqual
+mirrored Greater = Less
+mirrored GreaterEqual = LessEqual
+
 -- `a BETWEEN low AND high`
 abbrev pub between : Value → Value → Value → Truth
 between a low high = truth_and (compare_values GreaterEqual a low) (compare_values LessEqual a high)

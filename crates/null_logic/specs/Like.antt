@@ -1,5 +1,5 @@
 -- LIKE on lists of characters (ISO/IEC 9075-2, 'like predicate', without ESCAPE).
-use Rattle.std.specs.Prelude.{ℕ, Bool, true, false, cond, ◌&&◌, ◌||◌, ◌==◌, List, [], ◌∷◌}
+use Rattle.std.specs.Prelude.{◌≢◌, ℕ, Bool, true, false, cond, ◌&&◌, ◌||◌, ◌==◌, List, [], ◌∷◌}
 use Rattle.std.specs.Str.{byte}
 
 -- `%`
@@ -34,3 +34,7 @@ like text [] = is_empty text
 like text (p ∷ pattern) = cond (p == any_run)
     (some_suffix (λ rest. like rest pattern) text)
     (first_then (takes p) (λ rest. like rest pattern) text)
+
+-- a character that stands for itself
+abbrev pub IsLiteral : ℕ → Type 0
+IsLiteral p = (p ≢ any_run) × (p ≢ any_one)

@@ -1,5 +1,6 @@
 ghost use Rattle.std.specs.Prelude.{◌≡◌, IfOk};
 ghost use Rattle.null_logic.specs.Arithmetic.{calculate, negate};
+ghost use Rattle.null_logic.specs.Operators.{arith_spelling};
 
 use crate::RunFault;
 use perm_values::{Copyable, NoMemory};
@@ -13,6 +14,21 @@ pub enum Arith {
     Multiply,
     Divide,
     Remainder,
+}
+
+impl Arith {
+    /// How SQL writes it.
+    pub fn spelling(self) -> &'static str
+        ensures { result.now ≡ arith_spelling self }
+    {
+        match self {
+            Arith::Add => "+",
+            Arith::Subtract => "-",
+            Arith::Multiply => "*",
+            Arith::Divide => "/",
+            Arith::Remainder => "%",
+        }
+    }
 }
 
 /// The exact result. A quotient goes towards zero, and a remainder has the sign of the dividend.

@@ -1,5 +1,6 @@
 ghost use Rattle.std.specs.Prelude.{◌≡◌, IfOk};
 ghost use Rattle.null_logic.specs.Comparison.{holds, compare_values};
+ghost use Rattle.null_logic.specs.Operators.{compare_spelling};
 
 use crate::Truth;
 use perm_values::{Copyable, NoMemory, Value};
@@ -18,6 +19,20 @@ pub enum Compare {
 }
 
 impl Compare {
+    /// How SQL writes it.
+    pub fn spelling(self) -> &'static str
+        ensures { result.now ≡ compare_spelling self }
+    {
+        match self {
+            Compare::Equal => "=",
+            Compare::NotEqual => "<>",
+            Compare::Less => "<",
+            Compare::LessEqual => "<=",
+            Compare::Greater => ">",
+            Compare::GreaterEqual => ">=",
+        }
+    }
+
     fn holds(self, order: Ordering) -> bool
         ensures { result ≡ holds self order }
     {

@@ -1,0 +1,4 @@
+mod ComparisonLaws
+mod Keys
+mod LikeLaws
+mod Walk
