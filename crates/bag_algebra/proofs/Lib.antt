@@ -1,1 +1,3 @@
+pub mod BagLaws
 mod FiniteMap
+pub mod SortedBags

@@ -8,4 +8,4 @@ pub mod Patterns
 pub mod TableRows
 pub mod WorkedRows
 pub mod Built
-pub mod BuiltExpr
+pub mod Children

@@ -6,7 +6,8 @@ use Rattle.null_logic.specs.declared.truth.Truth.{Truth}
 use Rattle.perm_values.specs.declared.value.Value.{Value}
 use Rattle.perm_values.specs.declared.value.Value.TheVariants.{Boolean}
 use Rattle.bag_algebra.specs.Bags.{Row}
-use Rattle.bag_algebra.specs.BuiltExpr.{step_on, arms_on, value-Op, value-Chain, value-Case, value-IsNull, value-IsTruth, value-Same}
+use Rattle.bag_algebra.specs.Built.{value-Op, value-Chain, value-Case, value-IsNull, value-IsTruth, value-Same}
+use Rattle.bag_algebra.specs.Children.{part_values, step_of, arms_value}
 use Rattle.bag_algebra.specs.Expressions.{value, operate, has_truth}
 use Rattle.bag_algebra.specs.Expressions as algebra
 use Rattle.bag_algebra.specs.Outcome.{Outcome, Good, Bad, and_then, mapped, both, both_then, each}
@@ -15,7 +16,7 @@ use Rattle.bag_algebra.specs.declared.expr.ChainStep.{ChainStep}
 use Rattle.bag_algebra.specs.declared.expr.Expr.{Expr}
 use Rattle.bag_algebra.specs.declared.expr.Expr.TheVariants.{Op, Chain, Case, IsNull, IsTruth, Same}
 use Rattle.row_executor.specs.Answers.{Refuses}
-use Rattle.row_executor.specs.Parts.{values_of, steps_of, shown, chain_of, same_as, Chooses}
+use Rattle.row_executor.specs.Parts.{steps_of, shown, chain_of, same_as, Chooses}
 use Rattle.row_executor.specs.declared.error.ExecError.{ExecError}
 use Rattle.row_executor.proofs.Outcomes.{both_first, both_then_first}
 
@@ -41,17 +42,17 @@ one_step make show (Bad g) (Good ys) = refl
 one_step make show (Bad g) (Bad h) = refl
 
 module _ (u : Row) (env : List Row) (subs : List Value) where
-  steps_made : (steps : List ChainStep) → each (step_on u env subs) steps ≡ mapped (map shown) (steps_of steps u env subs)
+  steps_made : (steps : List ChainStep) → each (step_of u env subs) steps ≡ mapped (map shown) (steps_of steps u env subs)
   steps_made [] = refl
   steps_made (step ∷ steps) =
-      ap (both (λ y ys. y ∷ ys) (step_on u env subs step)) (steps_made steps)
+      ap (both (λ y ys. y ∷ ys) (step_of u env subs step)) (steps_made steps)
       ∙ one_step (λ v. record { operation = step.op; operand = v }) shown (value step.part u env subs) (steps_of steps u env subs)
 
   module _ (expr : Expr) where
     on : (made : Expr) (o : Outcome Value) → expr ≡ made → value made u env subs ≡ o → value expr u env subs ≡ o
     on made o e e' = ap (λ x. value x u env subs) e ∙ e'
 
-    pub on_op : (op : Operator) (parts : List Expr) → expr ≡ Op op parts → value expr u env subs ≡ and_then (values_of parts u env subs) (operate op)
+    pub on_op : (op : Operator) (parts : List Expr) → expr ≡ Op op parts → value expr u env subs ≡ and_then (part_values parts u env subs) (operate op)
     on_op op parts e = on _ _ e (value-Op u env subs op parts)
 
     pub on_chain : (first : Expr) (steps : List ChainStep) (start : Value) → expr ≡ Chain first steps → value first u env subs ≡ Good start →
@@ -60,7 +61,7 @@ module _ (u : Row) (env : List Row) (subs : List Value) where
         on _ _ e (value-Chain u env subs first steps) ∙ both_then_good _ start _ _ good
         ∙ ap (λ o. and_then o (algebra.chain start)) (steps_made steps) ∙ mapped_then (map shown) (algebra.chain start) (steps_of steps u env subs)
 
-    pub on_case : (arms : List Arm) (otherwise : Expr) → expr ≡ Case arms otherwise → value expr u env subs ≡ arms_on u env subs arms (value otherwise u env subs)
+    pub on_case : (arms : List Arm) (otherwise : Expr) → expr ≡ Case arms otherwise → value expr u env subs ≡ arms_value arms u env subs (value otherwise u env subs)
     on_case arms otherwise e = on _ _ e (value-Case u env subs arms otherwise)
 
     pub on_is_null : (part : Expr) → expr ≡ IsNull part → value expr u env subs ≡ mapped (λ v. Boolean (is_null v)) (value part u env subs)
@@ -76,7 +77,7 @@ module _ (u : Row) (env : List Row) (subs : List Value) where
     pub on_chain_error : (first : Expr) (steps : List ChainStep) (error : ExecError) → expr ≡ Chain first steps → Refuses (value first u env subs) error →
         Refuses (value expr u env subs) error
     on_chain_error first steps error e h =
-        subst (λ o. Refuses o error) (sym (on _ _ e (value-Chain u env subs first steps))) (both_then_first (value first u env subs) (each (step_on u env subs) steps) algebra.chain error h)
+        subst (λ o. Refuses o error) (sym (on _ _ e (value-Chain u env subs first steps))) (both_then_first (value first u env subs) (each (step_of u env subs) steps) algebra.chain error h)
 
     pub on_same_error : (first second : Expr) (error : ExecError) → expr ≡ Same first second → Refuses (value first u env subs) error →
         Refuses (value expr u env subs) error

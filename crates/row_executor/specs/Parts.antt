@@ -8,21 +8,17 @@ use Rattle.bag_algebra.specs.Expressions.{value}
 use Rattle.bag_algebra.specs.Expressions as algebra
 use Rattle.bag_algebra.specs.Outcome.{Outcome, Good, and_then, mapped, each}
 use Rattle.bag_algebra.specs.declared.expr.ChainStep.{ChainStep}
-use Rattle.bag_algebra.specs.declared.expr.Expr.{Expr}
 use Rattle.bag_algebra.specs.declared.expr.Item.{Item}
 use Rattle.row_executor.specs.Answers.{Refuses}
 use Rattle.row_executor.specs.declared.error.ExecError.{ExecError}
 use Rattle.row_executor.specs.declared.step.Step.{Step}
 
-abbrev pub values_of : List Expr → Row → List Row → List Value → Outcome (List Value)
-values_of parts u env subs = each (λ part. value part u env subs) parts
-
 -- a step of a chain with the value of its operand
-abbrev pub step_of : Row → List Row → List Value → ChainStep → Outcome Step
-step_of u env subs step = mapped (λ v. record { operation = step.op; operand = v }) (value step.part u env subs)
+abbrev pub made_step : Row → List Row → List Value → ChainStep → Outcome Step
+made_step u env subs step = mapped (λ v. record { operation = step.op; operand = v }) (value step.part u env subs)
 
 abbrev pub steps_of : List ChainStep → Row → List Row → List Value → Outcome (List Step)
-steps_of steps u env subs = each (step_of u env subs) steps
+steps_of steps u env subs = each (made_step u env subs) steps
 
 -- a step of code as a step of the definition of a chain
 abbrev pub shown : Step → algebra.Step

@@ -1,10 +1,10 @@
 //! The value of an expression on a row.
 ghost use Rattle.perm_values.specs.Rows.{value_at};
-ghost use Rattle.bag_algebra.specs.BuiltExpr.{arms_on};
+ghost use Rattle.bag_algebra.specs.Children.{part_values, arms_value};
 ghost use Rattle.bag_algebra.specs.Expressions.{value, column, operate};
 ghost use Rattle.bag_algebra.specs.Outcome.{Good, and_then, mapped};
 ghost use Rattle.row_executor.specs.Answers.{Gives};
-ghost use Rattle.row_executor.specs.Parts.{values_of, steps_of, chain_of, same_as, Chooses};
+ghost use Rattle.row_executor.specs.Parts.{steps_of, chain_of, same_as, Chooses};
 
 use crate::ExecError;
 use crate::operate::{has_truth, is_null, operate};
@@ -67,7 +67,7 @@ fn operated(
     subs: &[Value],
     env: &Env,
 ) -> Result<Value, ExecError>
-    ensures { Gives (and_then (values_of parts.now row.now env.now subs.now) (operate op)) result }
+    ensures { Gives (and_then (part_values parts.now row.now env.now subs.now) (operate op)) result }
 {
     let values = values_of(alloc, parts, row, subs, env)?;
     operate(alloc, op, values.as_slice())
@@ -114,7 +114,7 @@ fn values_of(
     subs: &[Value],
     env: &Env,
 ) -> Result<List<Value>, ExecError>
-    ensures { Gives (values_of parts.now row.now env.now subs.now) result }
+    ensures { Gives (part_values parts.now row.now env.now subs.now) result }
 {
     let mut values = List::new(alloc);
     for part in parts {
@@ -152,7 +152,7 @@ fn chosen(
     subs: &[Value],
     env: &Env,
 ) -> Result<Option<Value>, ExecError>
-    ensures { Chooses (arms_on row.now env.now subs.now arms.now) result }
+    ensures { Chooses (arms_value arms.now row.now env.now subs.now) result }
 {
     for arm in arms {
         let condition = eval(alloc, &arm.condition, row, subs, env)?;

@@ -1,8 +1,8 @@
 use Rattle.std.proofs.Common.{take, sym, ap, ◌∙◌}
 use Rattle.bag_algebra.specs.Expressions.{value}
 use Rattle.bag_algebra.specs.Outcome.{mapped, each}
-use Rattle.bag_algebra.specs.BuiltExpr.{arms_on}
-use Rattle.row_executor.specs.Parts.{step_of}
+use Rattle.bag_algebra.specs.Children.{arms_value}
+use Rattle.row_executor.specs.Parts.{made_step}
 use Rattle.row_executor.proofs.Outcomes.{along, passed, mapped_part, each_item, each_good}
 use Rattle.row_executor.proofs.Taken.{taken}
 use Rattle.row_executor.proofs.Values.{on_op, on_chain, on_case, on_is_null, on_is_truth, on_same, on_chain_error, on_same_error, is_null_good, is_truth_good, chose_some, chose_none}
@@ -35,16 +35,16 @@ eval-returns-in_err-value-in-Case t c =
 pub eval-returns-in-Some : goal.eval-returns-in-Some
 eval-returns-in-Some t c =
     on_case c.args.row.now c.args.env.now c.args.subs.now c.args.expr.now c.in-Case.arms c.in-Case.otherwise c.in-Case.is
-    ∙ ap (λ l. arms_on c.args.row.now c.args.env.now c.args.subs.now l (value c.in-Case.otherwise c.args.row.now c.args.env.now c.args.subs.now)) (sym c.as_slice-in-Case.ensures)
-    ∙ chose_some (arms_on c.args.row.now c.args.env.now c.args.subs.now c.as_slice-in-Case.result.now) c.in_ok-value-in-Case.field-0 c.in-Some.value c.in-Some.is
+    ∙ ap (λ l. arms_value l c.args.row.now c.args.env.now c.args.subs.now (value c.in-Case.otherwise c.args.row.now c.args.env.now c.args.subs.now)) (sym c.as_slice-in-Case.ensures)
+    ∙ chose_some (arms_value c.as_slice-in-Case.result.now c.args.row.now c.args.env.now c.args.subs.now) c.in_ok-value-in-Case.field-0 c.in-Some.value c.in-Some.is
     c.in_ok-value-in-Case.ensures (value c.in-Case.otherwise c.args.row.now c.args.env.now c.args.subs.now)
 
 pub eval-returns-in-None : goal.eval-returns-in-None
 eval-returns-in-None t c =
     along _ _ c.eval-in-None.result
     (on_case c.args.row.now c.args.env.now c.args.subs.now c.args.expr.now c.in-Case.arms c.in-Case.otherwise c.in-Case.is
-    ∙ ap (λ l. arms_on c.args.row.now c.args.env.now c.args.subs.now l (value c.in-Case.otherwise c.args.row.now c.args.env.now c.args.subs.now)) (sym c.as_slice-in-Case.ensures)
-    ∙ chose_none (arms_on c.args.row.now c.args.env.now c.args.subs.now c.as_slice-in-Case.result.now) c.in_ok-value-in-Case.field-0 c.in-None.is
+    ∙ ap (λ l. arms_value l c.args.row.now c.args.env.now c.args.subs.now (value c.in-Case.otherwise c.args.row.now c.args.env.now c.args.subs.now)) (sym c.as_slice-in-Case.ensures)
+    ∙ chose_none (arms_value c.as_slice-in-Case.result.now c.args.row.now c.args.env.now c.args.subs.now) c.in_ok-value-in-Case.field-0 c.in-None.is
     c.in_ok-value-in-Case.ensures (value c.in-Case.otherwise c.args.row.now c.args.env.now c.args.subs.now))
     (rw c.get-in-None.ensures at c.eval-in-None.ensures)
 
@@ -89,14 +89,14 @@ eval-returns-in_ok-left-in-Same t c =
 pub steps_of-returns-in_err-operand : goal.steps_of-returns-in_err-operand
 steps_of-returns-in_err-operand t c =
     passed _ _ c.from_residual.result c.from_residual.ensures.1
-    (each_item (step_of c.args.row.now c.args.env.now c.args.subs.now) c.args.steps.now c.loop-step.step-index c.step-item.result _ c.loop-step-test.true c.step-item.is
+    (each_item (made_step c.args.row.now c.args.env.now c.args.subs.now) c.args.steps.now c.loop-step.step-index c.step-item.result _ c.loop-step-test.true c.step-item.is
     (mapped_part _ (value c.step-item.result.part c.args.row.now c.args.env.now c.args.subs.now) _ c.in_err-operand.ensures))
 
 pub steps_of-loop-step-preserved : goal.steps_of-loop-step-preserved
 steps_of-loop-step-preserved t c =
     rw c.in_ok-push.ensures.ok
-    (ap (each (step_of c.args.row.now c.args.env.now c.args.subs.now)) (taken c.args.steps.now c.loop-step.step-index c.step-item.result c.loop-step-test.true c.step-item.is)
-    ∙ each_good (step_of c.args.row.now c.args.env.now c.args.subs.now) (take c.loop-step.step-index c.args.steps.now) c.step-item.result _ _ c.loop-step.invariant
+    (ap (each (made_step c.args.row.now c.args.env.now c.args.subs.now)) (taken c.args.steps.now c.loop-step.step-index c.step-item.result c.loop-step-test.true c.step-item.is)
+    ∙ each_good (made_step c.args.row.now c.args.env.now c.args.subs.now) (take c.loop-step.step-index c.args.steps.now) c.step-item.result _ _ c.loop-step.invariant
     (ap (mapped _) c.in_ok-operand.ensures))
 
 pub values_of-returns-in_err-eval : goal.values_of-returns-in_err-eval
