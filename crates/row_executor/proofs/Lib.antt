@@ -1,0 +1,4 @@
+pub mod Truths
+pub mod Taken
+pub mod Outcomes
+pub mod Values

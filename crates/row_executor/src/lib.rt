@@ -1,0 +1,10 @@
+//! The value of expressions on rows, and the rows of queries, by nested loops.
+#![tactic(auto)]
+
+mod error;
+mod expression;
+mod operate;
+mod step;
+
+pub use error::ExecError;
+pub use expression::eval;
