@@ -1,9 +1,9 @@
 -- A BTreeMap under numbers, seen as a finite map.
-use Rattle.std.proofs.Common.{◌≡◌, ℕ, cond, List, [], ◌∷◌, Some, None, refl, sym, ap, ◌∙◌}
+use Rattle.std.proofs.Common.{◌≡◌, ℕ, Bool, true, false, cond, List, [], ◌∷◌, Some, None, refl, sym, ap, ◌∙◌}
 use Rattle.std.specs.BTreeMap.{is_at}
-use Rattle.std.specs.Cmp.{nat_cmp_total, eq_by_cmp_equiv}
+use Rattle.std.specs.Cmp.{nat_cmp_total, Equal-is, eq_by_cmp_equiv}
 use Rattle.std.specs.FinMap as map
-use Rattle.std.specs.FinMap.{from_entries, get-from_entries, get-insert, get-remove, same_map, nat_cmp-IsAntisymmetric}
+use Rattle.std.specs.FinMap.{FinMap, from_entries, get-from_entries, get-insert, get-remove, same_map, nat_cmp-IsAntisymmetric}
 use Rattle.std.specs.FinMap.Entries.{find}
 use Rattle.std.specs.Map.{lookup}
 use Rattle.std.specs.Ordering.{nat_cmp, eq_by_cmp, is_eq}
@@ -36,3 +36,13 @@ remove-view new old k updates =
     (λ q. get-view new q ∙ updates q
     ∙ (λ i. cond (turned q k i) None (sym (get-view old q) i))
     ∙ sym (get-remove nat_cmp_total (from_entries old) k q))
+
+same_at : {X : Type 0} (m : FinMap nat_cmp X) (k : ℕ) (v : X) (q : ℕ) (b : Bool) → eq_by_cmp nat_cmp q k ≡ b → map.get m k ≡ Some v → cond b (Some v) (map.get m q) ≡ map.get m q
+same_at m k v q true e h = sym (ap (map.get m) (nat_cmp-IsAntisymmetric q k ((Equal-is (nat_cmp q k)).0 e)) ∙ h)
+same_at m k v q false e h = refl
+
+-- what is there already isn't changed by its insertion
+pub insert-same : {X : Type 0} (m : FinMap nat_cmp X) (k : ℕ) (v : X) → map.get m k ≡ Some v → map.insert m k v ≡ m
+insert-same m k v h =
+    same_map nat_cmp_total nat_cmp-IsAntisymmetric (map.insert m k v) m
+        (λ q. get-insert nat_cmp_total m k v q ∙ same_at m k v q (eq_by_cmp nat_cmp q k) refl h)

@@ -57,6 +57,18 @@ impl Tables {
         Ok(())
     }
 
+    /// Adds rows at the end of those of that identity. It fails only for want of memory, and then nothing changes.
+    pub fn add_rows(&mut self, id: u64, rows: Rows) -> Result<(), NoMemory>
+        requires { IsSome (map.get self.old id) }
+        ensures ok { OnOk result (self.new ≡ map.insert self.old id (rows_in self.old id ++ rows)) }
+        ensures err { OnErr result (self.new ≡ self.old) }
+    {
+        match self.rows.get_mut(&id) {
+            Some(held) => held.append(rows),
+            None => Ok(()),
+        }
+    }
+
     /// Takes the identity out and gives its rows; `None` exactly where it isn't held. It takes no memory.
     pub fn remove(&mut self, id: u64) -> Option<Rows>
         ensures rows { result ≡ map.get self.old id }

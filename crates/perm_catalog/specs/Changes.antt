@@ -60,6 +60,10 @@ with_rows_of c name id rows = record {
   next = c.next + 1;
 }
 
+-- rows added, before the number is drawn
+abbrev pub with_more_rows_undrawn : Contents → List ℕ → ℕ → Bag → Contents
+with_more_rows_undrawn c name id rows = record c { tables = changed (renewed c.next) name c.tables; rows = map.insert c.rows id (rows_at c id ++ rows) }
+
 -- rows added at the end of the table that has this identity
 abbrev pub with_more_rows : Contents → List ℕ → ℕ → Bag → Contents
 with_more_rows c name id rows = with_rows_of c name id (rows_at c id ++ rows)

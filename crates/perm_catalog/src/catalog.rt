@@ -1,10 +1,12 @@
-ghost use Rattle.std.specs.Prelude.{◌≡◌, ◌-◌, ◌^◌, ◌<◌, ◌↔◌, OnOk, OnErr, IsErrOf, IsTrue, true, None, is_some};
+ghost use Rattle.std.specs.Prelude.{◌≡◌, ◌-◌, ◌^◌, ◌<◌, ◌↔◌, OnOk, OnErr, IsErrOf, IsTrue, true, None, is_some, IsSome, IfSome, IsSomeAnd};
+ghost use Rattle.std.specs.FinMap as map;
 ghost use Rattle.std.specs.Option.{option_copied};
-ghost use Rattle.perm_catalog.specs.Changes.{table_named, view_named, is_free, with_table, with_entry, nothing_held};
+ghost use Rattle.perm_catalog.specs.Changes.{table_named, view_named, is_free, with_table, with_entry, with_more_rows, with_more_rows_undrawn, nothing_held};
 
 use crate::column::Column;
 use crate::entries::{Mark, TableEntry, ViewEntry};
 use crate::last::{add_last, room_for};
+use crate::renew::renew;
 use bag_algebra::Tables;
 use indexmap::IndexMap;
 use perm_values::{Chars, Copyable, List, NoMemory, Rows};
@@ -131,6 +133,36 @@ impl Catalog {
         let key = room_for(alloc, &mut self.tables, name)?;
         self.rows.put(entry.id, rows)?;
         add_last(&mut self.tables, key, entry);
+        Ok(())
+    }
+
+    /// Adds rows at the end of a table, which gets the next number as its version and stores no provenance from then on.
+    /// `VersionsSpent` comes exactly where that number is the last one. After a refusal nothing has changed.
+    pub fn insert_rows(&mut self, name: &Chars, rows: Rows) -> Result<(), CatalogRefusal>
+        requires { IsSomeAnd (table_named self.old name.now) (λ entry. IsSome (map.get self.old.rows entry.id)) }
+        ensures ok { OnOk result (IfSome (table_named self.old name.now) (λ entry. self.new ≡ with_more_rows self.old name.now entry.id rows)) }
+        ensures spent { IsErrOf result CatalogRefusal.VersionsSpent ↔ (self.old.next ≡ 2 ^ 64 - 1) }
+        ensures err { OnErr result (self.new ≡ self.old) }
+    {
+        if self.next == u64::MAX {
+            return Err(CatalogRefusal::VersionsSpent);
+        }
+        self.add_to_table(name, rows)?;
+        self.next += 1;
+        Ok(())
+    }
+
+    /// Adds rows to a table and marks them with the next number, which isn't drawn.
+    fn add_to_table(&mut self, name: &Chars, rows: Rows) -> Result<(), NoMemory>
+        requires { IsSomeAnd (table_named self.old name.now) (λ entry. IsSome (map.get self.old.rows entry.id)) }
+        ensures ok { OnOk result (IfSome (table_named self.old name.now) (λ entry. self.new ≡ with_more_rows_undrawn self.old name.now entry.id rows)) }
+        ensures err { OnErr result (self.new ≡ self.old) }
+    {
+        let Some(entry) = self.tables.get(name) else {
+            return Ok(());
+        };
+        self.rows.add_rows(entry.id, rows)?;
+        renew(&mut self.tables, name, self.next);
         Ok(())
     }
 }

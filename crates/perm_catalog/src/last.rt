@@ -1,7 +1,6 @@
 ghost use Rattle.std.specs.Prelude.{◌≡◌, ◌++◌, ◌∷◌, [], ◌<◌, None, IfOk, OnOk, nat_eq};
 ghost use Rattle.std.specs.Cmp.Lexicographic.{pointwise};
-ghost use Rattle.indexmap.specs.IndexMap.{IsUnchanged, get};
-ghost use Rattle.indexmap.specs.Spare.{spare};
+ghost use Rattle.indexmap.specs.IndexMap.{IsUnchanged, get, spare};
 
 use indexmap::IndexMap;
 use perm_values::{Chars, Copyable, NoMemory};

@@ -5,6 +5,7 @@ mod catalog;
 mod column;
 mod entries;
 mod last;
+mod renew;
 
 pub use catalog::{Catalog, CatalogRefusal};
 pub use column::Column;
