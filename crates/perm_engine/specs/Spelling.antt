@@ -1,5 +1,5 @@
 -- How tokens spell a script: each statement has one spelling, and statements are ended by semicolons.
-use Rattle.std.specs.Prelude.{◌≡◌, ◌≤◌, ◌<◌, ℕ, ℤ, pos, Bool, true, false, cond, not, ◌&&◌, List, [], ◌∷◌, ◌++◌, map, length, codes, All}
+use Rattle.std.specs.Prelude.{◌≡◌, ◌<◌, ℕ, ℤ, cond, List, [], ◌∷◌, ◌++◌, map, length, codes, All}
 use Rattle.perm_values.specs.declared.kind.Kind.{Kind}
 use Rattle.perm_values.specs.declared.kind.Kind.TheVariants as kind
 use Rattle.perm_values.specs.declared.value.Value.{Value}
@@ -7,8 +7,8 @@ use Rattle.perm_values.specs.declared.value.Value.TheVariants.{Null, Integer, Te
 use Rattle.sql_lexer.specs.declared.token.Token.{Token}
 use Rattle.sql_lexer.specs.declared.token.TokenKind.{TokenKind}
 use Rattle.sql_lexer.specs.declared.token.TokenKind.TheVariants as token
-use Rattle.sql_lexer.specs.Reserved.{is_reserved}
-use Rattle.perm_engine.specs.declared.command.Column.{Column}
+use Rattle.sql_lexer.specs.Reserved.{IsReserved}
+use Rattle.perm_catalog.specs.declared.column.Column.{Column}
 use Rattle.perm_engine.specs.declared.command.Command.{Command}
 use Rattle.perm_engine.specs.declared.command.Command.TheVariants.{CreateTable, Insert, Select}
 
@@ -33,11 +33,11 @@ face t = face_of t.kind t.spelled t.number
 abbrev pub comma : Face
 comma = Symbol (codes ",")
 
-abbrev pub open : Face
-open = Symbol (codes "(")
+abbrev pub opening : Face
+opening = Symbol (codes "(")
 
-abbrev pub close : Face
-close = Symbol (codes ")")
+abbrev pub closing : Face
+closing = Symbol (codes ")")
 
 abbrev pub semicolon : Face
 semicolon = Symbol (codes ";")
@@ -63,19 +63,19 @@ value_spelling (Text text) = Literal text
 value_spelling (Boolean truth) = Word (cond truth (codes "true") (codes "false"))
 
 abbrev pub row_spelling : List Value → List Face
-row_spelling values = open ∷ listed (map (λ v. value_spelling v ∷ []) values) ++ close ∷ []
+row_spelling values = opening ∷ listed (map (λ v. value_spelling v ∷ []) values) ++ closing ∷ []
 
 abbrev pub spelling : Command → List Face
 spelling (CreateTable table columns) =
-    Word (codes "create") ∷ Word (codes "table") ∷ Word table ∷ open ∷ listed (map column_spelling columns) ++ close ∷ []
+    Word (codes "create") ∷ Word (codes "table") ∷ Word table ∷ opening ∷ listed (map column_spelling columns) ++ closing ∷ []
 spelling (Insert table rows) =
     Word (codes "insert") ∷ Word (codes "into") ∷ Word table ∷ Word (codes "values") ∷ listed (map row_spelling rows)
 spelling (Select provenance columns table) =
     Word (codes "select") ∷ cond provenance (Word (codes "provenance") ∷ []) []
-        ++ listed (map (λ column. Word column ∷ []) columns) ++ Word (codes "from") ∷ Word table ∷ []
+    ++ listed (map (λ column. Word column ∷ []) columns) ++ Word (codes "from") ∷ Word table ∷ []
 
 abbrev pub IsName : List ℕ → Type 0
-IsName name = is_reserved name ≡ false
+IsName name = IsReserved name → ⊥
 
 -- an integer is written without a sign, and no boolean is written
 abbrev pub IsWritten : Value → Type 0

@@ -1,11 +1,5 @@
-use perm_values::{Chars, Kind, List, Rows};
-
-/// A column of a table to be made.
-#[derive(Debug, Drop)]
-pub struct Column {
-    pub name: Chars,
-    pub kind: Kind,
-}
+use perm_catalog::Column;
+use perm_values::{Chars, List, Rows};
 
 /// A statement of the language.
 #[derive(Debug, Drop)]

@@ -1,0 +1,5 @@
+pub mod ReadingLaws
+pub mod ReadingLoops
+pub mod ReadingNames
+pub mod ReadingScripts
+pub mod ReadingStatements

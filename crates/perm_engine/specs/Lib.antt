@@ -1,0 +1,5 @@
+pub mod Reading
+pub mod Run
+pub mod Spelling
+pub mod Statuses
+pub mod Step

@@ -1,0 +1,10 @@
+//! Runs scripts of SQL with provenance: from a command line and files to what is written and a status.
+#![tactic(auto)]
+
+mod command;
+mod reader;
+mod status;
+
+pub use command::Command;
+pub use reader::{ReadRefusal, read_script, script_has_one_reading};
+pub use status::Status;
