@@ -57,8 +57,20 @@ impl Tables {
         Ok(())
     }
 
-    /// Adds rows at the end of those of that identity. It fails only for want of memory, and then nothing changes.
+    /// Adds rows at the end of those of that identity, of which there may be none. It fails only for want of memory, and
+    /// then nothing changes.
     pub fn add_rows(&mut self, id: u64, rows: Rows) -> Result<(), NoMemory>
+        ensures ok { OnOk result (self.new ≡ map.insert self.old id (rows_in self.old id ++ rows)) }
+        ensures err { OnErr result (self.new ≡ self.old) }
+    {
+        if self.rows(id).is_none() {
+            return self.put(id, rows);
+        }
+        self.append_held(id, rows)
+    }
+
+    /// Adds rows at the end of those that are held.
+    fn append_held(&mut self, id: u64, rows: Rows) -> Result<(), NoMemory>
         requires { IsSome (map.get self.old id) }
         ensures ok { OnOk result (self.new ≡ map.insert self.old id (rows_in self.old id ++ rows)) }
         ensures err { OnErr result (self.new ≡ self.old) }

@@ -1,5 +1,4 @@
-ghost use Rattle.std.specs.Prelude.{◌≡◌, ◌-◌, ◌^◌, ◌<◌, ◌↔◌, OnOk, OnErr, IsErrOf, IsTrue, true, None, is_some, IsSome, IfSome, IsSomeAnd};
-ghost use Rattle.std.specs.FinMap as map;
+ghost use Rattle.std.specs.Prelude.{◌≡◌, ◌-◌, ◌^◌, ◌<◌, ◌↔◌, OnOk, OnErr, IsErrOf, IsTrue, true, None, is_some, IsSome, IfSome};
 ghost use Rattle.std.specs.Option.{option_copied};
 ghost use Rattle.perm_catalog.specs.Changes.{table_named, view_named, is_free, with_table, with_entry, with_more_rows, with_more_rows_undrawn, nothing_held};
 
@@ -139,7 +138,7 @@ impl Catalog {
     /// Adds rows at the end of a table, which gets the next number as its version and stores no provenance from then on.
     /// `VersionsSpent` comes exactly where that number is the last one. After a refusal nothing has changed.
     pub fn insert_rows(&mut self, name: &Chars, rows: Rows) -> Result<(), CatalogRefusal>
-        requires { IsSomeAnd (table_named self.old name.now) (λ entry. IsSome (map.get self.old.rows entry.id)) }
+        requires { IsSome (table_named self.old name.now) }
         ensures ok { OnOk result (IfSome (table_named self.old name.now) (λ entry. self.new ≡ with_more_rows self.old name.now entry.id rows)) }
         ensures spent { IsErrOf result CatalogRefusal.VersionsSpent ↔ (self.old.next ≡ 2 ^ 64 - 1) }
         ensures err { OnErr result (self.new ≡ self.old) }
@@ -154,7 +153,7 @@ impl Catalog {
 
     /// Adds rows to a table and marks them with the next number, which isn't drawn.
     fn add_to_table(&mut self, name: &Chars, rows: Rows) -> Result<(), NoMemory>
-        requires { IsSomeAnd (table_named self.old name.now) (λ entry. IsSome (map.get self.old.rows entry.id)) }
+        requires { IsSome (table_named self.old name.now) }
         ensures ok { OnOk result (IfSome (table_named self.old name.now) (λ entry. self.new ≡ with_more_rows_undrawn self.old name.now entry.id rows)) }
         ensures err { OnErr result (self.new ≡ self.old) }
     {

@@ -8,8 +8,8 @@ use Rattle.std.specs.Option.{unwrap_or, option_copied_mut}
 use Rattle.std.specs.Ordering.{nat_cmp}
 use Rattle.bag_algebra.specs.TableRows.{rows_in}
 use Rattle.bag_algebra.proofs.FiniteMap.{insert-view, get-view, insert-same}
-use Rattle.bag_algebra.proofs.tables.Tables.add_rows.Goals as goal
-use Rattle.bag_algebra.proofs.tables.Tables.add_rows.Goals.{in-Some, in-None}
+use Rattle.bag_algebra.proofs.tables.Tables.append_held.Goals as goal
+use Rattle.bag_algebra.proofs.tables.Tables.append_held.Goals.{in-Some, in-None}
 
 on_ok : {T E : Type 0} {P Q : Type 0} (r : Result T E) → (P → Q) → OnOk r P → OnOk r Q
 on_ok (Ok x) f h = f h
