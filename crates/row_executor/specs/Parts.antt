@@ -8,7 +8,6 @@ use Rattle.bag_algebra.specs.Expressions.{value}
 use Rattle.bag_algebra.specs.Expressions as algebra
 use Rattle.bag_algebra.specs.Outcome.{Outcome, Good, and_then, mapped, each}
 use Rattle.bag_algebra.specs.declared.expr.ChainStep.{ChainStep}
-use Rattle.bag_algebra.specs.declared.expr.Item.{Item}
 use Rattle.row_executor.specs.Answers.{Refuses}
 use Rattle.row_executor.specs.declared.error.ExecError.{ExecError}
 use Rattle.row_executor.specs.declared.step.Step.{Step}
@@ -30,10 +29,6 @@ chain_of start steps = and_then steps (λ made. algebra.chain start (map shown m
 
 abbrev pub same_as : Value → Value → Value
 same_as v w = Boolean (same_value v w)
-
--- the row that the items make
-abbrev pub row_of : List Item → Row → List Row → List Value → Outcome Row
-row_of items u env subs = each (λ (item : Item). value item.expr u env subs) items
 
 -- what the arms of a CASE choose, whatever stands behind them: a value, or what stands behind them
 abbrev pub Chooses : (Outcome Value → Outcome Value) → Result (Option Value) ExecError → Type 0

@@ -4,7 +4,9 @@
 mod error;
 mod expression;
 mod operate;
+mod query;
 mod step;
 
 pub use error::ExecError;
 pub use expression::eval;
+pub use query::run_plain;
