@@ -1,3 +1,4 @@
+pub mod Fitting
 pub mod ReadingLaws
 pub mod ReadingLoops
 pub mod ReadingNames

@@ -45,7 +45,7 @@ all_differ [] = true
 all_differ (name ∷ names) = not (list_any (pointwise nat_eq name) names) && all_differ names
 
 abbrev pub can_create : Contents → List ℕ → List Column → Bool
-can_create c table columns = is_free c table && all_differ (names_of columns) && nat_le (length columns) 256
+can_create c table columns = is_free c table && nat_le (length columns) 256 && all_differ (names_of columns)
 
 abbrev pub create : Contents → List ℕ → List Column → Option Stepped
 create c table columns = cond (can_create c table columns)

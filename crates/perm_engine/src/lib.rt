@@ -2,8 +2,12 @@
 #![tactic(auto)]
 
 mod command;
+mod create;
+mod insert;
 mod reader;
+mod refusal;
 mod status;
+mod text;
 
 pub use command::Command;
 pub use reader::{ReadRefusal, read_script, script_has_one_reading};

@@ -1,0 +1,25 @@
+ghost use Rattle.std.specs.Prelude.{◌≡◌, ◌++◌, IfOk, codes};
+ghost use Rattle.std.specs.Fmt.{decimal};
+
+use perm_values::{Bytes, NoMemory};
+use std::alloc::Global;
+
+/// The bytes in memory of their own.
+pub(crate) fn text_of(alloc: Global, bytes: &[u8]) -> Result<Bytes, NoMemory>
+    ensures { IfOk result (λ text. text ≡ bytes.now) }
+{
+    let mut text = Bytes::new(alloc);
+    text.add(bytes)?;
+    Ok(text)
+}
+
+/// The text of an INSERT of so many rows.
+pub(crate) fn inserted(alloc: Global, count: usize) -> Result<Bytes, NoMemory>
+    ensures { IfOk result (λ text. text ≡ codes "INSERT " ++ decimal count ++ codes "\n") }
+{
+    let number = count.to_string(alloc)?;
+    let mut text = text_of(alloc, b"INSERT ")?;
+    text.add(number.as_bytes())?;
+    text.add(b"\n")?;
+    Ok(text)
+}
