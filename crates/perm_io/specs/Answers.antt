@@ -1,6 +1,5 @@
 -- What the answers of the calls say.
-use Rattle.std.specs.Prelude.{Bool, true, false, not, Ok, Err}
-use Rattle.std.specs.Prelude.{Result}
+use Rattle.std.specs.Prelude.{Bool, true, false, not, Result, Ok, Err}
 use Rattle.perm_io.specs.declared.files.BeginError.{BeginError}
 use Rattle.perm_io.specs.declared.files.BeginError.TheVariants as begin
 use Rattle.perm_io.specs.declared.reading.ReadError.{ReadError}

@@ -1,5 +1,5 @@
 -- What an output into memory keeps.
-use Rattle.std.specs.Prelude.{ℕ, ◌-◌, List, length}
+use Rattle.std.specs.Prelude.{ℕ, ◌-◌, Bool, List, length}
 use Rattle.perm_io.specs.declared.memory_sink.MemorySink.{MemorySink}
 
 -- the bytes written
@@ -9,6 +9,14 @@ bytes_in sink = sink.bytes.items
 -- how many more bytes have room
 abbrev pub room_in : MemorySink → ℕ
 room_in sink = sink.room - length (bytes_in sink)
+
+-- whether a byte was written since the last flush that answered Ok
+abbrev pub is_unflushed : MemorySink → Bool
+is_unflushed sink = sink.unflushed
+
+-- how often a call failed
+abbrev pub faults_of : MemorySink → ℕ
+faults_of sink = sink.failures.faults
 
 -- the numbers of the calls that are to fail
 abbrev pub failing_of : MemorySink → List ℕ

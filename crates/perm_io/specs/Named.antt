@@ -1,6 +1,5 @@
 -- Files in memory by their names.
-use Rattle.std.specs.Prelude.{◌≡◌, Bool, true, false, MatchOption, ℕ, cond, nat_eq, slice_get, List, [], ◌∷◌, None, Some}
-use Rattle.std.specs.Prelude.{◌≡◌, Bool, true, false, MatchOption, Option}
+use Rattle.std.specs.Prelude.{◌≡◌, ℕ, nat_eq, Bool, true, false, cond, List, [], ◌∷◌, slice_get, Option, None, Some, MatchOption}
 use Rattle.std.specs.Cmp.Lexicographic.{pointwise}
 use Rattle.perm_io.specs.declared.named_file.NamedFile.{NamedFile}
 

@@ -1,5 +1,5 @@
 -- What files in memory that never fail keep.
-use Rattle.std.specs.Prelude.{ℕ, List}
+use Rattle.std.specs.Prelude.{ℕ, Bool, List}
 use Rattle.perm_io.specs.Shelves.{left_of}
 use Rattle.perm_io.specs.declared.named_file.NamedFile.{NamedFile}
 use Rattle.perm_io.specs.declared.never_files.NeverFiles.{NeverFiles}
@@ -11,3 +11,15 @@ files_of files = files.shelf.files
 -- what is left of the file begun
 abbrev pub left_in : NeverFiles → List ℕ
 left_in files = left_of files.shelf
+
+-- how often a file was begun
+abbrev pub begun_of : NeverFiles → ℕ
+begun_of files = files.shelf.begun
+
+-- how many bytes were read since the last begin
+abbrev pub taken_of : NeverFiles → ℕ
+taken_of files = files.shelf.taken
+
+-- whether the last begin found no file
+abbrev pub is_absent_in : NeverFiles → Bool
+is_absent_in files = files.shelf.absent

@@ -1,7 +1,11 @@
 -- What an output that never fails keeps.
-use Rattle.std.specs.Prelude.{ℕ}
+use Rattle.std.specs.Prelude.{ℕ, Bool}
 use Rattle.perm_io.specs.declared.never_sink.NeverSink.{NeverSink}
 
 -- the number of bytes taken
 abbrev pub taken_by : NeverSink → ℕ
 taken_by sink = sink.taken
+
+-- whether a byte was taken since the last flush
+abbrev pub is_unflushed : NeverSink → Bool
+is_unflushed sink = sink.unflushed

@@ -17,7 +17,7 @@ pub struct MemoryFiles {
 }
 
 impl MemoryFiles {
-    ghost use Rattle.perm_io.specs.MemoryFiles.{failing_of, calls_of};
+    ghost use Rattle.perm_io.specs.MemoryFiles.{files_of, left_in, faults_of, begun_of, taken_of, is_absent_in, failing_of, calls_of};
 
     /// These files, none begun. Where a name stands twice, the first one counts. It fails only for want of memory.
     pub fn new(
@@ -25,14 +25,14 @@ impl MemoryFiles {
         files: List<NamedFile>,
         failing: &[u64],
     ) -> Result<MemoryFiles, NoMemory>
-        ensures held { IfOk result (λ made. ⟦<MemoryFiles as Files>⟧.held made ≡ Some files) }
+        ensures held { IfOk result (λ made. files_of made ≡ files) }
         ensures failing { IfOk result (λ made. failing_of made ≡ failing.now) }
         ensures calls { IfOk result (λ made. calls_of made ≡ 0) }
-        ensures rest { IfOk result (λ made. ⟦<MemoryFiles as Files>⟧.rest made ≡ Some []) }
-        ensures faults { IfOk result (λ made. ⟦<MemoryFiles as Files>⟧.faults made ≡ 0) }
-        ensures begun { IfOk result (λ made. ⟦<MemoryFiles as Files>⟧.begun made ≡ 0) }
-        ensures taken { IfOk result (λ made. ⟦<MemoryFiles as Files>⟧.taken made ≡ 0) }
-        ensures absent { IfOk result (λ made. ⟦<MemoryFiles as Files>⟧.absent made ≡ false) }
+        ensures rest { IfOk result (λ made. left_in made ≡ []) }
+        ensures faults { IfOk result (λ made. faults_of made ≡ 0) }
+        ensures begun { IfOk result (λ made. begun_of made ≡ 0) }
+        ensures taken { IfOk result (λ made. taken_of made ≡ 0) }
+        ensures absent { IfOk result (λ made. is_absent_in made ≡ false) }
     {
         let failures = Failures::new(alloc, failing)?;
         Ok(MemoryFiles {
@@ -44,34 +44,34 @@ impl MemoryFiles {
 
 impl Files for MemoryFiles {
     ghost use Rattle.std.specs.Prelude.{Some};
-    ghost use Rattle.perm_io.specs.MemoryFiles.{files_of, left_in, failing_of, calls_of};
+    ghost use Rattle.perm_io.specs.MemoryFiles.{files_of, left_in, faults_of, begun_of, taken_of, is_absent_in, failing_of, calls_of};
 
     ghost held = { λ f. Some (files_of f) };
 
     ghost rest = { λ f. Some (left_in f) };
 
-    ghost faults = { λ f. f.failures.faults };
+    ghost faults = { faults_of };
 
-    ghost begun = { λ f. f.shelf.begun };
+    ghost begun = { begun_of };
 
-    ghost taken = { λ f. f.shelf.taken };
+    ghost taken = { taken_of };
 
-    ghost absent = { λ f. f.shelf.absent };
+    ghost absent = { is_absent_in };
 
     fn begin(&mut self, _alloc: Global, name: &Chars) -> Result<bool, BeginError>
         ensures fails { IsTrue (is_err result) ↔ Contains (failing_of self.old) (next_count (calls_of self.old)) }
         ensures failed { IfErr result (λ error. error ≡ BeginError.Failed) }
         ensures failing { failing_of self.new ≡ failing_of self.old }
         ensures calls { calls_of self.new ≡ next_count (calls_of self.old) }
-        ensures faults { CountsFault (⟦<MemoryFiles as Files>⟧.faults self.old) (⟦<MemoryFiles as Files>⟧.faults self.new) (is_err result) }
-        ensures never { failing_of self.old ≡ [] → ⟦<MemoryFiles as Files>⟧.faults self.new ≡ ⟦<MemoryFiles as Files>⟧.faults self.old }
+        ensures faults { CountsFault (faults_of self.old) (faults_of self.new) (is_err result) }
+        ensures never { failing_of self.old ≡ [] → faults_of self.new ≡ faults_of self.old }
 
         ensures found { IfOk result (λ found. IsBegun (files_of self.old) name.now found (left_in self.new)) }
         ensures nothing { OnErr result (left_in self.new ≡ []) }
         ensures held { files_of self.new ≡ files_of self.old }
-        ensures begun { ⟦<MemoryFiles as Files>⟧.begun self.new ≡ next_count (⟦<MemoryFiles as Files>⟧.begun self.old) }
-        ensures taken { ⟦<MemoryFiles as Files>⟧.taken self.new ≡ 0 }
-        ensures absent { ⟦<MemoryFiles as Files>⟧.absent self.new ≡ is_absent result }
+        ensures begun { begun_of self.new ≡ next_count (begun_of self.old) }
+        ensures taken { taken_of self.new ≡ 0 }
+        ensures absent { is_absent_in self.new ≡ is_absent result }
     {
         if self.failures.next_fails() {
             self.shelf.leave();
@@ -84,17 +84,17 @@ impl Files for MemoryFiles {
         ensures fails { IsTrue (is_err result) ↔ Contains (failing_of self.old) (next_count (calls_of self.old)) }
         ensures failing { failing_of self.new ≡ failing_of self.old }
         ensures calls { calls_of self.new ≡ next_count (calls_of self.old) }
-        ensures faults { CountsFault (⟦<MemoryFiles as Files>⟧.faults self.old) (⟦<MemoryFiles as Files>⟧.faults self.new) (is_err result) }
-        ensures never { failing_of self.old ≡ [] → ⟦<MemoryFiles as Files>⟧.faults self.new ≡ ⟦<MemoryFiles as Files>⟧.faults self.old }
+        ensures faults { CountsFault (faults_of self.old) (faults_of self.new) (is_err result) }
+        ensures never { failing_of self.old ≡ [] → faults_of self.new ≡ faults_of self.old }
 
         ensures bound { IfOk result (λ count. count ≤ length into.new) }
         ensures moved { IfOk result (λ count. left_in self.old ≡ take count into.new ++ left_in self.new) }
         ensures end { IfOk result (λ count. count ≡ 0 → 0 < length into.new → left_in self.old ≡ []) }
-        ensures taken { IfOk result (λ count. ⟦<MemoryFiles as Files>⟧.taken self.new ≡ raised (⟦<MemoryFiles as Files>⟧.taken self.old) count) }
-        ensures stays { OnErr result ((left_in self.new ≡ left_in self.old) × (⟦<MemoryFiles as Files>⟧.taken self.new ≡ ⟦<MemoryFiles as Files>⟧.taken self.old)) }
+        ensures taken { IfOk result (λ count. taken_of self.new ≡ raised (taken_of self.old) count) }
+        ensures stays { OnErr result ((left_in self.new ≡ left_in self.old) × (taken_of self.new ≡ taken_of self.old)) }
         ensures held { files_of self.new ≡ files_of self.old }
-        ensures begun { ⟦<MemoryFiles as Files>⟧.begun self.new ≡ ⟦<MemoryFiles as Files>⟧.begun self.old }
-        ensures absent { ⟦<MemoryFiles as Files>⟧.absent self.new ≡ ⟦<MemoryFiles as Files>⟧.absent self.old }
+        ensures begun { begun_of self.new ≡ begun_of self.old }
+        ensures absent { is_absent_in self.new ≡ is_absent_in self.old }
     {
         if self.failures.next_fails() {
             return Err(Failed);

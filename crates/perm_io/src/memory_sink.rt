@@ -1,6 +1,6 @@
 ghost use Rattle.std.specs.Prelude.{◌≡◌, ◌↔◌, ◌⊎◌, ◌+◌, ◌<◌, ◌≤◌, ◌||◌, min, nat_lt, [], ◌++◌, take, length, Some, false, Contains, IsTrue, IfOk, OnOk, OnErr, is_err, vec_len};
-ghost use Rattle.perm_io.specs.Counts.{next_count, CountsFault};
 ghost use Rattle.std.specs.Vec.{vec_capacity};
+ghost use Rattle.perm_io.specs.Counts.{next_count, CountsFault};
 
 use crate::failures::Failures;
 use crate::{Failed, Sink};
@@ -20,13 +20,13 @@ pub struct MemorySink {
 }
 
 impl MemorySink {
-    ghost use Rattle.perm_io.specs.MemorySink.{bytes_in, room_in, failing_of, calls_of};
+    ghost use Rattle.perm_io.specs.MemorySink.{bytes_in, room_in, is_unflushed, faults_of, failing_of, calls_of};
 
     /// Nothing is written. It takes the memory for the whole room, and fails only for want of it.
     pub fn new(alloc: Global, room: usize, failing: &[u64]) -> Result<MemorySink, NoMemory>
-        ensures written { IfOk result (λ made. ⟦<MemorySink as Sink>⟧.written made ≡ Some []) }
-        ensures faults { IfOk result (λ made. ⟦<MemorySink as Sink>⟧.faults made ≡ 0) }
-        ensures unflushed { IfOk result (λ made. ⟦<MemorySink as Sink>⟧.unflushed made ≡ false) }
+        ensures written { IfOk result (λ made. bytes_in made ≡ []) }
+        ensures faults { IfOk result (λ made. faults_of made ≡ 0) }
+        ensures unflushed { IfOk result (λ made. is_unflushed made ≡ false) }
         ensures room { IfOk result (λ made. room_in made ≡ room) }
         ensures failing { IfOk result (λ made. failing_of made ≡ failing.now) }
         ensures calls { IfOk result (λ made. calls_of made ≡ 0) }
@@ -50,13 +50,13 @@ impl MemorySink {
 
 impl Sink for MemorySink {
     ghost use Rattle.std.specs.Prelude.{Some};
-    ghost use Rattle.perm_io.specs.MemorySink.{bytes_in, room_in, failing_of, calls_of};
+    ghost use Rattle.perm_io.specs.MemorySink.{bytes_in, room_in, is_unflushed, faults_of, failing_of, calls_of};
 
     ghost written = { λ s. Some (bytes_in s) };
 
-    ghost faults = { λ s. s.failures.faults };
+    ghost faults = { faults_of };
 
-    ghost unflushed = { λ s. s.unflushed };
+    ghost unflushed = { is_unflushed };
 
     fn write(&mut self, from: &[u8]) -> Result<usize, Failed>
         // A call fails where it is listed, and where none of some bytes have room.
@@ -64,15 +64,16 @@ impl Sink for MemorySink {
             ⊎ ((room_in self.old ≡ 0) × (0 < length from.now))) }
         ensures failing { failing_of self.new ≡ failing_of self.old }
         ensures calls { calls_of self.new ≡ next_count (calls_of self.old) }
-        ensures faults { CountsFault (⟦<MemorySink as Sink>⟧.faults self.old) (⟦<MemorySink as Sink>⟧.faults self.new) (is_err result) }
-        ensures never { failing_of self.old ≡ [] → length from.now ≤ room_in self.old → ⟦<MemorySink as Sink>⟧.faults self.new ≡ ⟦<MemorySink as Sink>⟧.faults self.old }
+        ensures faults { CountsFault (faults_of self.old) (faults_of self.new) (is_err result) }
+        ensures never { failing_of self.old ≡ [] → length from.now ≤ room_in self.old →
+            faults_of self.new ≡ faults_of self.old }
 
         ensures fits { IfOk result (λ count. count ≡ min (length from.now) (room_in self.old)) }
         ensures taken { IfOk result (λ count. bytes_in self.new ≡ bytes_in self.old ++ take count from.now) }
         ensures room { IfOk result (λ count. room_in self.new + count ≡ room_in self.old) }
-        ensures unflushed { IfOk result (λ count. ⟦<MemorySink as Sink>⟧.unflushed self.new ≡ (⟦<MemorySink as Sink>⟧.unflushed self.old || nat_lt 0 count)) }
+        ensures unflushed { IfOk result (λ count. is_unflushed self.new ≡ (is_unflushed self.old || nat_lt 0 count)) }
         ensures failed { OnErr result ((bytes_in self.new ≡ bytes_in self.old) × (room_in self.new ≡ room_in self.old)
-            × (⟦<MemorySink as Sink>⟧.unflushed self.new ≡ ⟦<MemorySink as Sink>⟧.unflushed self.old)) }
+            × (is_unflushed self.new ≡ is_unflushed self.old)) }
     {
         if self.failures.next_fails() {
             return Err(Failed);
@@ -91,13 +92,13 @@ impl Sink for MemorySink {
         ensures fails { IsTrue (is_err result) ↔ Contains (failing_of self.old) (next_count (calls_of self.old)) }
         ensures failing { failing_of self.new ≡ failing_of self.old }
         ensures calls { calls_of self.new ≡ next_count (calls_of self.old) }
-        ensures faults { CountsFault (⟦<MemorySink as Sink>⟧.faults self.old) (⟦<MemorySink as Sink>⟧.faults self.new) (is_err result) }
-        ensures never { failing_of self.old ≡ [] → ⟦<MemorySink as Sink>⟧.faults self.new ≡ ⟦<MemorySink as Sink>⟧.faults self.old }
+        ensures faults { CountsFault (faults_of self.old) (faults_of self.new) (is_err result) }
+        ensures never { failing_of self.old ≡ [] → faults_of self.new ≡ faults_of self.old }
 
         ensures written { bytes_in self.new ≡ bytes_in self.old }
         ensures room { room_in self.new ≡ room_in self.old }
-        ensures flushed { OnOk result (⟦<MemorySink as Sink>⟧.unflushed self.new ≡ false) }
-        ensures failed { OnErr result (⟦<MemorySink as Sink>⟧.unflushed self.new ≡ ⟦<MemorySink as Sink>⟧.unflushed self.old) }
+        ensures flushed { OnOk result (is_unflushed self.new ≡ false) }
+        ensures failed { OnErr result (is_unflushed self.new ≡ is_unflushed self.old) }
     {
         if self.failures.next_fails() {
             return Err(Failed);

@@ -15,13 +15,15 @@ pub struct NeverFiles {
 }
 
 impl NeverFiles {
+    ghost use Rattle.perm_io.specs.NeverFiles.{files_of, left_in, begun_of, taken_of, is_absent_in};
+
     /// These files, none begun. Where a name stands twice, the first one counts. It takes no memory.
     pub fn new(files: List<NamedFile>) -> NeverFiles
-        ensures held { ⟦<NeverFiles as Files>⟧.held result ≡ Some files }
-        ensures rest { ⟦<NeverFiles as Files>⟧.rest result ≡ Some [] }
-        ensures begun { ⟦<NeverFiles as Files>⟧.begun result ≡ 0 }
-        ensures taken { ⟦<NeverFiles as Files>⟧.taken result ≡ 0 }
-        ensures absent { ⟦<NeverFiles as Files>⟧.absent result ≡ false }
+        ensures held { files_of result ≡ files }
+        ensures rest { left_in result ≡ [] }
+        ensures begun { begun_of result ≡ 0 }
+        ensures taken { taken_of result ≡ 0 }
+        ensures absent { is_absent_in result ≡ false }
     {
         NeverFiles {
             shelf: Shelf::new(files),
@@ -31,7 +33,7 @@ impl NeverFiles {
 
 impl Files for NeverFiles {
     ghost use Rattle.std.specs.Prelude.{Some};
-    ghost use Rattle.perm_io.specs.NeverFiles.{files_of, left_in};
+    ghost use Rattle.perm_io.specs.NeverFiles.{files_of, left_in, begun_of, taken_of, is_absent_in};
 
     ghost held = { λ f. Some (files_of f) };
 
@@ -39,19 +41,19 @@ impl Files for NeverFiles {
 
     ghost faults = { λ _. 0 };
 
-    ghost begun = { λ f. f.shelf.begun };
+    ghost begun = { begun_of };
 
-    ghost taken = { λ f. f.shelf.taken };
+    ghost taken = { taken_of };
 
-    ghost absent = { λ f. f.shelf.absent };
+    ghost absent = { is_absent_in };
 
     fn begin(&mut self, _alloc: Global, name: &Chars) -> Result<bool, BeginError>
         ensures sure { IsOk result }
         ensures found { IfOk result (λ found. IsBegun (files_of self.old) name.now found (left_in self.new)) }
         ensures held { files_of self.new ≡ files_of self.old }
-        ensures begun { ⟦<NeverFiles as Files>⟧.begun self.new ≡ next_count (⟦<NeverFiles as Files>⟧.begun self.old) }
-        ensures taken { ⟦<NeverFiles as Files>⟧.taken self.new ≡ 0 }
-        ensures absent { ⟦<NeverFiles as Files>⟧.absent self.new ≡ is_absent result }
+        ensures begun { begun_of self.new ≡ next_count (begun_of self.old) }
+        ensures taken { taken_of self.new ≡ 0 }
+        ensures absent { is_absent_in self.new ≡ is_absent result }
     {
         Ok(self.shelf.begin(name))
     }

@@ -11,12 +11,12 @@ pub struct NeverSink {
 }
 
 impl NeverSink {
-    ghost use Rattle.perm_io.specs.NeverSink.{taken_by};
+    ghost use Rattle.perm_io.specs.NeverSink.{taken_by, is_unflushed};
 
     /// Nothing is taken.
     pub fn new() -> NeverSink
         ensures taken { taken_by result ≡ 0 }
-        ensures unflushed { ⟦<NeverSink as Sink>⟧.unflushed result ≡ false }
+        ensures unflushed { is_unflushed result ≡ false }
     {
         NeverSink {
             taken: 0,
@@ -33,19 +33,19 @@ impl NeverSink {
 }
 
 impl Sink for NeverSink {
-    ghost use Rattle.perm_io.specs.NeverSink.{taken_by};
+    ghost use Rattle.perm_io.specs.NeverSink.{taken_by, is_unflushed};
     ghost use Rattle.std.specs.Prelude.{None};
 
     ghost written = { λ _. None };
 
     ghost faults = { λ _. 0 };
 
-    ghost unflushed = { λ s. s.unflushed };
+    ghost unflushed = { is_unflushed };
 
     fn write(&mut self, from: &[u8]) -> Result<usize, Failed>
         ensures whole { result ≡ Ok (length from.now) }
         ensures taken { taken_by self.new ≡ raised (taken_by self.old) (length from.now) }
-        ensures unflushed { ⟦<NeverSink as Sink>⟧.unflushed self.new ≡ (⟦<NeverSink as Sink>⟧.unflushed self.old || nat_lt 0 (length from.now)) }
+        ensures unflushed { is_unflushed self.new ≡ (is_unflushed self.old || nat_lt 0 (length from.now)) }
     {
         self.taken = self.taken.saturating_add(from.len() as u64);
         self.unflushed = self.unflushed || !from.is_empty();
@@ -55,7 +55,7 @@ impl Sink for NeverSink {
     fn flush(&mut self) -> Result<(), Failed>
         ensures flushed { result ≡ Ok tt }
         ensures taken { taken_by self.new ≡ taken_by self.old }
-        ensures unflushed { ⟦<NeverSink as Sink>⟧.unflushed self.new ≡ false }
+        ensures unflushed { is_unflushed self.new ≡ false }
     {
         self.unflushed = false;
         Ok(())
