@@ -7,7 +7,7 @@ use std::test::Fail;
 const TRUTHS: [Truth; 3] = [Truth::True, Truth::False, Truth::Unknown];
 
 #[test]
-fn truth_tables(rt: HostRuntime) -> Result<(), Fail> {
+fn truth_tables(rt: HostRuntime) {
     let and = [
         [Truth::True, Truth::False, Truth::Unknown],
         [Truth::False, Truth::False, Truth::False],
@@ -24,13 +24,20 @@ fn truth_tables(rt: HostRuntime) -> Result<(), Fail> {
             assert_eq!(rt; TRUTHS[i].or(TRUTHS[j]), or[i][j]);
         }
         assert_eq!(rt; Truth::of(&TRUTHS[i].value()), TRUTHS[i]);
-        assert_eq!(rt; TRUTHS[i].copy(rt.alloc())?, TRUTHS[i]);
     }
     assert_eq!(rt;
         TRUTHS.map(Truth::not),
         [Truth::False, Truth::True, Truth::Unknown]
     );
     assert_eq!(rt; TRUTHS.map(Truth::is_true), [true, false, false]);
+}
+
+#[test]
+fn copies(rt: HostRuntime) -> Result<(), Fail> {
+    assert_eq!(rt; Truth::Unknown.copy(rt.alloc())?, Truth::Unknown);
+    assert_eq!(rt; Compare::Less.copy(rt.alloc())?, Compare::Less);
+    assert_eq!(rt; Arith::Divide.copy(rt.alloc())?, Arith::Divide);
+    assert_eq!(rt; Operator::NullIf.copy(rt.alloc())?, Operator::NullIf);
     Ok(())
 }
 
@@ -62,7 +69,6 @@ fn comparisons(rt: HostRuntime) -> Result<(), Fail> {
             compare_values(op, &Value::Integer(0), &Value::Null),
             Truth::Unknown
         );
-        assert_eq!(rt; op.copy(rt.alloc())?, op);
     }
     let short = Value::Text(Chars::from_text(rt.alloc(), "a")?);
     let long = Value::Text(Chars::from_text(rt.alloc(), "aä")?);
@@ -75,7 +81,7 @@ fn comparisons(rt: HostRuntime) -> Result<(), Fail> {
 }
 
 #[test]
-fn arithmetic(rt: HostRuntime) -> Result<(), Fail> {
+fn arithmetic(rt: HostRuntime) {
     let cases = [
         (Arith::Add, i64::MAX, 1, Err(RunFault::OutOfRange)),
         (Arith::Add, i64::MAX, -1, Ok(i64::MAX - 1)),
@@ -106,7 +112,6 @@ fn arithmetic(rt: HostRuntime) -> Result<(), Fail> {
     }
     assert_eq!(rt; negate(i64::MIN), Err(RunFault::OutOfRange));
     assert_eq!(rt; negate(i64::MAX), Ok(i64::MIN + 1));
-    Ok(())
 }
 
 #[test]
@@ -139,7 +144,7 @@ fn patterns(rt: HostRuntime) -> Result<(), Fail> {
 }
 
 #[test]
-fn operators(rt: HostRuntime) -> Result<(), Fail> {
+fn operators(rt: HostRuntime) {
     let cases = [
         ("OR", false, 1),
         ("AND", false, 2),
@@ -170,6 +175,4 @@ fn operators(rt: HostRuntime) -> Result<(), Fail> {
     assert!(rt; OPERATORS.find(b"NOT", false).is_none());
     assert!(rt; OPERATORS.find(b"or", false).is_none());
     assert_eq!(rt; Operator::Coalesce.spelling(), "COALESCE");
-    assert_eq!(rt; Operator::Coalesce.copy(rt.alloc())?, Operator::Coalesce);
-    Ok(())
 }
