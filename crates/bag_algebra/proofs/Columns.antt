@@ -7,6 +7,7 @@ use Rattle.perm_values.specs.ValueLaws.{row_decides}
 use Rattle.perm_values.specs.declared.kind.Kind.{Kind}
 use Rattle.bag_algebra.proofs.BagLaws.{once-same_members}
 use Rattle.bag_algebra.proofs.Members.{IsIn, in-map, from-map, in-flat_map, from-flat_map, in-filter, from-filter, in-member, member-in, same_members}
+use Rattle.bag_algebra.specs.ColumnItems.{column_item, column_items}
 use Rattle.bag_algebra.specs.Bags.{Row, Bag, SameBag, once, member}
 use Rattle.bag_algebra.specs.Kinds.{kind_in}
 use Rattle.bag_algebra.specs.Meaning.{Database, denote, meaning, items_on}
@@ -18,13 +19,6 @@ use Rattle.bag_algebra.specs.declared.expr.Item.{Item}
 use Rattle.bag_algebra.specs.declared.query.Label.{Label}
 use Rattle.bag_algebra.specs.declared.query.Query.{end_of-Sublink}
 use Rattle.bag_algebra.specs.declared.query.Query.TheVariants.{Table}
-
--- a column of the node's own row
-abbrev pub column_item : List Kind → ℕ → Item
-column_item kinds place = record { expr = Col 0 place; kind = kind_in kinds place }
-
-abbrev pub column_items : List Kind → List ℕ → List Item
-column_items kinds places = map (column_item kinds) places
 
 -- column items are good on every row and give the row's values there
 pub column_items-give : (kinds : List Kind) (places : List ℕ) (env : List Row) (u : Row) →

@@ -1,4 +1,5 @@
 pub mod Bags
+pub mod ColumnItems
 pub mod Expressions
 pub mod Kinds
 pub mod Meaning

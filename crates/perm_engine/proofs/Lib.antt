@@ -1,4 +1,6 @@
 pub mod Fitting
+pub mod Places
+pub mod Queries
 pub mod ReadingLaws
 pub mod ReadingLoops
 pub mod ReadingNames

@@ -8,14 +8,13 @@ use Rattle.perm_values.specs.Rows.{row_cmp, row_fits}
 use Rattle.perm_values.specs.declared.kind.Kind.{Kind}
 use Rattle.perm_values.specs.declared.value.Value.{Value}
 use Rattle.bag_algebra.specs.Bags.{Bag, sorted}
-use Rattle.bag_algebra.specs.Kinds.{kind_in, shape}
+use Rattle.bag_algebra.specs.ColumnItems.{column_items}
+use Rattle.bag_algebra.specs.Kinds.{shape}
 use Rattle.bag_algebra.specs.Meaning.{meaning}
 use Rattle.bag_algebra.specs.Means.{good_rows}
 use Rattle.bag_algebra.specs.Patterns.{BaseOf, ProjectOf, ProvOf}
-use Rattle.bag_algebra.specs.PlaceNames.{place_names}
+use Rattle.bag_algebra.specs.PlaceNames.{place_name, place_names}
 use Rattle.bag_algebra.specs.TableRows.{rows_in}
-use Rattle.bag_algebra.specs.declared.expr.Expr.TheVariants.{Col}
-use Rattle.bag_algebra.specs.declared.expr.Item.{Item}
 use Rattle.bag_algebra.specs.declared.query.Label.TheVariants.{Relation}
 use Rattle.bag_algebra.specs.declared.query.Query.{Query, end_of-Sublink}
 use Rattle.bag_algebra.specs.declared.query.Query.TheVariants.{Table}
@@ -77,9 +76,6 @@ abbrev pub places_of : List (List ℕ) → List (List ℕ) → Option (List ℕ)
 places_of columns [] = Some []
 places_of columns (name ∷ names) = before (place_from 0 columns name) (places_of columns names)
 
-abbrev pub column_item : List Kind → ℕ → Item
-column_item kinds place = record { expr = Col 0 place; kind = kind_in kinds place }
-
 -- the table as a source with all its columns
 abbrev pub source_of : List ℕ → TableEntry → Query
 source_of table entry = BaseOf (Table entry.id (kinds_in_order entry.columns)) (range_with_len 0 (length entry.columns))
@@ -87,10 +83,18 @@ source_of table entry = BaseOf (Table entry.id (kinds_in_order entry.columns)) (
 
 abbrev pub plain_query : List ℕ → TableEntry → List ℕ → Query
 plain_query table entry places =
-    ProjectOf (source_of table entry) (map (column_item (kinds_in_order entry.columns)) places) [] end_of-Sublink
+    ProjectOf (source_of table entry) (column_items (kinds_in_order entry.columns) places) [] end_of-Sublink
+
+-- every column of the table by its place
+abbrev pub all_places : TableEntry → List ℕ
+all_places entry = range_with_len 0 (length entry.columns)
 
 abbrev pub query_of : Bool → List ℕ → TableEntry → List ℕ → Query
 query_of provenance table entry places = cond provenance (ProvOf (plain_query table entry places)) (plain_query table entry places)
+
+-- the names of the provenance columns where a table is the one source
+abbrev pub source_names : List ℕ → List (List ℕ) → List (List ℕ)
+source_names table columns = map (place_name table 0) columns
 
 -- the query's own columns, then those of its places where provenance is asked for
 abbrev pub answer_names : Bool → List ℕ → TableEntry → List (List ℕ) → List ℕ → List (List ℕ)

@@ -4,9 +4,12 @@
 mod command;
 mod create;
 mod insert;
+mod query;
 mod reader;
 mod refusal;
+mod select;
 mod status;
+mod step;
 mod text;
 
 pub use command::Command;
