@@ -1,3 +1,4 @@
+pub mod Ending
 pub mod Fitting
 pub mod Places
 pub mod Queries
@@ -6,3 +7,4 @@ pub mod ReadingLoops
 pub mod ReadingNames
 pub mod ReadingScripts
 pub mod ReadingStatements
+pub mod Running

@@ -55,8 +55,8 @@ pub rewritten-rows : (table : List ℕ) (entry : TableEntry) (places : List ℕ)
 rewritten-rows table entry places db rows given =
     let p = source_columns-provenance entry.id (kinds_in_order entry.columns) (all_places entry) places (Relation table (names_of entry.columns)) db [] in
     one_good given (rewritten-good entry places db)
-        ∙ sym (printed_unique [] p.0 (both_columns entry places db) p.2)
-        ∙ ap (λ o. sorted row_cmp (good_rows o)) (sym p.1)
+    ∙ sym (printed_unique [] p.0 (both_columns entry places db) p.2)
+    ∙ ap (λ o. sorted row_cmp (good_rows o)) (sym p.1)
 
 -- ---- the answer by the header
 
@@ -70,14 +70,14 @@ pub answer-too_wide : (c : Contents) (provenance : Bool) (table : List ℕ) (ent
     names ≡ answer_names provenance table entry columns places → 1024 < length names → answer c provenance table entry columns places ≡ None
 answer-too_wide c provenance table entry columns places names e h =
     ap (λ t. cond t (Some (record { text = answer_bytes (answer_names provenance table entry columns places) (answer_rows c (query_of provenance table entry places)); contents = c })) None)
-        (above (length (answer_names provenance table entry columns places)) 1024 (subst (λ n. 1024 < length n) e h))
+    (above (length (answer_names provenance table entry columns places)) 1024 (subst (λ n. 1024 < length n) e h))
 
 pub answer-given : (c : Contents) (provenance : Bool) (table : List ℕ) (entry : TableEntry) (columns : List (List ℕ)) (places : List ℕ) (names : List (List ℕ)) (rows : Bag) (text : List ℕ) →
     names ≡ answer_names provenance table entry columns places → length names ≤ 1024 → rows ≡ answer_rows c (query_of provenance table entry places) →
     text ≡ answer_bytes names rows → answer c provenance table entry columns places ≡ Some (record { text = text; contents = c })
 answer-given c provenance table entry columns places names rows text e h f g =
     ap (λ t. cond t (Some (record { text = answer_bytes (answer_names provenance table entry columns places) (answer_rows c (query_of provenance table entry places)); contents = c })) None)
-        (at_most (length (answer_names provenance table entry columns places)) 1024 (subst (λ n. length n ≤ 1024) e h))
+    (at_most (length (answer_names provenance table entry columns places)) 1024 (subst (λ n. length n ≤ 1024) e h))
     ∙ (λ i. Some (record { text = answer_bytes (sym e i) (sym f i); contents = c }))
     ∙ ap (λ t. Some (record { text = t; contents = c })) (sym g)
 

@@ -1,4 +1,5 @@
 pub mod Answers
+pub mod Ends
 pub mod Reading
 pub mod Run
 pub mod Spelling

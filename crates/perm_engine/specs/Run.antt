@@ -115,3 +115,15 @@ IsSteady status.BadData = Unit {0}
 IsSteady status.ReadFault = ⊥
 IsSteady status.WriteFault = ⊥
 IsSteady status.NoMemory = ⊥
+
+-- the status of a run whose script was read
+abbrev pub IsOfScript : Status → Type 0
+IsOfScript status.Done = Unit {0}
+IsOfScript status.Usage = ⊥
+IsOfScript status.Syntax = Unit {0}
+IsOfScript status.Refused = Unit {0}
+IsOfScript status.RunFault = Unit {0}
+IsOfScript status.BadData = ⊥
+IsOfScript status.ReadFault = ⊥
+IsOfScript status.WriteFault = Unit {0}
+IsOfScript status.NoMemory = Unit {0}

@@ -109,7 +109,7 @@ abbrev pub answer : Contents → Bool → List ℕ → TableEntry → List (List
 answer c provenance table entry names places =
     let header = answer_names provenance table entry names places in
     cond (nat_le (length header) 1024)
-        (Some (record { text = answer_bytes header (answer_rows c (query_of provenance table entry places)); contents = c })) None
+    (Some (record { text = answer_bytes header (answer_rows c (query_of provenance table entry places)); contents = c })) None
 
 abbrev pub select_places : Contents → Bool → List ℕ → TableEntry → List (List ℕ) → Option (List ℕ) → Option Stepped
 select_places c provenance table entry names None = None

@@ -5,9 +5,15 @@ use perm_values::{Chars, List, Rows};
 #[derive(Debug, Drop)]
 pub enum Command {
     /// `CREATE TABLE t (c KIND, ..)`
-    CreateTable { table: Chars, columns: List<Column> },
+    CreateTable {
+        table: Chars,
+        columns: List<Column>,
+    },
     /// `INSERT INTO t VALUES (..), ..`
-    Insert { table: Chars, rows: Rows },
+    Insert {
+        table: Chars,
+        rows: Rows,
+    },
     /// `SELECT [PROVENANCE] c, .. FROM t`
     Select {
         provenance: bool,

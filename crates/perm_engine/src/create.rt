@@ -1,4 +1,4 @@
-ghost use Rattle.std.specs.Prelude.{◌≡◌, ◌<◌, ◌-◌, ◌^◌, ◌&&◌, not, nat_eq, is_some};
+ghost use Rattle.std.specs.Prelude.{◌≡◌, ◌<◌, ◌≤◌, ◌+◌, ◌-◌, ◌^◌, ◌&&◌, not, nat_eq, is_some};
 ghost use Rattle.std.specs.Cmp.Lexicographic.{pointwise};
 ghost use Rattle.std.specs.List.{list_any};
 ghost use Rattle.perm_catalog.specs.Changes.{is_free};
@@ -22,7 +22,8 @@ pub(crate) fn create_table(
     columns: &List<Column>,
 ) -> Result<Bytes, StepRefusal>
     requires { catalog.old.next < 2 ^ 64 - 1 }
-    ensures { IsStep (create catalog.old table.now columns.now) catalog.old catalog.new result }
+    ensures step { IsStep (create catalog.old table.now columns.now) catalog.old catalog.new result }
+    ensures next { catalog.new.next ≤ catalog.old.next + 1 }
 {
     if !can_create(catalog, table, columns.as_slice()) {
         return Err(StepRefusal::Refused);

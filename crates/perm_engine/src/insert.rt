@@ -1,4 +1,4 @@
-ghost use Rattle.std.specs.Prelude.{◌≡◌, ◌<◌, ◌-◌, ◌^◌, List};
+ghost use Rattle.std.specs.Prelude.{◌≡◌, ◌<◌, ◌≤◌, ◌+◌, ◌-◌, ◌^◌, List};
 ghost use Rattle.perm_values.specs.Rows.{row_fits};
 ghost use Rattle.perm_catalog.specs.Changes.{table_named};
 ghost use Rattle.perm_engine.specs.Answers.{IsStep};
@@ -18,7 +18,8 @@ pub(crate) fn insert(
     rows: &Rows,
 ) -> Result<Bytes, StepRefusal>
     requires { catalog.old.next < 2 ^ 64 - 1 }
-    ensures { IsStep (with_entry (table_named catalog.old table.now) (λ entry. insert_into catalog.old table.now entry rows.now)) catalog.old catalog.new result }
+    ensures step { IsStep (with_entry (table_named catalog.old table.now) (λ entry. insert_into catalog.old table.now entry rows.now)) catalog.old catalog.new result }
+    ensures next { catalog.new.next ≤ catalog.old.next + 1 }
 {
     let Some(entry) = catalog.table(table) else {
         return Err(StepRefusal::Refused);

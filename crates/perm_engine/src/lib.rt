@@ -7,6 +7,7 @@ mod insert;
 mod query;
 mod reader;
 mod refusal;
+mod run;
 mod select;
 mod status;
 mod step;
@@ -14,4 +15,5 @@ mod text;
 
 pub use command::Command;
 pub use reader::{ReadRefusal, read_script, script_has_one_reading};
+pub use run::perm;
 pub use status::Status;

@@ -215,11 +215,7 @@ fn label_of(alloc: Global, table: &Chars, columns: &[Column]) -> Result<Label, N
 }
 
 /// The places, then those of all columns.
-fn with_all_places(
-    alloc: Global,
-    count: usize,
-    places: &[usize],
-) -> Result<List<usize>, NoMemory>
+fn with_all_places(alloc: Global, count: usize, places: &[usize]) -> Result<List<usize>, NoMemory>
     ensures { IfOk result (λ found. found ≡ places.now ++ range_with_len 0 count) }
 {
     let mut found = Vec::from_slice(alloc, places)?;

@@ -18,7 +18,8 @@ pub(crate) fn step(
     command: &Command,
 ) -> Result<Bytes, StepRefusal>
     requires { catalog.old.next < 2 ^ 64 - 1 }
-    ensures { IsStep (step catalog.old command.now) catalog.old catalog.new result }
+    ensures step { IsStep (step catalog.old command.now) catalog.old catalog.new result }
+    ensures next { catalog.new.next ≤ catalog.old.next + 1 }
 {
     match command {
         Command::CreateTable { table, columns } => create_table(alloc, catalog, table, columns),

@@ -2,9 +2,9 @@ ghost use Rattle.std.specs.Prelude.{◌≡◌, ◌≤◌, ◌<◌, List, length,
 ghost use Rattle.perm_engine.specs.Reading as spec;
 ghost use Rattle.perm_engine.specs.Spelling.{Face, face};
 
-use perm_catalog::Column;
 use crate::reader::ReadRefusal;
 use crate::reader::front::{behind_symbol, first_of, is_word, past_symbol};
+use perm_catalog::Column;
 use perm_values::{Chars, Copyable, Kind, List, NoMemory, Row, Value};
 use sql_lexer::{Token, TokenKind, is_reserved};
 use std::alloc::Global;

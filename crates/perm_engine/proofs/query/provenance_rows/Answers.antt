@@ -15,4 +15,4 @@ pub unreachable-requires : goal.unreachable-requires
 unreachable-requires c =
     let met = rw c.in-Err-Fault.field-0-is at c.in-Err-Fault.ensures in
     no_fault _ _ _ (ap (λ q. mapped (sorted row_cmp) (meaning q (rows_in c.args.catalog.now.rows) [])) c.in_ok-query.ensures
-        ∙ rewritten-good c.args.entry.now c.args.places.now (rows_in c.args.catalog.now.rows)) met
+    ∙ rewritten-good c.args.entry.now c.args.places.now (rows_in c.args.catalog.now.rows)) met

@@ -13,4 +13,4 @@ returns c =
     let kinds = kinds_in_order c.args.entry.now.columns in
     let wanted = c.as_slice-2.ensures ∙ c.in_ok-wanted.ensures ∙ ap (λ n. c.args.places.now ++ range_with_len 0 n) c.len.ensures.value in
     ap Distinct (c.in_ok-new.ensures ∙ c.in_ok-projection.ensures) ∙ Distinct-is _
-        ∙ (λ i. DistinctOf (ProjectOf (c.in_ok-input.ensures i) (column_items (kinds_in_order (c.as_slice.ensures i)) (wanted i)) [] end_of-Sublink))
+    ∙ (λ i. DistinctOf (ProjectOf (c.in_ok-input.ensures i) (column_items (kinds_in_order (c.as_slice.ensures i)) (wanted i)) [] end_of-Sublink))

@@ -6,5 +6,5 @@ use Rattle.perm_engine.proofs.query.with_all_places.Goals as goal
 pub loop-place-preserved : goal.loop-place-preserved
 loop-place-preserved c =
     c.in_ok-push.ensures.items ∙ ap (λ l. l ++ c.loop-place.place ∷ []) c.loop-place.invariant
-        ∙ append_assoc c.args.places.now (range_with_len 0 c.loop-place.place) (c.loop-place.place ∷ [])
-        ∙ ap (λ l. c.args.places.now ++ l) (sym (range-more c.loop-place.place))
+    ∙ append_assoc c.args.places.now (range_with_len 0 c.loop-place.place) (c.loop-place.place ∷ [])
+    ∙ ap (λ l. c.args.places.now ++ l) (sym (range-more c.loop-place.place))

@@ -7,11 +7,11 @@ pub returns-then-len-gt-MOST_ANSWERED : goal.returns-then-len-gt-MOST_ANSWERED
 returns-then-len-gt-MOST_ANSWERED c =
     let wide : 1024 < length c.in_ok-names.names = omega (arith, c.len.ensures.value, c.if-len-gt-MOST_ANSWERED.true) in
     answer-too_wide c.args.catalog.now c.args.provenance c.args.table.now c.args.entry.now c.args.columns.now c.args.places.now c.in_ok-names.names
-        (c.in_ok-names.ensures c.args.places.now) wide
+    (c.in_ok-names.ensures c.args.places.now) wide
 
 pub returns : goal.returns
 returns c =
     let fits : length c.in_ok-names.names ≤ 1024 = omega (arith, c.len.ensures.value, c.if-len-gt-MOST_ANSWERED.false) in
     answer-given c.args.catalog.now c.args.provenance c.args.table.now c.args.entry.now c.args.columns.now c.args.places.now
-        c.in_ok-names.names c.in_ok-rows.rows c.in_ok-answer_text.field-0 (c.in_ok-names.ensures c.args.places.now) fits c.in_ok-rows.ensures
-        (c.in_ok-answer_text.ensures ∙ ap (λ n. answer_bytes n c.in_ok-rows.rows) c.as_slice.ensures)
+    c.in_ok-names.names c.in_ok-rows.rows c.in_ok-answer_text.field-0 (c.in_ok-names.ensures c.args.places.now) fits c.in_ok-rows.ensures
+    (c.in_ok-answer_text.ensures ∙ ap (λ n. answer_bytes n c.in_ok-rows.rows) c.as_slice.ensures)

@@ -1,0 +1,63 @@
+-- How a run ends: what stands in the output then, beside the status.
+use Rattle.std.specs.Prelude.{◌≡◌, ◌⊎◌, ℕ, ◌≤◌, Bool, true, false, List, ◌++◌, length, take, Option}
+use Rattle.std.specs.Io.KnownBytes.{append_known}
+use Rattle.std.specs.List.{flat_map}
+use Rattle.perm_io.specs.Counts.{HasRisen}
+use Rattle.perm_io.specs.declared.named_file.NamedFile.{NamedFile}
+use Rattle.perm_engine.specs.Run.{Ran, Runs, text_of}
+use Rattle.perm_engine.specs.declared.status.Status.{Status}
+use Rattle.perm_engine.specs.declared.status.Status.TheVariants as status
+
+-- an output before and after a call: the bytes written, where they are told, and the count of faults, and whether
+-- something is left to be flushed
+pub record Written : Type 0 where
+  pub before : Option (List ℕ)
+  pub after : Option (List ℕ)
+  pub faults_before : ℕ
+  pub faults_after : ℕ
+  pub unflushed : Bool
+
+abbrev pub joined : List (List ℕ) → List ℕ
+joined texts = flat_map (λ text. text) texts
+
+-- the run's status, and its whole text, flushed
+pub record IsSaid (ran : Ran) (w : Written) (s : Status) : Type 0 where
+  pub said : ran.status ≡ s
+  pub text : w.after ≡ append_known w.before (text_of ran)
+  pub flushed : w.unflushed ≡ false
+  pub steady : w.faults_after ≡ w.faults_before
+
+-- a prefix of the run's text, where the output failed
+pub record IsCut (ran : Ran) (w : Written) : Type 0 where
+  pub count : ℕ
+  pub within : count ≤ length (text_of ran)
+  pub text : w.after ≡ append_known w.before (take count (text_of ran))
+  pub risen : HasRisen w.faults_before w.faults_after
+
+-- the whole texts of some first statements, where memory is wanting
+pub record IsShort (ran : Ran) (w : Written) : Type 0 where
+  pub count : ℕ
+  pub text : w.after ≡ append_known w.before (joined (take count ran.texts))
+  pub steady : w.faults_after ≡ w.faults_before
+
+-- the run ends with this status
+abbrev pub Ends : Ran → Written → Status → Type 0
+Ends ran w status.Done = IsSaid ran w status.Done
+Ends ran w status.Usage = IsSaid ran w status.Usage
+Ends ran w status.Syntax = IsSaid ran w status.Syntax
+Ends ran w status.Refused = IsSaid ran w status.Refused
+Ends ran w status.RunFault = IsSaid ran w status.RunFault
+Ends ran w status.BadData = IsSaid ran w status.BadData
+Ends ran w status.ReadFault = IsSaid ran w status.ReadFault
+Ends ran w status.WriteFault = IsCut ran w
+Ends ran w status.NoMemory = IsShort ran w
+
+-- memory was wanting before anything was written
+pub record IsSilent (w : Written) (s : Status) : Type 0 where
+  pub said : s ≡ status.NoMemory
+  pub text : w.after ≡ w.before
+  pub steady : w.faults_after ≡ w.faults_before
+
+-- one of the runs ends with this status, or memory was wanting before anything was written
+abbrev pub EndsOne : (Ran → Type 0) → Written → Status → Type 0
+EndsOne IsRun w s = ((ran : Ran) × IsRun ran × Ends ran w s) ⊎ IsSilent w s
