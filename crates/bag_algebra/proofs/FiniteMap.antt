@@ -45,4 +45,4 @@ same_at m k v q false e h = refl
 pub insert-same : {X : Type 0} (m : FinMap nat_cmp X) (k : ℕ) (v : X) → map.get m k ≡ Some v → map.insert m k v ≡ m
 insert-same m k v h =
     same_map nat_cmp_total nat_cmp-IsAntisymmetric (map.insert m k v) m
-        (λ q. get-insert nat_cmp_total m k v q ∙ same_at m k v q (eq_by_cmp nat_cmp q k) refl h)
+    (λ q. get-insert nat_cmp_total m k v q ∙ same_at m k v q (eq_by_cmp nat_cmp q k) refl h)

@@ -11,6 +11,8 @@ mod run;
 mod select;
 mod status;
 mod step;
+#[cfg(test)]
+mod tests;
 mod text;
 
 pub use command::Command;
