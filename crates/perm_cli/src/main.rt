@@ -1,0 +1,65 @@
+//! The program `perm`: the words of its command line, the system's files and the standard output, handed to the engine.
+#![tactic(auto)]
+
+use perm_engine::{Status, perm};
+use perm_io::{DiskFiles, StdSink};
+use perm_values::{Chars, List, NoMemory};
+use std::alloc::Global;
+use std::io::ErrorKind;
+use std::process::ExitCode;
+use std::rt::Env;
+use std::{env, io};
+
+/// Why the words can't be handed on: one isn't UTF-8 or can't be asked for, or memory is wanting.
+#[derive(Clone, Copy, Debug, PartialEq, Eq)]
+enum WordsError {
+    NotText,
+    NoMemory,
+}
+
+impl From<io::Error> for WordsError {
+    fn from(error: io::Error) -> WordsError {
+        match error.kind() {
+            ErrorKind::OutOfMemory => WordsError::NoMemory,
+            _ => WordsError::NotText,
+        }
+    }
+}
+
+impl From<NoMemory> for WordsError {
+    fn from(_error: NoMemory) -> WordsError {
+        WordsError::NoMemory
+    }
+}
+
+impl WordsError {
+    fn status(self) -> Status {
+        match self {
+            WordsError::NotText => Status::Usage,
+            WordsError::NoMemory => Status::NoMemory,
+        }
+    }
+}
+
+fn main(rt: HostRuntime) -> ExitCode {
+    let alloc = rt.alloc();
+    let status = match words(alloc, &rt) {
+        Ok(words) => perm(
+            alloc,
+            words.as_slice(),
+            &mut DiskFiles::new(&rt),
+            &mut StdSink::new(&rt),
+        ),
+        Err(error) => error.status(),
+    };
+    ExitCode::from(status.number())
+}
+
+/// The words that follow the program's name.
+fn words<R: Env + Alloc>(alloc: Global, rt: &R) -> Result<List<Chars>, WordsError> {
+    let mut words = List::new(alloc);
+    for word in env::args(rt)?.skip(1) {
+        words.push(Chars::from_text(alloc, word.as_str())?)?;
+    }
+    Ok(words)
+}
