@@ -1,6 +1,6 @@
 -- The rows that a file of comma-separated values spells for columns of given kinds, and the rules that its records
 -- break. What a record is, is the csv crate's own definition, with its defaults: commas, double quotes, any line end.
-use Rattle.std.specs.Prelude.{◌≡◌, ℕ, ◌+◌, ◌^◌, ℤ, pos, negsuc, Bool, true, false, ◌==◌, ◌&&◌, nat_lt, if◌then◌else◌, List, [], ◌∷◌, ◌++◌, map, drop, length, Option, Some, None, ⊤}
+use Rattle.std.specs.Prelude.{◌≢◌, All, ◌≡◌, ℕ, ◌+◌, ◌^◌, ℤ, pos, negsuc, Bool, true, false, ◌==◌, ◌&&◌, nat_lt, if◌then◌else◌, List, [], ◌∷◌, ◌++◌, map, drop, length, Option, Some, None, ⊤}
 use Rattle.std.specs.Str.{all_ascii_digits, bytes_eq, is_utf8}
 use Rattle.std.specs.Str.Parse.{signed_digits_value, without_leading_sign}
 use Rattle.csv.specs.Reading.{default_config, records, strip_bom}
@@ -10,6 +10,10 @@ use Rattle.perm_values.specs.declared.value.Value.{Value}
 use Rattle.perm_values.specs.declared.value.Value.TheVariants.{Null, Integer, Text}
 use Rattle.csv_tables.specs.declared.data_error.DataError.{DataError}
 use Rattle.csv_tables.specs.declared.data_error.DataError.TheVariants.{Width, NotInteger, NotText, NoMemory}
+
+-- no column is of booleans, which no field spells
+abbrev pub NoBoolean : List Kind → Type 0
+NoBoolean kinds = All (λ column. column ≢ kind.Boolean) kinds
 
 -- one digit or more, and nothing else
 abbrev pub is_numeral : List ℕ → Bool

@@ -1,6 +1,6 @@
-ghost use Rattle.std.specs.Prelude.{◌≡◌, ◌≢◌, ◌+◌, ◌<◌, ◌^◌, [], All, IfOk, IfErr, length, List};
+ghost use Rattle.std.specs.Prelude.{◌≡◌, ◌≢◌, [], IfOk, IfErr};
 ghost use Rattle.csv.specs.Records.{fields_of};
-ghost use Rattle.csv_tables.specs.Loading.{broken_rules, field_breaks, field_value, integer_of, IsFirstBroken, record_breaks, row_values, spelled_rows};
+ghost use Rattle.csv_tables.specs.Loading.{broken_rules, field_breaks, field_value, integer_of, IsFirstBroken, NoBoolean, record_breaks, row_values, spelled_rows};
 
 use crate::DataError;
 use csv::{ByteRecord, ReaderBuilder};
@@ -47,7 +47,7 @@ impl Columns<'_> {
     }
 
     fn row(&self, fields: &ByteRecord, number: u64) -> Result<Row, DataError>
-        requires { All (λ kind. kind ≢ Kind.Boolean) self.now.kinds.now }
+        requires { NoBoolean self.now.kinds.now }
         ensures ok { IfOk result (λ row. (record_breaks self.now.mark.now self.now.kinds.now number (fields_of fields.now) ≡ []) × (row ≡ row_values self.now.mark.now self.now.kinds.now (fields_of fields.now))) }
         ensures err { IfErr result (λ error. IsFirstBroken (record_breaks self.now.mark.now self.now.kinds.now number (fields_of fields.now)) error) }
     {
@@ -79,7 +79,7 @@ pub fn load(
     mark: &[u8],
     header: bool,
 ) -> Result<Rows, DataError>
-    requires { All (λ kind. kind ≢ Kind.Boolean) kinds.now }
+    requires { NoBoolean kinds.now }
     ensures ok { IfOk result (λ rows. (broken_rules mark.now kinds.now header bytes.now ≡ []) × (rows ≡ spelled_rows mark.now kinds.now header bytes.now)) }
     ensures err { IfErr result (λ error. IsFirstBroken (broken_rules mark.now kinds.now header bytes.now) error) }
 {
