@@ -4,3 +4,4 @@ pub mod Records
 pub mod Rules
 pub mod InLoop
 pub mod ReadBack
+pub mod Fitting
