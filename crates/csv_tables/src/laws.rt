@@ -9,5 +9,6 @@ ghost use Rattle.perm_values.specs.declared.value.Value.{Value as Cell};
 ///
 /// The line of one NULL is blank and gives no record; NULL and the empty text read as the same field.
 pub fn answers_read_back()
-    ensures { (names : List (List ℕ)) (rows : List (List Cell)) → records default_config (strip_bom (answer_bytes names rows)) ≡ answer_records names rows }
+    ensures { (names : List (List ℕ)) (rows : List (List Cell))
+        → records default_config (strip_bom (answer_bytes names rows)) ≡ answer_records names rows }
 {}

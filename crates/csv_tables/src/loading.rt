@@ -29,8 +29,9 @@ impl Columns<'_> {
     /// The value that a field spells, or the rule that it breaks.
     fn value(&self, kind: Kind, field: &[u8], row: u64, place: u64) -> Result<Value, DataError>
         requires { kind ≢ Kind.Boolean }
-        ensures ok { IfOk result (λ value. (field_breaks self.now.mark.now row place kind field.now ≡ []) × (value ≡ field_value self.now.mark.now kind field.now)) }
-        ensures err { IfErr result (λ error. IsFirstBroken (field_breaks self.now.mark.now row place kind field.now) error) }
+        ensures ok { IfOk result (λ value. (field_breaks self.now.mark.now row place kind field.now ≡ [])
+            × (value ≡ field_value self.now.mark.now kind field.now)) }
+        ensures err { IfErr result (IsFirstBroken (field_breaks self.now.mark.now row place kind field.now)) }
     {
         if field == self.mark {
             return Ok(Value::Null);
@@ -51,8 +52,10 @@ impl Columns<'_> {
     /// The row that a record spells, or the first rule that it breaks.
     fn row(&self, fields: &ByteRecord, number: u64) -> Result<Row, DataError>
         requires { NoBoolean self.now.kinds.now }
-        ensures ok { IfOk result (λ row. (record_breaks self.now.mark.now self.now.kinds.now number (fields_of fields.now) ≡ []) × (row ≡ row_values self.now.mark.now self.now.kinds.now (fields_of fields.now))) }
-        ensures err { IfErr result (λ error. IsFirstBroken (record_breaks self.now.mark.now self.now.kinds.now number (fields_of fields.now)) error) }
+        ensures ok { IfOk result (λ row. (record_breaks self.now.mark.now self.now.kinds.now number (fields_of fields.now) ≡ [])
+            × (row ≡ row_values self.now.mark.now self.now.kinds.now (fields_of fields.now))) }
+        ensures err { IfErr result
+            (IsFirstBroken (record_breaks self.now.mark.now self.now.kinds.now number (fields_of fields.now))) }
     {
         if fields.len() != self.kinds.len() {
             return Err(DataError::Width { row: number });
@@ -85,9 +88,10 @@ pub fn load(
     header: bool,
 ) -> Result<Rows, DataError>
     requires { NoBoolean kinds.now }
-    ensures ok { IfOk result (λ rows. (broken_rules mark.now kinds.now header bytes.now ≡ []) × (rows ≡ spelled_rows mark.now kinds.now header bytes.now)) }
+    ensures ok { IfOk result (λ rows. (broken_rules mark.now kinds.now header bytes.now ≡ [])
+        × (rows ≡ spelled_rows mark.now kinds.now header bytes.now)) }
     ensures fit { IfOk result (λ rows. IsTrue (all_fit kinds.now rows)) }
-    ensures err { IfErr result (λ error. IsFirstBroken (broken_rules mark.now kinds.now header bytes.now) error) }
+    ensures err { IfErr result (IsFirstBroken (broken_rules mark.now kinds.now header bytes.now)) }
 {
     let columns = Columns { alloc, kinds, mark };
     let reader = ReaderBuilder::new()
