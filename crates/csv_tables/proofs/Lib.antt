@@ -3,3 +3,5 @@ pub mod Fields
 pub mod Records
 pub mod Rules
 pub mod InLoop
+pub mod ReadBack
+pub mod Fitting

@@ -50,8 +50,11 @@ abbrev pub row_line : List Value → List ℕ
 row_line row = line (map field_text row)
 
 -- the number of rows, `(1 rows)` for one
+abbrev pub count_text : ℕ → List ℕ
+count_text count = codes "(" ++ decimal count ++ codes " rows)"
+
 abbrev pub count_line : ℕ → List ℕ
-count_line count = codes "(" ++ decimal count ++ codes " rows)" ++ (line_feed ∷ [])
+count_line count = line (count_text count ∷ [])
 
 -- the header, a line for each row in the order given, and their number
 abbrev pub answer_bytes : List (List ℕ) → List (List Value) → List ℕ

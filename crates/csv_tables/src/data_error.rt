@@ -43,7 +43,8 @@ impl From<NoMemory> for DataError {
     }
 }
 
-/// The bytes are in memory and records may have any length, so a reader can fail only for want of memory.
+// The contracts of the csv crate don't exclude a fault of reading, but std's reader of bytes in memory has none, and
+// records may have any length: each error is want of memory.
 impl From<csv::Error> for DataError {
     ghost use Rattle.std.specs.Prelude.{◌≡◌};
     ghost use Rattle.csv_tables.specs.declared.data_error.DataError.TheVariants as fault;

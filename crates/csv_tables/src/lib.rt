@@ -3,8 +3,13 @@
 
 mod answer;
 mod data_error;
+mod laws;
 mod loading;
 
 pub use answer::answer_text;
 pub use data_error::DataError;
+pub use laws::answers_read_back;
 pub use loading::load;
+
+#[cfg(test)]
+mod tests;

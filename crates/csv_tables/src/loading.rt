@@ -1,6 +1,6 @@
-ghost use Rattle.std.specs.Prelude.{◌≡◌, ◌≢◌, ◌+◌, ◌<◌, ◌^◌, [], All, IfOk, IfErr, length, List};
+ghost use Rattle.std.specs.Prelude.{◌≡◌, ◌≢◌, [], IfOk, IfErr, IsTrue};
 ghost use Rattle.csv.specs.Records.{fields_of};
-ghost use Rattle.csv_tables.specs.Loading.{broken_rules, field_breaks, field_value, integer_of, IsFirstBroken, record_breaks, row_values, spelled_rows};
+ghost use Rattle.csv_tables.specs.Loading.{all_fit, broken_rules, field_breaks, field_value, integer_of, IsFirstBroken, NoBoolean, record_breaks, row_values, spelled_rows};
 
 use crate::DataError;
 use csv::{ByteRecord, ReaderBuilder};
@@ -15,6 +15,7 @@ struct Columns<'a> {
     mark: &'a [u8],
 }
 
+/// The number that a field spells, if it is an integer.
 fn integer(field: &[u8]) -> Option<i64>
     ensures { result ≡ integer_of field.now }
 {
@@ -25,10 +26,12 @@ fn integer(field: &[u8]) -> Option<i64>
 }
 
 impl Columns<'_> {
+    /// The value that a field spells, or the rule that it breaks.
     fn value(&self, kind: Kind, field: &[u8], row: u64, place: u64) -> Result<Value, DataError>
         requires { kind ≢ Kind.Boolean }
-        ensures ok { IfOk result (λ value. (field_breaks self.now.mark.now row place kind field.now ≡ []) × (value ≡ field_value self.now.mark.now kind field.now)) }
-        ensures err { IfErr result (λ error. IsFirstBroken (field_breaks self.now.mark.now row place kind field.now) error) }
+        ensures ok { IfOk result (λ value. (field_breaks self.now.mark.now row place kind field.now ≡ [])
+            × (value ≡ field_value self.now.mark.now kind field.now)) }
+        ensures err { IfErr result (IsFirstBroken (field_breaks self.now.mark.now row place kind field.now)) }
     {
         if field == self.mark {
             return Ok(Value::Null);
@@ -46,10 +49,13 @@ impl Columns<'_> {
         }
     }
 
+    /// The row that a record spells, or the first rule that it breaks.
     fn row(&self, fields: &ByteRecord, number: u64) -> Result<Row, DataError>
-        requires { All (λ kind. kind ≢ Kind.Boolean) self.now.kinds.now }
-        ensures ok { IfOk result (λ row. (record_breaks self.now.mark.now self.now.kinds.now number (fields_of fields.now) ≡ []) × (row ≡ row_values self.now.mark.now self.now.kinds.now (fields_of fields.now))) }
-        ensures err { IfErr result (λ error. IsFirstBroken (record_breaks self.now.mark.now self.now.kinds.now number (fields_of fields.now)) error) }
+        requires { NoBoolean self.now.kinds.now }
+        ensures ok { IfOk result (λ row. (record_breaks self.now.mark.now self.now.kinds.now number (fields_of fields.now) ≡ [])
+            × (row ≡ row_values self.now.mark.now self.now.kinds.now (fields_of fields.now))) }
+        ensures err { IfErr result
+            (IsFirstBroken (record_breaks self.now.mark.now self.now.kinds.now number (fields_of fields.now))) }
     {
         if fields.len() != self.kinds.len() {
             return Err(DataError::Width { row: number });
@@ -67,11 +73,13 @@ impl Columns<'_> {
 
 /// The rows that the bytes of a CSV file spell, one for each record.
 ///
-/// Records and their fields are those that the `csv` crate reads by default: commas, double quotes, any line end, no
-/// blank lines (RFC 4180). With `header` the first record is left out, whatever it holds. A field whose bytes equal
-/// `mark` is NULL in every column. Any other field of an integer column is an optional sign and digits that fit
-/// 64 bits, and of a text column UTF-8. It refuses a file whose records break a rule, and names the first in the order of the
-/// records; in a record the width comes first, then the fields from left to right.
+/// Records and fields are those that the `csv` crate reads by default (RFC 4180, with any line end, and without blank
+/// lines and a byte order mark). With `header` the first record is left out, whatever it holds, and still counts. A
+/// field whose bytes equal `mark` is NULL in every column; quotes around it are no part of it. Any other field is an
+/// optional sign and digits that fit 64 bits in a column of integers, and UTF-8 in one of texts.
+///
+/// A file that breaks a rule is refused with the first: in the order of records, which count from 1, and in a record
+/// its width before its fields from left to right. `NoMemory` may come at any time.
 pub fn load(
     alloc: Global,
     bytes: &[u8],
@@ -79,9 +87,11 @@ pub fn load(
     mark: &[u8],
     header: bool,
 ) -> Result<Rows, DataError>
-    requires { All (λ kind. kind ≢ Kind.Boolean) kinds.now }
-    ensures ok { IfOk result (λ rows. (broken_rules mark.now kinds.now header bytes.now ≡ []) × (rows ≡ spelled_rows mark.now kinds.now header bytes.now)) }
-    ensures err { IfErr result (λ error. IsFirstBroken (broken_rules mark.now kinds.now header bytes.now) error) }
+    requires { NoBoolean kinds.now }
+    ensures ok { IfOk result (λ rows. (broken_rules mark.now kinds.now header bytes.now ≡ [])
+        × (rows ≡ spelled_rows mark.now kinds.now header bytes.now)) }
+    ensures fit { IfOk result (λ rows. IsTrue (all_fit kinds.now rows)) }
+    ensures err { IfErr result (IsFirstBroken (broken_rules mark.now kinds.now header bytes.now)) }
 {
     let columns = Columns { alloc, kinds, mark };
     let reader = ReaderBuilder::new()

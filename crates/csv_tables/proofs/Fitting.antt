@@ -1,0 +1,57 @@
+-- Rows that break no rule fit the kinds of their columns.
+use Rattle.std.proofs.Common.{◌≡◌, ℕ, ◌+◌, Bool, true, false, List, [], ◌∷◌, ◌++◌, length, map, refl, arith, inl, inr}
+use Rattle.std.proofs.lemmas.Bool.{cases_Bool, eqb-true}
+use Rattle.std.specs.Prelude.{◌==◌, if◌then◌else◌}
+use Rattle.std.specs.Str.{bytes_eq}
+use Rattle.perm_values.specs.Rows.{row_fits}
+use Rattle.perm_values.specs.Values.{fits}
+use Rattle.perm_values.specs.declared.kind.Kind.{Kind}
+use Rattle.perm_values.specs.declared.kind.Kind.TheVariants as kind
+use Rattle.perm_values.specs.declared.value.Value.TheVariants.{Null}
+use Rattle.csv_tables.specs.Loading.{all_fit, broken_rules, field_value, record_breaks, records_breaks, row_records, row_values, skipped, spelled, spelled_rows, width_breaks}
+
+front-none : {X : Type 0} (xs ys : List X) → xs ++ ys ≡ [] → xs ≡ []
+front-none [] ys e = refl
+front-none (x ∷ xs) ys e = cc e
+
+back-none : {X : Type 0} (xs ys : List X) → xs ++ ys ≡ [] → ys ≡ []
+back-none [] ys e = e
+back-none (x ∷ xs) ys e = cc e
+
+spelled-fits : (k : Kind) (field : List ℕ) → fits (spelled k field) k ≡ true
+spelled-fits kind.Integer field = refl
+spelled-fits kind.Text field = refl
+spelled-fits kind.Boolean field = refl
+
+null-fits : (k : Kind) → fits Null k ≡ true
+null-fits kind.Integer = refl
+null-fits kind.Text = refl
+null-fits kind.Boolean = refl
+
+field_value-fits : (mark : List ℕ) (k : Kind) (field : List ℕ) → fits (field_value mark k field) k ≡ true
+field_value-fits mark k field = choose (bytes_eq field mark) where
+  choose : (b : Bool) → fits (if b then Null else spelled k field) k ≡ true
+  choose true = null-fits k
+  choose false = spelled-fits k field
+
+row_values-fits : (mark : List ℕ) (kinds : List Kind) (fields : List (List ℕ)) → length fields ≡ length kinds → row_fits (row_values mark kinds fields) kinds ≡ true
+row_values-fits mark [] fields wide = refl
+row_values-fits mark (k ∷ kinds) [] wide = absurd (omega arith)
+row_values-fits mark (k ∷ kinds) (f ∷ fields) wide = rw (field_value-fits mark k f) (row_values-fits mark kinds fields (omega arith))
+
+wide-of : (row : ℕ) (kinds : List Kind) (fields : List (List ℕ)) → width_breaks row kinds fields ≡ [] → length fields ≡ length kinds
+wide-of row kinds fields e = elim (cases_Bool (length fields == length kinds)) [
+  | inl same ↦ eqb-true _ _ same
+  | inr other ↦ let broken = rw other at e in cc broken
+]
+
+records-fit : (mark : List ℕ) (kinds : List Kind) (row : ℕ) (records : List (List (List ℕ))) → records_breaks mark kinds row records ≡ [] → all_fit kinds (map (row_values mark kinds) records) ≡ true
+records-fit mark kinds row [] e = refl
+records-fit mark kinds row (fields ∷ more) e =
+    let here : record_breaks mark kinds row fields ≡ [] = front-none _ _ e in
+    let wide : length fields ≡ length kinds = wide-of row kinds fields (front-none _ _ here) in
+    rw (row_values-fits mark kinds fields wide) (records-fit mark kinds (row + 1) more (back-none _ _ e))
+
+-- where a file breaks no rule, the rows that it spells fit
+pub all_fit-spelled : (mark : List ℕ) (kinds : List Kind) (header : Bool) (bytes : List ℕ) → broken_rules mark kinds header bytes ≡ [] → all_fit kinds (spelled_rows mark kinds header bytes) ≡ true
+all_fit-spelled mark kinds header bytes e = records-fit mark kinds (skipped header + 1) (row_records header bytes) e
