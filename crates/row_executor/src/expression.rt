@@ -7,10 +7,10 @@ ghost use Rattle.row_executor.specs.Answers.{Gives};
 ghost use Rattle.row_executor.specs.Parts.{steps_of, chain_of, same_as, Chooses};
 
 use crate::ExecError;
-use crate::operate::{has_truth, is_null, operate};
+use crate::operate::{has_truth, holds, is_null, operate};
 use crate::step::{Step, chain};
 use bag_algebra::{Arm, ChainStep, Env, Expr};
-use null_logic::{Operator, Truth};
+use null_logic::Operator;
 use perm_values::{Copyable, List, Row, Value};
 use std::alloc::Global;
 
@@ -156,7 +156,7 @@ fn chosen(
 {
     for arm in arms {
         let condition = eval(alloc, &arm.condition, row, subs, env)?;
-        if Truth::of(&condition).is_true() {
+        if holds(&condition) {
             return Ok(Some(eval(alloc, &arm.value, row, subs, env)?));
         }
     }

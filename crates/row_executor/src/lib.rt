@@ -6,7 +6,9 @@ mod expression;
 mod operate;
 mod query;
 mod step;
+#[cfg(test)]
+mod tests;
 
 pub use error::ExecError;
 pub use expression::eval;
-pub use query::run_plain;
+pub use query::{is_built, run_plain};

@@ -2,6 +2,7 @@
 ghost use Rattle.std.specs.Prelude.{◌≡◌, IfOk};
 ghost use Rattle.null_logic.specs.Comparison.{is_null, between, in_list};
 ghost use Rattle.bag_algebra.specs.Expressions.{with_one, with_two, with_three, all_true, some_true, coalesce, null_if, arith_values, negate_value, like_values, has_truth, operate};
+ghost use Rattle.bag_algebra.specs.Means.{holds_of};
 ghost use Rattle.bag_algebra.specs.Outcome.{Good, of_result};
 ghost use Rattle.row_executor.specs.Answers.{Gives};
 
@@ -40,6 +41,13 @@ pub(crate) fn is_null(value: &Value) -> bool
         Value::Null => true,
         Value::Integer(_) | Value::Text(_) | Value::Boolean(_) => false,
     }
+}
+
+/// Whether a condition of this value is true.
+pub(crate) fn holds(value: &Value) -> bool
+    ensures { result ≡ holds_of value.now }
+{
+    Truth::of(value).is_true()
 }
 
 /// Whether the value has this truth; NULL is unknown.
