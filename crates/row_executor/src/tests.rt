@@ -158,7 +158,7 @@ fn project(alloc: Global) -> Result<Query, NoMemory> {
     Ok(Query::Project { input, items, subs })
 }
 
-/// The table of identity 1, with the rows 1, NULL, 1 and NULL.
+/// The table of identity 1, whose values are 1, NULL, 1 and NULL.
 fn tables(alloc: Global) -> Result<Tables, NoMemory> {
     let mut tables = Tables::new(alloc);
     tables.put(1, rows_of(alloc, [Some(1), None, Some(1), None])?)?;
