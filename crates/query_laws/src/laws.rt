@@ -1,0 +1,99 @@
+//! The law of each node: the contract of a function that does nothing.
+ghost use Rattle.std.specs.Prelude.{◌≡◌, ℕ, ◌+◌, ◌-◌, min, Bool, List, [], ◌∷◌, map};
+ghost use Rattle.bag_algebra.specs.Bags.{Row, Bag};
+ghost use Rattle.bag_algebra.specs.Children.{subs_denote};
+ghost use Rattle.bag_algebra.specs.Kinds.{width_of};
+ghost use Rattle.bag_algebra.specs.Meaning.{Database, meaning, witnesses, condition_on, items_on, arguments_on};
+ghost use Rattle.bag_algebra.specs.Outcome.{Good};
+ghost use Rattle.bag_algebra.specs.declared.expr.Expr.{Expr};
+ghost use Rattle.bag_algebra.specs.declared.expr.Item.{Item};
+ghost use Rattle.bag_algebra.specs.declared.query.Aggr.{Aggr};
+ghost use Rattle.bag_algebra.specs.declared.query.JoinKind.{JoinKind};
+ghost use Rattle.bag_algebra.specs.declared.query.Label.{Label};
+ghost use Rattle.bag_algebra.specs.declared.query.Query.{Query};
+ghost use Rattle.bag_algebra.specs.declared.query.Query.TheVariants.{Table, Single, Base, Filter, Project, Join, Union, Intersect, Except, Distinct, Aggregate, Limit, Prov};
+ghost use Rattle.bag_algebra.specs.declared.query.Sublink.{Sublink};
+ghost use Rattle.perm_values.specs.declared.key.Key.{Key};
+ghost use Rattle.perm_values.specs.declared.kind.Kind.{Kind};
+ghost use Rattle.query_laws.specs.Nodes.{IsFiltered, IsProjected, IsJoined, IsCombined, in_either, in_both, in_left_alone, IsDistinct, IsGrouped, IsLimited, IsProvenance};
+
+/// A table has the rows that the database has for it.
+pub fn table_has_its_rows()
+    ensures { (id : ℕ) (kinds : List Kind) (db : Database) (env : List Row) →
+        meaning (Table id kinds) db env ≡ Good (db id) }
+{}
+
+/// The source of a query without FROM has the empty row, once.
+pub fn single_has_the_empty_row()
+    ensures { (db : Database) (env : List Row) → meaning Single db env ≡ Good ([] ∷ []) }
+{}
+
+/// A source has the rows and faults of its input.
+pub fn base_has_its_inputs_rows()
+    ensures { (input : Query) (places : List ℕ) (label : Label) (db : Database) (env : List Row) →
+        meaning (Base input places label) db env ≡ meaning input db env }
+{}
+
+/// A row has its count in the input where its condition, after its sublinks, is true, and otherwise none. What the
+/// rows meet is met.
+pub fn filter_keeps_what_is_true()
+    ensures { (input : Query) (condition : Expr) (subs : List Sublink) (db : Database) (env : List Row) →
+        IsFiltered (condition_on condition env (subs_denote subs db env)) (meaning input db env) (meaning (Filter input condition subs) db env) }
+{}
+
+/// A row has the sum of the counts of those input rows whose items, after their sublinks, give it. What the rows meet
+/// is met.
+pub fn project_adds_counts()
+    ensures { (input : Query) (items : List Item) (subs : List Sublink) (db : Database) (env : List Row) →
+        IsProjected (items_on items env (subs_denote subs db env)) (meaning input db env) (meaning (Project input items subs) db env) }
+{}
+
+/// A row has the sum, over the pairs that make it and whose condition is true, of the products of their counts, and the
+/// counts of the unmatched rows of a kept side that make it beside NULLs. What the pairs meet is met.
+pub fn join_multiplies_counts()
+    ensures { (kind : JoinKind) (left right : Query) (condition : Expr) (subs : List Sublink) (db : Database) (env : List Row) →
+        IsJoined kind (condition_on condition env (subs_denote subs db env)) (width_of left) (width_of right) (meaning left db env) (meaning right db env) (meaning (Join kind left right condition subs) db env) }
+{}
+
+/// UNION ALL gives the sum of the counts, UNION each row of either side once.
+pub fn union_adds_counts()
+    ensures { (all : Bool) (left right : Query) (db : Database) (env : List Row) →
+        IsCombined ◌+◌ in_either all (meaning left db env) (meaning right db env) (meaning (Union all left right) db env) }
+{}
+
+/// INTERSECT ALL gives the smaller of the counts, INTERSECT each row of both sides once.
+pub fn intersect_has_the_smaller_count()
+    ensures { (all : Bool) (left right : Query) (db : Database) (env : List Row) →
+        IsCombined min in_both all (meaning left db env) (meaning right db env) (meaning (Intersect all left right) db env) }
+{}
+
+/// EXCEPT ALL gives what the left count has beyond the right one, EXCEPT each row of the left side alone once.
+pub fn except_takes_counts_away()
+    ensures { (all : Bool) (left right : Query) (db : Database) (env : List Row) →
+        IsCombined ◌-◌ in_left_alone all (meaning left db env) (meaning right db env) (meaning (Except all left right) db env) }
+{}
+
+/// DISTINCT gives each row of the input once.
+pub fn distinct_has_each_row_once()
+    ensures { (input : Query) (db : Database) (env : List Row) →
+        IsDistinct (meaning input db env) (meaning (Distinct input) db env) }
+{}
+
+/// One row for each class of input rows whose group values are the same: the group values, then the aggregates over the
+/// class. Without groups exactly one row. A bad argument on a row is met, and otherwise a sum that doesn't fit.
+pub fn aggregate_has_a_row_for_each_class()
+    ensures { (input : Query) (groups : List ℕ) (aggregates : List Aggr) (db : Database) (env : List Row) →
+        IsGrouped groups (map (λ (aggregate : Aggr). aggregate.function) aggregates) (arguments_on aggregates env) (meaning input db env) (meaning (Aggregate input groups aggregates) db env) }
+{}
+
+/// LIMIT gives the first rows of the input in the printed order.
+pub fn limit_takes_the_first_rows()
+    ensures { (input : Query) (keys : List Key) (most : ℕ) (db : Database) (env : List Row) →
+        IsLimited keys most (meaning input db env) (meaning (Limit input keys most) db env) }
+{}
+
+/// PROVENANCE gives each row of the query beside each of its witness lists, once each.
+pub fn provenance_is_each_row_beside_its_witnesses()
+    ensures { (input : Query) (db : Database) (env : List Row) →
+        IsProvenance (witnesses input db env) (meaning input db env) (meaning (Prov input) db env) }
+{}
