@@ -1,2 +1,4 @@
 pub mod Outcomes
 pub mod Filtered
+pub mod Sums
+pub mod Projected
