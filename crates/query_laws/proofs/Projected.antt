@@ -7,19 +7,19 @@ use Rattle.bag_algebra.specs.Means.{gives}
 use Rattle.bag_algebra.specs.Outcome.{Outcome, Good, Bad, and_then, both, each}
 use Rattle.query_laws.specs.Nodes.{IsProjected}
 use Rattle.query_laws.proofs.Outcomes.{Over, over-each, over_rows, and_then-passes, same_good, both-is}
-use Rattle.query_laws.proofs.Sums.{sum_by-passing, one_more}
+use Rattle.query_laws.proofs.Sums.{one_if, sum_by-passing, one_more}
 
 -- what the items give, row by row
-given : (t : Row) (items : Row → Outcome Row) (us ts : Bag) → each items us ≡ Good ts → count t ts ≡ sum_by (λ u. cond (gives t (items u)) 1 0) us
+given : (t : Row) (items : Row → Outcome Row) (us ts : Bag) → each items us ≡ Good ts → count t ts ≡ sum_by (λ u. one_if (gives t (items u))) us
 given t items [] ts e = ap (count t) (sym (same_good [] ts e))
 given t items (u ∷ us) ts e =
     let parts = both-is (λ y ys. y ∷ ys) (items u) (each items us) ts e in
     let y : Row = parts.0 in
     let ys : Bag = parts.1 in
     let given_here : same_row y t ≡ gives t (items u) = ap (gives t) (sym parts.2) in
-    let further : count t ys ≡ sum_by (λ v. cond (gives t (items v)) 1 0) us = given t items us ys parts.3 in
-    ap (count t) (sym parts.4) ∙ one_more (same_row y t) (count t ys) ∙ (λ i. cond (given_here i) 1 0 + further i)
-    ∙ sym (sum_by-cons (λ v. cond (gives t (items v)) 1 0) u us)
+    let further : count t ys ≡ sum_by (λ v. one_if (gives t (items v))) us = given t items us ys parts.3 in
+    ap (count t) (sym parts.4) ∙ one_more (same_row y t) (count t ys) ∙ (λ i. one_if (given_here i) + further i)
+    ∙ sym (sum_by-cons (λ v. one_if (gives t (items v))) u us)
 
 pub projected : (items : Row → Outcome Row) (input : Outcome Bag) → IsProjected items input (and_then input (each items))
 projected items input = record {

@@ -8,6 +8,10 @@ use Rattle.bag_algebra.proofs.BagLaws.{same_row-is, same_row-sym, same_row-refl,
 use Rattle.bag_algebra.specs.Bags.{Row, Bag, count}
 use Rattle.query_laws.specs.Holding.{InBag, Lists, counted_where}
 
+-- a row that passes counts once
+abbrev pub one_if : Bool → ℕ
+one_if b = cond b 1 0
+
 -- ---- sums
 
 pub sum_by-same : {X : Type 0} (f g : X → ℕ) (xs : List X) → ((x : X) → f x ≡ g x) → sum_by f xs ≡ sum_by g xs
@@ -51,15 +55,15 @@ count-flat_map t f [] = refl
 count-flat_map t f (x ∷ xs) =
     omega (arith, count-append t (f x) (flat_map f xs), count-flat_map t f xs, sum_by-cons (λ y. count t (f y)) x xs)
 
-pub one_more : (b : Bool) (n : ℕ) → cond b (suc n) n ≡ cond b 1 0 + n
+pub one_more : (b : Bool) (n : ℕ) → cond b (suc n) n ≡ one_if b + n
 one_more true n = omega arith
 one_more false n = omega arith
 
-pub count-map : {X : Type 0} (t : Row) (f : X → Row) (xs : List X) → count t (map f xs) ≡ sum_by (λ x. cond (same_row (f x) t) 1 0) xs
+pub count-map : {X : Type 0} (t : Row) (f : X → Row) (xs : List X) → count t (map f xs) ≡ sum_by (λ x. one_if (same_row (f x) t)) xs
 count-map t f [] = refl
 count-map t f (x ∷ xs) =
-    one_more (same_row (f x) t) (count t (map f xs)) ∙ ap (λ n. cond (same_row (f x) t) 1 0 + n) (count-map t f xs)
-    ∙ sym (sum_by-cons (λ y. cond (same_row (f y) t) 1 0) x xs)
+    one_more (same_row (f x) t) (count t (map f xs)) ∙ ap (λ n. one_if (same_row (f x) t) + n) (count-map t f xs)
+    ∙ sym (sum_by-cons (λ y. one_if (same_row (f y) t)) x xs)
 
 -- ---- each row once
 
@@ -106,13 +110,13 @@ listed_once rows us l u h = omega (arith, l.once u, (l.rows u).1 h)
 pub sum_by-listed : (g : Row → ℕ) (rows us : Bag) → Lists rows us → sum_by g us ≡ sum_by (λ d. count d us * g d) rows
 sum_by-listed g rows us l = sum_by-weighed g rows us (listed_once rows us l)
 
-unit-cond : (b : Bool) (n : ℕ) → n * cond b 1 0 ≡ cond b n 0
+unit-cond : (b : Bool) (n : ℕ) → n * one_if b ≡ cond b n 0
 unit-cond true n = mul-one n
 unit-cond false n = mul-zero n
 
 -- how many rows pass, as they come
-pub sum_by-passing : (test : Row → Bool) (rows us : Bag) → Lists rows us → sum_by (λ u. cond (test u) 1 0) us ≡ counted_where test us rows
+pub sum_by-passing : (test : Row → Bool) (rows us : Bag) → Lists rows us → sum_by (λ u. one_if (test u)) us ≡ counted_where test us rows
 sum_by-passing test rows us l =
-    sum_by-listed (λ u. cond (test u) 1 0) rows us l
-    ∙ sum_by-same (λ d. count d us * cond (test d) 1 0) (λ d. cond (test d) (count d us) 0) rows (λ d. unit-cond (test d) (count d us))
+    sum_by-listed (λ u. one_if (test u)) rows us l
+    ∙ sum_by-same (λ d. count d us * one_if (test d)) (λ d. cond (test d) (count d us) 0) rows (λ d. unit-cond (test d) (count d us))
     ∙ sym (sum_by-filter (λ d. count d us) test rows)

@@ -1,5 +1,5 @@
 -- What a bag holds, by its counts.
-use Rattle.std.specs.Prelude.{◌≡◌, ◌↔◌, ◌<◌, ◌≤◌, ℕ, Bool, cond, List, filter, sum_by}
+use Rattle.std.specs.Prelude.{◌≡◌, ◌↔◌, ◌<◌, ◌≤◌, ℕ, Bool, List, filter, length, sum_by}
 use Rattle.bag_algebra.specs.Bags.{Row, Bag, count, member}
 
 -- a row is in a bag where its count is above 0
@@ -18,3 +18,7 @@ Lists rows us = HoldsOnce (λ u. InBag u us) rows
 -- the sum, over the listed rows that pass the test, of their counts in the bag
 abbrev pub counted_where : (Row → Bool) → Bag → List Row → ℕ
 counted_where test us rows = sum_by (λ u. count u us) (filter test rows)
+
+-- all rows of the bag have that many columns
+abbrev pub HasWidth : ℕ → Bag → Type 0
+HasWidth width us = (u : Row) → InBag u us → length u ≡ width

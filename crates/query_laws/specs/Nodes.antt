@@ -16,7 +16,7 @@ use Rattle.bag_algebra.specs.declared.query.AggFn.{AggFn}
 use Rattle.bag_algebra.specs.declared.query.AggFn.TheVariants.{Sum}
 use Rattle.bag_algebra.specs.declared.query.JoinKind.{JoinKind}
 use Rattle.query_laws.specs.Faults.{IsGood, Meets, PassesFaults, UnitesFaults, OverRows, OverPairs}
-use Rattle.query_laws.specs.Holding.{InBag, HoldsOnce, Lists, counted_where}
+use Rattle.query_laws.specs.Holding.{InBag, HoldsOnce, Lists, HasWidth, counted_where}
 
 -- ---- Filter: a row has its count in the input where its condition is true, and otherwise none
 
@@ -67,6 +67,11 @@ pub record IsJoined (kind : JoinKind) (condition : Row → Outcome Value) (left_
       (lefts rights : List Row) → Lists lefts us → Lists rights vs →
       (t : Row) → count t ts ≡ pairs_count condition t us vs lefts rights
       + left_count kind condition right_width t us vs lefts + right_count kind condition left_width t us vs rights
+  -- where all left rows have the left width, a row falls into its two parts in one way
+  pub product : (us vs ts : Bag) → left ≡ Good us → right ≡ Good vs → answer ≡ Good ts → HasWidth left_width us →
+      (u v : Row) → length u ≡ left_width → count (u ++ v) ts ≡ cond (is_met (condition (u ++ v))) (count u us * count v vs) 0
+      + cond (keeps_left kind && same_row (nulls right_width) v && is_unmatched_left condition vs u) (count u us) 0
+      + cond (keeps_right kind && same_row (nulls left_width) u && is_unmatched_right condition us v) (count v vs) 0
 
 -- ---- Union, Intersect, Except: with ALL a row has the count that `many` makes of its counts on both sides; without ALL
 -- the answer holds once each row whose counts are as `some` says

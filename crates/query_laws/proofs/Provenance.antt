@@ -1,0 +1,53 @@
+-- The law of PROVENANCE.
+use Rattle.std.proofs.Common.{◌≡◌, ℕ, zero, suc, ◌+◌, ◌<◌, Bool, true, false, Decides, List, [], ◌∷◌, ◌++◌, map, length, inl, inr, refl, sym, ap, subst, ◌∙◌, arith}
+use Rattle.std.specs.List.{flat_map, slice_index_or, Contains}
+use Rattle.bag_algebra.proofs.BagLaws.{member_decides}
+use Rattle.bag_algebra.proofs.Members.{IsIn, in-map, from-map, in-flat_map, from-flat_map, member-in, in-member}
+use Rattle.bag_algebra.specs.Bags.{Row, Bag, member, once}
+use Rattle.bag_algebra.specs.Means.{Witness, flat, with_witnesses}
+use Rattle.bag_algebra.specs.Outcome.{Outcome, Good, Bad, mapped}
+use Rattle.query_laws.specs.Holding.{InBag, HoldsOnce}
+use Rattle.query_laws.specs.Nodes.{IsProvenance}
+use Rattle.query_laws.proofs.Combined.{holds_once-once}
+use Rattle.query_laws.proofs.Outcomes.{in_bag-in, in-in_bag, same_good, good-good, mapped-passes}
+
+-- ---- what a list contains
+
+pub in-at : {X : Type 0} (xs : List X) (k : ℕ) (d : X) → k < length xs → IsIn (slice_index_or xs k d) xs
+in-at [] k d h = absurd (omega arith)
+in-at (x ∷ xs) zero d h = inl refl
+in-at (x ∷ xs) (suc k) d h = inr (in-at xs k d (omega arith))
+
+pub contains-in : {X : Type 0} (x : X) (xs : List X) → Contains xs x → IsIn x xs
+contains-in x xs c = subst (λ y. IsIn y xs) c.2 (in-at xs c.0 x c.1)
+
+pub in-contains : {X : Type 0} (x : X) (xs : List X) → IsIn x xs → Contains xs x
+in-contains x [] h = absurd h
+in-contains x (y ∷ ys) (inl e) = (0, omega arith, e)
+in-contains x (y ∷ ys) (inr h) = let found = in-contains x ys h in (suc found.0, omega (arith, found.1), found.2)
+
+-- ---- rows beside their lists
+
+abbrev stands : (Row → List Witness) → Bag → Row → Type 0
+stands lists us x = (t : Row) × (w : Witness) × InBag t us × Contains (lists t) w × (t ++ flat w ≡ x)
+
+beside-decides : (lists : Row → List Witness) (us : Bag) (x : Row) → Decides (member x (flat_map (with_witnesses lists) us)) (stands lists us x)
+beside-decides lists us x = (
+  λ m. let row = from-flat_map (with_witnesses lists) x us (member-in x (flat_map (with_witnesses lists) us) m) in
+      let list = from-map (λ w. row.0 ++ flat w) x (lists row.0) row.2 in
+      (row.0, list.0, in-in_bag row.0 us row.1, in-contains list.0 (lists row.0) list.1, list.2),
+  λ s. in-member x (flat_map (with_witnesses lists) us)
+      (in-flat_map (with_witnesses lists) x s.0 us (in_bag-in s.0 us s.2)
+      (subst (λ y. IsIn y (with_witnesses lists s.0)) s.4 (in-map (λ w. s.0 ++ flat w) s.1 (lists s.0) (contains-in s.1 (lists s.0) s.3)))),
+)
+
+pub provenance : (lists : Row → List Witness) (input : Outcome Bag) →
+    IsProvenance lists input (mapped (λ bag. once (flat_map (with_witnesses lists) bag)) input)
+provenance lists input = record {
+  bad = mapped-passes input (λ bag. once (flat_map (with_witnesses lists) bag));
+  good = λ us e. good-good _ (once (flat_map (with_witnesses lists) us)) (ap (mapped (λ bag. once (flat_map (with_witnesses lists) bag))) e);
+  rows = λ us ts e whole.
+      subst (HoldsOnce (stands lists us))
+      (same_good (once (flat_map (with_witnesses lists) us)) ts (sym (ap (mapped (λ bag. once (flat_map (with_witnesses lists) bag))) e) ∙ whole))
+      (holds_once-once (stands lists us) (flat_map (with_witnesses lists) us) (beside-decides lists us));
+}
