@@ -155,6 +155,7 @@ sum_by-at u g k (w ∷ us) here elsewhere =
       by : (b : Bool) → 0 < cond b (suc (count x us)) (count x us)
       by true = omega arith
       by false = h
+
     first : InBag w (w ∷ us)
     first = rw (same_row-refl w) (omega arith)
 

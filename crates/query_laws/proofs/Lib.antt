@@ -6,3 +6,5 @@ pub mod Combined
 pub mod Limited
 pub mod Provenance
 pub mod Joined
+pub mod Aggregates
+pub mod Grouped

@@ -10,7 +10,7 @@ use Rattle.query_laws.proofs.Outcomes.{Over, over-each, over_rows, and_then-pass
 use Rattle.query_laws.proofs.Sums.{one_if, sum_by-passing, one_more}
 
 -- what the items give, row by row
-given : (t : Row) (items : Row → Outcome Row) (us ts : Bag) → each items us ≡ Good ts → count t ts ≡ sum_by (λ u. one_if (gives t (items u))) us
+pub given : (t : Row) (items : Row → Outcome Row) (us ts : Bag) → each items us ≡ Good ts → count t ts ≡ sum_by (λ u. one_if (gives t (items u))) us
 given t items [] ts e = ap (count t) (sym (same_good [] ts e))
 given t items (u ∷ us) ts e =
     let parts = both-is (λ y ys. y ∷ ys) (items u) (each items us) ts e in

@@ -101,6 +101,7 @@ sum_by-weighed g rows (u ∷ us) once =
       by : (b : Bool) → 0 < cond b (suc (count w us)) (count w us)
       by true = omega arith
       by false = h
+
     here : InBag u (u ∷ us)
     here = rw (same_row-refl u) (omega arith)
 
