@@ -5,7 +5,7 @@ use Rattle.null_logic.specs.declared.run_fault.RunFault.{RunFault}
 use Rattle.null_logic.specs.declared.run_fault.RunFault.TheVariants.{OutOfRange}
 use Rattle.perm_values.specs.Rows.{same_row, value_at, picked}
 use Rattle.perm_values.specs.declared.value.Value.{Value}
-use Rattle.bag_algebra.proofs.BagLaws.{same_row-is, same_row-refl, count-once, member-once}
+use Rattle.bag_algebra.proofs.BagLaws.{same_row-is, same_row-refl, count-filter, count-once, member-once}
 use Rattle.bag_algebra.proofs.Members.{IsIn, in-map, from-map, in-member, member-in}
 use Rattle.bag_algebra.specs.Bags.{Row, Bag, count, member, once}
 use Rattle.bag_algebra.specs.Means.{gives, good_row, class_keys, class_of, class_row, aggregates_of, grouped}
@@ -271,6 +271,7 @@ module _ (groups : List ℕ) (functions : List AggFn) (arguments : Row → Outco
       λ s. subst (λ f. Meets answer f) (sym s.0)
           (subst (λ o. Meets o OutOfRange) (sym (after us e h)) (rows-meet groups functions arguments us s.1.0 s.1.1 s.1.2 s.1.3)),
     );
+    classes = λ us key u. count-filter u (λ w. same_row (picked groups w) key) us;
     rows = λ us ts e a. answer-holds groups functions arguments us ts (rows_of us ts e a);
     one_row = λ us ts e a none. each-long (class_row groups functions arguments us) (class_keys groups us) ts (rows_of us ts e a) ∙ one_class groups us none;
   }

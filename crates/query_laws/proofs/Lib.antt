@@ -8,3 +8,4 @@ pub mod Provenance
 pub mod Joined
 pub mod Aggregates
 pub mod Grouped
+pub mod Choice

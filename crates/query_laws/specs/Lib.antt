@@ -1,3 +1,4 @@
 pub mod Holding
 pub mod Faults
 pub mod Nodes
+pub mod Choice

@@ -133,6 +133,8 @@ pub record IsGrouped (groups : List ℕ) (functions : List AggFn) (arguments : R
       IsGood answer ↔ ((key : Row) (place : ℕ) → IsKey groups us key → ¬ (SumOverflows groups functions arguments us key place))
   pub out_of_range : (us : Bag) (fault : RunFault) → input ≡ Good us → ((u : Row) → InBag u us → IsGood (arguments u)) →
       Meets answer fault ↔ ((fault ≡ OutOfRange) × ((key : Row) × (place : ℕ) × IsKey groups us key × SumOverflows groups functions arguments us key place))
+  -- a row of the input is in the class of its own group values alone, with its count
+  pub classes : (us : Bag) (key u : Row) → count u (class_of groups key us) ≡ cond (same_row (picked groups u) key) (count u us) 0
   pub rows : (us ts : Bag) → input ≡ Good us → answer ≡ Good ts →
       HoldsOnce (λ t. (key : Row) × IsKey groups us key × IsClassRow groups functions arguments us key t) ts
   pub one_row : (us ts : Bag) → input ≡ Good us → answer ≡ Good ts → groups ≡ [] → length ts ≡ 1

@@ -15,6 +15,12 @@ ghost use Rattle.bag_algebra.specs.declared.query.Query.TheVariants.{Table, Sing
 ghost use Rattle.bag_algebra.specs.declared.query.Sublink.{Sublink};
 ghost use Rattle.perm_values.specs.declared.key.Key.{Key};
 ghost use Rattle.perm_values.specs.declared.kind.Kind.{Kind};
+ghost use Rattle.bag_algebra.specs.Means.{Witness};
+ghost use Rattle.bag_algebra.specs.Outcome.{Outcome};
+ghost use Rattle.bag_algebra.specs.declared.query.AggFn.{AggFn};
+ghost use Rattle.perm_values.specs.declared.value.Value.{Value as Cell};
+ghost use Rattle.query_laws.specs.Choice.{SameOutcome};
+ghost use Rattle.query_laws.specs.Holding.{Lists};
 ghost use Rattle.query_laws.specs.Nodes.{IsFiltered, IsProjected, IsJoined, IsCombined, in_either, in_both, in_left_alone, IsDistinct, IsGrouped, IsLimited, IsProvenance};
 
 /// A table has the rows that the database has for it.
@@ -96,4 +102,34 @@ pub fn limit_takes_the_first_rows()
 pub fn provenance_is_each_row_beside_its_witnesses()
     ensures { (input : Query) (db : Database) (env : List Row) →
         IsProvenance (witnesses input db env) (meaning input db env) (meaning (Prov input) db env) }
+{}
+
+/// Every bag has a list of its rows, each once, to sum over.
+pub fn every_bag_can_be_listed()
+    ensures { (us : Bag) → (rows : List Row) × Lists rows us }
+{}
+
+/// Each law above fixes its node's answer: whatever keeps it, for one input, is bad with one set of faults or good with
+/// one bag.
+pub fn laws_leave_no_choice()
+    ensures filter { (condition : Row → Outcome Cell) (input a b : Outcome Bag) →
+        IsFiltered condition input a → IsFiltered condition input b → SameOutcome a b }
+    ensures project { (items : Row → Outcome Row) (input a b : Outcome Bag) →
+        IsProjected items input a → IsProjected items input b → SameOutcome a b }
+    ensures join { (kind : JoinKind) (condition : Row → Outcome Cell) (left_width right_width : ℕ) (left right a b : Outcome Bag) →
+        IsJoined kind condition left_width right_width left right a → IsJoined kind condition left_width right_width left right b → SameOutcome a b }
+    ensures union_of { (all : Bool) (left right a b : Outcome Bag) →
+        IsCombined ◌+◌ in_either all left right a → IsCombined ◌+◌ in_either all left right b → SameOutcome a b }
+    ensures intersect { (all : Bool) (left right a b : Outcome Bag) →
+        IsCombined min in_both all left right a → IsCombined min in_both all left right b → SameOutcome a b }
+    ensures except { (all : Bool) (left right a b : Outcome Bag) →
+        IsCombined ◌-◌ in_left_alone all left right a → IsCombined ◌-◌ in_left_alone all left right b → SameOutcome a b }
+    ensures distinct { (input a b : Outcome Bag) →
+        IsDistinct input a → IsDistinct input b → SameOutcome a b }
+    ensures aggregate { (groups : List ℕ) (functions : List AggFn) (arguments : Row → Outcome Row) (input a b : Outcome Bag) →
+        IsGrouped groups functions arguments input a → IsGrouped groups functions arguments input b → SameOutcome a b }
+    ensures limit { (keys : List Key) (most : ℕ) (input a b : Outcome Bag) →
+        IsLimited keys most input a → IsLimited keys most input b → SameOutcome a b }
+    ensures provenance { (lists : Row → List Witness) (input a b : Outcome Bag) →
+        IsProvenance lists input a → IsProvenance lists input b → SameOutcome a b }
 {}
