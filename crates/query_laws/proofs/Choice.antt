@@ -56,7 +56,7 @@ agree-good (Good ts) (Good ss) g h s = s ts ss refl refl
 agree-good (Good ts) (Bad f) g h s = h
 agree-good (Bad f) b g h s = absurd g
 
-one_count : (P : Type 0) (n m : ℕ) → n ≤ 1 → m ≤ 1 → (0 < n ↔ P) → (0 < m ↔ P) → n ≡ m
+pub one_count : (P : Type 0) (n m : ℕ) → n ≤ 1 → m ≤ 1 → (0 < n ↔ P) → (0 < m ↔ P) → n ≡ m
 one_count P zero zero a b p q = refl
 one_count P zero (suc m) a b p q = absurd (let h : 0 < zero = p.1 (q.0 (omega arith)) in omega arith)
 one_count P (suc n) zero a b p q = absurd (let h : 0 < zero = q.1 (p.0 (omega arith)) in omega arith)

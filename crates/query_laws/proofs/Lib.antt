@@ -9,3 +9,4 @@ pub mod Joined
 pub mod Aggregates
 pub mod Grouped
 pub mod Choice
+pub mod AggregateValues

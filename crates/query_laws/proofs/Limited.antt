@@ -15,11 +15,11 @@ use Rattle.query_laws.proofs.Outcomes.{mapped-passes}
 
 module _ {X : Type 0} (cmp : X → X → Ordering) where
   -- x may stand in front
-  abbrev leads : X → List X → Type 0
+  abbrev pub leads : X → List X → Type 0
   leads x [] = Unit {0}
   leads x (y ∷ ys) = is_lt (cmp y x) ≡ false
 
-  abbrev rises : List X → Type 0
+  abbrev pub rises : List X → Type 0
   rises [] = Unit {0}
   rises (x ∷ xs) = leads x xs × rises xs
 
@@ -62,7 +62,7 @@ module _ {X : Type 0} (cmp : X → X → Ordering) where
     rises-placed x [] r = (tt, tt)
     rises-placed x (y ∷ ys) r = rises-step x y ys (is_gt (cmp x y)) refl r.0 r.1 (rises-placed x ys r.1)
 
-    rises-sorted : (xs : List X) → rises (sorted cmp xs)
+    pub rises-sorted : (xs : List X) → rises (sorted cmp xs)
     rises-sorted [] = tt
     rises-sorted (x ∷ xs) = rises-placed x (sorted cmp xs) (rises-sorted xs)
 

@@ -2,3 +2,4 @@ pub mod Holding
 pub mod Faults
 pub mod Nodes
 pub mod Choice
+pub mod Aggregated

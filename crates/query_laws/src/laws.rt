@@ -1,10 +1,9 @@
 //! The law of each node: the contract of a function that does nothing.
-ghost use Rattle.std.specs.Prelude.{◌≡◌, ℕ, ◌+◌, ◌-◌, min, Bool, List, [], ◌∷◌, map};
+ghost use Rattle.std.specs.Prelude.{◌≡◌, ◌≢◌, ℕ, pos, ◌+◌, ◌-◌, min, Bool, not, List, [], ◌∷◌, map, length, count_by, IsTrue, IsFalse};
 ghost use Rattle.bag_algebra.specs.Bags.{Row, Bag};
 ghost use Rattle.bag_algebra.specs.Children.{subs_denote};
 ghost use Rattle.bag_algebra.specs.Kinds.{width_of};
 ghost use Rattle.bag_algebra.specs.Meaning.{Database, meaning, witnesses, condition_on, items_on, arguments_on};
-ghost use Rattle.bag_algebra.specs.Outcome.{Good};
 ghost use Rattle.bag_algebra.specs.declared.expr.Expr.{Expr};
 ghost use Rattle.bag_algebra.specs.declared.expr.Item.{Item};
 ghost use Rattle.bag_algebra.specs.declared.query.Aggr.{Aggr};
@@ -15,10 +14,16 @@ ghost use Rattle.bag_algebra.specs.declared.query.Query.TheVariants.{Table, Sing
 ghost use Rattle.bag_algebra.specs.declared.query.Sublink.{Sublink};
 ghost use Rattle.perm_values.specs.declared.key.Key.{Key};
 ghost use Rattle.perm_values.specs.declared.kind.Kind.{Kind};
-ghost use Rattle.bag_algebra.specs.Means.{Witness};
-ghost use Rattle.bag_algebra.specs.Outcome.{Outcome};
+ghost use Rattle.bag_algebra.specs.Means.{Witness, present, total, aggregated};
+ghost use Rattle.null_logic.specs.Arithmetic.{fits_64};
+ghost use Rattle.null_logic.specs.Comparison.{is_null};
+ghost use Rattle.null_logic.specs.declared.run_fault.RunFault.TheVariants.{OutOfRange};
+ghost use Rattle.query_laws.specs.Aggregated.{ListsValues, IsLeast, IsGreatest};
+ghost use Rattle.bag_algebra.specs.Outcome.{Outcome, Good, Bad, only};
 ghost use Rattle.bag_algebra.specs.declared.query.AggFn.{AggFn};
+ghost use Rattle.bag_algebra.specs.declared.query.AggFn.TheVariants.{CountRows, Count, CountDistinct, Sum, Min, Max};
 ghost use Rattle.perm_values.specs.declared.value.Value.{Value as Cell};
+ghost use Rattle.perm_values.specs.declared.value.Value.TheVariants.{Null, Integer};
 ghost use Rattle.query_laws.specs.Choice.{SameOutcome};
 ghost use Rattle.query_laws.specs.Holding.{Lists};
 ghost use Rattle.query_laws.specs.Nodes.{IsFiltered, IsProjected, IsJoined, IsCombined, in_either, in_both, in_left_alone, IsDistinct, IsGrouped, IsLimited, IsProvenance};
@@ -132,4 +137,28 @@ pub fn laws_leave_no_choice()
         IsLimited keys most input a → IsLimited keys most input b → SameOutcome a b }
     ensures provenance { (lists : Row → List Witness) (input a b : Outcome Bag) →
         IsProvenance lists input a → IsProvenance lists input b → SameOutcome a b }
+{}
+
+/// COUNT(*) counts all values, COUNT those that aren't NULL, COUNT DISTINCT each of these once. SUM, MIN and MAX of none
+/// are NULL; otherwise SUM is the exact sum and out of range where that doesn't fit, MIN is the first value in order and
+/// MAX the last.
+pub fn aggregates_look_at_what_is_not_null()
+    ensures count_rows { (vs : List Cell) →
+        aggregated CountRows vs ≡ Good (Integer (pos (length vs))) }
+    ensures count { (vs : List Cell) →
+        aggregated Count vs ≡ Good (Integer (pos (count_by (λ v. not (is_null v)) vs))) }
+    ensures count_distinct { (vs distinct : List Cell) →
+        ListsValues distinct vs → aggregated CountDistinct vs ≡ Good (Integer (pos (length distinct))) }
+    ensures distinct_values { (vs : List Cell) → (distinct : List Cell) × ListsValues distinct vs }
+    ensures sum_of_none { (vs : List Cell) → present vs ≡ [] → aggregated Sum vs ≡ Good Null }
+    ensures sum { (vs : List Cell) →
+        present vs ≢ [] → IsTrue (fits_64 (total (present vs))) → aggregated Sum vs ≡ Good (Integer (total (present vs))) }
+    ensures sum_out_of_range { (vs : List Cell) →
+        IsFalse (fits_64 (total (present vs))) → aggregated Sum vs ≡ Bad (only OutOfRange) }
+    ensures min_of_none { (vs : List Cell) → present vs ≡ [] → aggregated Min vs ≡ Good Null }
+    ensures least { (vs : List Cell) →
+        present vs ≢ [] → (v : Cell) × IsLeast v (present vs) × (aggregated Min vs ≡ Good v) }
+    ensures max_of_none { (vs : List Cell) → present vs ≡ [] → aggregated Max vs ≡ Good Null }
+    ensures greatest { (vs : List Cell) →
+        present vs ≢ [] → (v : Cell) × IsGreatest v (present vs) × (aggregated Max vs ≡ Good v) }
 {}
