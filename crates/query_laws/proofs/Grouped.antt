@@ -42,7 +42,7 @@ from-each f (z ∷ xs) ys y e h =
     first f z xs y v vs here (inl same) after = (z, inl refl, here ∙ ap Good same)
     first f z xs y v vs here (inr there) after = let found = after there in (found.0, inr found.1, found.2)
 
-each-long : {X Y : Type 0} (f : X → Outcome Y) (xs : List X) (ys : List Y) → each f xs ≡ Good ys → length ys ≡ length xs
+pub each-long : {X Y : Type 0} (f : X → Outcome Y) (xs : List X) (ys : List Y) → each f xs ≡ Good ys → length ys ≡ length xs
 each-long f [] ys e = ap length (sym (same_good [] ys e))
 each-long f (x ∷ xs) ys e =
     let parts = both-is (λ v vs. v ∷ vs) (f x) (each f xs) ys e in

@@ -10,3 +10,4 @@ pub mod Aggregates
 pub mod Grouped
 pub mod Choice
 pub mod AggregateValues
+pub mod SublinkValues

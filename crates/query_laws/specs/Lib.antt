@@ -3,3 +3,4 @@ pub mod Faults
 pub mod Nodes
 pub mod Choice
 pub mod Aggregated
+pub mod Evaluated

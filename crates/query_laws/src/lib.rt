@@ -2,6 +2,7 @@
 #![tactic(auto)]
 
 mod laws;
+mod sublinks;
 
 pub use laws::{
     aggregate_has_a_row_for_each_class, aggregates_look_at_what_is_not_null,
@@ -11,3 +12,4 @@ pub use laws::{
     provenance_is_each_row_beside_its_witnesses, single_has_the_empty_row, table_has_its_rows,
     union_adds_counts,
 };
+pub use sublinks::{sublinks_come_first, sublinks_have_their_values};
