@@ -11,3 +11,4 @@ pub mod Grouped
 pub mod Choice
 pub mod AggregateValues
 pub mod SublinkValues
+pub mod Caused

@@ -2,6 +2,7 @@
 ghost use Rattle.std.specs.Prelude.{◌≡◌, ◌≢◌, ℕ, pos, ◌+◌, ◌-◌, min, Bool, not, List, [], ◌∷◌, map, length, count_by, IsTrue, IsFalse};
 ghost use Rattle.bag_algebra.specs.Bags.{Row, Bag};
 ghost use Rattle.bag_algebra.specs.Children.{subs_denote};
+ghost use Rattle.bag_algebra.specs.Expressions.{value};
 ghost use Rattle.bag_algebra.specs.Kinds.{width_of};
 ghost use Rattle.bag_algebra.specs.Meaning.{Database, meaning, witnesses, condition_on, items_on, arguments_on};
 ghost use Rattle.bag_algebra.specs.declared.expr.Expr.{Expr};
@@ -17,9 +18,10 @@ ghost use Rattle.perm_values.specs.declared.kind.Kind.{Kind};
 ghost use Rattle.bag_algebra.specs.Means.{Witness, present, total, aggregated};
 ghost use Rattle.null_logic.specs.Arithmetic.{fits_64};
 ghost use Rattle.null_logic.specs.Comparison.{is_null};
+ghost use Rattle.null_logic.specs.declared.run_fault.RunFault.{RunFault};
 ghost use Rattle.null_logic.specs.declared.run_fault.RunFault.TheVariants.{OutOfRange};
 ghost use Rattle.query_laws.specs.Aggregated.{ListsValues, IsLeast, IsGreatest};
-ghost use Rattle.bag_algebra.specs.Outcome.{Outcome, Good, Bad, only};
+ghost use Rattle.bag_algebra.specs.Outcome.{Outcome, Good, Bad, Faults, only, has};
 ghost use Rattle.bag_algebra.specs.declared.query.AggFn.{AggFn};
 ghost use Rattle.bag_algebra.specs.declared.query.AggFn.TheVariants.{CountRows, Count, CountDistinct, Sum, Min, Max};
 ghost use Rattle.perm_values.specs.declared.value.Value.{Value as Cell};
@@ -161,4 +163,12 @@ pub fn aggregates_look_at_what_is_not_null()
     ensures max_of_none { (vs : List Cell) → present vs ≡ [] → aggregated Max vs ≡ Good Null }
     ensures greatest { (vs : List Cell) →
         present vs ≢ [] → (v : Cell) × IsGreatest v (present vs) × (aggregated Max vs ≡ Good v) }
+{}
+
+/// What is bad meets a fault: the set is never empty.
+pub fn what_is_bad_meets_a_fault()
+    ensures expressions { (e : Expr) (u : Row) (env : List Row) (answers : List Cell) (faults : Faults) →
+        value e u env answers ≡ Bad faults → (fault : RunFault) × IsTrue (has faults fault) }
+    ensures queries { (q : Query) (db : Database) (env : List Row) (faults : Faults) →
+        meaning q db env ≡ Bad faults → (fault : RunFault) × IsTrue (has faults fault) }
 {}
