@@ -1,8 +1,7 @@
 -- What the aggregate functions give.
-use Rattle.std.proofs.Common.{◌≡◌, ◌≢◌, ◌↔◌, ◌⊎◌, inl, inr, ℕ, zero, suc, ◌+◌, ◌<◌, ◌≤◌, ℤ, pos, Bool, true, false, cond, not, ◌&&◌, List, [], ◌∷◌, map, filter, length, count_by, sum_by, Ordering, Less, Equal, Greater, is_gt, is_lt, refl, sym, ap, subst, ◌∙◌, arith, true≢false}
-use Rattle.std.proofs.lemmas.List.Sums.{length-filter, sum_by-cons}
+use Rattle.std.proofs.Common.{◌≡◌, ◌≢◌, ◌↔◌, inl, inr, suc, ◌<◌, ◌≤◌, ℤ, pos, Bool, true, false, cond, not, ◌&&◌, List, [], ◌∷◌, map, filter, length, count_by, sum_by, Ordering, Less, Equal, Greater, is_gt, is_lt, refl, sym, ap, subst, ◌∙◌, arith, true≢false}
+use Rattle.std.proofs.lemmas.List.Sums.{length-filter}
 use Rattle.std.specs.Cmp.{IsTotalOrder, upto, back_total}
-use Rattle.std.specs.List.{Contains}
 use Rattle.std.specs.Ordering.{ordering_reverse, flip_args}
 use Rattle.null_logic.specs.Arithmetic.{fits_64}
 use Rattle.null_logic.specs.Comparison.{is_null}
@@ -15,12 +14,12 @@ use Rattle.perm_values.specs.declared.value.Value.TheVariants.{Null, Integer, Te
 use Rattle.bag_algebra.proofs.BagLaws.{Permuted, nothing, onward, turn, joined, permuted-length, permuted-from_same_bag}
 use Rattle.bag_algebra.proofs.Members.{IsIn}
 use Rattle.bag_algebra.proofs.SortedBags.{permuted-sorted}
-use Rattle.bag_algebra.specs.Bags.{Row, Bag, SameBag, count, once, others, sorted}
+use Rattle.bag_algebra.specs.Bags.{Row, Bag, count, once, others, sorted}
 use Rattle.bag_algebra.specs.Means.{present, once_each, total, sum_of, first_or_null, aggregated}
-use Rattle.bag_algebra.specs.Outcome.{Outcome, Good, Bad, only}
+use Rattle.bag_algebra.specs.Outcome.{Good, Bad, only}
 use Rattle.bag_algebra.specs.declared.query.AggFn.TheVariants.{Count, CountDistinct, Sum, Min, Max}
 use Rattle.query_laws.specs.Aggregated.{occurrences, ListsValues, IsLeast, IsGreatest}
-use Rattle.query_laws.specs.Holding.{InBag, Lists}
+use Rattle.query_laws.specs.Holding.{Lists}
 use Rattle.query_laws.proofs.Choice.{listed, one_count}
 use Rattle.query_laws.proofs.Limited.{rises, rises-sorted}
 use Rattle.query_laws.proofs.Provenance.{contains-in, in-contains}

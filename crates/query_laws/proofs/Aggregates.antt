@@ -1,5 +1,5 @@
 -- The aggregates of a class: their values, and when one is out of range.
-use Rattle.std.proofs.Common.{◌≡◌, ℕ, zero, suc, ◌+◌, ℤ, pos, Bool, true, false, cond, Option, Some, None, List, [], ◌∷◌, map, length, refl, sym, ap, subst, ◌∙◌, arith, true≢false, add-zero, add-suc, suc-add, zero-add, inl, inr}
+use Rattle.std.proofs.Common.{◌≡◌, ℕ, zero, suc, ◌+◌, ℤ, Bool, true, false, cond, Option, Some, None, List, [], ◌∷◌, map, length, refl, sym, ap, subst, ◌∙◌, arith, true≢false, add-zero, add-suc, suc-add, inl, inr}
 use Rattle.std.specs.List.{slice_get}
 use Rattle.null_logic.specs.Arithmetic.{fits_64}
 use Rattle.null_logic.specs.declared.run_fault.RunFault.{RunFault}

@@ -1,5 +1,5 @@
 -- What is bad meets a fault: no evaluation gives an empty set.
-use Rattle.std.proofs.Common.{◌≡◌, ℕ, suc, ℤ, Bool, true, false, cond, Option, Some, None, List, [], ◌∷◌, ◌++◌, map, Result, Ok, Err, refl, sym, ap, subst, inl, inr}
+use Rattle.std.proofs.Common.{◌≡◌, ℕ, suc, Bool, true, false, cond, Option, Some, None, List, [], ◌∷◌, ◌++◌, map, Result, Ok, Err, refl, subst}
 use Rattle.null_logic.specs.Arithmetic.{calculate, negate, fits_64}
 use Rattle.null_logic.specs.Logic.{is_true, truth_of}
 use Rattle.null_logic.specs.declared.arith.Arith.{Arith}
@@ -13,7 +13,7 @@ use Rattle.perm_values.specs.declared.value.Value.TheVariants.{Null, Integer, Te
 use Rattle.bag_algebra.specs.Bags.{Row, Bag}
 use Rattle.bag_algebra.specs.Expressions.{value, values, step_values, arm_value, Step, operate, with_one, with_two, with_three, arith_values, negate_value, chain, chosen_arm}
 use Rattle.bag_algebra.specs.Meaning.{Database, denote, sub_denote, meaning, optional_value, condition_on, items_on, arguments_on}
-use Rattle.bag_algebra.specs.Means.{Means, SubMeans, Witness, with_lists, kept, met_pairs, joined_rows, present, total, sum_of, aggregated, aggregates_of, class_row, class_keys, class_of, good_row, grouped, scalar, sub_value}
+use Rattle.bag_algebra.specs.Means.{SubMeans, Witness, with_lists, kept, met_pairs, joined_rows, present, total, sum_of, aggregated, aggregates_of, class_row, class_keys, class_of, good_row, grouped, sub_value}
 use Rattle.bag_algebra.specs.Outcome.{Outcome, Good, Bad, Faults, only, has, and_then, mapped, both, both_then, gather, each, of_result}
 use Rattle.bag_algebra.specs.Patterns.{OpOf, ChainOf, CaseOf, IsNullOf, IsTruthOf, SameOf, BaseOf, FilterOf, ProjectOf, JoinOf, UnionOf, IntersectOf, ExceptOf, DistinctOf, AggregateOf, LimitOf, ProvOf}
 use Rattle.bag_algebra.specs.declared.expr.Expr.{Expr, Row_of-Expr, Row_of-Arm, Row_of-ChainStep, more_of-Expr, end_of-Expr, more_of-Arm, end_of-Arm, more_of-ChainStep, end_of-ChainStep}

@@ -1,5 +1,5 @@
 -- The law of a node leaves no choice: two answers to one input that keep it are one.
-use Rattle.std.proofs.Common.{◌≡◌, ◌↔◌, ◌⊎◌, inl, inr, ℕ, zero, suc, ◌+◌, ◌<◌, ◌≤◌, Bool, true, false, List, [], ◌∷◌, refl, sym, ap, subst, ◌∙◌, arith, true≢false}
+use Rattle.std.proofs.Common.{◌≡◌, ◌↔◌, ◌⊎◌, inl, inr, ℕ, zero, suc, ◌<◌, ◌≤◌, Bool, true, false, List, [], ◌∷◌, refl, sym, subst, ◌∙◌, arith}
 use Rattle.std.specs.Cmp.{both_ways}
 use Rattle.null_logic.specs.declared.run_fault.RunFault.{RunFault}
 use Rattle.null_logic.specs.declared.run_fault.RunFault.TheVariants.{DivideByZero, OutOfRange, SeveralRows}
@@ -7,7 +7,7 @@ use Rattle.perm_values.specs.declared.key.Key.{Key}
 use Rattle.perm_values.specs.declared.value.Value.{Value}
 use Rattle.bag_algebra.proofs.BagLaws.{same_bag-refl, member_decides}
 use Rattle.bag_algebra.proofs.Members.{IsIn}
-use Rattle.bag_algebra.specs.Bags.{Row, Bag, SameBag, count, once, member}
+use Rattle.bag_algebra.specs.Bags.{Row, Bag, SameBag, count, once}
 use Rattle.bag_algebra.specs.Means.{Witness}
 use Rattle.bag_algebra.specs.Outcome.{Outcome, Good, Bad, Faults, has}
 use Rattle.bag_algebra.specs.declared.query.AggFn.{AggFn}
@@ -15,7 +15,7 @@ use Rattle.bag_algebra.specs.declared.query.JoinKind.{JoinKind}
 use Rattle.query_laws.specs.Choice.{SameOutcome}
 use Rattle.query_laws.specs.Faults.{IsGood, Meets, PassesFaults, UnitesFaults}
 use Rattle.query_laws.specs.Holding.{InBag, HoldsOnce, Lists}
-use Rattle.query_laws.specs.Nodes.{IsFiltered, IsProjected, IsJoined, IsCombined, IsDistinct, IsKey, SumOverflows, IsGrouped, IsLimited, IsProvenance}
+use Rattle.query_laws.specs.Nodes.{IsFiltered, IsProjected, IsJoined, IsCombined, IsDistinct, IsGrouped, IsLimited, IsProvenance}
 use Rattle.query_laws.proofs.Combined.{holds_once-once}
 use Rattle.query_laws.proofs.Outcomes.{in_bag-in, in-in_bag}
 

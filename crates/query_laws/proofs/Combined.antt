@@ -1,9 +1,9 @@
 -- The laws of set operations and Distinct.
-use Rattle.std.proofs.Common.{◌≡◌, ℕ, zero, suc, ◌+◌, ◌-◌, ◌<◌, ◌≤◌, min, Bool, true, false, cond, not, ◌&&◌, Decides, List, [], ◌∷◌, ◌++◌, filter, refl, sym, ap, subst, ◌∙◌, arith, true≢false}
+use Rattle.std.proofs.Common.{◌≡◌, ℕ, zero, suc, ◌+◌, ◌-◌, ◌<◌, ◌≤◌, min, Bool, true, false, cond, not, ◌&&◌, Decides, [], ◌∷◌, ◌++◌, filter, refl, sym, ap, subst, ◌∙◌, arith, true≢false}
 use Rattle.perm_values.specs.Rows.{same_row}
 use Rattle.bag_algebra.proofs.BagLaws.{same_row-is, count-append, count-once, count-of_none, member_decides, member-filter, permuted-to_front, permuted-counts}
 use Rattle.bag_algebra.specs.Bags.{Row, Bag, count, member, once, without_first, in_both, beyond, union_of, intersect_of, except_of}
-use Rattle.bag_algebra.specs.Outcome.{Outcome, Good, Bad, mapped, both}
+use Rattle.bag_algebra.specs.Outcome.{Outcome, Good, mapped, both}
 use Rattle.query_laws.specs.Holding.{InBag, HoldsOnce}
 use Rattle.query_laws.specs.Nodes.{IsCombined, IsDistinct, in_either, in_left_alone}
 use Rattle.query_laws.specs.Nodes as node

@@ -1,5 +1,5 @@
 -- The law of Aggregate.
-use Rattle.std.proofs.Common.{◌≡◌, ◌≢◌, ◌⊎◌, inl, inr, ℕ, zero, suc, ◌+◌, ◌<◌, ◌≤◌, Bool, true, false, cond, List, [], ◌∷◌, ◌++◌, map, filter, take, length, sum_by, refl, sym, ap, subst, ◌∙◌, arith, true≢false, zero-add}
+use Rattle.std.proofs.Common.{◌≡◌, ◌≢◌, inl, inr, ℕ, zero, suc, ◌+◌, ◌≤◌, Bool, true, false, cond, List, [], ◌∷◌, ◌++◌, map, take, length, sum_by, refl, sym, ap, subst, ◌∙◌, arith, true≢false, zero-add}
 use Rattle.std.proofs.lemmas.List.Sums.{sum_by-cons}
 use Rattle.null_logic.specs.declared.run_fault.RunFault.{RunFault}
 use Rattle.null_logic.specs.declared.run_fault.RunFault.TheVariants.{OutOfRange}
@@ -9,13 +9,13 @@ use Rattle.bag_algebra.proofs.BagLaws.{same_row-is, same_row-refl, count-filter,
 use Rattle.bag_algebra.proofs.Members.{IsIn, in-map, from-map, in-member, member-in}
 use Rattle.bag_algebra.specs.Bags.{Row, Bag, count, member, once}
 use Rattle.bag_algebra.specs.Means.{gives, good_row, class_keys, class_of, class_row, aggregates_of, grouped}
-use Rattle.bag_algebra.specs.Outcome.{Outcome, Good, Bad, and_then, mapped, each, both}
+use Rattle.bag_algebra.specs.Outcome.{Outcome, Good, Bad, and_then, mapped, each}
 use Rattle.bag_algebra.specs.declared.query.AggFn.{AggFn}
 use Rattle.query_laws.specs.Faults.{IsGood, Meets, OverRows}
 use Rattle.query_laws.specs.Holding.{InBag, HoldsOnce}
 use Rattle.query_laws.specs.Nodes.{IsKey, class_values, IsClassRow, SumOverflows, IsGrouped}
-use Rattle.query_laws.proofs.Aggregates.{each_of, aggregates_of-is, SumAt, each_of-good, each_of-meets, meets-each_of, Gives, each_of-gives, gives-each_of, good-meets}
-use Rattle.query_laws.proofs.Outcomes.{Over, over-each, over_rows, in_bag-in, in-in_bag, same_good, good-good, good-is, both-is, mapped-is, mapped-good, good-mapped, mapped-meets, meets-mapped, and_then-passes, bad-not_good}
+use Rattle.query_laws.proofs.Aggregates.{each_of, aggregates_of-is, each_of-good, each_of-meets, meets-each_of, each_of-gives, gives-each_of, good-meets}
+use Rattle.query_laws.proofs.Outcomes.{Over, over-each, over_rows, in_bag-in, in-in_bag, same_good, both-is, mapped-is, mapped-good, mapped-meets, meets-mapped, and_then-passes, bad-not_good}
 use Rattle.query_laws.proofs.Projected.{given}
 use Rattle.query_laws.proofs.Sums.{one_if, one_more}
 

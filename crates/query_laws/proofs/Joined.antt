@@ -1,21 +1,20 @@
 -- The law of Join.
-use Rattle.std.proofs.Common.{◌≡◌, ℕ, zero, suc, ◌+◌, ◌*◌, ◌<◌, Bool, true, false, cond, not, ◌&&◌, List, [], ◌∷◌, ◌++◌, map, filter, length, sum_by, refl, sym, ap, subst, ◌∙◌, arith, true≢false}
+use Rattle.std.proofs.Common.{◌≡◌, ℕ, zero, suc, ◌+◌, ◌*◌, ◌<◌, Bool, true, false, cond, ◌&&◌, List, [], ◌∷◌, ◌++◌, map, filter, length, sum_by, refl, sym, ap, subst, ◌∙◌, arith, true≢false}
 use Rattle.std.proofs.Math.Nat.{zero-mul, suc-mul, mul-zero, mul-one}
 use Rattle.std.proofs.lemmas.List.Sums.{sum_by-cons}
-use Rattle.std.specs.List.{flat_map}
 use Rattle.perm_values.specs.Rows.{same_row}
 use Rattle.perm_values.specs.Values.{same_value}
 use Rattle.perm_values.specs.declared.value.Value.{Value}
 use Rattle.bag_algebra.proofs.BagLaws.{same_row-is, same_row-refl, count-append}
 use Rattle.bag_algebra.specs.Bags.{Row, Bag, count, nulls}
 use Rattle.bag_algebra.specs.Means.{holds_of, is_met, kept, good_rows, keeps_left, keeps_right, unmatched_left, unmatched_right, met_pairs, joined_rows}
-use Rattle.bag_algebra.specs.Outcome.{Outcome, Good, Bad, mapped, both_then, gather}
+use Rattle.bag_algebra.specs.Outcome.{Outcome, Good, both_then, gather}
 use Rattle.bag_algebra.specs.declared.query.JoinKind.{JoinKind}
 use Rattle.query_laws.specs.Faults.{OverPairs}
-use Rattle.query_laws.specs.Holding.{InBag, HasWidth, Lists, counted_where}
+use Rattle.query_laws.specs.Holding.{InBag, HasWidth, Lists}
 use Rattle.query_laws.specs.Nodes.{IsJoined, makes, pairs_count, is_unmatched_left, is_unmatched_right, left_count, right_count}
 use Rattle.query_laws.proofs.Filtered.{kept-rows}
-use Rattle.query_laws.proofs.Outcomes.{Over, over-gather, over-part, over-mapped, over_pairs, gather-is, both-is, mapped-is, same_good, both_then-unites}
+use Rattle.query_laws.proofs.Outcomes.{over-gather, over-part, over-mapped, over_pairs, gather-is, both-is, mapped-is, same_good, both_then-unites}
 use Rattle.query_laws.proofs.Sums.{one_if, sum_by-same, sum_by-filter, sum_by-scaled, count-flat_map, count-map, sum_by-listed, sum_by-passing}
 
 -- ---- pairs as they come

@@ -1,13 +1,13 @@
 -- The law of Limit.
-use Rattle.std.proofs.Common.{◌≡◌, ℕ, zero, suc, ◌+◌, ◌<◌, ◌≤◌, Bool, true, false, cond, List, [], ◌∷◌, take, length, IsSorted, Ordering, Less, Equal, Greater, is_lt, is_gt, get_or, refl, sym, ap, subst, ◌∙◌, arith, true≢false, suc-add}
+use Rattle.std.proofs.Common.{◌≡◌, ℕ, zero, suc, Bool, true, false, cond, List, [], ◌∷◌, take, IsSorted, Ordering, Less, Equal, Greater, is_lt, is_gt, refl, sym, ap, ◌∙◌, arith, true≢false, suc-add}
 use Rattle.std.specs.Cmp.{IsTotalOrder}
 use Rattle.std.specs.Ordering.{ordering_reverse}
 use Rattle.perm_values.specs.RowLaws.{printed_total}
 use Rattle.perm_values.specs.Rows.{printed_cmp}
 use Rattle.perm_values.specs.declared.key.Key.{Key}
 use Rattle.bag_algebra.proofs.SortedBags.{printed_exact, sorted-same_bag, sorted-of_sorted, same_bag-sorted}
-use Rattle.bag_algebra.specs.Bags.{Row, Bag, SameBag, placed, sorted}
-use Rattle.bag_algebra.specs.Outcome.{Outcome, Good, Bad, mapped}
+use Rattle.bag_algebra.specs.Bags.{Bag, placed, sorted}
+use Rattle.bag_algebra.specs.Outcome.{Outcome, Good, mapped}
 use Rattle.query_laws.specs.Nodes.{IsLimited}
 use Rattle.query_laws.proofs.Outcomes.{mapped-passes}
 

@@ -1,11 +1,11 @@
 -- Evaluations of lists item by item: when they are good, and which faults they meet.
-use Rattle.std.proofs.Common.{◌≡◌, ◌⊎◌, inl, inr, Bool, true, false, ◌||◌, List, [], ◌∷◌, ◌++◌, map, refl, sym, ap, subst, ◌∙◌}
+use Rattle.std.proofs.Common.{◌≡◌, ◌⊎◌, inl, inr, true, List, [], ◌∷◌, ◌++◌, refl, sym, ap, subst, ◌∙◌}
 use Rattle.std.specs.List.{flat_map}
 use Rattle.null_logic.specs.declared.run_fault.RunFault.{RunFault}
 use Rattle.null_logic.specs.declared.run_fault.RunFault.TheVariants.{DivideByZero, OutOfRange, SeveralRows}
 use Rattle.bag_algebra.proofs.BagLaws.{member_decides}
 use Rattle.bag_algebra.proofs.Members.{IsIn, in-member, member-in, one_of, or-first, or-second}
-use Rattle.bag_algebra.specs.Bags.{Row, Bag, member}
+use Rattle.bag_algebra.specs.Bags.{Row, Bag}
 use Rattle.bag_algebra.specs.Means.{good_rows}
 use Rattle.bag_algebra.specs.Outcome.{Outcome, Good, Bad, Faults, union, has, and_then, mapped, both, both_then, gather, each}
 use Rattle.query_laws.specs.Faults.{IsGood, Meets, PassesFaults, UnitesFaults, OverRows, OverPairs}

@@ -1,10 +1,10 @@
 -- The law of Project.
-use Rattle.std.proofs.Common.{◌≡◌, ℕ, suc, ◌+◌, cond, List, [], ◌∷◌, sum_by, refl, sym, ap, subst, ◌∙◌}
+use Rattle.std.proofs.Common.{◌≡◌, ◌+◌, [], ◌∷◌, sum_by, sym, ap, subst, ◌∙◌}
 use Rattle.std.proofs.lemmas.List.Sums.{sum_by-cons}
 use Rattle.perm_values.specs.Rows.{same_row}
 use Rattle.bag_algebra.specs.Bags.{Row, Bag, count}
 use Rattle.bag_algebra.specs.Means.{gives}
-use Rattle.bag_algebra.specs.Outcome.{Outcome, Good, Bad, and_then, both, each}
+use Rattle.bag_algebra.specs.Outcome.{Outcome, Good, and_then, each}
 use Rattle.query_laws.specs.Nodes.{IsProjected}
 use Rattle.query_laws.proofs.Outcomes.{Over, over-each, over_rows, and_then-passes, same_good, both-is}
 use Rattle.query_laws.proofs.Sums.{one_if, sum_by-passing, one_more}

@@ -1,6 +1,6 @@
 -- The laws of sublinks and of what is evaluated on a row.
-use Rattle.std.proofs.Common.{◌≡◌, ◌≢◌, ◌⊎◌, inl, inr, ℕ, zero, suc, ◌+◌, ◌<◌, Bool, true, false, cond, ◌||◌, Option, Some, None, List, [], ◌∷◌, map, length, refl, sym, ap, subst, ◌∙◌, arith, true≢false}
-use Rattle.std.specs.List.{slice_get, list_any, Contains}
+use Rattle.std.proofs.Common.{◌≡◌, ◌≢◌, inl, inr, ℕ, zero, suc, ◌<◌, Bool, true, false, cond, ◌||◌, Some, None, List, [], ◌∷◌, map, length, refl, sym, ap, ◌∙◌, arith, true≢false}
+use Rattle.std.specs.List.{slice_get, list_any}
 use Rattle.null_logic.specs.Comparison.{compare_values, is_null}
 use Rattle.null_logic.specs.Logic.{is_true, truth_not, value_of}
 use Rattle.null_logic.specs.declared.compare.Compare.{Compare}
@@ -13,14 +13,14 @@ use Rattle.bag_algebra.proofs.Members.{IsIn, or-first, or-second}
 use Rattle.bag_algebra.specs.Bags.{Row, Bag}
 use Rattle.bag_algebra.specs.Children.{subs_denote}
 use Rattle.bag_algebra.specs.Meaning.{Database}
-use Rattle.bag_algebra.specs.Means.{some_of, all_of, cell, comparisons, scalar, sub_value}
+use Rattle.bag_algebra.specs.Means.{cell, comparisons, sub_value}
 use Rattle.bag_algebra.specs.Outcome.{Outcome, Good, Bad, both, each, only}
 use Rattle.bag_algebra.specs.declared.query.SubKind.TheVariants.{Exists, Any, All, Scalar}
 use Rattle.bag_algebra.specs.declared.query.Sublink.{Sublink}
 use Rattle.query_laws.specs.Evaluated.{IsEvaluated, sublink_value}
 use Rattle.query_laws.specs.Holding.{InBag}
 use Rattle.query_laws.proofs.Grouped.{each-long}
-use Rattle.query_laws.proofs.Outcomes.{Over, over-each, both-is, same_good, in_bag-in, in-in_bag}
+use Rattle.query_laws.proofs.Outcomes.{over-each, both-is, in_bag-in, in-in_bag}
 use Rattle.query_laws.proofs.Provenance.{contains-in, in-contains}
 
 -- ---- items in order

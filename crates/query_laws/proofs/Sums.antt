@@ -1,5 +1,5 @@
 -- Counts of a bag's rows, summed over a list that has each of its rows once.
-use Rattle.std.proofs.Common.{◌≡◌, ℕ, zero, suc, ◌+◌, ◌*◌, ◌<◌, ◌≤◌, Bool, true, false, cond, ◌&&◌, List, [], ◌∷◌, ◌++◌, map, filter, sum_by, refl, sym, ap, subst, ◌∙◌, arith}
+use Rattle.std.proofs.Common.{◌≡◌, ℕ, zero, suc, ◌+◌, ◌*◌, ◌<◌, Bool, true, false, cond, List, [], ◌∷◌, map, filter, sum_by, refl, sym, ap, ◌∙◌, arith}
 use Rattle.std.proofs.Math.Nat.{zero-mul, suc-mul, one-mul, mul-one, mul-zero}
 use Rattle.std.proofs.lemmas.List.Sums.{sum_by-cons}
 use Rattle.std.specs.List.{flat_map}

@@ -1,6 +1,6 @@
 -- What a bag holds, by its counts.
 use Rattle.std.specs.Prelude.{◌≡◌, ◌↔◌, ◌<◌, ◌≤◌, ℕ, Bool, List, filter, length, sum_by}
-use Rattle.bag_algebra.specs.Bags.{Row, Bag, count, member}
+use Rattle.bag_algebra.specs.Bags.{Row, Bag, count}
 
 -- a row is in a bag where its count is above 0
 abbrev pub InBag : Row → Bag → Type 0

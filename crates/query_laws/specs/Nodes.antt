@@ -1,7 +1,7 @@
 -- What the rows of each node are, by the counts of its inputs' rows, and which faults it meets (ISO/IEC 9075-2, 'query
 -- expression': where clause, select list, joined table, set operations, group by clause, fetch first clause; that
 -- evaluation is strict and faults are sets is this project's own).
-use Rattle.std.specs.Prelude.{◌≡◌, ◌≢◌, ◌↔◌, ◌⊎◌, ℕ, ◌+◌, ◌*◌, ◌<◌, Bool, true, false, cond, not, ◌&&◌, List, [], ◌++◌, map, filter, take, length, sum_by, Option, Some, Contains, IsSorted}
+use Rattle.std.specs.Prelude.{◌≡◌, ◌≢◌, ◌↔◌, ◌⊎◌, ℕ, ◌+◌, ◌*◌, ◌<◌, Bool, true, false, cond, not, ◌&&◌, List, [], ◌++◌, map, filter, take, length, sum_by, Some, Contains, IsSorted}
 use Rattle.std.specs.List.{list_any, slice_get}
 use Rattle.null_logic.specs.Arithmetic.{fits_64}
 use Rattle.null_logic.specs.declared.run_fault.RunFault.{RunFault}
@@ -11,7 +11,7 @@ use Rattle.perm_values.specs.declared.key.Key.{Key}
 use Rattle.perm_values.specs.declared.value.Value.{Value}
 use Rattle.bag_algebra.specs.Bags.{Row, Bag, count, SameBag, nulls}
 use Rattle.bag_algebra.specs.Means.{Witness, flat, is_met, gives, keeps_left, keeps_right, present, total, aggregated, good_row, class_of}
-use Rattle.bag_algebra.specs.Outcome.{Outcome, Good, Bad}
+use Rattle.bag_algebra.specs.Outcome.{Outcome, Good}
 use Rattle.bag_algebra.specs.declared.query.AggFn.{AggFn}
 use Rattle.bag_algebra.specs.declared.query.AggFn.TheVariants.{Sum}
 use Rattle.bag_algebra.specs.declared.query.JoinKind.{JoinKind}

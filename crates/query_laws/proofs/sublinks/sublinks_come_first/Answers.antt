@@ -1,5 +1,4 @@
 use Rattle.std.proofs.Common.{sym, ap, subst}
-use Rattle.bag_algebra.specs.Children.{subs_denote}
 use Rattle.bag_algebra.specs.Expressions.{value}
 use Rattle.bag_algebra.specs.Meaning.{optional_value}
 use Rattle.bag_algebra.specs.Outcome.{and_then, each}
