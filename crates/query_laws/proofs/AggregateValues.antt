@@ -1,5 +1,6 @@
 -- What the aggregate functions give.
-use Rattle.std.proofs.Common.{◌≡◌, ◌≢◌, ◌↔◌, inl, inr, suc, ◌<◌, ◌≤◌, ℤ, pos, Bool, true, false, cond, not, ◌&&◌, List, [], ◌∷◌, map, filter, length, count_by, sum_by, Ordering, Less, Equal, Greater, is_gt, is_lt, refl, sym, ap, subst, ◌∙◌, arith, true≢false}
+use Rattle.std.proofs.Common.{◌≡◌, ◌≢◌, ◌↔◌, inl, inr, ◌<◌, ◌≤◌, ℤ, pos, Bool, true, false, cond, not, ◌&&◌, List, [], ◌∷◌, map, filter, length, count_by, sum_by, Ordering, Less, Equal, Greater, is_gt, is_lt, refl, sym, ap, subst, ◌∙◌, arith, true≢false}
+use Rattle.std.proofs.lemmas.List.{length-map}
 use Rattle.std.proofs.lemmas.List.Sums.{length-filter}
 use Rattle.std.specs.Cmp.{IsTotalOrder, upto, back_total}
 use Rattle.std.specs.Ordering.{ordering_reverse, flip_args}
@@ -11,7 +12,7 @@ use Rattle.perm_values.specs.ValueLaws.{value_decides, value_cmp_total}
 use Rattle.perm_values.specs.Values.{same_value, value_cmp}
 use Rattle.perm_values.specs.declared.value.Value.{Value}
 use Rattle.perm_values.specs.declared.value.Value.TheVariants.{Null, Integer, Text, Boolean}
-use Rattle.bag_algebra.proofs.BagLaws.{Permuted, nothing, onward, turn, joined, permuted-length, permuted-from_same_bag}
+use Rattle.bag_algebra.proofs.BagLaws.{Permuted, nothing, onward, turn, joined, permuted-sym, permuted-length, permuted-from_same_bag}
 use Rattle.bag_algebra.proofs.Members.{IsIn}
 use Rattle.bag_algebra.proofs.SortedBags.{permuted-sorted}
 use Rattle.bag_algebra.specs.Bags.{Row, Bag, count, once, others, sorted}
@@ -20,9 +21,9 @@ use Rattle.bag_algebra.specs.Outcome.{Good, Bad, only}
 use Rattle.bag_algebra.specs.declared.query.AggFn.TheVariants.{Count, CountDistinct, Sum, Min, Max}
 use Rattle.query_laws.specs.Aggregated.{occurrences, ListsValues, IsLeast, IsGreatest}
 use Rattle.query_laws.specs.Holding.{Lists}
-use Rattle.query_laws.proofs.Choice.{listed, one_count}
+use Rattle.query_laws.proofs.Once.{listed, one_count}
 use Rattle.query_laws.proofs.Limited.{rises, rises-sorted}
-use Rattle.query_laws.proofs.Provenance.{contains-in, in-contains}
+use Rattle.query_laws.proofs.Items.{contains-in, in-contains}
 use Rattle.query_laws.proofs.Sums.{one_if, count-map, sum_by-same, sum_by-none, sum_by-filter}
 
 -- ---- values as rows of one column
@@ -57,16 +58,12 @@ singles_counts vs ws e [] = count-no_single vs ∙ sym (count-no_single ws)
 singles_counts vs ws e (v ∷ []) = count-single v vs ∙ e v ∙ sym (count-single v ws)
 singles_counts vs ws e (v ∷ x ∷ row) = count-longer v x row vs ∙ sym (count-longer v x row ws)
 
-length-single : (vs : List Value) → length (map single vs) ≡ length vs
-length-single [] = refl
-length-single (v ∷ vs) = ap suc (length-single vs)
-
 -- lists with the same occurrences are as long
 same_length : (vs ws : List Value) → ((v : Value) → occurrences v vs ≡ occurrences v ws) → length vs ≡ length ws
 same_length vs ws e =
-    sym (length-single vs)
+    sym (length-map vs single)
     ∙ permuted-length (permuted-from_same_bag (map single vs) (map single ws) (record { counts = singles_counts vs ws e }))
-    ∙ length-single ws
+    ∙ length-map ws single
 
 others-single : (v : Value) (vs : List Value) → others (single v) (map single vs) ≡ map single (filter (λ w. not (same_value v w)) vs)
 others-single v [] = refl
@@ -206,15 +203,6 @@ module _ (cmp : Value → Value → Ordering) (t : IsTotalOrder cmp) where
   moved w (turn u v us) (inr (inr h)) = inr (inr h)
   moved w (joined p q) h = moved w q (moved w p h)
 
-  moved_back : {us vs : List Value} (w : Value) → Permuted us vs → IsIn w vs → IsIn w us
-  moved_back w nothing h = h
-  moved_back w (onward u p) (inl e) = inl e
-  moved_back w (onward u p) (inr h) = inr (moved_back w p h)
-  moved_back w (turn u v us) (inl e) = inr (inl e)
-  moved_back w (turn u v us) (inr (inl e)) = inl e
-  moved_back w (turn u v us) (inr (inr h)) = inr (inr h)
-  moved_back w (joined p q) h = moved_back w p (moved_back w q h)
-
   empty_is : (vs : List Value) → length vs ≡ 0 → vs ≡ []
   empty_is [] e = refl
   empty_is (v ∷ vs) e = absurd (omega arith)
@@ -222,7 +210,7 @@ module _ (cmp : Value → Value → Ordering) (t : IsTotalOrder cmp) where
   chosen : (vs ss : List Value) → Permuted vs ss → rises cmp ss → vs ≢ [] →
       (v : Value) × (first_or_null ss ≡ v) × IsIn v vs × ((w : Value) → IsIn w vs → is_gt (cmp v w) ≡ false)
   chosen vs [] p r some = absurd (some (empty_is vs (permuted-length p)))
-  chosen vs (v ∷ ss) p r some = (v, refl, moved_back v p (inl refl), λ w h. front-first v ss r w (moved w p h))
+  chosen vs (v ∷ ss) p r some = (v, refl, moved v (permuted-sym p) (inl refl), λ w h. front-first v ss r w (moved w p h))
 
   first-of : (vs : List Value) → vs ≢ [] →
       (v : Value) × (first_or_null (sorted cmp vs) ≡ v) × IsIn v vs × ((w : Value) → IsIn w vs → is_gt (cmp v w) ≡ false)

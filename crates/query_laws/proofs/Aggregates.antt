@@ -1,5 +1,5 @@
 -- The aggregates of a class: their values, and when one is out of range.
-use Rattle.std.proofs.Common.{◌≡◌, ℕ, zero, suc, ◌+◌, ℤ, Bool, true, false, cond, Option, Some, None, List, [], ◌∷◌, map, length, refl, sym, ap, subst, ◌∙◌, arith, true≢false, add-zero, add-suc, suc-add, inl, inr}
+use Rattle.std.proofs.Common.{◌≡◌, ℕ, zero, suc, ◌+◌, ℤ, Bool, true, false, cond, Option, Some, List, [], ◌∷◌, map, length, refl, sym, ap, subst, ◌∙◌, arith, true≢false, add-zero, add-suc, suc-add, inl, inr}
 use Rattle.std.specs.List.{slice_get}
 use Rattle.null_logic.specs.Arithmetic.{fits_64}
 use Rattle.null_logic.specs.declared.run_fault.RunFault.{RunFault}
@@ -13,6 +13,7 @@ use Rattle.bag_algebra.specs.Outcome.{Outcome, Good, Bad, both, only}
 use Rattle.bag_algebra.specs.declared.query.AggFn.{AggFn}
 use Rattle.bag_algebra.specs.declared.query.AggFn.TheVariants.{CountRows, Count, CountDistinct, Sum, Min, Max}
 use Rattle.query_laws.specs.Faults.{IsGood, Meets}
+use Rattle.query_laws.proofs.Items.{none_some, same_some}
 use Rattle.query_laws.proofs.Outcomes.{both-is, both-good, both-meets, meets-both}
 
 pub good-meets : {X : Type 0} (o : Outcome X) (fault : RunFault) → IsGood o → Meets o fault → ⊥
@@ -69,12 +70,9 @@ aggregated-meets Sum vs fault m = let found = sum-meets (present vs) fault m in 
 aggregated-meets Min vs fault m = absurd m
 aggregated-meets Max vs fault m = absurd m
 
-same_function : (f g : AggFn) → Some f ≡ Some g → f ≡ g
-same_function f g e = cc
-
 overflows-meets : (function : AggFn) (vs : List Value) → Overflows (Some function) vs → Meets (aggregated function vs) OutOfRange
 overflows-meets function vs h =
-    subst (λ f. Meets (aggregated f vs) OutOfRange) (sym (same_function function Sum h.0)) (sum-overflows (present vs) h.1)
+    subst (λ f. Meets (aggregated f vs) OutOfRange) (sym (same_some function Sum h.0)) (sum-overflows (present vs) h.1)
 
 -- ---- the aggregates of a class, one after another: the nth is over the nth column
 
@@ -109,9 +107,6 @@ each_of-meets (function ∷ functions) column fault m =
       | inl here ↦ let found = aggregated-meets function (column 0) fault here in (found.0, (0, found.1))
       | inr there ↦ let found = each_of-meets functions (λ n. column (suc n)) fault there in (found.0, (suc found.1.0, found.1.1))
     ]
-
-none_some : (f : AggFn) → None ≡ Some f → ⊥
-none_some f e = cc
 
 pub meets-each_of : (functions : List AggFn) (column : ℕ → List Value) (place : ℕ) → SumAt functions column place → Meets (each_of functions column) OutOfRange
 meets-each_of [] column place h = absurd (none_some Sum h.0)
@@ -148,7 +143,7 @@ each_of-gives (function ∷ functions) column values e =
       each = at;
     } where
       at : (place : ℕ) (function : AggFn) → slice_get (f ∷ fs) place ≡ Some function → aggregated function (col place) ≡ Good (value_at (v ∷ vs) place)
-      at zero function h = ap (λ k. aggregated k (col 0)) (sym (same_function f function h)) ∙ here
+      at zero function h = ap (λ k. aggregated k (col 0)) (sym (same_some f function h)) ∙ here
       at (suc place) function h = g.each place function h
 
 pub gives-each_of : (functions : List AggFn) (column : ℕ → List Value) (values : Row) → Gives functions column values → each_of functions column ≡ Good values

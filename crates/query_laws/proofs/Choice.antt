@@ -1,11 +1,11 @@
 -- The law of a node leaves no choice: two answers to one input that keep it are one.
-use Rattle.std.proofs.Common.{◌≡◌, ◌↔◌, ◌⊎◌, inl, inr, ℕ, zero, suc, ◌<◌, ◌≤◌, Bool, true, false, List, [], ◌∷◌, refl, sym, subst, ◌∙◌, arith}
+use Rattle.std.proofs.Common.{◌≡◌, ◌↔◌, ◌⊎◌, inl, inr, ℕ, Bool, true, false, List, [], ◌∷◌, refl, sym, subst, ◌∙◌}
 use Rattle.std.specs.Cmp.{both_ways}
 use Rattle.null_logic.specs.declared.run_fault.RunFault.{RunFault}
 use Rattle.null_logic.specs.declared.run_fault.RunFault.TheVariants.{DivideByZero, OutOfRange, SeveralRows}
 use Rattle.perm_values.specs.declared.key.Key.{Key}
 use Rattle.perm_values.specs.declared.value.Value.{Value}
-use Rattle.bag_algebra.proofs.BagLaws.{same_bag-refl, member_decides}
+use Rattle.bag_algebra.proofs.BagLaws.{same_bag-refl}
 use Rattle.bag_algebra.proofs.Members.{IsIn}
 use Rattle.bag_algebra.specs.Bags.{Row, Bag, SameBag, count, once}
 use Rattle.bag_algebra.specs.Means.{Witness}
@@ -14,16 +14,12 @@ use Rattle.bag_algebra.specs.declared.query.AggFn.{AggFn}
 use Rattle.bag_algebra.specs.declared.query.JoinKind.{JoinKind}
 use Rattle.query_laws.specs.Choice.{SameOutcome}
 use Rattle.query_laws.specs.Faults.{IsGood, Meets, PassesFaults, UnitesFaults}
-use Rattle.query_laws.specs.Holding.{InBag, HoldsOnce, Lists}
+use Rattle.query_laws.specs.Holding.{InBag}
 use Rattle.query_laws.specs.Nodes.{IsFiltered, IsProjected, IsJoined, IsCombined, IsDistinct, IsGrouped, IsLimited, IsProvenance}
-use Rattle.query_laws.proofs.Combined.{holds_once-once}
+use Rattle.query_laws.proofs.Once.{listed, holds_once-same}
 use Rattle.query_laws.proofs.Outcomes.{in_bag-in, in-in_bag}
 
 -- ---- one answer
-
--- each bag has a list of its rows
-pub listed : (us : Bag) → Lists (once us) us
-listed us = holds_once-once (λ u. InBag u us) us (λ u. member_decides u us)
 
 same_flag : (a b : Bool) → (a ≡ true → b ≡ true) → (b ≡ true → a ≡ true) → a ≡ b
 same_flag = both_ways
@@ -55,15 +51,6 @@ agree-good : (a b : Outcome Bag) → IsGood a → IsGood b → ((ts ss : Bag) �
 agree-good (Good ts) (Good ss) g h s = s ts ss refl refl
 agree-good (Good ts) (Bad f) g h s = h
 agree-good (Bad f) b g h s = absurd g
-
-pub one_count : (P : Type 0) (n m : ℕ) → n ≤ 1 → m ≤ 1 → (0 < n ↔ P) → (0 < m ↔ P) → n ≡ m
-one_count P zero zero a b p q = refl
-one_count P zero (suc m) a b p q = absurd (let h : 0 < zero = p.1 (q.0 (omega arith)) in omega arith)
-one_count P (suc n) zero a b p q = absurd (let h : 0 < zero = q.1 (p.0 (omega arith)) in omega arith)
-one_count P (suc n) (suc m) a b p q = omega arith
-
-holds_once-same : (P : Row → Type 0) (ts ss : Bag) → HoldsOnce P ts → HoldsOnce P ss → SameBag ts ss
-holds_once-same P ts ss h k = record { counts = λ t. one_count (P t) (count t ts) (count t ss) (h.once t) (k.once t) (h.rows t) (k.rows t) }
 
 -- ---- by inputs
 

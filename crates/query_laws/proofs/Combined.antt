@@ -1,34 +1,14 @@
 -- The laws of set operations and Distinct.
-use Rattle.std.proofs.Common.{◌≡◌, ℕ, zero, suc, ◌+◌, ◌-◌, ◌<◌, ◌≤◌, min, Bool, true, false, cond, not, ◌&&◌, Decides, [], ◌∷◌, ◌++◌, filter, refl, sym, ap, subst, ◌∙◌, arith, true≢false}
+use Rattle.std.proofs.Common.{◌≡◌, ℕ, zero, suc, ◌+◌, ◌-◌, ◌<◌, min, Bool, true, false, cond, not, ◌&&◌, Decides, [], ◌∷◌, ◌++◌, filter, refl, sym, ap, subst, ◌∙◌, arith, true≢false}
 use Rattle.perm_values.specs.Rows.{same_row}
-use Rattle.bag_algebra.proofs.BagLaws.{same_row-is, count-append, count-once, count-of_none, member_decides, member-filter, permuted-to_front, permuted-counts}
+use Rattle.bag_algebra.proofs.BagLaws.{same_row-is, count-append, count-of_none, member_decides, member-filter, permuted-to_front, permuted-counts}
 use Rattle.bag_algebra.specs.Bags.{Row, Bag, count, member, once, without_first, in_both, beyond, union_of, intersect_of, except_of}
 use Rattle.bag_algebra.specs.Outcome.{Outcome, Good, mapped, both}
 use Rattle.query_laws.specs.Holding.{InBag, HoldsOnce}
 use Rattle.query_laws.specs.Nodes.{IsCombined, IsDistinct, in_either, in_left_alone}
 use Rattle.query_laws.specs.Nodes as node
+use Rattle.query_laws.proofs.Once.{holds_once-once}
 use Rattle.query_laws.proofs.Outcomes.{same_good, good-good, both-unites, mapped-passes}
-
--- ---- each row once
-
-at_most_one : (b : Bool) → cond b 1 0 ≤ 1
-at_most_one true = omega arith
-at_most_one false = omega arith
-
-counted_if : {P : Type 0} (b : Bool) → Decides b P → (0 < cond b 1 0 → P) × (P → 0 < cond b 1 0)
-counted_if true d = (λ h. d.0 refl, λ p. omega arith)
-counted_if false d = (λ h. absurd (omega arith), λ p. absurd (true≢false (sym (d.1 p))))
-
--- a bag that counts 1 where a test says so, and otherwise 0
-pub holds_once : (P : Row → Type 0) (ts : Bag) (test : Row → Bool) → ((t : Row) → count t ts ≡ cond (test t) 1 0) →
-    ((t : Row) → Decides (test t) (P t)) → HoldsOnce P ts
-holds_once P ts test counts d = record {
-  once = λ t. subst (λ n. n ≤ 1) (sym (counts t)) (at_most_one (test t));
-  rows = λ t. subst (λ n. (0 < n → P t) × (P t → 0 < n)) (sym (counts t)) (counted_if (test t) (d t));
-}
-
-pub holds_once-once : (P : Row → Type 0) (us : Bag) → ((t : Row) → Decides (member t us) (P t)) → HoldsOnce P (once us)
-holds_once-once P us d = holds_once P (once us) (λ t. member t us) (λ t. count-once t us) d
 
 -- ---- counts
 

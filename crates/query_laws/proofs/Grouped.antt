@@ -1,5 +1,7 @@
 -- The law of Aggregate.
-use Rattle.std.proofs.Common.{◌≡◌, ◌≢◌, inl, inr, ℕ, zero, suc, ◌+◌, ◌≤◌, Bool, true, false, cond, List, [], ◌∷◌, ◌++◌, map, take, length, sum_by, refl, sym, ap, subst, ◌∙◌, arith, true≢false, zero-add}
+use Rattle.std.proofs.Common.{◌≡◌, ◌≢◌, inl, inr, ℕ, ◌≤◌, Bool, true, false, List, [], ◌∷◌, ◌++◌, map, take, length, sum_by, refl, sym, ap, subst, ◌∙◌, arith, true≢false, zero-add}
+use Rattle.std.proofs.Math.Seq.{take-append_seam}
+use Rattle.std.proofs.lemmas.List.{length-map}
 use Rattle.std.proofs.lemmas.List.Sums.{sum_by-cons}
 use Rattle.null_logic.specs.declared.run_fault.RunFault.{RunFault}
 use Rattle.null_logic.specs.declared.run_fault.RunFault.TheVariants.{OutOfRange}
@@ -15,38 +17,11 @@ use Rattle.query_laws.specs.Faults.{IsGood, Meets, OverRows}
 use Rattle.query_laws.specs.Holding.{InBag, HoldsOnce}
 use Rattle.query_laws.specs.Nodes.{IsKey, class_values, IsClassRow, SumOverflows, IsGrouped}
 use Rattle.query_laws.proofs.Aggregates.{each_of, aggregates_of-is, each_of-good, each_of-meets, meets-each_of, each_of-gives, gives-each_of, good-meets}
-use Rattle.query_laws.proofs.Outcomes.{Over, over-each, over_rows, in_bag-in, in-in_bag, same_good, both-is, mapped-is, mapped-good, mapped-meets, meets-mapped, and_then-passes, bad-not_good}
+use Rattle.query_laws.proofs.Items.{each-in, from-each, each-long}
+use Rattle.query_laws.proofs.Once.{at_most_one}
+use Rattle.query_laws.proofs.Outcomes.{Over, over-each, over_rows, in_bag-in, in-in_bag, mapped-is, mapped-good, mapped-meets, meets-mapped, and_then-passes, bad-not_good}
 use Rattle.query_laws.proofs.Projected.{given}
-use Rattle.query_laws.proofs.Sums.{one_if, one_more}
-
--- ---- evaluations of lists that are good
-
--- what each item gives is in the answer, and nothing else
-pub each-in : {X Y : Type 0} (f : X → Outcome Y) (xs : List X) (ys : List Y) (x : X) (y : Y) → each f xs ≡ Good ys → IsIn x xs → f x ≡ Good y → IsIn y ys
-each-in f [] ys x y e h g = absurd h
-each-in f (z ∷ xs) ys x y e h g =
-    let parts = both-is (λ v vs. v ∷ vs) (f z) (each f xs) ys e in
-    subst (IsIn y) parts.4 (elim h [
-      | inl same ↦ inl (same_good parts.0 y (sym parts.2 ∙ ap f same ∙ g))
-      | inr there ↦ inr (each-in f xs parts.1 x y parts.3 there g)
-    ])
-
-pub from-each : {X Y : Type 0} (f : X → Outcome Y) (xs : List X) (ys : List Y) (y : Y) → each f xs ≡ Good ys → IsIn y ys → (x : X) × IsIn x xs × (f x ≡ Good y)
-from-each f [] ys y e h = absurd (subst (IsIn y) (sym (same_good [] ys e)) h)
-from-each f (z ∷ xs) ys y e h =
-    let parts = both-is (λ v vs. v ∷ vs) (f z) (each f xs) ys e in
-    first f z xs y parts.0 parts.1 parts.2 (subst (IsIn y) (sym parts.4) h) (λ k. from-each f xs parts.1 y parts.3 k)
-  where
-    first : {X Y : Type 0} (f : X → Outcome Y) (z : X) (xs : List X) (y v : Y) (vs : List Y) → f z ≡ Good v → IsIn y (v ∷ vs) →
-        (IsIn y vs → (x : X) × IsIn x xs × (f x ≡ Good y)) → (x : X) × IsIn x (z ∷ xs) × (f x ≡ Good y)
-    first f z xs y v vs here (inl same) after = (z, inl refl, here ∙ ap Good same)
-    first f z xs y v vs here (inr there) after = let found = after there in (found.0, inr found.1, found.2)
-
-pub each-long : {X Y : Type 0} (f : X → Outcome Y) (xs : List X) (ys : List Y) → each f xs ≡ Good ys → length ys ≡ length xs
-each-long f [] ys e = ap length (sym (same_good [] ys e))
-each-long f (x ∷ xs) ys e =
-    let parts = both-is (λ v vs. v ∷ vs) (f x) (each f xs) ys e in
-    ap length (sym parts.4) ∙ ap suc (each-long f xs parts.1 parts.3)
+use Rattle.query_laws.proofs.Sums.{count-sum, one_if}
 
 -- ---- keys
 
@@ -72,18 +47,10 @@ in-key (group ∷ groups) us key h =
     some_none : (g : ℕ) (gs : List ℕ) → g ∷ gs ≢ []
     some_none g gs e = cc
 
-length-map : {X Y : Type 0} (f : X → Y) (xs : List X) → length (map f xs) ≡ length xs
-length-map f [] = refl
-length-map f (x ∷ xs) = ap suc (length-map f xs)
-
 -- a key is as wide as the groups
 key-long : (groups : List ℕ) (us : Bag) (key : Row) → IsKey groups us key → length key ≡ length groups
 key-long groups us key (inl h) = ap length h.1 ∙ sym (ap length h.0)
-key-long groups us key (inr h) = ap length (sym h.1.2) ∙ length-map (value_at h.1.0) groups
-
-at_most_one : (b : Bool) → cond b 1 0 ≤ 1
-at_most_one true = omega arith
-at_most_one false = omega arith
+key-long groups us key (inr h) = ap length (sym h.1.2) ∙ length-map groups (value_at h.1.0)
 
 -- each key stands once
 keys-once : (groups : List ℕ) (us : Bag) (key : Row) → count key (class_keys groups us) ≤ 1
@@ -99,10 +66,6 @@ sum_by-below g h [] le = omega arith
 sum_by-below g h (k ∷ keys) le =
     omega (arith, sum_by-cons g k keys, sum_by-cons h k keys, le k (inl refl), sum_by-below g h keys (λ j i. le j (inr i)))
 
-count-is : (t : Row) (us : Bag) → count t us ≡ sum_by (λ u. one_if (same_row u t)) us
-count-is t [] = refl
-count-is t (u ∷ us) = one_more (same_row u t) (count t us) ∙ ap (λ n. one_if (same_row u t) + n) (count-is t us) ∙ sym (sum_by-cons (λ v. one_if (same_row v t)) u us)
-
 one_if-below : (a b : Bool) → (a ≡ true → b ≡ true) → one_if a ≤ one_if b
 one_if-below true true f = omega arith
 one_if-below true false f = absurd (true≢false (sym (f refl)))
@@ -110,13 +73,7 @@ one_if-below false true f = omega arith
 one_if-below false false f = omega arith
 
 take-front : (k vs : Row) (n : ℕ) → length k ≡ n → take n (k ++ vs) ≡ k
-take-front [] vs zero e = take-none vs where
-  take-none : (ws : Row) → take zero ws ≡ []
-  take-none [] = refl
-  take-none (w ∷ ws) = refl
-take-front [] vs (suc n) e = absurd (omega arith)
-take-front (v ∷ k) vs zero e = absurd (omega arith)
-take-front (v ∷ k) vs (suc n) e = ap (λ l. v ∷ l) (take-front k vs n (omega arith))
+take-front k vs n e = subst (λ m. take m (k ++ vs) ≡ k) e (take-append_seam k vs)
 
 given-is : (t : Row) (o : Outcome Row) → gives t o ≡ true → o ≡ Good t
 given-is t (Good row) e = ap Good (same_row-is row t e)
@@ -191,7 +148,7 @@ module _ (groups : List ℕ) (functions : List AggFn) (arguments : Row → Outco
       let below : sum_by (λ k. one_if (gives t (class_row groups functions arguments us k))) keys ≤ sum_by (λ k. one_if (same_row k (take (length groups) t))) keys =
       sum_by-below (λ k. one_if (gives t (class_row groups functions arguments us k))) (λ k. one_if (same_row k (take (length groups) t))) keys
       (λ k i. one_if-below (gives t (class_row groups functions arguments us k)) (same_row k (take (length groups) t)) (own_key t k (in-key groups us k i))) in
-      let own : count (take (length groups) t) keys ≡ sum_by (λ k. one_if (same_row k (take (length groups) t))) keys = count-is (take (length groups) t) keys in
+      let own : count (take (length groups) t) keys ≡ sum_by (λ k. one_if (same_row k (take (length groups) t))) keys = count-sum (take (length groups) t) keys in
       let once_each : count (take (length groups) t) keys ≤ 1 = keys-once groups us (take (length groups) t) in
       omega arith
 

@@ -1,5 +1,5 @@
 -- The law of Join.
-use Rattle.std.proofs.Common.{◌≡◌, ℕ, zero, suc, ◌+◌, ◌*◌, ◌<◌, Bool, true, false, cond, ◌&&◌, List, [], ◌∷◌, ◌++◌, map, filter, length, sum_by, refl, sym, ap, subst, ◌∙◌, arith, true≢false}
+use Rattle.std.proofs.Common.{◌≡◌, ℕ, zero, suc, ◌+◌, ◌*◌, Bool, true, false, cond, ◌&&◌, List, [], ◌∷◌, ◌++◌, map, filter, length, sum_by, refl, sym, ap, subst, ◌∙◌, arith, true≢false}
 use Rattle.std.proofs.Math.Nat.{zero-mul, suc-mul, mul-zero, mul-one}
 use Rattle.std.proofs.lemmas.List.Sums.{sum_by-cons}
 use Rattle.perm_values.specs.Rows.{same_row}
@@ -14,6 +14,7 @@ use Rattle.query_laws.specs.Faults.{OverPairs}
 use Rattle.query_laws.specs.Holding.{InBag, HasWidth, Lists}
 use Rattle.query_laws.specs.Nodes.{IsJoined, makes, pairs_count, is_unmatched_left, is_unmatched_right, left_count, right_count}
 use Rattle.query_laws.proofs.Filtered.{kept-rows}
+use Rattle.query_laws.proofs.Once.{in_bag-behind, in_bag-front}
 use Rattle.query_laws.proofs.Outcomes.{over-gather, over-part, over-mapped, over_pairs, gather-is, both-is, mapped-is, same_good, both_then-unites}
 use Rattle.query_laws.proofs.Sums.{one_if, sum_by-same, sum_by-filter, sum_by-scaled, count-flat_map, count-map, sum_by-listed, sum_by-passing}
 
@@ -146,17 +147,8 @@ sum_by-at : (u : Row) (g : Row → ℕ) (k : ℕ) (us : Bag) → ((w : Row) → 
 sum_by-at u g k [] here elsewhere = sym (zero-mul k)
 sum_by-at u g k (w ∷ us) here elsewhere =
     sum_by-cons g w us
-    ∙ ap (λ n. g w + n) (sum_by-at u g k us (λ x h. here x (still x h)) (λ x h. elsewhere x (still x h)))
-    ∙ by_row (same_row w u) u w (g w) k (count u us) refl (here w first) (elsewhere w first)
-  where
-    still : (x : Row) → InBag x us → InBag x (w ∷ us)
-    still x h = by (same_row w x) where
-      by : (b : Bool) → 0 < cond b (suc (count x us)) (count x us)
-      by true = omega arith
-      by false = h
-
-    first : InBag w (w ∷ us)
-    first = rw (same_row-refl w) (omega arith)
+    ∙ ap (λ n. g w + n) (sum_by-at u g k us (λ x h. here x (in_bag-behind x w us h)) (λ x h. elsewhere x (in_bag-behind x w us h)))
+    ∙ by_row (same_row w u) u w (g w) k (count u us) refl (here w (in_bag-front w us)) (elsewhere w (in_bag-front w us))
 
 both_and : (a b m : Bool) → a ≡ true → b ≡ true → one_if ((a && b) && m) ≡ one_if m
 both_and true true m e f = refl

@@ -1,29 +1,15 @@
 -- The law of PROVENANCE.
-use Rattle.std.proofs.Common.{◌≡◌, ℕ, zero, suc, ◌<◌, Decides, List, [], ◌∷◌, ◌++◌, length, inl, inr, refl, sym, ap, subst, ◌∙◌, arith}
-use Rattle.std.specs.List.{flat_map, slice_index_or, Contains}
+use Rattle.std.proofs.Common.{◌≡◌, Decides, List, ◌++◌, sym, ap, subst, ◌∙◌}
+use Rattle.std.specs.List.{flat_map, Contains}
 use Rattle.bag_algebra.proofs.Members.{IsIn, in-map, from-map, in-flat_map, from-flat_map, member-in, in-member}
 use Rattle.bag_algebra.specs.Bags.{Row, Bag, member, once}
 use Rattle.bag_algebra.specs.Means.{Witness, flat, with_witnesses}
 use Rattle.bag_algebra.specs.Outcome.{Outcome, mapped}
 use Rattle.query_laws.specs.Holding.{InBag, HoldsOnce}
 use Rattle.query_laws.specs.Nodes.{IsProvenance}
-use Rattle.query_laws.proofs.Combined.{holds_once-once}
+use Rattle.query_laws.proofs.Items.{contains-in, in-contains}
+use Rattle.query_laws.proofs.Once.{holds_once-once}
 use Rattle.query_laws.proofs.Outcomes.{in_bag-in, in-in_bag, same_good, good-good, mapped-passes}
-
--- ---- what a list contains
-
-pub in-at : {X : Type 0} (xs : List X) (k : ℕ) (d : X) → k < length xs → IsIn (slice_index_or xs k d) xs
-in-at [] k d h = absurd (omega arith)
-in-at (x ∷ xs) zero d h = inl refl
-in-at (x ∷ xs) (suc k) d h = inr (in-at xs k d (omega arith))
-
-pub contains-in : {X : Type 0} (x : X) (xs : List X) → Contains xs x → IsIn x xs
-contains-in x xs c = subst (λ y. IsIn y xs) c.2 (in-at xs c.0 x c.1)
-
-pub in-contains : {X : Type 0} (x : X) (xs : List X) → IsIn x xs → Contains xs x
-in-contains x [] h = absurd h
-in-contains x (y ∷ ys) (inl e) = (0, omega arith, e)
-in-contains x (y ∷ ys) (inr h) = let found = in-contains x ys h in (suc found.0, omega (arith, found.1), found.2)
 
 -- ---- rows beside their lists
 

@@ -1,6 +1,6 @@
 -- The laws of sublinks and of what is evaluated on a row.
-use Rattle.std.proofs.Common.{◌≡◌, ◌≢◌, inl, inr, ℕ, zero, suc, ◌<◌, Bool, true, false, cond, ◌||◌, Some, None, List, [], ◌∷◌, map, length, refl, sym, ap, ◌∙◌, arith, true≢false}
-use Rattle.std.specs.List.{slice_get, list_any}
+use Rattle.std.proofs.Common.{◌≡◌, ◌≢◌, inl, inr, ◌<◌, Bool, true, false, cond, ◌||◌, List, [], ◌∷◌, map, length, refl, ap, ◌∙◌, arith, true≢false}
+use Rattle.std.specs.List.{list_any}
 use Rattle.null_logic.specs.Comparison.{compare_values, is_null}
 use Rattle.null_logic.specs.Logic.{is_true, truth_not, value_of}
 use Rattle.null_logic.specs.declared.compare.Compare.{Compare}
@@ -19,28 +19,8 @@ use Rattle.bag_algebra.specs.declared.query.SubKind.TheVariants.{Exists, Any, Al
 use Rattle.bag_algebra.specs.declared.query.Sublink.{Sublink}
 use Rattle.query_laws.specs.Evaluated.{IsEvaluated, sublink_value}
 use Rattle.query_laws.specs.Holding.{InBag}
-use Rattle.query_laws.proofs.Grouped.{each-long}
-use Rattle.query_laws.proofs.Outcomes.{over-each, both-is, in_bag-in, in-in_bag}
-use Rattle.query_laws.proofs.Provenance.{contains-in, in-contains}
-
--- ---- items in order
-
-none_some : {X : Type 0} (x : X) → None ≡ Some x → ⊥
-none_some x e = cc
-
-same_some : {X : Type 0} (x y : X) → Some x ≡ Some y → x ≡ y
-same_some x y e = cc
-
-each-at : {X Y : Type 0} (f : X → Outcome Y) (xs : List X) (ys : List Y) → each f xs ≡ Good ys → (place : ℕ) (x : X) → slice_get xs place ≡ Some x →
-    (y : Y) × (slice_get ys place ≡ Some y) × (f x ≡ Good y)
-each-at f [] ys e place x h = absurd (none_some x h)
-each-at f (z ∷ xs) ys e zero x h =
-    let parts = both-is (λ v vs. v ∷ vs) (f z) (each f xs) ys e in
-    (parts.0, ap (λ l. slice_get l 0) (sym parts.4), ap f (sym (same_some z x h)) ∙ parts.2)
-each-at f (z ∷ xs) ys e (suc place) x h =
-    let parts = both-is (λ v vs. v ∷ vs) (f z) (each f xs) ys e in
-    let found = each-at f xs parts.1 parts.3 place x h in
-    (found.0, ap (λ l. slice_get l (suc place)) (sym parts.4) ∙ found.1, found.2)
+use Rattle.query_laws.proofs.Items.{contains-in, in-contains, each-long, each-at}
+use Rattle.query_laws.proofs.Outcomes.{over-each, in_bag-in, in-in_bag}
 
 pub each-evaluated : {X Y : Type 0} (f : X → Outcome Y) (xs : List X) → IsEvaluated f xs (each f xs)
 each-evaluated f xs =

@@ -1,12 +1,13 @@
 -- Counts of a bag's rows, summed over a list that has each of its rows once.
-use Rattle.std.proofs.Common.{◌≡◌, ℕ, zero, suc, ◌+◌, ◌*◌, ◌<◌, Bool, true, false, cond, List, [], ◌∷◌, map, filter, sum_by, refl, sym, ap, ◌∙◌, arith}
+use Rattle.std.proofs.Common.{◌≡◌, ℕ, zero, suc, ◌+◌, ◌*◌, Bool, true, false, cond, List, [], ◌∷◌, map, filter, sum_by, refl, sym, ap, ◌∙◌, arith}
 use Rattle.std.proofs.Math.Nat.{zero-mul, suc-mul, one-mul, mul-one, mul-zero}
 use Rattle.std.proofs.lemmas.List.Sums.{sum_by-cons}
 use Rattle.std.specs.List.{flat_map}
 use Rattle.perm_values.specs.Rows.{same_row}
-use Rattle.bag_algebra.proofs.BagLaws.{same_row-is, same_row-sym, same_row-refl, count-append}
+use Rattle.bag_algebra.proofs.BagLaws.{same_row-is, same_row-sym, count-append}
 use Rattle.bag_algebra.specs.Bags.{Row, Bag, count}
 use Rattle.query_laws.specs.Holding.{InBag, Lists, counted_where}
+use Rattle.query_laws.proofs.Once.{in_bag-behind, in_bag-front}
 
 -- a row that passes counts once
 abbrev pub one_if : Bool → ℕ
@@ -65,6 +66,10 @@ count-map t f (x ∷ xs) =
     one_more (same_row (f x) t) (count t (map f xs)) ∙ ap (λ n. one_if (same_row (f x) t) + n) (count-map t f xs)
     ∙ sym (sum_by-cons (λ y. one_if (same_row (f y) t)) x xs)
 
+pub count-sum : (t : Row) (us : Bag) → count t us ≡ sum_by (λ u. one_if (same_row u t)) us
+count-sum t [] = refl
+count-sum t (u ∷ us) = one_more (same_row u t) (count t us) ∙ ap (λ n. one_if (same_row u t) + n) (count-sum t us) ∙ sym (sum_by-cons (λ v. one_if (same_row v t)) u us)
+
 -- ---- each row once
 
 -- the terms of the rows that are u: as many as u has
@@ -89,21 +94,12 @@ pub sum_by-weighed : (g : Row → ℕ) (rows us : Bag) → ((u : Row) → InBag 
     sum_by g us ≡ sum_by (λ d. count d us * g d) rows
 sum_by-weighed g rows [] once = sym (sum_by-none (λ d. 0 * g d) rows (λ d. zero-mul (g d)))
 sum_by-weighed g rows (u ∷ us) once =
-    let further : sum_by g us ≡ sum_by (λ d. count d us * g d) rows = sum_by-weighed g rows us (λ w h. once w (still w h)) in
-    let own : sum_by (λ d. cond (same_row u d) (g d) 0) rows ≡ g u = terms_of g u rows ∙ ap (λ n. n * g u) (once u here) ∙ one-mul (g u) in
+    let further : sum_by g us ≡ sum_by (λ d. count d us * g d) rows = sum_by-weighed g rows us (λ w h. once w (in_bag-behind w u us h)) in
+    let own : sum_by (λ d. cond (same_row u d) (g d) 0) rows ≡ g u = terms_of g u rows ∙ ap (λ n. n * g u) (once u (in_bag-front u us)) ∙ one-mul (g u) in
     let split : sum_by (λ d. count d (u ∷ us) * g d) rows ≡ sum_by (λ d. cond (same_row u d) (g d) 0) rows + sum_by (λ d. count d us * g d) rows =
     sum_by-same (λ d. count d (u ∷ us) * g d) (λ d. cond (same_row u d) (g d) 0 + count d us * g d) rows (λ d. counted-step (same_row u d) (count d us) (g d))
     ∙ sum_by-plus (λ d. cond (same_row u d) (g d) 0) (λ d. count d us * g d) rows in
     omega (arith, sum_by-cons g u us, further, own, split)
-  where
-    still : (w : Row) → InBag w us → InBag w (u ∷ us)
-    still w h = by (same_row u w) where
-      by : (b : Bool) → 0 < cond b (suc (count w us)) (count w us)
-      by true = omega arith
-      by false = h
-
-    here : InBag u (u ∷ us)
-    here = rw (same_row-refl u) (omega arith)
 
 listed_once : (rows us : Bag) → Lists rows us → (u : Row) → InBag u us → count u rows ≡ 1
 listed_once rows us l u h = omega (arith, l.once u, (l.rows u).1 h)
