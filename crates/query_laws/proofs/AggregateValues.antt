@@ -28,7 +28,7 @@ use Rattle.query_laws.proofs.Sums.{one_if, count-map, sum_by-same, sum_by-none, 
 
 -- ---- values as rows of one column
 
-abbrev single : Value → Row
+abbrev pub single : Value → Row
 single v = v ∷ []
 
 and_true : (b : Bool) → (b && true) ≡ b
@@ -53,7 +53,7 @@ count-longer v x row vs =
     count-map (v ∷ x ∷ row) single vs
     ∙ sum_by-none (λ w. one_if (same_row (single w) (v ∷ x ∷ row))) vs (λ w. ap one_if (and_false (same_value w v)))
 
-singles_counts : (vs ws : List Value) → ((v : Value) → occurrences v vs ≡ occurrences v ws) → (t : Row) → count t (map single vs) ≡ count t (map single ws)
+pub singles_counts : (vs ws : List Value) → ((v : Value) → occurrences v vs ≡ occurrences v ws) → (t : Row) → count t (map single vs) ≡ count t (map single ws)
 singles_counts vs ws e [] = count-no_single vs ∙ sym (count-no_single ws)
 singles_counts vs ws e (v ∷ []) = count-single v vs ∙ e v ∙ sym (count-single v ws)
 singles_counts vs ws e (v ∷ x ∷ row) = count-longer v x row vs ∙ sym (count-longer v x row ws)
@@ -216,7 +216,7 @@ module _ (cmp : Value → Value → Ordering) (t : IsTotalOrder cmp) where
       (v : Value) × (first_or_null (sorted cmp vs) ≡ v) × IsIn v vs × ((w : Value) → IsIn w vs → is_gt (cmp v w) ≡ false)
   first-of vs some = chosen vs (sorted cmp vs) (permuted-sorted cmp vs) (rises-sorted cmp t vs) some
 
-turned_total : IsTotalOrder (λ a b. ordering_reverse (value_cmp a b))
+pub turned_total : IsTotalOrder (λ a b. ordering_reverse (value_cmp a b))
 turned_total =
     let e : flip_args value_cmp ≡ (λ a b. ordering_reverse (value_cmp a b)) = λ i a b. value_cmp_total.antisymm b a i in
     subst IsTotalOrder e (back_total value_cmp_total)

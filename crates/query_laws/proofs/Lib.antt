@@ -1,3 +1,4 @@
+pub mod AggregateOrder
 pub mod AggregateValues
 pub mod Aggregates
 pub mod Caused

@@ -20,7 +20,7 @@ ghost use Rattle.null_logic.specs.Arithmetic.{fits_64};
 ghost use Rattle.null_logic.specs.Comparison.{is_null};
 ghost use Rattle.null_logic.specs.declared.run_fault.RunFault.{RunFault};
 ghost use Rattle.null_logic.specs.declared.run_fault.RunFault.TheVariants.{OutOfRange};
-ghost use Rattle.query_laws.specs.Aggregated.{ListsValues, IsLeast, IsGreatest};
+ghost use Rattle.query_laws.specs.Aggregated.{occurrences, ListsValues, IsLeast, IsGreatest};
 ghost use Rattle.bag_algebra.specs.Outcome.{Outcome, Good, Bad, Faults, only, has};
 ghost use Rattle.bag_algebra.specs.declared.query.AggFn.{AggFn};
 ghost use Rattle.bag_algebra.specs.declared.query.AggFn.TheVariants.{CountRows, Count, CountDistinct, Sum, Min, Max};
@@ -143,7 +143,7 @@ pub fn laws_leave_no_choice()
 
 /// COUNT(*) counts all values, COUNT those that aren't NULL, COUNT DISTINCT each of these once. SUM, MIN and MAX of none
 /// are NULL; otherwise SUM is the exact sum and out of range where that doesn't fit, MIN is the first value in order and
-/// MAX the last.
+/// MAX the last. The order of the values doesn't count.
 pub fn aggregates_look_at_what_is_not_null()
     ensures count_rows { (vs : List Cell) →
         aggregated CountRows vs ≡ Good (Integer (pos (length vs))) }
@@ -163,6 +163,8 @@ pub fn aggregates_look_at_what_is_not_null()
     ensures max_of_none { (vs : List Cell) → present vs ≡ [] → aggregated Max vs ≡ Good Null }
     ensures greatest { (vs : List Cell) →
         present vs ≢ [] → (v : Cell) × IsGreatest v (present vs) × (aggregated Max vs ≡ Good v) }
+    ensures any_order { (function : AggFn) (vs ws : List Cell) →
+        ((v : Cell) → occurrences v vs ≡ occurrences v ws) → aggregated function vs ≡ aggregated function ws }
 {}
 
 /// What is bad meets a fault: the set is never empty.

@@ -1,4 +1,5 @@
 use Rattle.bag_algebra.specs.Means.{once_each, present}
+use Rattle.query_laws.proofs.AggregateOrder.{aggregated-same}
 use Rattle.query_laws.proofs.AggregateValues.{count-is, count_distinct-is, once_each-lists, none-sum, sum-fits, sum-passes, none-min, min-least, none-max, max-greatest}
 use Rattle.query_laws.proofs.laws.aggregates_look_at_what_is_not_null.Goals as goal
 
@@ -31,3 +32,6 @@ returns-clause-max_of_none c = none-max
 
 pub returns-clause-greatest : goal.returns-clause-greatest
 returns-clause-greatest c = max-greatest
+
+pub returns-clause-any_order : goal.returns-clause-any_order
+returns-clause-any_order c = aggregated-same
