@@ -1,5 +1,5 @@
 -- The law of a node leaves no choice: two answers to one input that keep it are one.
-use Rattle.std.proofs.Common.{◌≡◌, ◌↔◌, ◌⊎◌, inl, inr, ℕ, Bool, true, false, List, [], ◌∷◌, refl, sym, subst, ◌∙◌}
+use Rattle.std.proofs.Common.{◌≡◌, ◌↔◌, ◌⊎◌, inl, inr, ℕ, Bool, true, false, List, take, [], ◌∷◌, refl, sym, ap, subst, ◌∙◌}
 use Rattle.std.specs.Cmp.{both_ways}
 use Rattle.null_logic.specs.declared.run_fault.RunFault.{RunFault}
 use Rattle.null_logic.specs.declared.run_fault.RunFault.TheVariants.{DivideByZero, OutOfRange, SeveralRows}
@@ -16,6 +16,7 @@ use Rattle.query_laws.specs.Choice.{SameOutcome}
 use Rattle.query_laws.specs.Faults.{IsGood, Meets, PassesFaults, UnitesFaults}
 use Rattle.query_laws.specs.Holding.{InBag}
 use Rattle.query_laws.specs.Nodes.{IsFiltered, IsProjected, IsJoined, IsCombined, IsDistinct, IsGrouped, IsLimited, IsProvenance}
+use Rattle.query_laws.proofs.Limited.{ordered_once}
 use Rattle.query_laws.proofs.Once.{listed, holds_once-same}
 use Rattle.query_laws.proofs.Outcomes.{in_bag-in, in-in_bag}
 
@@ -120,8 +121,9 @@ provenance_once lists input a b p q =
 pub limit_once : (keys : List Key) (most : ℕ) (input a b : Outcome Bag) → IsLimited keys most input a → IsLimited keys most input b → SameOutcome a b
 limit_once keys most input a b p q =
     by_input a b input p.bad q.bad
-    (λ us e. let o = p.ordered us in
-    same-of_equal a b _ (p.first us o.0 e o.1 o.2) (q.first us o.0 e o.1 o.2))
+    (λ us e. let k = p.first us e in
+    let l = q.first us e in
+    same-of_equal a b (Good (take most k.0)) k.3 (l.3 ∙ ap (λ rows. Good (take most rows)) (ordered_once keys us l.0 k.0 l.1 k.1 l.2 k.2)))
 
 -- ---- Aggregate
 

@@ -1,5 +1,5 @@
 -- The law of Aggregate.
-use Rattle.std.proofs.Common.{◌≡◌, ◌≢◌, inl, inr, ℕ, ◌≤◌, Bool, true, false, List, [], ◌∷◌, ◌++◌, map, take, length, sum_by, refl, sym, ap, subst, ◌∙◌, arith, true≢false, zero-add}
+use Rattle.std.proofs.Common.{◌≡◌, ◌≢◌, inl, inr, ℕ, ◌≤◌, Bool, true, false, cond, List, [], ◌∷◌, ◌++◌, map, take, length, sum_by, refl, sym, ap, subst, ◌∙◌, arith, true≢false, zero-add}
 use Rattle.std.proofs.Math.Seq.{take-append_seam}
 use Rattle.std.proofs.lemmas.List.{length-map}
 use Rattle.std.proofs.lemmas.List.Sums.{sum_by-cons}
@@ -58,6 +58,10 @@ keys-once [] us key = at_most_one (same_row [] key)
 keys-once (group ∷ groups) us key =
     let keys = map (picked (group ∷ groups)) us in
     subst (λ n. n ≤ 1) (sym (count-once key keys)) (at_most_one (member key keys))
+
+-- a row is in the class of its own group values alone, with its count
+pub count-class_of : (groups : List ℕ) (us : Bag) (key u : Row) → count u (class_of groups key us) ≡ cond (same_row (picked groups u) key) (count u us) 0
+count-class_of groups us key u = count-filter u (λ w. same_row (picked groups w) key) us
 
 -- ---- sums over keys
 
@@ -228,7 +232,6 @@ module _ (groups : List ℕ) (functions : List AggFn) (arguments : Row → Outco
       λ s. subst (λ f. Meets answer f) (sym s.0)
           (subst (λ o. Meets o OutOfRange) (sym (after us e h)) (rows-meet groups functions arguments us s.1.0 s.1.1 s.1.2 s.1.3)),
     );
-    classes = λ us key u. count-filter u (λ w. same_row (picked groups w) key) us;
     rows = λ us ts e a. answer-holds groups functions arguments us ts (rows_of us ts e a);
     one_row = λ us ts e a none. each-long (class_row groups functions arguments us) (class_keys groups us) ts (rows_of us ts e a) ∙ one_class groups us none;
   }

@@ -6,8 +6,8 @@ use Rattle.perm_values.specs.RowLaws.{printed_total}
 use Rattle.perm_values.specs.Rows.{printed_cmp}
 use Rattle.perm_values.specs.declared.key.Key.{Key}
 use Rattle.bag_algebra.proofs.SortedBags.{printed_exact, sorted-same_bag, sorted-of_sorted, same_bag-sorted}
-use Rattle.bag_algebra.specs.Bags.{Bag, placed, sorted}
-use Rattle.bag_algebra.specs.Outcome.{Outcome, Good, mapped}
+use Rattle.bag_algebra.specs.Bags.{Bag, SameBag, placed, sorted}
+use Rattle.bag_algebra.specs.Outcome.{Outcome, mapped}
 use Rattle.query_laws.specs.Nodes.{IsLimited}
 use Rattle.query_laws.proofs.Outcomes.{mapped-passes}
 
@@ -70,12 +70,21 @@ module _ {X : Type 0} (cmp : X → X → Ordering) where
 pub sorted-is_sorted : {X : Type 0} (cmp : X → X → Ordering) → IsTotalOrder cmp → (xs : List X) → IsSorted cmp (sorted cmp xs)
 sorted-is_sorted cmp total xs = sorted-from_rises cmp (sorted cmp xs) (rises-sorted cmp total xs)
 
+-- the sorted list of one bag is one
+pub ordered_once : (keys : List Key) (us first second : Bag) → SameBag us first → SameBag us second → IsSorted (printed_cmp keys) first →
+    IsSorted (printed_cmp keys) second → first ≡ second
+ordered_once keys us first second s r up rise =
+    let cmp = printed_cmp keys in
+    let o = printed_exact keys in
+    sym (sorted-of_sorted cmp o first up) ∙ sym (sorted-same_bag cmp o us first s) ∙ sorted-same_bag cmp o us second r ∙ sorted-of_sorted cmp o second rise
+
 pub limited : (keys : List Key) (most : ℕ) (input : Outcome Bag) → IsLimited keys most input (mapped (λ bag. take most (sorted (printed_cmp keys) bag)) input)
 limited keys most input = record {
   bad = mapped-passes input (λ bag. take most (sorted (printed_cmp keys) bag));
-  first = λ us ordered e same up.
-      let one : sorted (printed_cmp keys) us ≡ ordered =
-      sorted-same_bag (printed_cmp keys) (printed_exact keys) us ordered same ∙ sorted-of_sorted (printed_cmp keys) (printed_exact keys) ordered up in
-      ap (mapped (λ bag. take most (sorted (printed_cmp keys) bag))) e ∙ ap (λ ws. Good (take most ws)) one;
-  ordered = λ us. (sorted (printed_cmp keys) us, same_bag-sorted (printed_cmp keys) us, sorted-is_sorted (printed_cmp keys) (printed_total keys) us);
+  first = λ us e. (
+    sorted (printed_cmp keys) us,
+    same_bag-sorted (printed_cmp keys) us,
+    sorted-is_sorted (printed_cmp keys) (printed_total keys) us,
+    ap (mapped (λ bag. take most (sorted (printed_cmp keys) bag))) e,
+  );
 }

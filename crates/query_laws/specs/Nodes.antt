@@ -133,18 +133,16 @@ pub record IsGrouped (groups : List ℕ) (functions : List AggFn) (arguments : R
       IsGood answer ↔ ((key : Row) (place : ℕ) → IsKey groups us key → ¬ (SumOverflows groups functions arguments us key place))
   pub out_of_range : (us : Bag) (fault : RunFault) → input ≡ Good us → ((u : Row) → InBag u us → IsGood (arguments u)) →
       Meets answer fault ↔ ((fault ≡ OutOfRange) × ((key : Row) × (place : ℕ) × IsKey groups us key × SumOverflows groups functions arguments us key place))
-  -- a row of the input is in the class of its own group values alone, with its count
-  pub classes : (us : Bag) (key u : Row) → count u (class_of groups key us) ≡ cond (same_row (picked groups u) key) (count u us) 0
   pub rows : (us ts : Bag) → input ≡ Good us → answer ≡ Good ts →
       HoldsOnce (λ t. (key : Row) × IsKey groups us key × IsClassRow groups functions arguments us key t) ts
   pub one_row : (us ts : Bag) → input ≡ Good us → answer ≡ Good ts → groups ≡ [] → length ts ≡ 1
 
--- ---- Limit: the first rows of the input in the printed order
+-- ---- Limit: the first rows of the input's, put in the printed order
 
 pub record IsLimited (keys : List Key) (most : ℕ) (input answer : Outcome Bag) : Type 0 where
   pub bad : PassesFaults input answer
-  pub first : (us ordered : Bag) → input ≡ Good us → SameBag us ordered → IsSorted (printed_cmp keys) ordered → answer ≡ Good (take most ordered)
-  pub ordered : (us : Bag) → (ordered : Bag) × SameBag us ordered × IsSorted (printed_cmp keys) ordered
+  pub first : (us : Bag) → input ≡ Good us →
+      (ordered : Bag) × SameBag us ordered × IsSorted (printed_cmp keys) ordered × (answer ≡ Good (take most ordered))
 
 -- ---- Prov: each row of the input beside each of its witness lists, once
 

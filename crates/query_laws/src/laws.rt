@@ -1,31 +1,32 @@
 //! The law of each node: the contract of a function that does nothing.
-ghost use Rattle.std.specs.Prelude.{◌≡◌, ◌≢◌, ℕ, pos, ◌+◌, ◌-◌, min, Bool, not, List, [], ◌∷◌, map, length, count_by, IsTrue, IsFalse};
-ghost use Rattle.bag_algebra.specs.Bags.{Row, Bag};
+ghost use Rattle.std.specs.Prelude.{◌≡◌, ◌≢◌, ℕ, pos, ◌+◌, ◌-◌, min, Bool, cond, not, List, [], ◌∷◌, map, length, count_by, IsTrue, IsFalse};
+ghost use Rattle.null_logic.specs.Arithmetic.{fits_64};
+ghost use Rattle.null_logic.specs.Comparison.{is_null};
+ghost use Rattle.null_logic.specs.declared.run_fault.RunFault.TheVariants.{OutOfRange};
+ghost use Rattle.null_logic.specs.declared.run_fault.RunFault.{RunFault};
+ghost use Rattle.perm_values.specs.Rows.{same_row, picked};
+ghost use Rattle.perm_values.specs.declared.key.Key.{Key};
+ghost use Rattle.perm_values.specs.declared.kind.Kind.{Kind};
+ghost use Rattle.perm_values.specs.declared.value.Value.TheVariants.{Null, Integer};
+ghost use Rattle.perm_values.specs.declared.value.Value.{Value as Cell};
+ghost use Rattle.bag_algebra.specs.Bags.{Row, Bag, count};
 ghost use Rattle.bag_algebra.specs.Children.{subs_denote};
 ghost use Rattle.bag_algebra.specs.Expressions.{value};
 ghost use Rattle.bag_algebra.specs.Kinds.{width_of};
 ghost use Rattle.bag_algebra.specs.Meaning.{Database, meaning, witnesses, condition_on, items_on, arguments_on};
+ghost use Rattle.bag_algebra.specs.Means.{Witness, present, total, aggregated, class_of};
+ghost use Rattle.bag_algebra.specs.Outcome.{Outcome, Good, Bad, Faults, only, has};
 ghost use Rattle.bag_algebra.specs.declared.expr.Expr.{Expr};
 ghost use Rattle.bag_algebra.specs.declared.expr.Item.{Item};
+ghost use Rattle.bag_algebra.specs.declared.query.AggFn.TheVariants.{CountRows, Count, CountDistinct, Sum, Min, Max};
+ghost use Rattle.bag_algebra.specs.declared.query.AggFn.{AggFn};
 ghost use Rattle.bag_algebra.specs.declared.query.Aggr.{Aggr};
 ghost use Rattle.bag_algebra.specs.declared.query.JoinKind.{JoinKind};
 ghost use Rattle.bag_algebra.specs.declared.query.Label.{Label};
-ghost use Rattle.bag_algebra.specs.declared.query.Query.{Query};
 ghost use Rattle.bag_algebra.specs.declared.query.Query.TheVariants.{Table, Single, Base, Filter, Project, Join, Union, Intersect, Except, Distinct, Aggregate, Limit, Prov};
+ghost use Rattle.bag_algebra.specs.declared.query.Query.{Query};
 ghost use Rattle.bag_algebra.specs.declared.query.Sublink.{Sublink};
-ghost use Rattle.perm_values.specs.declared.key.Key.{Key};
-ghost use Rattle.perm_values.specs.declared.kind.Kind.{Kind};
-ghost use Rattle.bag_algebra.specs.Means.{Witness, present, total, aggregated};
-ghost use Rattle.null_logic.specs.Arithmetic.{fits_64};
-ghost use Rattle.null_logic.specs.Comparison.{is_null};
-ghost use Rattle.null_logic.specs.declared.run_fault.RunFault.{RunFault};
-ghost use Rattle.null_logic.specs.declared.run_fault.RunFault.TheVariants.{OutOfRange};
 ghost use Rattle.query_laws.specs.Aggregated.{occurrences, ListsValues, IsLeast, IsGreatest};
-ghost use Rattle.bag_algebra.specs.Outcome.{Outcome, Good, Bad, Faults, only, has};
-ghost use Rattle.bag_algebra.specs.declared.query.AggFn.{AggFn};
-ghost use Rattle.bag_algebra.specs.declared.query.AggFn.TheVariants.{CountRows, Count, CountDistinct, Sum, Min, Max};
-ghost use Rattle.perm_values.specs.declared.value.Value.{Value as Cell};
-ghost use Rattle.perm_values.specs.declared.value.Value.TheVariants.{Null, Integer};
 ghost use Rattle.query_laws.specs.Choice.{SameOutcome};
 ghost use Rattle.query_laws.specs.Holding.{Lists};
 ghost use Rattle.query_laws.specs.Nodes.{IsFiltered, IsProjected, IsJoined, IsCombined, in_either, in_both, in_left_alone, IsDistinct, IsGrouped, IsLimited, IsProvenance};
@@ -109,6 +110,12 @@ pub fn limit_takes_the_first_rows()
 pub fn provenance_is_each_row_beside_its_witnesses()
     ensures { (input : Query) (db : Database) (env : List Row) →
         IsProvenance (witnesses input db env) (meaning input db env) (meaning (Prov input) db env) }
+{}
+
+/// Each row of a bag is in the class of its own group values alone, and there as often as in the bag.
+pub fn every_row_is_in_one_class()
+    ensures { (groups : List ℕ) (us : Bag) (key u : Row) →
+        count u (class_of groups key us) ≡ cond (same_row (picked groups u) key) (count u us) 0 }
 {}
 
 /// Every bag has a list of its rows, each once, to sum over.

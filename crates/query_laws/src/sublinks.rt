@@ -1,5 +1,11 @@
 //! The laws of sublinks and of what is evaluated on a row.
 ghost use Rattle.std.specs.Prelude.{◌≡◌, ◌≢◌, ◌<◌, ℕ, true, false, List, length};
+ghost use Rattle.null_logic.specs.Comparison.{compare_values};
+ghost use Rattle.null_logic.specs.declared.compare.Compare.{Compare};
+ghost use Rattle.null_logic.specs.declared.run_fault.RunFault.TheVariants.{SeveralRows};
+ghost use Rattle.null_logic.specs.declared.truth.Truth.TheVariants.{True, False, Unknown};
+ghost use Rattle.perm_values.specs.declared.value.Value.TheVariants.{Null, Boolean};
+ghost use Rattle.perm_values.specs.declared.value.Value.{Value as Cell};
 ghost use Rattle.bag_algebra.specs.Bags.{Row, Bag};
 ghost use Rattle.bag_algebra.specs.Children.{subs_denote};
 ghost use Rattle.bag_algebra.specs.Expressions.{value};
@@ -11,12 +17,6 @@ ghost use Rattle.bag_algebra.specs.declared.expr.Item.{Item};
 ghost use Rattle.bag_algebra.specs.declared.query.Aggr.{Aggr};
 ghost use Rattle.bag_algebra.specs.declared.query.SubKind.TheVariants.{Exists, Any, All, Scalar};
 ghost use Rattle.bag_algebra.specs.declared.query.Sublink.{Sublink};
-ghost use Rattle.null_logic.specs.Comparison.{compare_values};
-ghost use Rattle.null_logic.specs.declared.compare.Compare.{Compare};
-ghost use Rattle.null_logic.specs.declared.run_fault.RunFault.TheVariants.{SeveralRows};
-ghost use Rattle.null_logic.specs.declared.truth.Truth.TheVariants.{True, False, Unknown};
-ghost use Rattle.perm_values.specs.declared.value.Value.{Value as Cell};
-ghost use Rattle.perm_values.specs.declared.value.Value.TheVariants.{Null, Boolean};
 ghost use Rattle.query_laws.specs.Evaluated.{IsEvaluated, sublink_value};
 ghost use Rattle.query_laws.specs.Holding.{InBag};
 
