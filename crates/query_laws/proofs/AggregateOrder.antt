@@ -10,14 +10,14 @@ use Rattle.perm_values.specs.ValueLaws.{value_cmp_total, value_decides}
 use Rattle.perm_values.specs.Values.{value_cmp}
 use Rattle.perm_values.specs.declared.value.Value.{Value}
 use Rattle.perm_values.specs.declared.value.Value.TheVariants.{Null, Integer}
-use Rattle.bag_algebra.proofs.BagLaws.{Permuted, nothing, onward, turn, joined, permuted-map, permuted-filter, permuted-length, permuted-from_same_bag}
+use Rattle.bag_algebra.proofs.BagLaws.{Permuted, nothing, onward, turn, joined, permuted-map, permuted-filter, permuted-counts, permuted-length, permuted-from_same_bag}
 use Rattle.bag_algebra.proofs.SortedBags.{IsExactOrder, sorted-permuted}
 use Rattle.bag_algebra.specs.Means.{cell, present, once_each, number_of, total, sum_of, first_or_null, aggregated}
 use Rattle.bag_algebra.specs.Outcome.{Outcome, Good, Bad, only}
 use Rattle.bag_algebra.specs.declared.query.AggFn.{AggFn}
 use Rattle.bag_algebra.specs.declared.query.AggFn.TheVariants.{CountRows, Count, CountDistinct, Sum, Min, Max}
 use Rattle.query_laws.specs.Aggregated.{occurrences, ListsValues}
-use Rattle.query_laws.proofs.AggregateValues.{single, singles_counts, once_each-lists, count_distinct-is, turned_total}
+use Rattle.query_laws.proofs.AggregateValues.{single, count-single, singles_counts, once_each-lists, count_distinct-is, turned_total}
 
 -- ---- lists with the same occurrences
 
@@ -33,7 +33,7 @@ permuted-from_occurrences vs ws e =
 
 -- ---- sums
 
-total-permuted : {vs ws : List Value} → Permuted vs ws → total vs ≡ total ws
+pub total-permuted : {vs ws : List Value} → Permuted vs ws → total vs ≡ total ws
 total-permuted nothing = refl
 total-permuted (onward v p) = ap (λ n. number_of v +ℤ n) (total-permuted p)
 total-permuted (turn v w vs) =
@@ -69,18 +69,21 @@ lists_alike vs ws e =
     let l = once_each-lists ws in
     record { once = l.once; values = λ v. subst (λ n. (0 < occurrences v (once_each (present ws))) ↔ ((v ≢ Null) × (0 < n))) (sym (e v)) (l.values v) }
 
-pub aggregated-same : (function : AggFn) (vs ws : List Value) → ((v : Value) → occurrences v vs ≡ occurrences v ws) → aggregated function vs ≡ aggregated function ws
-aggregated-same function vs ws e = by function where
-  p : Permuted vs ws
-  p = permuted-from_occurrences vs ws e
+pub occurrences-permuted : (vs ws : List Value) → Permuted vs ws → (v : Value) → occurrences v vs ≡ occurrences v ws
+occurrences-permuted vs ws p v = sym (count-single v vs) ∙ permuted-counts (permuted-map single p) (single v) ∙ count-single v ws
 
+pub aggregated-permuted : (function : AggFn) (vs ws : List Value) → Permuted vs ws → aggregated function vs ≡ aggregated function ws
+aggregated-permuted function vs ws p = by function where
   q : Permuted (present vs) (present ws)
   q = permuted-filter (λ v. not (is_null v)) p
 
   by : (f : AggFn) → aggregated f vs ≡ aggregated f ws
   by CountRows = ap (λ n. Good (Integer (pos n))) (permuted-length p)
   by Count = ap (λ n. Good (Integer (pos n))) (permuted-length q)
-  by CountDistinct = count_distinct-is vs (once_each (present ws)) (lists_alike vs ws e)
+  by CountDistinct = count_distinct-is vs (once_each (present ws)) (lists_alike vs ws (occurrences-permuted vs ws p))
   by Sum = sum_of-permuted (present vs) (present ws) q
   by Min = ap (λ us. Good (first_or_null us)) (sorted-permuted value_cmp value_exact q)
   by Max = ap (λ us. Good (first_or_null us)) (sorted-permuted (λ a b. ordering_reverse (value_cmp a b)) turned_exact q)
+
+pub aggregated-same : (function : AggFn) (vs ws : List Value) → ((v : Value) → occurrences v vs ≡ occurrences v ws) → aggregated function vs ≡ aggregated function ws
+aggregated-same function vs ws e = aggregated-permuted function vs ws (permuted-from_occurrences vs ws e)

@@ -39,7 +39,7 @@ and_false : (b : Bool) → (b && false) ≡ false
 and_false true = refl
 and_false false = refl
 
-count-single : (v : Value) (vs : List Value) → count (single v) (map single vs) ≡ occurrences v vs
+pub count-single : (v : Value) (vs : List Value) → count (single v) (map single vs) ≡ occurrences v vs
 count-single v vs =
     count-map (single v) single vs
     ∙ sum_by-same (λ w. one_if (same_row (single w) (single v))) (λ w. one_if (same_value w v)) vs (λ w. ap one_if (and_true (same_value w v)))

@@ -13,5 +13,6 @@ pub mod Once
 pub mod Outcomes
 pub mod Projected
 pub mod Provenance
+pub mod SameInputs
 pub mod SublinkValues
 pub mod Sums

@@ -123,29 +123,29 @@ pub fn every_bag_can_be_listed()
     ensures { (us : Bag) → (rows : List Row) × Lists rows us }
 {}
 
-/// Each law above fixes its node's answer: whatever keeps it, for one input, is bad with one set of faults or good with
-/// one bag.
+/// Each law above sees bags and fixes its node's answer: for inputs that are the same, bad with one set of faults or good
+/// with one bag, whatever keeps the law is the same.
 pub fn laws_leave_no_choice()
-    ensures filter { (condition : Row → Outcome Cell) (input a b : Outcome Bag) →
-        IsFiltered condition input a → IsFiltered condition input b → SameOutcome a b }
-    ensures project { (items : Row → Outcome Row) (input a b : Outcome Bag) →
-        IsProjected items input a → IsProjected items input b → SameOutcome a b }
-    ensures join { (kind : JoinKind) (condition : Row → Outcome Cell) (left_width right_width : ℕ) (left right a b : Outcome Bag) →
-        IsJoined kind condition left_width right_width left right a → IsJoined kind condition left_width right_width left right b → SameOutcome a b }
-    ensures union_of { (all : Bool) (left right a b : Outcome Bag) →
-        IsCombined ◌+◌ in_either all left right a → IsCombined ◌+◌ in_either all left right b → SameOutcome a b }
-    ensures intersect { (all : Bool) (left right a b : Outcome Bag) →
-        IsCombined min in_both all left right a → IsCombined min in_both all left right b → SameOutcome a b }
-    ensures except { (all : Bool) (left right a b : Outcome Bag) →
-        IsCombined ◌-◌ in_left_alone all left right a → IsCombined ◌-◌ in_left_alone all left right b → SameOutcome a b }
-    ensures distinct { (input a b : Outcome Bag) →
-        IsDistinct input a → IsDistinct input b → SameOutcome a b }
-    ensures aggregate { (groups : List ℕ) (functions : List AggFn) (arguments : Row → Outcome Row) (input a b : Outcome Bag) →
-        IsGrouped groups functions arguments input a → IsGrouped groups functions arguments input b → SameOutcome a b }
-    ensures limit { (keys : List Key) (most : ℕ) (input a b : Outcome Bag) →
-        IsLimited keys most input a → IsLimited keys most input b → SameOutcome a b }
-    ensures provenance { (lists : Row → List Witness) (input a b : Outcome Bag) →
-        IsProvenance lists input a → IsProvenance lists input b → SameOutcome a b }
+    ensures filter { (condition : Row → Outcome Cell) (input other a b : Outcome Bag) →
+        SameOutcome input other → IsFiltered condition input a → IsFiltered condition other b → SameOutcome a b }
+    ensures project { (items : Row → Outcome Row) (input other a b : Outcome Bag) →
+        SameOutcome input other → IsProjected items input a → IsProjected items other b → SameOutcome a b }
+    ensures join { (kind : JoinKind) (condition : Row → Outcome Cell) (left_width right_width : ℕ) (left right other another a b : Outcome Bag) →
+        SameOutcome left other → SameOutcome right another → IsJoined kind condition left_width right_width left right a → IsJoined kind condition left_width right_width other another b → SameOutcome a b }
+    ensures union_of { (all : Bool) (left right other another a b : Outcome Bag) →
+        SameOutcome left other → SameOutcome right another → IsCombined ◌+◌ in_either all left right a → IsCombined ◌+◌ in_either all other another b → SameOutcome a b }
+    ensures intersect { (all : Bool) (left right other another a b : Outcome Bag) →
+        SameOutcome left other → SameOutcome right another → IsCombined min in_both all left right a → IsCombined min in_both all other another b → SameOutcome a b }
+    ensures except { (all : Bool) (left right other another a b : Outcome Bag) →
+        SameOutcome left other → SameOutcome right another → IsCombined ◌-◌ in_left_alone all left right a → IsCombined ◌-◌ in_left_alone all other another b → SameOutcome a b }
+    ensures distinct { (input other a b : Outcome Bag) →
+        SameOutcome input other → IsDistinct input a → IsDistinct other b → SameOutcome a b }
+    ensures aggregate { (groups : List ℕ) (functions : List AggFn) (arguments : Row → Outcome Row) (input other a b : Outcome Bag) →
+        SameOutcome input other → IsGrouped groups functions arguments input a → IsGrouped groups functions arguments other b → SameOutcome a b }
+    ensures limit { (keys : List Key) (most : ℕ) (input other a b : Outcome Bag) →
+        SameOutcome input other → IsLimited keys most input a → IsLimited keys most other b → SameOutcome a b }
+    ensures provenance { (lists : Row → List Witness) (input other a b : Outcome Bag) →
+        SameOutcome input other → IsProvenance lists input a → IsProvenance lists other b → SameOutcome a b }
 {}
 
 /// COUNT(*) counts all values, COUNT those that aren't NULL, COUNT DISTINCT each of these once. SUM, MIN and MAX of none
