@@ -2,4 +2,5 @@ pub mod BagLaws
 pub mod Columns
 mod FiniteMap
 pub mod Members
+pub mod Rest
 pub mod SortedBags

@@ -11,3 +11,5 @@ pub mod TableRows
 pub mod WorkedRows
 pub mod Built
 pub mod Children
+pub mod BuiltMeasures
+pub mod Measures

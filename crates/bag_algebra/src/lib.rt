@@ -3,12 +3,14 @@
 
 mod env;
 mod expr;
+mod measures;
 mod place;
 mod query;
 mod tables;
 
 pub use env::Env;
 pub use expr::{Arm, ChainStep, Expr, Item};
+pub use measures::{height, size};
 pub use place::Place;
 pub use query::{AggFn, Aggr, Answer, JoinKind, Label, Query, SubKind, Sublink};
 pub use tables::Tables;
