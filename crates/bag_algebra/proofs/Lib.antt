@@ -4,3 +4,4 @@ mod FiniteMap
 pub mod Members
 pub mod Rest
 pub mod SortedBags
+pub mod Widths

@@ -1,6 +1,7 @@
 //! Queries over bags, their expressions, and what they mean.
 #![tactic(auto)]
 
+mod kinds;
 mod env;
 mod expr;
 mod measures;
@@ -8,6 +9,7 @@ mod place;
 mod query;
 mod tables;
 
+pub use kinds::width;
 pub use env::Env;
 pub use expr::{Arm, ChainStep, Expr, Item};
 pub use measures::{height, size};

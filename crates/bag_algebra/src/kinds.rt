@@ -1,0 +1,77 @@
+//! The columns of a query: how many there are, and their kinds.
+ghost use Rattle.std.specs.Prelude.{◌≡◌, ◌+◌, ◌-◌, ◌^◌, min, length};
+ghost use Rattle.bag_algebra.specs.Children.{subs_shape};
+ghost use Rattle.bag_algebra.specs.Kinds.{width_of, place_kinds, shape};
+
+use crate::query::{Query, Sublink};
+
+/// The number of columns. It stays at `usize::MAX` where it would be greater. It takes no memory.
+pub fn width(query: &Query) -> usize
+    ensures { result ≡ min (width_of query.now) (2 ^ 64 - 1) }
+{
+    match query {
+        Query::Table { kinds, .. } => kinds.len(),
+        Query::Single => 0,
+        Query::Base { input, .. } => width(input.get()),
+        Query::Filter { input, .. } => width(input.get()),
+        Query::Project { items, .. } => items.len(),
+        Query::Join { left, right, .. } => width(left.get()).saturating_add(width(right.get())),
+        Query::Union { left, .. } => width(left.get()),
+        Query::Intersect { left, .. } => width(left.get()),
+        Query::Except { left, .. } => width(left.get()),
+        Query::Distinct { input } => width(input.get()),
+        Query::Aggregate {
+            groups, aggregates, ..
+        } => groups.len() + aggregates.len(),
+        Query::Limit { input, .. } => width(input.get()),
+        Query::Prov { input } => width(input.get()).saturating_add(places_width(input.get())),
+    }
+}
+
+/// The number of the columns of all places of the query's witness lists.
+#[cycle(places_width)]
+fn places_width(query: &Query) -> usize
+    ensures { result ≡ min (length (place_kinds (shape query.now))) (2 ^ 64 - 1) }
+{
+    match query {
+        Query::Table { .. } => 0,
+        Query::Single => 0,
+        Query::Base { places, .. } => places.len(),
+        Query::Filter { input, subs, .. } => {
+            places_width(input.get()).saturating_add(sub_places_width(subs.as_slice()))
+        }
+        Query::Project { input, subs, .. } => {
+            places_width(input.get()).saturating_add(sub_places_width(subs.as_slice()))
+        }
+        Query::Join {
+            left, right, subs, ..
+        } => places_width(left.get())
+            .saturating_add(places_width(right.get()))
+            .saturating_add(sub_places_width(subs.as_slice())),
+        Query::Union { left, right, .. } => {
+            places_width(left.get()).saturating_add(places_width(right.get()))
+        }
+        Query::Intersect { left, right, .. } => {
+            places_width(left.get()).saturating_add(places_width(right.get()))
+        }
+        Query::Except { left, right, .. } => {
+            places_width(left.get()).saturating_add(places_width(right.get()))
+        }
+        Query::Distinct { input } => places_width(input.get()),
+        Query::Aggregate { input, .. } => places_width(input.get()),
+        Query::Limit { input, .. } => places_width(input.get()),
+        Query::Prov { .. } => 0,
+    }
+}
+
+/// The number of the columns of all places of the sublinks' queries.
+#[cycle(places_width)]
+fn sub_places_width(subs: &[Sublink]) -> usize
+    ensures { result ≡ min (length (place_kinds (subs_shape subs.now))) (2 ^ 64 - 1) }
+{
+    let mut total: usize = 0;
+    for sub in subs {
+        total = total.saturating_add(places_width(&sub.query));
+    }
+    total
+}
