@@ -4,4 +4,5 @@ mod FiniteMap
 pub mod Members
 pub mod Rest
 pub mod SortedBags
+pub mod Seeking
 pub mod Widths

@@ -8,6 +8,7 @@ pub mod Outcome
 pub mod Patterns
 pub mod PlaceNames
 pub mod TableRows
+pub mod Sought
 pub mod WorkedRows
 pub mod Built
 pub mod Children

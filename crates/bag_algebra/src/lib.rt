@@ -9,7 +9,7 @@ mod place;
 mod query;
 mod tables;
 
-pub use kinds::width;
+pub use kinds::{kind_at, width};
 pub use env::Env;
 pub use expr::{Arm, ChainStep, Expr, Item};
 pub use measures::{height, size};
