@@ -5,4 +5,5 @@ pub mod Members
 pub mod Rest
 pub mod SortedBags
 pub mod Seeking
+pub mod Truths
 pub mod Widths

@@ -1,9 +1,14 @@
 pub mod Bags
 pub mod Built
+pub mod BuiltClosed
+pub mod BuiltFaultFree
 pub mod BuiltMeasures
+pub mod BuiltScopes
 pub mod Children
+pub mod Closed
 pub mod ColumnItems
 pub mod Expressions
+pub mod FaultFree
 pub mod Fits
 pub mod Kinds
 pub mod Meaning
@@ -13,6 +18,7 @@ pub mod Outcome
 pub mod Patterns
 pub mod PlaceNames
 pub mod Rewriting
+pub mod Scoped
 pub mod Sought
 pub mod TableRows
 pub mod WellFormed

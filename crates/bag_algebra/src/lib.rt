@@ -7,6 +7,7 @@ mod expr;
 mod measures;
 mod place;
 mod query;
+mod scopes;
 mod tables;
 
 pub use kinds::{kind_at, width};
@@ -15,4 +16,5 @@ pub use expr::{Arm, ChainStep, Expr, Item};
 pub use measures::{height, size};
 pub use place::Place;
 pub use query::{AggFn, Aggr, Answer, JoinKind, Label, Query, SubKind, Sublink};
+pub use scopes::is_plain;
 pub use tables::Tables;
