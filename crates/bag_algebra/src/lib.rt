@@ -16,5 +16,5 @@ pub use expr::{Arm, ChainStep, Expr, Item};
 pub use measures::{height, size};
 pub use place::Place;
 pub use query::{AggFn, Aggr, Answer, JoinKind, Label, Query, SubKind, Sublink};
-pub use scopes::is_plain;
+pub use scopes::{is_plain, is_scoped};
 pub use tables::Tables;
