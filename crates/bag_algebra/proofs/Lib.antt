@@ -1,6 +1,7 @@
 pub mod BagLaws
 pub mod Columns
 mod FiniteMap
+pub mod Levels
 pub mod Members
 pub mod Rest
 pub mod SortedBags

@@ -7,6 +7,7 @@ mod expr;
 mod measures;
 mod place;
 mod query;
+mod reach;
 mod scopes;
 mod tables;
 
@@ -16,5 +17,6 @@ pub use expr::{Arm, ChainStep, Expr, Item};
 pub use measures::{height, size};
 pub use place::Place;
 pub use query::{AggFn, Aggr, Answer, JoinKind, Label, Query, SubKind, Sublink};
+pub use reach::is_closed;
 pub use scopes::{is_plain, is_scoped};
 pub use tables::Tables;
