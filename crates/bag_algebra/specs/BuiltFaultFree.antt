@@ -1,12 +1,12 @@
 -- What may fault, on what the constructors of code make, in words on plain lists of children.
-use Rattle.std.specs.Prelude.{◌≡◌, ℕ, Bool, true, false, ◌&&◌, List, [], ◌∷◌}
+use Rattle.std.specs.Prelude.{◌≡◌, ℕ, Bool, true, false, not, ◌&&◌, List, [], ◌∷◌}
 use Rattle.std.specs.List.{list_all}
 use Rattle.std.proofs.Common.{refl, ap, ◌∙◌}
 use Rattle.null_logic.specs.declared.operator.Operator.{Operator}
 use Rattle.null_logic.specs.declared.truth.Truth.{Truth}
 use Rattle.perm_values.specs.declared.key.Key.{Key}
 use Rattle.bag_algebra.specs.Built.{row_of_parts, row_of_arms, Chain-is, Case-is, IsNull-is, IsTruth-is, Same-is, row_of_subs, Base-is, Filter-is, Project_with-is, Join-is, Union-is, Intersect-is, Except-is, Distinct-is, Aggregate-is, Limit-is, Prov-is}
-use Rattle.bag_algebra.specs.FaultFree.{faultless_op, faultless, parts_faultless, arms_faultless, option_faultless, items_faultless, aggregates_faultless, is_no_scalar, fault_free, subs_fault_free}
+use Rattle.bag_algebra.specs.FaultFree.{may_fault, faultless, parts_faultless, arms_faultless, option_faultless, items_faultless, aggregates_faultless, is_scalar, fault_free, subs_fault_free}
 use Rattle.bag_algebra.specs.declared.expr.Arm.{Arm}
 use Rattle.bag_algebra.specs.declared.expr.ChainStep.{ChainStep}
 use Rattle.bag_algebra.specs.declared.expr.Expr.{Expr}
@@ -39,8 +39,8 @@ unfolding shape-the_row-Arm-3 hidden-the_row-Arm-3 package.denote.Hole.Carrier.h
 arms_faultless-row_of_arms [] = refl
 arms_faultless-row_of_arms (arm ∷ arms) = ap (λ b. (faultless arm.condition && faultless arm.value) && b) (arms_faultless-row_of_arms arms)
 
-pub faultless-Op : (op : Operator) (parts : List Expr) → faultless (Op op parts) ≡ (faultless_op op && all_parts_faultless parts)
-faultless-Op op parts = ap (λ b. faultless_op op && b) (parts_faultless-row_of_parts parts)
+pub faultless-Op : (op : Operator) (parts : List Expr) → faultless (Op op parts) ≡ (not (may_fault op) && all_parts_faultless parts)
+faultless-Op op parts = ap (λ b. not (may_fault op) && b) (parts_faultless-row_of_parts parts)
 
 pub faultless-Chain : (first : Expr) (steps : List ChainStep) → faultless (Chain first steps) ≡ false
 faultless-Chain first steps = ap faultless (Chain-is first steps)
@@ -60,12 +60,12 @@ faultless-Same first second = ap faultless (Same-is first second)
 -- ---- queries
 
 abbrev pub all_fault_free : List Sublink → Bool
-all_fault_free subs = list_all (λ (sub : Sublink). (is_no_scalar sub.kind && option_faultless sub.tested) && fault_free sub.query) subs
+all_fault_free subs = list_all (λ (sub : Sublink). (not (is_scalar sub.kind) && option_faultless sub.tested) && fault_free sub.query) subs
 
 pub subs_fault_free-row_of_subs : (subs : List Sublink) → subs_fault_free (row_of_subs subs) ≡ all_fault_free subs
 unfolding shape-the_row-Sublink-1 hidden-the_row-Sublink-1 package.denote.Hole.Carrier.hidden
 subs_fault_free-row_of_subs [] = refl
-subs_fault_free-row_of_subs (sub ∷ subs) = ap (λ b. ((is_no_scalar sub.kind && option_faultless sub.tested) && fault_free sub.query) && b) (subs_fault_free-row_of_subs subs)
+subs_fault_free-row_of_subs (sub ∷ subs) = ap (λ b. ((not (is_scalar sub.kind) && option_faultless sub.tested) && fault_free sub.query) && b) (subs_fault_free-row_of_subs subs)
 
 pub fault_free-Base : (input : Query) (places : List ℕ) (label : Label) → fault_free (Base input places label) ≡ fault_free input
 fault_free-Base input places label = ap fault_free (Base-is input places label)

@@ -1,5 +1,5 @@
 -- Queries that hold nothing that may fault: no arithmetic, no negation of a number, no SUM and no scalar sublink.
-use Rattle.std.specs.Prelude.{Bool, true, false, ◌&&◌, List, Option, Some, None}
+use Rattle.std.specs.Prelude.{Bool, true, false, not, ◌&&◌, List, Option, Some, None}
 use Rattle.std.specs.List.{list_all}
 use Rattle.null_logic.specs.declared.operator.Operator.{Operator}
 use Rattle.null_logic.specs.declared.operator.Operator.TheVariants as op
@@ -16,25 +16,25 @@ use Rattle.bag_algebra.specs.declared.query.SubKind.{SubKind}
 use Rattle.bag_algebra.specs.declared.query.SubKind.TheVariants.{Exists, Any, All, Scalar}
 
 -- arithmetic stands in a chain alone, so a well formed query has no operator of arithmetic
-abbrev pub faultless_op : Operator → Bool
-faultless_op op.And = true
-faultless_op op.Or = true
-faultless_op op.Not = true
-faultless_op op.Negate = false
-faultless_op (op.Compare c) = true
-faultless_op (op.Arith c) = false
-faultless_op op.Like = true
-faultless_op op.Between = true
-faultless_op op.InList = true
-faultless_op op.Coalesce = true
-faultless_op op.NullIf = true
+abbrev pub may_fault : Operator → Bool
+may_fault op.And = false
+may_fault op.Or = false
+may_fault op.Not = false
+may_fault op.Negate = true
+may_fault (op.Compare c) = false
+may_fault (op.Arith c) = true
+may_fault op.Like = false
+may_fault op.Between = false
+may_fault op.InList = false
+may_fault op.Coalesce = false
+may_fault op.NullIf = false
 
 -- no chain and no negation anywhere in the expression
 abbrev mutual
   pub faultless : Expr → Bool
   faultless (Col level place) = true
   faultless (Lit v kind) = true
-  faultless (OpOf op _ parts) = faultless_op op && parts_faultless parts
+  faultless (OpOf op _ parts) = not (may_fault op) && parts_faultless parts
   faultless (ChainOf first _ steps) = false
   faultless (CaseOf _ arms otherwise) = arms_faultless arms && faultless otherwise
   faultless (Sub number) = true
@@ -57,23 +57,23 @@ option_faultless (Some part) = faultless part
 abbrev pub items_faultless : List Item → Bool
 items_faultless items = list_all (λ (item : Item). faultless item.expr) items
 
-abbrev pub is_no_sum : AggFn → Bool
-is_no_sum CountRows = true
-is_no_sum Count = true
-is_no_sum CountDistinct = true
-is_no_sum Sum = false
-is_no_sum Min = true
-is_no_sum Max = true
+abbrev pub is_sum : AggFn → Bool
+is_sum CountRows = false
+is_sum Count = false
+is_sum CountDistinct = false
+is_sum Sum = true
+is_sum Min = false
+is_sum Max = false
 
 abbrev pub aggregates_faultless : List Aggr → Bool
 aggregates_faultless aggregates =
-    list_all (λ (aggregate : Aggr). is_no_sum aggregate.function && option_faultless aggregate.argument) aggregates
+    list_all (λ (aggregate : Aggr). not (is_sum aggregate.function) && option_faultless aggregate.argument) aggregates
 
-abbrev pub is_no_scalar : SubKind → Bool
-is_no_scalar Exists = true
-is_no_scalar (Any c) = true
-is_no_scalar (All c) = true
-is_no_scalar Scalar = false
+abbrev pub is_scalar : SubKind → Bool
+is_scalar Exists = false
+is_scalar (Any c) = false
+is_scalar (All c) = false
+is_scalar Scalar = true
 
 -- no chain, no negation, no SUM and no scalar sublink anywhere in the query, sublinks included
 abbrev mutual
@@ -96,4 +96,4 @@ abbrev mutual
   pub subs_fault_free : {m : _} → Row_of-Sublink m → Bool
   subs_fault_free end_of-Sublink = true
   subs_fault_free (more_of-Sublink kind tested query subs) =
-      ((is_no_scalar kind && option_faultless tested) && fault_free query) && subs_fault_free subs
+      ((not (is_scalar kind) && option_faultless tested) && fault_free query) && subs_fault_free subs

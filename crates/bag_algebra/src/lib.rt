@@ -1,6 +1,7 @@
 //! Queries over bags, their expressions, and what they mean.
 #![tactic(auto)]
 
+mod faults;
 mod kinds;
 mod env;
 mod expr;
@@ -11,6 +12,7 @@ mod reach;
 mod scopes;
 mod tables;
 
+pub use faults::fault_free;
 pub use kinds::{kind_at, width};
 pub use env::Env;
 pub use expr::{Arm, ChainStep, Expr, Item};
