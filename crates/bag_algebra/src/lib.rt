@@ -3,6 +3,7 @@
 
 mod faults;
 mod kinds;
+mod copies;
 mod env;
 mod expr;
 mod measures;
