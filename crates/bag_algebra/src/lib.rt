@@ -3,6 +3,7 @@
 
 mod faults;
 mod kinds;
+mod laws;
 mod copies;
 mod env;
 mod expr;
@@ -14,6 +15,7 @@ mod scopes;
 mod tables;
 
 pub use faults::fault_free;
+pub use laws::closed_is_well_formed_without_outer_rows;
 pub use kinds::{kind_at, width};
 pub use env::Env;
 pub use expr::{Arm, ChainStep, Expr, Item};
