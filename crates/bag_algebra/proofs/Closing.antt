@@ -1,16 +1,16 @@
 -- A well formed query is closed exactly where it is well formed under no outer kinds.
-use Rattle.std.proofs.Common.{◌≡◌, ℕ, zero, suc, ◌+◌, ◌<◌, ◌≤◌, Bool, true, false, ◌&&◌, List, [], ◌∷◌, ◌++◌, length, Option, Some, None, sym, refl, ap, ◌∙◌, arith, true≢false}
-use Rattle.std.specs.Prelude.{nat_le, slice_get, slice_index_or, ⊤}
+use Rattle.std.proofs.Common.{◌≡◌, ℕ, zero, suc, ◌<◌, Bool, true, false, ◌&&◌, List, [], ◌∷◌, ◌++◌, length, Option, Some, None, sym, refl, ap, ◌∙◌, arith, true≢false}
+use Rattle.std.specs.Prelude.{slice_get, slice_index_or}
 use Rattle.std.proofs.lemmas.List.Sums.{AllPass-from_list_all, list_all-from_AllPass}
 use Rattle.std.proofs.lemmas.Bool.{le-leb, leb-true}
 use Rattle.null_logic.specs.declared.operator.Operator.{Operator}
 use Rattle.null_logic.specs.declared.operator.Operator.TheVariants as op
 use Rattle.perm_values.specs.declared.kind.Kind.{Kind}
 use Rattle.perm_values.specs.declared.kind.Kind.TheVariants.{Integer, Boolean}
-use Rattle.bag_algebra.specs.Closed.{within_levels, parts_within, steps_within, arms_within, option_within, items_within, aggregates_within, reads_within, subs_read_within, is_closed}
-use Rattle.bag_algebra.specs.Kinds.{kinds_of, width_of}
+use Rattle.bag_algebra.specs.Closed.{within_levels, parts_within, steps_within, arms_within, option_within, items_within, aggregates_within, reads_within, subs_read_within}
+use Rattle.bag_algebra.specs.Kinds.{kinds_of}
 use Rattle.bag_algebra.specs.Patterns.{OpOf, ChainOf, CaseOf, IsNullOf, IsTruthOf, SameOf, BaseOf, FilterOf, ProjectOf, JoinOf, UnionOf, IntersectOf, ExceptOf, DistinctOf, AggregateOf, LimitOf, ProvOf}
-use Rattle.bag_algebra.specs.WellFormed.{kind_at_place, column_kind, op_form, HasKind, PartsHave, StepsHave, ArmsHave, ItemsForm, aggr_form, AggregatesForm, sub_form, sub_kinds, no_sublinks, WellFormed, SubsForm}
+use Rattle.bag_algebra.specs.WellFormed.{kind_at_place, column_kind, op_form, HasKind, PartsHave, StepsHave, ArmsHave, ItemsForm, aggr_form, AggregatesForm, sub_form, no_sublinks, WellFormed, SubsForm}
 use Rattle.bag_algebra.specs.declared.expr.Expr.{Expr, Row_of-Expr, Row_of-Arm, Row_of-ChainStep, more_of-Expr, end_of-Expr, more_of-Arm, end_of-Arm, more_of-ChainStep, end_of-ChainStep}
 use Rattle.bag_algebra.specs.declared.expr.Expr.TheVariants.{Col, Lit, Sub}
 use Rattle.bag_algebra.specs.declared.expr.Item.{Item}
@@ -213,9 +213,9 @@ module _ (outer : List (List Kind)) where
         record {
           parts = record {
             shared = h.parts.shared;
-            parts = (expr_inside scopes subs first h.parts.shared n l (left _ _ w) h.parts.parts.0, expr_inside scopes subs second h.parts.shared n l (right _ _ w) h.parts.parts.1)
+            parts = (expr_inside scopes subs first h.parts.shared n l (left _ _ w) h.parts.parts.0, expr_inside scopes subs second h.parts.shared n l (right _ _ w) h.parts.parts.1);
           };
-          gives = h.gives
+          gives = h.gives;
         }
 
     all_inside : (scopes : List (List Kind)) (subs : List Kind) {m : _} (parts : Row_of-Expr m) (kind : Kind) (n : ℕ) → length scopes ≡ suc n →
@@ -237,7 +237,7 @@ module _ (outer : List (List Kind)) where
         record {
           condition = expr_inside scopes subs condition Boolean n l (left _ _ (left _ _ w)) h.condition;
           arm = expr_inside scopes subs arm kind n l (right (within_levels condition n) _ (left _ _ w)) h.arm;
-          others = all_arms_inside scopes subs arms kind n l (right _ _ w) h.others
+          others = all_arms_inside scopes subs arms kind n l (right _ _ w) h.others;
         }
 
   all_items_inside : (scopes : List (List Kind)) (subs : List Kind) (items : List Item) (n : ℕ) → length scopes ≡ suc n →
@@ -294,13 +294,13 @@ module _ (outer : List (List Kind)) where
         record {
           input = query_inside inner input n l (left _ _ (left _ _ w)) h.input;
           subs = all_subs_inside (kinds_of input ∷ inner) subs n (ap suc l) (right _ _ w) h.subs;
-          condition = expr_inside (kinds_of input ∷ inner) _ condition Boolean n (ap suc l) (right (reads_within input n) _ (left _ _ w)) h.condition
+          condition = expr_inside (kinds_of input ∷ inner) _ condition Boolean n (ap suc l) (right (reads_within input n) _ (left _ _ w)) h.condition;
         }
     query_inside inner (ProjectOf input items _ subs) n l w h =
         record {
           input = query_inside inner input n l (left _ _ (left _ _ w)) h.input;
           subs = all_subs_inside (kinds_of input ∷ inner) subs n (ap suc l) (right _ _ w) h.subs;
-          items = all_items_inside (kinds_of input ∷ inner) _ items n (ap suc l) (right (reads_within input n) _ (left _ _ w)) h.items
+          items = all_items_inside (kinds_of input ∷ inner) _ items n (ap suc l) (right (reads_within input n) _ (left _ _ w)) h.items;
         }
     query_inside inner (JoinOf kind first second condition _ subs) n l w h =
         let inputs = left _ _ (left _ _ w) in
@@ -309,7 +309,7 @@ module _ (outer : List (List Kind)) where
           right = query_inside inner second n l (right (reads_within first n) _ inputs) h.right;
           subs = h.subs;
           condition = expr_inside ((kinds_of first ++ kinds_of second) ∷ inner) [] condition Boolean n (ap suc l)
-              (right (reads_within first n && reads_within second n) _ (left _ _ w)) h.condition
+              (right (reads_within first n && reads_within second n) _ (left _ _ w)) h.condition;
         }
     query_inside inner (UnionOf all first second) n l w h =
         record { left_side = query_inside inner first n l (left _ _ w) h.left_side; right_side = query_inside inner second n l (right _ _ w) h.right_side; same_kinds = h.same_kinds }
@@ -322,7 +322,7 @@ module _ (outer : List (List Kind)) where
         record {
           input = query_inside inner input n l (left _ _ w) h.input;
           groups = h.groups;
-          aggregates = all_aggregates_inside (kinds_of input ∷ inner) aggregates n (ap suc l) (right _ _ w) h.aggregates
+          aggregates = all_aggregates_inside (kinds_of input ∷ inner) aggregates n (ap suc l) (right _ _ w) h.aggregates;
         }
     query_inside inner (LimitOf input keys count) n l w h = record { input = query_inside inner input n l w h.input; keys = h.keys; bound = h.bound }
     query_inside inner (ProvOf input) n l w h = query_inside inner input n l w h
@@ -335,5 +335,5 @@ module _ (outer : List (List Kind)) where
         record {
           query = query_inside scopes query (suc n) l (right (option_within tested n) _ own) h.query;
           fitting = tested_inside kind tested scopes (kinds_of query) n l (left _ _ own) h.fitting;
-          others = all_subs_inside scopes subs n l (right _ _ w) h.others
+          others = all_subs_inside scopes subs n l (right _ _ w) h.others;
         }

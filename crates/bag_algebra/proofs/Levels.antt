@@ -1,6 +1,6 @@
 -- How many outer rows are needed, and whether so many are enough.
-use Rattle.std.proofs.Common.{◌≡◌, ℕ, zero, suc, ◌+◌, ◌-◌, ◌<◌, ◌≤◌, max, Bool, true, false, ◌&&◌, List, [], ◌∷◌, length, get_or, drop, sym, refl, ap, ◌∙◌, arith}
-use Rattle.std.specs.Prelude.{nat_le}
+use Rattle.std.proofs.Common.{◌≡◌, ℕ, suc, ◌+◌, ◌-◌, ◌<◌, ◌≤◌, max, Bool, true, false, ◌&&◌, List, length, get_or, drop, sym, refl, ap, ◌∙◌, arith}
+use Rattle.std.specs.Prelude.{nat_eq, nat_le}
 use Rattle.std.specs.List.{list_all}
 use Rattle.std.proofs.Math.Dec.{leb-zero}
 use Rattle.std.proofs.lemmas.Bool.Decides.{nat_tests}
@@ -49,3 +49,7 @@ module _ {X : Type 0} (within : X → ℕ → Bool) (xs : List X) (i level : ℕ
       sym (and-true (nat_le level n))
       ∙ ap (λ b. nat_le level n && b) (sym (at_drop_all (list_all (λ y. within y n)) xs i h))
       ∙ so_far n
+
+-- no outer row is enough exactly where none is needed
+pub is_none_needed : (level : ℕ) → nat_eq level 0 ≡ nat_le level 0
+is_none_needed level = grind (arith, nat_tests)

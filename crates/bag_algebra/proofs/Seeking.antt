@@ -1,11 +1,13 @@
 -- Seeking a place in lists one after another.
-use Rattle.std.proofs.Common.{◌≡◌, ℕ, zero, suc, ◌-◌, ◌<◌, ◌≤◌, List, [], ◌∷◌, ◌++◌, length, get_or, map, Result, Ok, Err, Some, None, Bool, refl, sym, ap, ◌∙◌, arith, append-nil}
+use Rattle.std.proofs.Common.{◌≡◌, ℕ, zero, suc, ◌-◌, ◌≤◌, List, [], ◌∷◌, ◌++◌, length, map, Result, Ok, Err, Some, Bool, refl, sym, ap, ◌∙◌, arith, append-nil}
 use Rattle.std.specs.Prelude.{slice_get}
+use Rattle.std.specs.Result.{result_unwrap_or}
 use Rattle.perm_values.specs.declared.kind.Kind.{Kind}
+use Rattle.perm_values.specs.declared.kind.Kind.TheVariants.{Text}
 use Rattle.bag_algebra.specs.Built.{shape-Base, shape-Filter, shape-Project, shape-Join, shape-Union, shape-Intersect, shape-Except}
 use Rattle.bag_algebra.specs.Children.{subs_shape}
 use Rattle.bag_algebra.specs.Kinds.{kinds_of, kind_in, kinds_in, shape, place_kinds}
-use Rattle.bag_algebra.specs.Sought.{sought, kind_or_text}
+use Rattle.bag_algebra.specs.Sought.{sought}
 use Rattle.bag_algebra.specs.declared.expr.Expr.{Expr}
 use Rattle.bag_algebra.specs.declared.expr.Item.{Item}
 use Rattle.bag_algebra.specs.declared.query.JoinKind.{JoinKind}
@@ -44,7 +46,7 @@ sought-past [] place h = ap Err (omega arith)
 sought-past (x ∷ xs) zero h = absurd (omega arith)
 sought-past (x ∷ xs) (suc place) h = sought-past xs place (omega arith) ∙ ap Err (omega arith)
 
-pub kind_in-sought : (kinds : List Kind) (place : ℕ) → kind_or_text (sought kinds place) ≡ kind_in kinds place
+pub kind_in-sought : (kinds : List Kind) (place : ℕ) → result_unwrap_or (sought kinds place) Text ≡ kind_in kinds place
 kind_in-sought [] place = refl
 kind_in-sought (kind ∷ kinds) zero = refl
 kind_in-sought (kind ∷ kinds) (suc place) = kind_in-sought kinds place
@@ -59,7 +61,7 @@ module _ {X : Type 0} (xs ys zs : List X) (place : ℕ) (parts : zs ≡ xs ++ ys
   whole-rest rest e = ap (λ r. or_behind r (sought ys)) e ∙ sym (sought-append xs ys place) ∙ ap (λ l. sought l place) (sym parts)
 
 module _ (kinds : List Kind) (places : List ℕ) (place : ℕ) where
-  pub picked-found : (column : ℕ) (kind : Kind) → sought places place ≡ Ok column → kind ≡ kind_or_text (sought kinds column) → Ok kind ≡ sought (kinds_in kinds places) place
+  pub picked-found : (column : ℕ) (kind : Kind) → sought places place ≡ Ok column → kind ≡ result_unwrap_or (sought kinds column) Text → Ok kind ≡ sought (kinds_in kinds places) place
   picked-found column kind e k =
       ap Ok (k ∙ kind_in-sought kinds column) ∙ ap (found_as (kind_in kinds)) (sym e) ∙ sym (sought-map (kind_in kinds) places place)
 

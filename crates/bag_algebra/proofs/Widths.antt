@@ -1,9 +1,7 @@
 -- How many columns a query and its places have, for what the constructors of code make.
 use Rattle.std.proofs.Common.{◌≡◌, ℕ, ◌+◌, Bool, List, [], ◌∷◌, ◌++◌, length, refl, sym, ap, ◌∙◌, arith, length-append, append_assoc}
 use Rattle.std.proofs.lemmas.List.{length-map}
-use Rattle.perm_values.specs.declared.kind.Kind.{Kind}
-use Rattle.perm_values.specs.declared.key.Key.{Key}
-use Rattle.bag_algebra.specs.Built.{kinds_of-Project, kinds_of-Join, kinds_of-Aggregate, kinds_of-Prov, shape-Base, shape-Filter, shape-Project, shape-Join, shape-Union, shape-Intersect, shape-Except, shape-Prov}
+use Rattle.bag_algebra.specs.Built.{kinds_of-Project, kinds_of-Join, kinds_of-Aggregate, kinds_of-Prov, shape-Base, shape-Filter, shape-Project, shape-Join, shape-Union, shape-Intersect, shape-Except}
 use Rattle.bag_algebra.specs.Children.{subs_shape}
 use Rattle.bag_algebra.specs.Kinds.{kinds_of, kind_in, kinds_in, width_of, shape, place_kinds}
 use Rattle.bag_algebra.specs.declared.expr.Expr.{Expr}

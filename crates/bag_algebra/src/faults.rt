@@ -1,7 +1,7 @@
 //! What in a query may fault.
 ghost use Rattle.std.specs.Prelude.{◌≡◌};
 ghost use Rattle.bag_algebra.specs.BuiltFaultFree.{all_parts_faultless, all_arms_faultless, all_fault_free};
-ghost use Rattle.bag_algebra.specs.FaultFree.{may_fault, faultless, option_faultless, items_faultless, is_sum, aggregates_faultless, is_scalar, fault_free};
+ghost use Rattle.bag_algebra.specs.FaultFree.{faultless, option_faultless, items_faultless, aggregates_faultless, fault_free};
 
 use crate::expr::{Arm, Expr, Item};
 use crate::query::{AggFn, Aggr, Query, SubKind, Sublink};
@@ -44,7 +44,9 @@ pub fn fault_free(query: &Query) -> bool
         Query::Except { left, right, .. } => fault_free(left.get()) && fault_free(right.get()),
         Query::Distinct { input } => fault_free(input.get()),
         Query::Aggregate {
-            input, aggregates, ..
+            input,
+            aggregates,
+            ..
         } => fault_free(input.get()) && aggregates_faultless(aggregates.as_slice()),
         Query::Limit { input, .. } => fault_free(input.get()),
         Query::Prov { input } => fault_free(input.get()),
@@ -57,22 +59,14 @@ fn all_fault_free(subs: &[Sublink]) -> bool
     ensures { result ≡ all_fault_free subs.now }
 {
     for sub in subs {
-        if is_scalar(sub.kind) || !option_faultless(&sub.tested) || !fault_free(&sub.query) {
+        if matches!(sub.kind, SubKind::Scalar)
+            || !option_faultless(&sub.tested)
+            || !fault_free(&sub.query)
+        {
             return false;
         }
     }
     true
-}
-
-fn is_scalar(kind: SubKind) -> bool
-    ensures { result ≡ is_scalar kind }
-{
-    match kind {
-        SubKind::Exists => false,
-        SubKind::Any(_) => false,
-        SubKind::All(_) => false,
-        SubKind::Scalar => true,
-    }
 }
 
 fn items_faultless(items: &[Item]) -> bool
@@ -90,24 +84,11 @@ fn aggregates_faultless(aggregates: &[Aggr]) -> bool
     ensures { result ≡ aggregates_faultless aggregates.now }
 {
     for aggregate in aggregates {
-        if is_sum(aggregate.function) || !option_faultless(&aggregate.argument) {
+        if matches!(aggregate.function, AggFn::Sum) || !option_faultless(&aggregate.argument) {
             return false;
         }
     }
     true
-}
-
-fn is_sum(function: AggFn) -> bool
-    ensures { result ≡ is_sum function }
-{
-    match function {
-        AggFn::CountRows => false,
-        AggFn::Count => false,
-        AggFn::CountDistinct => false,
-        AggFn::Sum => true,
-        AggFn::Min => false,
-        AggFn::Max => false,
-    }
 }
 
 fn option_faultless(part: &Option<Expr>) -> bool
@@ -127,7 +108,8 @@ fn faultless(expr: &Expr) -> bool
     match expr {
         Expr::Col { .. } => true,
         Expr::Lit { .. } => true,
-        Expr::Op { op, parts } => !may_fault(*op) && parts_faultless(parts.as_slice()),
+        Expr::Op { op, parts } => !matches!(op, Operator::Negate | Operator::Arith(_))
+            && parts_faultless(parts.as_slice()),
         Expr::Chain { .. } => false,
         Expr::Case { arms, otherwise } => {
             arms_faultless(arms.as_slice()) && faultless(otherwise.get())
@@ -161,22 +143,4 @@ fn arms_faultless(arms: &[Arm]) -> bool
         }
     }
     true
-}
-
-fn may_fault(op: Operator) -> bool
-    ensures { result ≡ may_fault op }
-{
-    match op {
-        Operator::And => false,
-        Operator::Or => false,
-        Operator::Not => false,
-        Operator::Negate => true,
-        Operator::Compare(_) => false,
-        Operator::Arith(_) => true,
-        Operator::Like => false,
-        Operator::Between => false,
-        Operator::InList => false,
-        Operator::Coalesce => false,
-        Operator::NullIf => false,
-    }
 }

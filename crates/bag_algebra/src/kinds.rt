@@ -1,10 +1,10 @@
 //! The columns of a query: how many there are, and their kinds.
-ghost use Rattle.std.specs.Prelude.{◌≡◌, ◌+◌, ◌-◌, ◌^◌, ◌<◌, min, length, map, Ok, Err, MatchResult};
+ghost use Rattle.std.specs.Prelude.{◌≡◌, ◌+◌, ◌-◌, ◌^◌, ◌<◌, min, length, Ok, Err, MatchResult};
 ghost use Rattle.bag_algebra.specs.Children.{subs_shape};
 ghost use Rattle.bag_algebra.specs.Kinds.{kinds_of, kind_in, width_of, place_kinds, shape};
-ghost use Rattle.bag_algebra.specs.Sought.{sought, kind_or_text};
+ghost use Rattle.bag_algebra.specs.Sought.{sought};
 
-use crate::query::{Aggr, Query, Sublink};
+use crate::query::{Query, Sublink};
 use perm_values::{Kind, List};
 
 /// The number of columns. It stays at `usize::MAX` where it would be greater. It takes no memory.
@@ -23,7 +23,9 @@ pub fn width(query: &Query) -> usize
         Query::Except { left, .. } => width(left.get()),
         Query::Distinct { input } => width(input.get()),
         Query::Aggregate {
-            groups, aggregates, ..
+            groups,
+            aggregates,
+            ..
         } => groups.len() + aggregates.len(),
         Query::Limit { input, .. } => width(input.get()),
         Query::Prov { input } => width(input.get()).saturating_add(places_width(input.get())),
@@ -46,7 +48,10 @@ fn places_width(query: &Query) -> usize
             places_width(input.get()).saturating_add(sub_places_width(subs.as_slice()))
         }
         Query::Join {
-            left, right, subs, ..
+            left,
+            right,
+            subs,
+            ..
         } => places_width(left.get())
             .saturating_add(places_width(right.get()))
             .saturating_add(sub_places_width(subs.as_slice())),
@@ -83,7 +88,7 @@ pub fn kind_at(query: &Query, place: usize) -> Kind
     requires { place < width_of query.now }
     ensures { result ≡ kind_in (kinds_of query.now) place }
 {
-    kind_or_text(seek(query, place))
+    seek(query, place).unwrap_or(Kind::Text)
 }
 
 /// The kind of the column at a place, or how far the place is behind the last column.
@@ -116,24 +121,17 @@ fn seek(query: &Query, place: usize) -> Result<Kind, usize>
             groups,
             aggregates,
         } => match nth(groups, place) {
-            Ok(group) => Ok(kind_or_text(seek(input.get(), *group))),
-            Err(rest) => seek_aggregate(aggregates, rest),
+            Ok(group) => Ok(seek(input.get(), *group).unwrap_or(Kind::Text)),
+            Err(behind) => match nth(aggregates, behind) {
+                Ok(aggregate) => Ok(aggregate.kind),
+                Err(rest) => Err(rest),
+            },
         },
         Query::Limit { input, .. } => seek(input.get(), place),
         Query::Prov { input } => match seek(input.get(), place) {
             Ok(kind) => Ok(kind),
             Err(rest) => seek_source(input.get(), rest),
         },
-    }
-}
-
-/// The kind of an aggregate by its number, or how far the number is behind the last one.
-fn seek_aggregate(aggregates: &List<Aggr>, place: usize) -> Result<Kind, usize>
-    ensures { result ≡ sought (map (λ (aggregate : Aggr). aggregate.kind) aggregates.now) place }
-{
-    match nth(aggregates, place) {
-        Ok(aggregate) => Ok(aggregate.kind),
-        Err(rest) => Err(rest),
     }
 }
 
@@ -147,7 +145,7 @@ fn seek_source(query: &Query, place: usize) -> Result<Kind, usize>
         Query::Table { .. } => Err(place),
         Query::Single => Err(place),
         Query::Base { input, places, .. } => match nth(places, place) {
-            Ok(column) => Ok(kind_or_text(seek(input.get(), *column))),
+            Ok(column) => Ok(seek(input.get(), *column).unwrap_or(Kind::Text)),
             Err(rest) => Err(rest),
         },
         Query::Filter { input, subs, .. } => match seek_source(input.get(), place) {
@@ -159,7 +157,10 @@ fn seek_source(query: &Query, place: usize) -> Result<Kind, usize>
             Err(rest) => seek_in_subs(subs.as_slice(), rest),
         },
         Query::Join {
-            left, right, subs, ..
+            left,
+            right,
+            subs,
+            ..
         } => match seek_source(left.get(), place) {
             Ok(kind) => Ok(kind),
             Err(rest) => match seek_source(right.get(), rest) {
@@ -209,15 +210,5 @@ fn nth<T>(items: &List<T>, place: usize) -> Result<&T, usize>
         Ok(items.get(place))
     } else {
         Err(place - items.len())
-    }
-}
-
-/// The kind that was found; a column out of range counts as a text.
-fn kind_or_text(found: Result<Kind, usize>) -> Kind
-    ensures { result ≡ kind_or_text found }
-{
-    match found {
-        Ok(kind) => kind,
-        Err(_) => Kind::Text,
     }
 }

@@ -1,12 +1,11 @@
 //! Queries over bags, their expressions, and what they mean.
 #![tactic(auto)]
 
-mod faults;
-mod kinds;
-mod laws;
 mod copies;
 mod env;
 mod expr;
+mod faults;
+mod kinds;
 mod measures;
 mod place;
 mod query;
@@ -14,11 +13,10 @@ mod reach;
 mod scopes;
 mod tables;
 
-pub use faults::fault_free;
-pub use laws::closed_is_well_formed_without_outer_rows;
-pub use kinds::{kind_at, width};
 pub use env::Env;
 pub use expr::{Arm, ChainStep, Expr, Item};
+pub use faults::fault_free;
+pub use kinds::{kind_at, width};
 pub use measures::{height, size};
 pub use place::Place;
 pub use query::{AggFn, Aggr, Answer, JoinKind, Label, Query, SubKind, Sublink};

@@ -14,19 +14,37 @@ pub fn height(query: &Query) -> u64
     match query {
         Query::Table { .. } => 1,
         Query::Single => 1,
-        Query::Base { input, .. } => over(height(input.get())),
-        Query::Filter { input, subs, .. } => over(height(input.get()).max(highest(subs.as_slice()))),
-        Query::Project { input, subs, .. } => over(height(input.get()).max(highest(subs.as_slice()))),
-        Query::Join { left, right, subs, .. } => {
-            over(height(left.get()).max(height(right.get())).max(highest(subs.as_slice())))
+        Query::Base { input, .. } => height(input.get()).saturating_add(1),
+        Query::Filter { input, subs, .. } => height(input.get())
+            .max(highest(subs.as_slice()))
+            .saturating_add(1),
+        Query::Project { input, subs, .. } => height(input.get())
+            .max(highest(subs.as_slice()))
+            .saturating_add(1),
+        Query::Join {
+            left,
+            right,
+            subs,
+            ..
+        } => {
+            height(left.get())
+                .max(height(right.get()))
+                .max(highest(subs.as_slice()))
+                .saturating_add(1)
         }
-        Query::Union { left, right, .. } => over(height(left.get()).max(height(right.get()))),
-        Query::Intersect { left, right, .. } => over(height(left.get()).max(height(right.get()))),
-        Query::Except { left, right, .. } => over(height(left.get()).max(height(right.get()))),
-        Query::Distinct { input } => over(height(input.get())),
-        Query::Aggregate { input, .. } => over(height(input.get())),
-        Query::Limit { input, .. } => over(height(input.get())),
-        Query::Prov { input } => over(height(input.get())),
+        Query::Union { left, right, .. } => height(left.get())
+            .max(height(right.get()))
+            .saturating_add(1),
+        Query::Intersect { left, right, .. } => height(left.get())
+            .max(height(right.get()))
+            .saturating_add(1),
+        Query::Except { left, right, .. } => height(left.get())
+            .max(height(right.get()))
+            .saturating_add(1),
+        Query::Distinct { input } => height(input.get()).saturating_add(1),
+        Query::Aggregate { input, .. } => height(input.get()).saturating_add(1),
+        Query::Limit { input, .. } => height(input.get()).saturating_add(1),
+        Query::Prov { input } => height(input.get()).saturating_add(1),
     }
 }
 
@@ -42,13 +60,6 @@ fn highest(subs: &[Sublink]) -> u64
     highest
 }
 
-/// The height of an operator whose inputs and sublinks' queries are so high.
-fn over(below: u64) -> u64
-    ensures { result ≡ min (below + 1) (2 ^ 64 - 1) }
-{
-    below.saturating_add(1)
-}
-
 /// The number of operators, those of sublinks' queries included. It stays at `u64::MAX` where it would be greater. It
 /// takes no memory.
 #[cycle(size)]
@@ -61,13 +72,24 @@ pub fn size(query: &Query) -> u64
         Query::Base { input, .. } => size(input.get()).saturating_add(1),
         Query::Filter { input, subs, .. } => with_subs(size(input.get()), subs.as_slice()),
         Query::Project { input, subs, .. } => with_subs(size(input.get()), subs.as_slice()),
-        Query::Join { left, right, subs, .. } => {
+        Query::Join {
+            left,
+            right,
+            subs,
+            ..
+        } => {
             let inputs = size(left.get()).saturating_add(size(right.get()));
             with_subs(inputs, subs.as_slice())
         }
-        Query::Union { left, right, .. } => with_both(size(left.get()), size(right.get())),
-        Query::Intersect { left, right, .. } => with_both(size(left.get()), size(right.get())),
-        Query::Except { left, right, .. } => with_both(size(left.get()), size(right.get())),
+        Query::Union { left, right, .. } => size(left.get())
+            .saturating_add(size(right.get()))
+            .saturating_add(1),
+        Query::Intersect { left, right, .. } => size(left.get())
+            .saturating_add(size(right.get()))
+            .saturating_add(1),
+        Query::Except { left, right, .. } => size(left.get())
+            .saturating_add(size(right.get()))
+            .saturating_add(1),
         Query::Distinct { input } => size(input.get()).saturating_add(1),
         Query::Aggregate { input, .. } => size(input.get()).saturating_add(1),
         Query::Limit { input, .. } => size(input.get()).saturating_add(1),
@@ -85,11 +107,4 @@ fn with_subs(inputs: u64, subs: &[Sublink]) -> u64
         total = total.saturating_add(size(&sub.query));
     }
     total.saturating_add(1)
-}
-
-/// The size of an operator with two inputs of these sizes.
-fn with_both(left: u64, right: u64) -> u64
-    ensures { result ≡ min (left + right + 1) (2 ^ 64 - 1) }
-{
-    left.saturating_add(right).saturating_add(1)
 }

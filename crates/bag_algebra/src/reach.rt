@@ -1,14 +1,19 @@
 //! How far out the columns of a query reach.
-ghost use Rattle.std.specs.Prelude.{◌≡◌, ℕ, nat_le};
+ghost use Rattle.std.specs.Prelude.{◌≡◌, ◌↔◌, ℕ, nat_le, IsTrue, List, []};
+ghost use Rattle.perm_values.specs.declared.kind.Kind.{Kind};
 ghost use Rattle.bag_algebra.specs.BuiltClosed.{all_parts_within, all_steps_within, all_arms_within, all_read_within};
 ghost use Rattle.bag_algebra.specs.Closed.{within_levels, option_within, items_within, aggregates_within, reads_within, is_closed};
+ghost use Rattle.bag_algebra.specs.WellFormed.{WellFormed};
 
 use crate::expr::{Arm, ChainStep, Expr, Item};
 use crate::query::{Aggr, Query, Sublink};
 
-/// Whether the query reads no outer row. It takes no memory.
+/// Whether the query reads no outer row. Of a query that is well formed under some outer kinds this says whether it is
+/// well formed under none. It takes no memory.
 pub fn is_closed(query: &Query) -> bool
-    ensures { result ≡ is_closed query.now }
+    ensures value { result ≡ is_closed query.now }
+    ensures formed { (outer : List (List Kind)) →
+        WellFormed outer query.now → IsTrue result ↔ WellFormed [] query.now }
 {
     outermost(query) == 0
 }
@@ -47,7 +52,9 @@ fn outermost(query: &Query) -> u32
         Query::Except { left, right, .. } => outermost(left.get()).max(outermost(right.get())),
         Query::Distinct { input } => outermost(input.get()),
         Query::Aggregate {
-            input, aggregates, ..
+            input,
+            aggregates,
+            ..
         } => outermost(input.get()).max(farthest_of_aggregates(aggregates.as_slice())),
         Query::Limit { input, .. } => outermost(input.get()),
         Query::Prov { input } => outermost(input.get()),
@@ -106,8 +113,12 @@ fn farthest(expr: &Expr) -> u32
         Expr::Col { level, .. } => *level,
         Expr::Lit { .. } => 0,
         Expr::Op { parts, .. } => farthest_of_parts(parts.as_slice()),
-        Expr::Chain { first, steps } => farthest(first.get()).max(farthest_of_steps(steps.as_slice())),
-        Expr::Case { arms, otherwise } => farthest_of_arms(arms.as_slice()).max(farthest(otherwise.get())),
+        Expr::Chain { first, steps } => farthest(first.get()).max(farthest_of_steps(
+            steps.as_slice(),
+        )),
+        Expr::Case { arms, otherwise } => farthest_of_arms(arms.as_slice()).max(farthest(
+            otherwise.get(),
+        )),
         Expr::Sub { .. } => 0,
         Expr::IsNull { part } => farthest(part.get()),
         Expr::IsTruth { part, .. } => farthest(part.get()),

@@ -2,7 +2,7 @@
 ghost use Rattle.std.specs.Prelude.{◌≡◌};
 ghost use Rattle.bag_algebra.specs.BuiltScopes.{all_plain, all_over_tables, all_traceable, all_scoped};
 ghost use Rattle.bag_algebra.specs.Rewriting.{is_plain};
-ghost use Rattle.bag_algebra.specs.Scoped.{is_table, over_tables, traceable, is_scoped};
+ghost use Rattle.bag_algebra.specs.Scoped.{over_tables, traceable, is_scoped};
 
 use crate::query::{Query, Sublink};
 
@@ -18,7 +18,10 @@ pub fn is_plain(query: &Query) -> bool
         Query::Filter { input, subs, .. } => is_plain(input.get()) && all_plain(subs.as_slice()),
         Query::Project { input, subs, .. } => is_plain(input.get()) && all_plain(subs.as_slice()),
         Query::Join {
-            left, right, subs, ..
+            left,
+            right,
+            subs,
+            ..
         } => is_plain(left.get()) && is_plain(right.get()) && all_plain(subs.as_slice()),
         Query::Union { left, right, .. } => is_plain(left.get()) && is_plain(right.get()),
         Query::Intersect { left, right, .. } => is_plain(left.get()) && is_plain(right.get()),
@@ -56,7 +59,10 @@ pub fn is_scoped(query: &Query) -> bool
         Query::Filter { input, subs, .. } => is_scoped(input.get()) && all_scoped(subs.as_slice()),
         Query::Project { input, subs, .. } => is_scoped(input.get()) && all_scoped(subs.as_slice()),
         Query::Join {
-            left, right, subs, ..
+            left,
+            right,
+            subs,
+            ..
         } => is_scoped(left.get()) && is_scoped(right.get()) && all_scoped(subs.as_slice()),
         Query::Union { left, right, .. } => is_scoped(left.get()) && is_scoped(right.get()),
         Query::Intersect { left, right, .. } => is_scoped(left.get()) && is_scoped(right.get()),
@@ -90,10 +96,15 @@ fn traceable(query: &Query) -> bool
         Query::Table { .. } => true,
         Query::Single => true,
         Query::Base { .. } => true,
-        Query::Filter { input, subs, .. } => traceable(input.get()) && all_traceable(subs.as_slice()),
-        Query::Project { input, subs, .. } => traceable(input.get()) && all_traceable(subs.as_slice()),
+        Query::Filter { input, subs, .. } => traceable(input.get())
+            && all_traceable(subs.as_slice()),
+        Query::Project { input, subs, .. } => traceable(input.get())
+            && all_traceable(subs.as_slice()),
         Query::Join {
-            left, right, subs, ..
+            left,
+            right,
+            subs,
+            ..
         } => traceable(left.get()) && traceable(right.get()) && all_traceable(subs.as_slice()),
         Query::Union { left, right, .. } => traceable(left.get()) && traceable(right.get()),
         Query::Intersect { left, right, .. } => traceable(left.get()) && traceable(right.get()),
@@ -126,12 +137,19 @@ fn over_tables(query: &Query) -> bool
     match query {
         Query::Table { .. } => true,
         Query::Single => true,
-        Query::Base { input, .. } => is_table(input.get()),
-        Query::Filter { input, subs, .. } => over_tables(input.get()) && all_over_tables(subs.as_slice()),
-        Query::Project { input, subs, .. } => over_tables(input.get()) && all_over_tables(subs.as_slice()),
+        Query::Base { input, .. } => matches!(input.get(), Query::Table { .. }),
+        Query::Filter { input, subs, .. } => over_tables(input.get())
+            && all_over_tables(subs.as_slice()),
+        Query::Project { input, subs, .. } => over_tables(input.get())
+            && all_over_tables(subs.as_slice()),
         Query::Join {
-            left, right, subs, ..
-        } => over_tables(left.get()) && over_tables(right.get()) && all_over_tables(subs.as_slice()),
+            left,
+            right,
+            subs,
+            ..
+        } => over_tables(left.get())
+            && over_tables(right.get())
+            && all_over_tables(subs.as_slice()),
         Query::Union { left, right, .. } => over_tables(left.get()) && over_tables(right.get()),
         Query::Intersect { left, right, .. } => over_tables(left.get()) && over_tables(right.get()),
         Query::Except { left, right, .. } => over_tables(left.get()) && over_tables(right.get()),
@@ -153,24 +171,4 @@ fn all_over_tables(subs: &[Sublink]) -> bool
         }
     }
     true
-}
-
-fn is_table(query: &Query) -> bool
-    ensures { result ≡ is_table query.now }
-{
-    match query {
-        Query::Table { .. } => true,
-        Query::Single => false,
-        Query::Base { .. } => false,
-        Query::Filter { .. } => false,
-        Query::Project { .. } => false,
-        Query::Join { .. } => false,
-        Query::Union { .. } => false,
-        Query::Intersect { .. } => false,
-        Query::Except { .. } => false,
-        Query::Distinct { .. } => false,
-        Query::Aggregate { .. } => false,
-        Query::Limit { .. } => false,
-        Query::Prov { .. } => false,
-    }
 }

@@ -1,12 +1,12 @@
-use Rattle.std.proofs.Common.{not, sym, ap, ◌∙◌}
+use Rattle.std.proofs.Common.{◌≡◌, true, false, refl, not, sym, ap, ◌∙◌}
+use Rattle.null_logic.specs.declared.arith.Arith.{Arith}
+use Rattle.null_logic.specs.declared.operator.Operator.{Operator}
+use Rattle.null_logic.specs.declared.operator.Operator.TheVariants as op
 use Rattle.bag_algebra.specs.BuiltFaultFree.{all_parts_faultless, all_arms_faultless, faultless-Op, faultless-Chain, faultless-Case, faultless-IsNull, faultless-IsTruth, faultless-Same}
 use Rattle.bag_algebra.specs.FaultFree.{may_fault, faultless}
 use Rattle.bag_algebra.proofs.Truths.{second-decides, first-decides}
 use Rattle.bag_algebra.proofs.faults.+faultless.Goals as goal
-
-pub faultless-returns-then-not-may_fault : goal.faultless-returns-then-not-may_fault
-faultless-returns-then-not-may_fault t c =
-    second-decides _ _ _ _ (ap faultless c.in-Op.is ∙ faultless-Op c.in-Op.op c.in-Op.parts) (ap not c.may_fault.ensures) _ (ap not c.if-not-may_fault.true) (c.parts_faultless.ensures ∙ ap all_parts_faultless c.as_slice.ensures)
+use Rattle.bag_algebra.proofs.faults.+faultless.Goals.{faultless-in_default, faultless-in-Negate, faultless-in-Negate-2}
 
 pub faultless-returns-in-Chain : goal.faultless-returns-in-Chain
 faultless-returns-in-Chain t c =
@@ -35,3 +35,26 @@ faultless-returns-then-faultless t c =
 pub faultless-returns-else-faultless : goal.faultless-returns-else-faultless
 faultless-returns-else-faultless t c =
     first-decides _ _ _ _ (ap faultless c.in-Same.is ∙ faultless-Same c.in-Same.first c.in-Same.second) (c.faultless-in-Same.ensures ∙ ap faultless c.get-in-Same.ensures) c.if-faultless.false
+
+calm : (operator : Operator) → (operator ≡ op.Negate → ⊥) → ((c : Arith) → operator ≡ op.Arith c → ⊥) → may_fault operator ≡ false
+calm op.And negate arith = refl
+calm op.Or negate arith = refl
+calm op.Not negate arith = refl
+calm op.Negate negate arith = absurd (negate refl)
+calm (op.Compare c) negate arith = refl
+calm (op.Arith c) negate arith = absurd (arith c refl)
+calm op.Like negate arith = refl
+calm op.Between negate arith = refl
+calm op.InList negate arith = refl
+calm op.Coalesce negate arith = refl
+calm op.NullIf negate arith = refl
+
+pub faultless-returns-then-not-matches : goal.faultless-returns-then-not-matches
+faultless-returns-then-not-matches t c =
+    elim c.match-matches.branch [
+      | faultless-in_default w ↦
+          second-decides _ _ _ true (ap faultless c.in-Op.is ∙ faultless-Op c.in-Op.op c.in-Op.parts) (sym (ap not (calm c.in-Op.op w.in_default.not-Negate w.in_default.not-Arith))) _ refl
+          (c.parts_faultless.ensures ∙ ap all_parts_faultless c.as_slice.ensures)
+      | faultless-in-Negate w ↦ absurd (cc (w.matches-is, c.if-not-matches.true))
+      | faultless-in-Negate-2 w ↦ absurd (cc (w.matches-is, c.if-not-matches.true))
+    ]

@@ -1,8 +1,10 @@
 use Rattle.std.proofs.Common.{◌+◌, ◌++◌, drop, map, refl, sym, ap, ◌∙◌, arith}
 use Rattle.std.proofs.lemmas.List.{at_drop_all}
+use Rattle.std.specs.Result.{result_unwrap_or}
+use Rattle.perm_values.specs.declared.kind.Kind.TheVariants.{Text}
 use Rattle.bag_algebra.specs.Built.{kinds_of-Base, kinds_of-Filter, kinds_of-Project, kinds_of-Join, kinds_of-Union, kinds_of-Intersect, kinds_of-Except, kinds_of-Distinct, kinds_of-Aggregate, kinds_of-Limit, kinds_of-Prov, shape-Distinct, shape-Aggregate, shape-Limit, shape-Prov}
 use Rattle.bag_algebra.specs.Kinds.{kinds_of, kinds_in, shape, place_kinds}
-use Rattle.bag_algebra.specs.Sought.{sought, kind_or_text}
+use Rattle.bag_algebra.specs.Sought.{sought}
 use Rattle.bag_algebra.specs.declared.expr.Item.{Item}
 use Rattle.bag_algebra.specs.declared.query.Aggr.{Aggr}
 use Rattle.bag_algebra.proofs.Rest.{from_here}
@@ -60,15 +62,23 @@ seek-returns-in-Distinct t c =
 
 pub seek-returns-in-Ok-nth-2 : goal.seek-returns-in-Ok-nth-2
 seek-returns-in-Ok-nth-2 t c =
-    whole-found (kinds_in (kinds_of c.in-Aggregate.input) c.in-Aggregate.groups) (map (λ (aggregate : Aggr). aggregate.kind) c.in-Aggregate.aggregates) _ c.args.place (ap kinds_of c.in-Aggregate.is ∙ kinds_of-Aggregate c.in-Aggregate.input c.in-Aggregate.groups c.in-Aggregate.aggregates) c.kind_or_text.result
-    (picked-found (kinds_of c.in-Aggregate.input) c.in-Aggregate.groups c.args.place c.in-Ok-nth-2.group.now c.kind_or_text.result c.in-Ok-nth-2.ensures
-    (c.kind_or_text.ensures ∙ ap kind_or_text (c.seek-in-Ok-nth-2.ensures ∙ ap (λ q. sought (kinds_of q) c.in-Ok-nth-2.group.now) c.get-in-Ok-nth-2.ensures)))
+    whole-found (kinds_in (kinds_of c.in-Aggregate.input) c.in-Aggregate.groups) (map (λ (aggregate : Aggr). aggregate.kind) c.in-Aggregate.aggregates) _ c.args.place (ap kinds_of c.in-Aggregate.is ∙ kinds_of-Aggregate c.in-Aggregate.input c.in-Aggregate.groups c.in-Aggregate.aggregates) c.unwrap_or.result
+    (picked-found (kinds_of c.in-Aggregate.input) c.in-Aggregate.groups c.args.place c.in-Ok-nth-2.group.now c.unwrap_or.result c.in-Ok-nth-2.ensures
+    (c.unwrap_or.ensures ∙ ap (λ found. result_unwrap_or found Text) (c.seek-in-Ok-nth-2.ensures ∙ ap (λ q. sought (kinds_of q) c.in-Ok-nth-2.group.now) c.get-in-Ok-nth-2.ensures)))
 
-pub seek-returns-in-Err-nth-2 : goal.seek-returns-in-Err-nth-2
-seek-returns-in-Err-nth-2 t c =
-    c.seek_aggregate.ensures
-    ∙ whole-rest (kinds_in (kinds_of c.in-Aggregate.input) c.in-Aggregate.groups) (map (λ (aggregate : Aggr). aggregate.kind) c.in-Aggregate.aggregates) _ c.args.place (ap kinds_of c.in-Aggregate.is ∙ kinds_of-Aggregate c.in-Aggregate.input c.in-Aggregate.groups c.in-Aggregate.aggregates) c.in-Err-nth-2.rest
-    (picked-rest (kinds_of c.in-Aggregate.input) c.in-Aggregate.groups c.args.place c.in-Err-nth-2.rest c.in-Err-nth-2.ensures)
+pub seek-returns-in-Ok-nth-3 : goal.seek-returns-in-Ok-nth-3
+seek-returns-in-Ok-nth-3 t c =
+    ap (found_as (λ (aggregate : Aggr). aggregate.kind)) (sym c.in-Ok-nth-3.ensures)
+    ∙ sym (sought-map (λ (aggregate : Aggr). aggregate.kind) c.in-Aggregate.aggregates c.in-Err-nth-2.behind)
+    ∙ whole-rest (kinds_in (kinds_of c.in-Aggregate.input) c.in-Aggregate.groups) (map (λ (aggregate : Aggr). aggregate.kind) c.in-Aggregate.aggregates) _ c.args.place (ap kinds_of c.in-Aggregate.is ∙ kinds_of-Aggregate c.in-Aggregate.input c.in-Aggregate.groups c.in-Aggregate.aggregates) c.in-Err-nth-2.behind
+    (picked-rest (kinds_of c.in-Aggregate.input) c.in-Aggregate.groups c.args.place c.in-Err-nth-2.behind c.in-Err-nth-2.ensures)
+
+pub seek-returns-in-Err-nth-3 : goal.seek-returns-in-Err-nth-3
+seek-returns-in-Err-nth-3 t c =
+    ap (found_as (λ (aggregate : Aggr). aggregate.kind)) (sym c.in-Err-nth-3.ensures)
+    ∙ sym (sought-map (λ (aggregate : Aggr). aggregate.kind) c.in-Aggregate.aggregates c.in-Err-nth-2.behind)
+    ∙ whole-rest (kinds_in (kinds_of c.in-Aggregate.input) c.in-Aggregate.groups) (map (λ (aggregate : Aggr). aggregate.kind) c.in-Aggregate.aggregates) _ c.args.place (ap kinds_of c.in-Aggregate.is ∙ kinds_of-Aggregate c.in-Aggregate.input c.in-Aggregate.groups c.in-Aggregate.aggregates) c.in-Err-nth-2.behind
+    (picked-rest (kinds_of c.in-Aggregate.input) c.in-Aggregate.groups c.args.place c.in-Err-nth-2.behind c.in-Err-nth-2.ensures)
 
 pub seek-returns-in-Limit : goal.seek-returns-in-Limit
 seek-returns-in-Limit t c =
@@ -88,8 +98,8 @@ seek-returns-in-Err-seek-2 t c =
 
 pub seek_source-returns-in-Ok : goal.seek_source-returns-in-Ok
 seek_source-returns-in-Ok t c =
-    picked-found (kinds_of c.in-Base.input) c.in-Base.places c.args.place c.in-Ok.column.now c.kind_or_text.result c.in-Ok.ensures
-    (c.kind_or_text.ensures ∙ ap kind_or_text (c.seek.ensures ∙ ap (λ q. sought (kinds_of q) c.in-Ok.column.now) c.get.ensures))
+    picked-found (kinds_of c.in-Base.input) c.in-Base.places c.args.place c.in-Ok.column.now c.unwrap_or.result c.in-Ok.ensures
+    (c.unwrap_or.ensures ∙ ap (λ found. result_unwrap_or found Text) (c.seek.ensures ∙ ap (λ q. sought (kinds_of q) c.in-Ok.column.now) c.get.ensures))
     ∙ ap (λ kinds. sought kinds c.args.place) (sym (ap source_kinds c.in-Base.is ∙ source_kinds-Base c.in-Base.input c.in-Base.places c.in-Base.label))
 
 pub seek_source-returns-in-Err : goal.seek_source-returns-in-Err

@@ -1,7 +1,7 @@
 use Rattle.std.proofs.Common.{suc, ◌&&◌, sym, ap, ◌∙◌, arith}
 use Rattle.std.specs.Prelude.{nat_le}
 use Rattle.bag_algebra.specs.BuiltClosed.{all_read_within, reads_within-Base, reads_within-Filter, reads_within-Project, reads_within-Join, reads_within-Union, reads_within-Intersect, reads_within-Except, reads_within-Distinct, reads_within-Aggregate, reads_within-Limit, reads_within-Prov}
-use Rattle.bag_algebra.specs.Closed.{within_levels, option_within, items_within, aggregates_within, reads_within}
+use Rattle.bag_algebra.specs.Closed.{option_within, items_within, aggregates_within, reads_within}
 use Rattle.bag_algebra.specs.declared.query.Sublink.{Sublink}
 use Rattle.bag_algebra.proofs.Levels.{both-within, inside-within, from_none, one-more, all-done}
 use Rattle.bag_algebra.proofs.reach.+outermost.Goals as goal

@@ -1,6 +1,5 @@
-use Rattle.std.proofs.Common.{◌&&◌, ap, arith}
-use Rattle.bag_algebra.specs.Closed.{within_levels, option_within}
-use Rattle.bag_algebra.specs.declared.expr.Item.{Item}
+use Rattle.std.proofs.Common.{arith}
+use Rattle.bag_algebra.specs.Closed.{option_within}
 use Rattle.bag_algebra.specs.declared.query.Aggr.{Aggr}
 use Rattle.bag_algebra.proofs.Levels.{from_none, one-more, all-done}
 use Rattle.bag_algebra.proofs.reach.farthest_of_aggregates.Goals as goal

@@ -1,6 +1,5 @@
-use Rattle.bag_algebra.specs.Closed.{within_levels, option_within}
+use Rattle.bag_algebra.specs.Closed.{within_levels}
 use Rattle.bag_algebra.specs.declared.expr.Item.{Item}
-use Rattle.bag_algebra.specs.declared.query.Aggr.{Aggr}
 use Rattle.bag_algebra.proofs.Levels.{SoFar}
 use Rattle.bag_algebra.proofs.reach.farthest_of_items.Given as goal
 

@@ -1,13 +1,36 @@
-use Rattle.std.proofs.Common.{◌≡◌, ◌&&◌, refl, sym, ap, ◌∙◌, drop, arith}
+use Rattle.std.proofs.Common.{ℕ, List, false, ◌≡◌, ◌&&◌, refl, sym, ap, ◌∙◌}
+use Rattle.perm_values.specs.declared.kind.Kind.{Kind}
 use Rattle.bag_algebra.specs.BuiltScopes.{all_over_tables, over_tables-Base, over_tables-Filter, over_tables-Project, over_tables-Join, over_tables-Union, over_tables-Intersect, over_tables-Except, over_tables-Distinct, over_tables-Aggregate, over_tables-Limit, over_tables-Prov}
-use Rattle.bag_algebra.specs.Scoped.{is_table, over_tables, traceable, is_scoped}
+use Rattle.bag_algebra.specs.Scoped.{is_table, over_tables}
+use Rattle.bag_algebra.specs.Patterns.{BaseOf, FilterOf, ProjectOf, JoinOf, UnionOf, IntersectOf, ExceptOf, DistinctOf, AggregateOf, LimitOf, ProvOf}
+use Rattle.bag_algebra.specs.declared.query.Query.{Query}
+use Rattle.bag_algebra.specs.declared.query.Query.TheVariants.{Table, Single}
 use Rattle.bag_algebra.proofs.Truths.{second-decides, first-decides}
 use Rattle.bag_algebra.proofs.scopes.+over_tables.Goals as goal
 use Rattle.bag_algebra.proofs.scopes.+over_tables.Goals.{over_tables-then-over_tables-3, over_tables-else-over_tables-3}
 
-pub over_tables-returns-in-Base : goal.over_tables-returns-in-Base
-over_tables-returns-in-Base t c =
-    c.is_table.ensures ∙ ap is_table c.get.ensures ∙ sym (ap over_tables c.in-Base.is ∙ over_tables-Base c.in-Base.input c.in-Base.places c.in-Base.label)
+no_table : (q : Query) → ((id : ℕ) (kinds : List Kind) → q ≡ Table id kinds → ⊥) → is_table q ≡ false
+no_table (Table id kinds) other = absurd (other id kinds refl)
+no_table Single other = refl
+no_table (BaseOf input places label) other = refl
+no_table (FilterOf input condition _ subs) other = refl
+no_table (ProjectOf input items _ subs) other = refl
+no_table (JoinOf kind left right condition _ subs) other = refl
+no_table (UnionOf all left right) other = refl
+no_table (IntersectOf all left right) other = refl
+no_table (ExceptOf all left right) other = refl
+no_table (DistinctOf input) other = refl
+no_table (AggregateOf input groups aggregates) other = refl
+no_table (LimitOf input keys count) other = refl
+no_table (ProvOf input) other = refl
+
+pub over_tables-returns-in-Table-matches : goal.over_tables-returns-in-Table-matches
+over_tables-returns-in-Table-matches t c =
+    sym (ap over_tables c.in-Base.is ∙ over_tables-Base c.in-Base.input c.in-Base.places c.in-Base.label ∙ ap is_table (sym c.get.ensures ∙ c.in-Table-matches.is))
+
+pub over_tables-returns-in_default : goal.over_tables-returns-in_default
+over_tables-returns-in_default t c =
+    sym (ap over_tables c.in-Base.is ∙ over_tables-Base c.in-Base.input c.in-Base.places c.in-Base.label ∙ ap is_table (sym c.get.ensures) ∙ no_table c.get.result.now c.in_default.not-Table)
 
 pub over_tables-returns-then-over_tables : goal.over_tables-returns-then-over_tables
 over_tables-returns-then-over_tables t c =

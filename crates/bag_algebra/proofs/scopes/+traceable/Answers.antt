@@ -1,6 +1,6 @@
-use Rattle.std.proofs.Common.{◌≡◌, ◌&&◌, refl, sym, ap, ◌∙◌, drop, arith}
+use Rattle.std.proofs.Common.{◌≡◌, ◌&&◌, refl, sym, ap, ◌∙◌}
 use Rattle.bag_algebra.specs.BuiltScopes.{all_traceable, traceable-Base, traceable-Filter, traceable-Project, traceable-Join, traceable-Union, traceable-Intersect, traceable-Except, traceable-Distinct, traceable-Aggregate, traceable-Limit, traceable-Prov}
-use Rattle.bag_algebra.specs.Scoped.{is_table, over_tables, traceable, is_scoped}
+use Rattle.bag_algebra.specs.Scoped.{traceable}
 use Rattle.bag_algebra.proofs.Truths.{second-decides, first-decides}
 use Rattle.bag_algebra.proofs.scopes.+traceable.Goals as goal
 use Rattle.bag_algebra.proofs.scopes.+traceable.Goals.{traceable-then-traceable-3, traceable-else-traceable-3}
