@@ -73,9 +73,9 @@ fn copy_query(alloc: Global, query: &Query) -> Result<Query, NoMemory>
             places,
             label,
         } => {
+            let input = copy_boxed(alloc, input)?;
             let places = places.copy(alloc)?;
             let label = label.copy(alloc)?;
-            let input = copy_boxed(alloc, input)?;
             Ok(Query::Base {
                 input,
                 places,
@@ -87,9 +87,9 @@ fn copy_query(alloc: Global, query: &Query) -> Result<Query, NoMemory>
             condition,
             subs,
         } => {
-            let condition = condition.copy(alloc)?;
-            let subs = copy_subs(alloc, subs.as_slice())?;
             let input = copy_boxed(alloc, input)?;
+            let subs = copy_subs(alloc, subs.as_slice())?;
+            let condition = condition.copy(alloc)?;
             Ok(Query::Filter {
                 input,
                 condition,
@@ -97,9 +97,9 @@ fn copy_query(alloc: Global, query: &Query) -> Result<Query, NoMemory>
             })
         }
         Query::Project { input, items, subs } => {
-            let items = items.copy(alloc)?;
-            let subs = copy_subs(alloc, subs.as_slice())?;
             let input = copy_boxed(alloc, input)?;
+            let subs = copy_subs(alloc, subs.as_slice())?;
+            let items = items.copy(alloc)?;
             Ok(Query::Project { input, items, subs })
         }
         Query::Join {
@@ -109,10 +109,10 @@ fn copy_query(alloc: Global, query: &Query) -> Result<Query, NoMemory>
             condition,
             subs,
         } => {
-            let condition = condition.copy(alloc)?;
-            let subs = copy_subs(alloc, subs.as_slice())?;
             let left = copy_boxed(alloc, left)?;
             let right = copy_boxed(alloc, right)?;
+            let subs = copy_subs(alloc, subs.as_slice())?;
+            let condition = condition.copy(alloc)?;
             Ok(Query::Join {
                 kind: *kind,
                 left,
@@ -156,9 +156,9 @@ fn copy_query(alloc: Global, query: &Query) -> Result<Query, NoMemory>
             groups,
             aggregates,
         } => {
+            let input = copy_boxed(alloc, input)?;
             let groups = groups.copy(alloc)?;
             let aggregates = aggregates.copy(alloc)?;
-            let input = copy_boxed(alloc, input)?;
             Ok(Query::Aggregate {
                 input,
                 groups,
@@ -166,8 +166,8 @@ fn copy_query(alloc: Global, query: &Query) -> Result<Query, NoMemory>
             })
         }
         Query::Limit { input, keys, count } => {
-            let keys = keys.copy(alloc)?;
             let input = copy_boxed(alloc, input)?;
+            let keys = keys.copy(alloc)?;
             Ok(Query::Limit {
                 input,
                 keys,
