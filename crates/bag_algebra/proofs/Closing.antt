@@ -21,17 +21,7 @@ use Rattle.bag_algebra.specs.declared.query.Query.{Query, Row_of-Sublink, more_o
 use Rattle.bag_algebra.specs.declared.query.Query.TheVariants.{Table, Single}
 use Rattle.bag_algebra.specs.declared.query.SubKind.{SubKind}
 use Rattle.bag_algebra.specs.declared.query.SubKind.TheVariants as sub
-
-both : (a b : Bool) → a ≡ true → b ≡ true → (a && b) ≡ true
-both a b e f = λ i. e i && f i
-
-left : (a b : Bool) → (a && b) ≡ true → a ≡ true
-left true b h = refl
-left false b h = h
-
-right : (a b : Bool) → (a && b) ≡ true → b ≡ true
-right true b h = h
-right false b h = absurd (true≢false (sym h))
+use Rattle.bag_algebra.proofs.Truths.{both-true, left-true, right-true}
 
 -- ---- scopes
 
@@ -87,32 +77,32 @@ mutual
   expr_within scopes subs (OpOf operator _ parts) kind n l h =
       let asked = op_parts operator _ (PartsHave scopes subs parts) kind h in all_within scopes subs parts asked.0 n l asked.1
   expr_within scopes subs (ChainOf first _ steps) kind n l h =
-      both _ _ (expr_within scopes subs first Integer n l h.first) (all_steps_within scopes subs steps n l h.steps)
+      both-true _ _ (expr_within scopes subs first Integer n l h.first) (all_steps_within scopes subs steps n l h.steps)
   expr_within scopes subs (CaseOf _ arms otherwise) kind n l h =
-      both _ _ (all_arms_within scopes subs arms kind n l h.arms) (expr_within scopes subs otherwise kind n l h.otherwise)
+      both-true _ _ (all_arms_within scopes subs arms kind n l h.arms) (expr_within scopes subs otherwise kind n l h.otherwise)
   expr_within scopes subs (Sub number) kind n l h = refl
   expr_within scopes subs (IsNullOf part) kind n l h = expr_within scopes subs part h.parts.shared n l h.parts.parts
   expr_within scopes subs (IsTruthOf truth part) kind n l h = expr_within scopes subs part Boolean n l h.parts
   expr_within scopes subs (SameOf first second) kind n l h =
-      both _ _ (expr_within scopes subs first h.parts.shared n l h.parts.parts.0) (expr_within scopes subs second h.parts.shared n l h.parts.parts.1)
+      both-true _ _ (expr_within scopes subs first h.parts.shared n l h.parts.parts.0) (expr_within scopes subs second h.parts.shared n l h.parts.parts.1)
 
   all_within : (scopes : List (List Kind)) (subs : List Kind) {m : _} (parts : Row_of-Expr m) (kind : Kind) (n : ℕ) → length scopes ≡ suc n →
       PartsHave scopes subs parts kind → parts_within parts n ≡ true
   all_within scopes subs end_of-Expr kind n l h = refl
   all_within scopes subs (more_of-Expr part parts) kind n l h =
-      both _ _ (expr_within scopes subs part kind n l h.0) (all_within scopes subs parts kind n l h.1)
+      both-true _ _ (expr_within scopes subs part kind n l h.0) (all_within scopes subs parts kind n l h.1)
 
   all_steps_within : (scopes : List (List Kind)) (subs : List Kind) {m : _} (steps : Row_of-ChainStep m) (n : ℕ) → length scopes ≡ suc n →
       StepsHave scopes subs steps → steps_within steps n ≡ true
   all_steps_within scopes subs end_of-ChainStep n l h = refl
   all_steps_within scopes subs (more_of-ChainStep operation part steps) n l h =
-      both _ _ (expr_within scopes subs part Integer n l h.0) (all_steps_within scopes subs steps n l h.1)
+      both-true _ _ (expr_within scopes subs part Integer n l h.0) (all_steps_within scopes subs steps n l h.1)
 
   all_arms_within : (scopes : List (List Kind)) (subs : List Kind) {m : _} (arms : Row_of-Arm m) (kind : Kind) (n : ℕ) → length scopes ≡ suc n →
       ArmsHave scopes subs arms kind → arms_within arms n ≡ true
   all_arms_within scopes subs end_of-Arm kind n l h = refl
   all_arms_within scopes subs (more_of-Arm condition arm arms) kind n l h =
-      both _ _ (both _ _ (expr_within scopes subs condition Boolean n l h.condition) (expr_within scopes subs arm kind n l h.arm))
+      both-true _ _ (both-true _ _ (expr_within scopes subs condition Boolean n l h.condition) (expr_within scopes subs arm kind n l h.arm))
       (all_arms_within scopes subs arms kind n l h.others)
 
 all_items_within : (scopes : List (List Kind)) (subs : List Kind) (items : List Item) (n : ℕ) → length scopes ≡ suc n →
@@ -163,22 +153,22 @@ mutual
   query_within outer Single n l h = refl
   query_within outer (BaseOf input places label) n l h = query_within outer input n l h.input
   query_within outer (FilterOf input condition _ subs) n l h =
-      both _ _ (both _ _ (query_within outer input n l h.input) (expr_within (kinds_of input ∷ outer) _ condition Boolean n (ap suc l) h.condition))
+      both-true _ _ (both-true _ _ (query_within outer input n l h.input) (expr_within (kinds_of input ∷ outer) _ condition Boolean n (ap suc l) h.condition))
       (all_subs_within (kinds_of input ∷ outer) subs n (ap suc l) h.subs)
   query_within outer (ProjectOf input items _ subs) n l h =
-      both _ _ (both _ _ (query_within outer input n l h.input) (all_items_within (kinds_of input ∷ outer) _ items n (ap suc l) h.items))
+      both-true _ _ (both-true _ _ (query_within outer input n l h.input) (all_items_within (kinds_of input ∷ outer) _ items n (ap suc l) h.items))
       (all_subs_within (kinds_of input ∷ outer) subs n (ap suc l) h.subs)
   query_within outer (JoinOf kind left right condition _ subs) n l h =
-      both _ _
-      (both _ _ (both _ _ (query_within outer left n l h.left) (query_within outer right n l h.right))
+      both-true _ _
+      (both-true _ _ (both-true _ _ (query_within outer left n l h.left) (query_within outer right n l h.right))
       (expr_within ((kinds_of left ++ kinds_of right) ∷ outer) [] condition Boolean n (ap suc l) h.condition))
       (none_within subs n h.subs)
-  query_within outer (UnionOf all left right) n l h = both _ _ (query_within outer left n l h.left_side) (query_within outer right n l h.right_side)
-  query_within outer (IntersectOf all left right) n l h = both _ _ (query_within outer left n l h.left_side) (query_within outer right n l h.right_side)
-  query_within outer (ExceptOf all left right) n l h = both _ _ (query_within outer left n l h.left_side) (query_within outer right n l h.right_side)
+  query_within outer (UnionOf all left right) n l h = both-true _ _ (query_within outer left n l h.left_side) (query_within outer right n l h.right_side)
+  query_within outer (IntersectOf all left right) n l h = both-true _ _ (query_within outer left n l h.left_side) (query_within outer right n l h.right_side)
+  query_within outer (ExceptOf all left right) n l h = both-true _ _ (query_within outer left n l h.left_side) (query_within outer right n l h.right_side)
   query_within outer (DistinctOf input) n l h = query_within outer input n l h
   query_within outer (AggregateOf input groups aggregates) n l h =
-      both _ _ (query_within outer input n l h.input) (all_aggregates_within (kinds_of input ∷ outer) aggregates n (ap suc l) h.aggregates)
+      both-true _ _ (query_within outer input n l h.input) (all_aggregates_within (kinds_of input ∷ outer) aggregates n (ap suc l) h.aggregates)
   query_within outer (LimitOf input keys count) n l h = query_within outer input n l h.input
   query_within outer (ProvOf input) n l h = query_within outer input n l h
 
@@ -186,7 +176,7 @@ mutual
       SubsForm scopes subs → subs_read_within subs n ≡ true
   all_subs_within scopes end_of-Sublink n l h = refl
   all_subs_within scopes (more_of-Sublink kind tested query subs) n l h =
-      both _ _ (both _ _ (tested_within kind tested scopes (kinds_of query) n l h.fitting) (query_within scopes query (suc n) l h.query))
+      both-true _ _ (both-true _ _ (tested_within kind tested scopes (kinds_of query) n l h.fitting) (query_within scopes query (suc n) l h.query))
       (all_subs_within scopes subs n l h.others)
 
 -- ---- what reads no scopes but the first ones is well formed in these alone
@@ -202,9 +192,9 @@ module _ (outer : List (List Kind)) where
     expr_inside scopes subs (OpOf operator _ parts) kind n l w h =
         op_other operator _ (PartsHave (scopes ++ outer) subs parts) (PartsHave scopes subs parts) kind (λ shared. all_inside scopes subs parts shared n l w) h
     expr_inside scopes subs (ChainOf first _ steps) kind n l w h =
-        record { number = h.number; level = h.level; first = expr_inside scopes subs first Integer n l (left _ _ w) h.first; steps = all_steps_inside scopes subs steps n l (right _ _ w) h.steps; gives = h.gives }
+        record { number = h.number; level = h.level; first = expr_inside scopes subs first Integer n l (left-true _ _ w) h.first; steps = all_steps_inside scopes subs steps n l (right-true _ _ w) h.steps; gives = h.gives }
     expr_inside scopes subs (CaseOf _ arms otherwise) kind n l w h =
-        record { number = h.number; arms = all_arms_inside scopes subs arms kind n l (left _ _ w) h.arms; otherwise = expr_inside scopes subs otherwise kind n l (right _ _ w) h.otherwise }
+        record { number = h.number; arms = all_arms_inside scopes subs arms kind n l (left-true _ _ w) h.arms; otherwise = expr_inside scopes subs otherwise kind n l (right-true _ _ w) h.otherwise }
     expr_inside scopes subs (Sub number) kind n l w h = h
     expr_inside scopes subs (IsNullOf part) kind n l w h =
         record { parts = record { shared = h.parts.shared; parts = expr_inside scopes subs part h.parts.shared n l w h.parts.parts }; gives = h.gives }
@@ -213,7 +203,7 @@ module _ (outer : List (List Kind)) where
         record {
           parts = record {
             shared = h.parts.shared;
-            parts = (expr_inside scopes subs first h.parts.shared n l (left _ _ w) h.parts.parts.0, expr_inside scopes subs second h.parts.shared n l (right _ _ w) h.parts.parts.1);
+            parts = (expr_inside scopes subs first h.parts.shared n l (left-true _ _ w) h.parts.parts.0, expr_inside scopes subs second h.parts.shared n l (right-true _ _ w) h.parts.parts.1);
           };
           gives = h.gives;
         }
@@ -222,22 +212,22 @@ module _ (outer : List (List Kind)) where
         parts_within parts n ≡ true → PartsHave (scopes ++ outer) subs parts kind → PartsHave scopes subs parts kind
     all_inside scopes subs end_of-Expr kind n l w h = h
     all_inside scopes subs (more_of-Expr part parts) kind n l w h =
-        (expr_inside scopes subs part kind n l (left _ _ w) h.0, all_inside scopes subs parts kind n l (right _ _ w) h.1)
+        (expr_inside scopes subs part kind n l (left-true _ _ w) h.0, all_inside scopes subs parts kind n l (right-true _ _ w) h.1)
 
     all_steps_inside : (scopes : List (List Kind)) (subs : List Kind) {m : _} (steps : Row_of-ChainStep m) (n : ℕ) → length scopes ≡ suc n →
         steps_within steps n ≡ true → StepsHave (scopes ++ outer) subs steps → StepsHave scopes subs steps
     all_steps_inside scopes subs end_of-ChainStep n l w h = h
     all_steps_inside scopes subs (more_of-ChainStep operation part steps) n l w h =
-        (expr_inside scopes subs part Integer n l (left _ _ w) h.0, all_steps_inside scopes subs steps n l (right _ _ w) h.1)
+        (expr_inside scopes subs part Integer n l (left-true _ _ w) h.0, all_steps_inside scopes subs steps n l (right-true _ _ w) h.1)
 
     all_arms_inside : (scopes : List (List Kind)) (subs : List Kind) {m : _} (arms : Row_of-Arm m) (kind : Kind) (n : ℕ) → length scopes ≡ suc n →
         arms_within arms n ≡ true → ArmsHave (scopes ++ outer) subs arms kind → ArmsHave scopes subs arms kind
     all_arms_inside scopes subs end_of-Arm kind n l w h = h
     all_arms_inside scopes subs (more_of-Arm condition arm arms) kind n l w h =
         record {
-          condition = expr_inside scopes subs condition Boolean n l (left _ _ (left _ _ w)) h.condition;
-          arm = expr_inside scopes subs arm kind n l (right (within_levels condition n) _ (left _ _ w)) h.arm;
-          others = all_arms_inside scopes subs arms kind n l (right _ _ w) h.others;
+          condition = expr_inside scopes subs condition Boolean n l (left-true _ _ (left-true _ _ w)) h.condition;
+          arm = expr_inside scopes subs arm kind n l (right-true (within_levels condition n) _ (left-true _ _ w)) h.arm;
+          others = all_arms_inside scopes subs arms kind n l (right-true _ _ w) h.others;
         }
 
   all_items_inside : (scopes : List (List Kind)) (subs : List Kind) (items : List Item) (n : ℕ) → length scopes ≡ suc n →
@@ -292,37 +282,37 @@ module _ (outer : List (List Kind)) where
         record { input = query_inside inner input n l w h.input; in_range = h.in_range; named = h.named }
     query_inside inner (FilterOf input condition _ subs) n l w h =
         record {
-          input = query_inside inner input n l (left _ _ (left _ _ w)) h.input;
-          subs = all_subs_inside (kinds_of input ∷ inner) subs n (ap suc l) (right _ _ w) h.subs;
-          condition = expr_inside (kinds_of input ∷ inner) _ condition Boolean n (ap suc l) (right (reads_within input n) _ (left _ _ w)) h.condition;
+          input = query_inside inner input n l (left-true _ _ (left-true _ _ w)) h.input;
+          subs = all_subs_inside (kinds_of input ∷ inner) subs n (ap suc l) (right-true _ _ w) h.subs;
+          condition = expr_inside (kinds_of input ∷ inner) _ condition Boolean n (ap suc l) (right-true (reads_within input n) _ (left-true _ _ w)) h.condition;
         }
     query_inside inner (ProjectOf input items _ subs) n l w h =
         record {
-          input = query_inside inner input n l (left _ _ (left _ _ w)) h.input;
-          subs = all_subs_inside (kinds_of input ∷ inner) subs n (ap suc l) (right _ _ w) h.subs;
-          items = all_items_inside (kinds_of input ∷ inner) _ items n (ap suc l) (right (reads_within input n) _ (left _ _ w)) h.items;
+          input = query_inside inner input n l (left-true _ _ (left-true _ _ w)) h.input;
+          subs = all_subs_inside (kinds_of input ∷ inner) subs n (ap suc l) (right-true _ _ w) h.subs;
+          items = all_items_inside (kinds_of input ∷ inner) _ items n (ap suc l) (right-true (reads_within input n) _ (left-true _ _ w)) h.items;
         }
     query_inside inner (JoinOf kind first second condition _ subs) n l w h =
-        let inputs = left _ _ (left _ _ w) in
+        let inputs = left-true _ _ (left-true _ _ w) in
         record {
-          left = query_inside inner first n l (left _ _ inputs) h.left;
-          right = query_inside inner second n l (right (reads_within first n) _ inputs) h.right;
+          left = query_inside inner first n l (left-true _ _ inputs) h.left;
+          right = query_inside inner second n l (right-true (reads_within first n) _ inputs) h.right;
           subs = h.subs;
           condition = expr_inside ((kinds_of first ++ kinds_of second) ∷ inner) [] condition Boolean n (ap suc l)
-              (right (reads_within first n && reads_within second n) _ (left _ _ w)) h.condition;
+              (right-true (reads_within first n && reads_within second n) _ (left-true _ _ w)) h.condition;
         }
     query_inside inner (UnionOf all first second) n l w h =
-        record { left_side = query_inside inner first n l (left _ _ w) h.left_side; right_side = query_inside inner second n l (right _ _ w) h.right_side; same_kinds = h.same_kinds }
+        record { left_side = query_inside inner first n l (left-true _ _ w) h.left_side; right_side = query_inside inner second n l (right-true _ _ w) h.right_side; same_kinds = h.same_kinds }
     query_inside inner (IntersectOf all first second) n l w h =
-        record { left_side = query_inside inner first n l (left _ _ w) h.left_side; right_side = query_inside inner second n l (right _ _ w) h.right_side; same_kinds = h.same_kinds }
+        record { left_side = query_inside inner first n l (left-true _ _ w) h.left_side; right_side = query_inside inner second n l (right-true _ _ w) h.right_side; same_kinds = h.same_kinds }
     query_inside inner (ExceptOf all first second) n l w h =
-        record { left_side = query_inside inner first n l (left _ _ w) h.left_side; right_side = query_inside inner second n l (right _ _ w) h.right_side; same_kinds = h.same_kinds }
+        record { left_side = query_inside inner first n l (left-true _ _ w) h.left_side; right_side = query_inside inner second n l (right-true _ _ w) h.right_side; same_kinds = h.same_kinds }
     query_inside inner (DistinctOf input) n l w h = query_inside inner input n l w h
     query_inside inner (AggregateOf input groups aggregates) n l w h =
         record {
-          input = query_inside inner input n l (left _ _ w) h.input;
+          input = query_inside inner input n l (left-true _ _ w) h.input;
           groups = h.groups;
-          aggregates = all_aggregates_inside (kinds_of input ∷ inner) aggregates n (ap suc l) (right _ _ w) h.aggregates;
+          aggregates = all_aggregates_inside (kinds_of input ∷ inner) aggregates n (ap suc l) (right-true _ _ w) h.aggregates;
         }
     query_inside inner (LimitOf input keys count) n l w h = record { input = query_inside inner input n l w h.input; keys = h.keys; bound = h.bound }
     query_inside inner (ProvOf input) n l w h = query_inside inner input n l w h
@@ -331,9 +321,9 @@ module _ (outer : List (List Kind)) where
         subs_read_within subs n ≡ true → SubsForm (scopes ++ outer) subs → SubsForm scopes subs
     all_subs_inside scopes end_of-Sublink n l w h = h
     all_subs_inside scopes (more_of-Sublink kind tested query subs) n l w h =
-        let own = left _ _ w in
+        let own = left-true _ _ w in
         record {
-          query = query_inside scopes query (suc n) l (right (option_within tested n) _ own) h.query;
-          fitting = tested_inside kind tested scopes (kinds_of query) n l (left _ _ own) h.fitting;
-          others = all_subs_inside scopes subs n l (right _ _ w) h.others;
+          query = query_inside scopes query (suc n) l (right-true (option_within tested n) _ own) h.query;
+          fitting = tested_inside kind tested scopes (kinds_of query) n l (left-true _ _ own) h.fitting;
+          others = all_subs_inside scopes subs n l (right-true _ _ w) h.others;
         }

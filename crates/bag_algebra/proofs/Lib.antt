@@ -4,6 +4,7 @@ pub mod Columns
 mod FiniteMap
 pub mod Levels
 pub mod Members
+pub mod NeverBad
 pub mod Rest
 pub mod Seeking
 pub mod SortedBags

@@ -1,5 +1,16 @@
--- Both of two tests, one after the other, as code makes them.
-use Rattle.std.proofs.Common.{◌≡◌, Bool, true, false, ◌&&◌, sym, ap, ◌∙◌}
+-- Two tests that both hold, and both of two tests, one after the other, as code makes them.
+use Rattle.std.proofs.Common.{◌≡◌, Bool, true, false, ◌&&◌, refl, sym, ap, ◌∙◌, true≢false}
+
+pub both-true : (a b : Bool) → a ≡ true → b ≡ true → (a && b) ≡ true
+both-true a b e f = λ i. e i && f i
+
+pub left-true : (a b : Bool) → (a && b) ≡ true → a ≡ true
+left-true true b h = refl
+left-true false b h = h
+
+pub right-true : (a b : Bool) → (a && b) ≡ true → b ≡ true
+right-true true b h = h
+right-true false b h = absurd (true≢false (sym h))
 
 module _ (whole a b x : Bool) (is_both : whole ≡ (a && b)) (first : x ≡ a) where
   -- the first holds, and the second decides

@@ -6,6 +6,7 @@ mod env;
 mod expr;
 mod faults;
 mod kinds;
+mod laws;
 mod measures;
 mod place;
 mod query;
@@ -13,9 +14,13 @@ mod reach;
 mod scopes;
 mod tables;
 
+#[cfg(test)]
+mod tests;
+
 pub use env::Env;
 pub use expr::{Arm, ChainStep, Expr, Item};
 pub use faults::fault_free;
+pub use laws::fault_free_queries_meet_no_fault;
 pub use kinds::{kind_at, width};
 pub use measures::{height, size};
 pub use place::Place;
