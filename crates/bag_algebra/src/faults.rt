@@ -1,7 +1,7 @@
 //! What in a query may fault.
 ghost use Rattle.std.specs.Prelude.{◌≡◌};
 ghost use Rattle.bag_algebra.specs.BuiltFaultFree.{all_parts_faultless, all_arms_faultless, all_fault_free};
-ghost use Rattle.bag_algebra.specs.FaultFree.{faultless, option_faultless, items_faultless, aggregates_faultless, fault_free};
+ghost use Rattle.bag_algebra.specs.FaultFree.{faultless, items_faultless, aggregates_faultless, fault_free};
 
 use crate::expr::{Arm, Expr, Item};
 use crate::query::{AggFn, Aggr, Query, SubKind, Sublink};
@@ -59,11 +59,13 @@ fn all_fault_free(subs: &[Sublink]) -> bool
     ensures { result ≡ all_fault_free subs.now }
 {
     for sub in subs {
-        if matches!(sub.kind, SubKind::Scalar)
-            || !option_faultless(&sub.tested)
-            || !fault_free(&sub.query)
-        {
+        if matches!(sub.kind, SubKind::Scalar) || !fault_free(&sub.query) {
             return false;
+        }
+        if let Some(tested) = &sub.tested {
+            if !faultless(tested) {
+                return false;
+            }
         }
     }
     true
@@ -84,20 +86,16 @@ fn aggregates_faultless(aggregates: &[Aggr]) -> bool
     ensures { result ≡ aggregates_faultless aggregates.now }
 {
     for aggregate in aggregates {
-        if matches!(aggregate.function, AggFn::Sum) || !option_faultless(&aggregate.argument) {
+        if matches!(aggregate.function, AggFn::Sum) {
             return false;
+        }
+        if let Some(argument) = &aggregate.argument {
+            if !faultless(argument) {
+                return false;
+            }
         }
     }
     true
-}
-
-fn option_faultless(part: &Option<Expr>) -> bool
-    ensures { result ≡ option_faultless part.now }
-{
-    match part {
-        Some(part) => faultless(part),
-        None => true,
-    }
 }
 
 /// Whether the expression holds no chain and no negation of a number.

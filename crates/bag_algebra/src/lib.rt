@@ -13,15 +13,14 @@ mod query;
 mod reach;
 mod scopes;
 mod tables;
-
 #[cfg(test)]
 mod tests;
 
 pub use env::Env;
 pub use expr::{Arm, ChainStep, Expr, Item};
 pub use faults::fault_free;
-pub use laws::fault_free_queries_meet_no_fault;
 pub use kinds::{kind_at, width};
+pub use laws::fault_free_queries_meet_no_fault;
 pub use measures::{height, size};
 pub use place::Place;
 pub use query::{AggFn, Aggr, Answer, JoinKind, Label, Query, SubKind, Sublink};

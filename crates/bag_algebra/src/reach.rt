@@ -2,7 +2,7 @@
 ghost use Rattle.std.specs.Prelude.{◌≡◌, ◌↔◌, ℕ, nat_le, IsTrue, List, []};
 ghost use Rattle.perm_values.specs.declared.kind.Kind.{Kind};
 ghost use Rattle.bag_algebra.specs.BuiltClosed.{all_parts_within, all_steps_within, all_arms_within, all_read_within};
-ghost use Rattle.bag_algebra.specs.Closed.{within_levels, option_within, items_within, aggregates_within, reads_within, is_closed};
+ghost use Rattle.bag_algebra.specs.Closed.{within_levels, items_within, aggregates_within, reads_within, is_closed};
 ghost use Rattle.bag_algebra.specs.WellFormed.{WellFormed};
 
 use crate::expr::{Arm, ChainStep, Expr, Item};
@@ -68,7 +68,10 @@ fn outermost_of_subs(subs: &[Sublink]) -> u32
 {
     let mut needed: u32 = 0;
     for sub in subs {
-        let tested = farthest_of_option(&sub.tested);
+        let tested = match &sub.tested {
+            Some(tested) => farthest(tested),
+            None => 0,
+        };
         let query = outermost(&sub.query).saturating_sub(1);
         needed = needed.max(tested.max(query));
     }
@@ -90,18 +93,13 @@ fn farthest_of_aggregates(aggregates: &[Aggr]) -> u32
 {
     let mut level: u32 = 0;
     for aggregate in aggregates {
-        level = level.max(farthest_of_option(&aggregate.argument));
+        let read = match &aggregate.argument {
+            Some(argument) => farthest(argument),
+            None => 0,
+        };
+        level = level.max(read);
     }
     level
-}
-
-fn farthest_of_option(part: &Option<Expr>) -> u32
-    ensures { (n : ℕ) → nat_le result n ≡ option_within part.now n }
-{
-    match part {
-        Some(part) => farthest(part),
-        None => 0,
-    }
 }
 
 /// The greatest level of the columns in the expression, 0 where it has none.

@@ -1,10 +1,11 @@
-use Rattle.std.proofs.Common.{suc, ◌&&◌, sym, ap, ◌∙◌, arith}
+use Rattle.std.proofs.Common.{◌≡◌, ℕ, suc, ◌&&◌, sym, ap, ◌∙◌, arith}
 use Rattle.std.specs.Prelude.{nat_le}
 use Rattle.bag_algebra.specs.BuiltClosed.{all_read_within, reads_within-Base, reads_within-Filter, reads_within-Project, reads_within-Join, reads_within-Union, reads_within-Intersect, reads_within-Except, reads_within-Distinct, reads_within-Aggregate, reads_within-Limit, reads_within-Prov}
 use Rattle.bag_algebra.specs.Closed.{option_within, items_within, aggregates_within, reads_within}
 use Rattle.bag_algebra.specs.declared.query.Sublink.{Sublink}
-use Rattle.bag_algebra.proofs.Levels.{both-within, inside-within, from_none, one-more, all-done}
+use Rattle.bag_algebra.proofs.Levels.{none-needed, both-within, inside-within, from_none, one-more, all-done}
 use Rattle.bag_algebra.proofs.reach.+outermost.Goals as goal
+use Rattle.bag_algebra.proofs.reach.+outermost.Goals.{outermost_of_subs-in-Some, outermost_of_subs-in-None}
 
 pub outermost-returns-in-Base : goal.outermost-returns-in-Base
 outermost-returns-in-Base t c = λ n.
@@ -84,8 +85,12 @@ outermost_of_subs-loop-sub-init t c = from_none (λ (sub : Sublink) n. option_wi
 
 pub outermost_of_subs-loop-sub-preserved : goal.outermost_of_subs-loop-sub-preserved
 outermost_of_subs-loop-sub-preserved t c =
+    let needed : (n : ℕ) → nat_le c.match-sub.tested n ≡ option_within c.sub-item.result.tested n = elim c.match-sub.branch [
+      | outermost_of_subs-in-Some w ↦ λ n. ap (λ k. nat_le k n) w.tested-is ∙ w.farthest-tested.ensures n ∙ ap (λ part. option_within part n) (sym w.in-Some.is)
+      | outermost_of_subs-in-None w ↦ λ n. ap (λ k. nat_le k n) w.tested-is ∙ none-needed n ∙ ap (λ part. option_within part n) (sym w.in-None.is)
+    ] in
     one-more (λ (sub : Sublink) n. option_within sub.tested n && reads_within sub.query (suc n)) c.args.subs.now c.loop-sub.sub-index c.loop-sub.needed c.loop-sub.invariant c.sub-item.result c.max.result _
-    c.loop-sub-test.true c.sub-item.is (λ n. both-within _ _ _ _ _ n c.max.ensures (c.farthest_of_option-tested.ensures n)
+    c.loop-sub-test.true c.sub-item.is (λ n. both-within _ _ _ _ _ n c.max.ensures (needed n)
     (ap (λ k. nat_le k n) c.saturating_sub-query.ensures ∙ inside-within c.outermost.result n ∙ c.outermost.ensures (suc n))) c.max-needed.ensures
 
 pub outermost_of_subs-returns : goal.outermost_of_subs-returns
