@@ -7,15 +7,12 @@ use Rattle.perm_values.specs.ValueLaws.{row_decides}
 use Rattle.perm_values.specs.declared.kind.Kind.{Kind}
 use Rattle.bag_algebra.proofs.BagLaws.{once-same_members}
 use Rattle.bag_algebra.proofs.Members.{IsIn, in-map, from-map, in-flat_map, from-flat_map, in-filter, from-filter, in-member, member-in, same_members}
-use Rattle.bag_algebra.specs.ColumnItems.{column_item, column_items}
+use Rattle.bag_algebra.specs.ColumnItems.{column_items}
 use Rattle.bag_algebra.specs.Bags.{Row, Bag, SameBag, once, member}
-use Rattle.bag_algebra.specs.Kinds.{kind_in}
 use Rattle.bag_algebra.specs.Meaning.{Database, denote, meaning, items_on}
 use Rattle.bag_algebra.specs.Means.{Means, Held, Witness, flat, gives, with_lists, with_witnesses, no_subs, base_means, unlisted_means, project_means, provenance_means}
 use Rattle.bag_algebra.specs.Outcome.{Outcome, Good, Bad, each, both, mapped}
 use Rattle.bag_algebra.specs.Patterns.{BaseOf, ProjectOf, DistinctOf, ProvOf}
-use Rattle.bag_algebra.specs.declared.expr.Expr.TheVariants.{Col}
-use Rattle.bag_algebra.specs.declared.expr.Item.{Item}
 use Rattle.bag_algebra.specs.declared.query.Label.{Label}
 use Rattle.bag_algebra.specs.declared.query.Query.{end_of-Sublink}
 use Rattle.bag_algebra.specs.declared.query.Query.TheVariants.{Table}

@@ -47,5 +47,5 @@ pub record IsRewrite (q p : Query) : Type 0 where
   pub formed : (outer : List (List Kind)) → WellFormed outer q → WellFormed outer p
   pub tables : (db : Database) → TablesFit db q → TablesFit db p
   pub rows : (outer : List (List Kind)) (db : Database) (env : List Row) →
-             WellFormed outer q → TablesFit db q → env_fits env outer ≡ true →
-             SameSet (meaning (ProvOf q) db env) (meaning p db env)
+      WellFormed outer q → TablesFit db q → env_fits env outer ≡ true →
+      SameSet (meaning (ProvOf q) db env) (meaning p db env)
