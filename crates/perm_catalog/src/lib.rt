@@ -3,6 +3,7 @@
 
 mod catalog;
 mod column;
+mod drop_held;
 mod entries;
 mod last;
 mod renew;
