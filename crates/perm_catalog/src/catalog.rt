@@ -255,7 +255,8 @@ impl Catalog {
     pub fn drop_table(&mut self, name: &Chars)
         requires held { IsSome (table_named self.old name.now) }
         requires unused { first_user self.old name.now ≡ None }
-        ensures { IfSome (table_named self.old name.now) (λ entry. self.new ≡ without_table self.old name.now entry.id) }
+        ensures dropped { IfSome (table_named self.old name.now) (λ entry. self.new ≡ without_table self.old name.now entry.id) }
+        ensures gone { table_named self.new name.now ≡ None }
     {
         if let Some(entry) = self.tables.shift_remove(name) {
             let _rows = self.rows.remove(entry.id);
@@ -266,7 +267,8 @@ impl Catalog {
     pub fn drop_view(&mut self, name: &Chars)
         requires held { IsSome (view_named self.old name.now) }
         requires unused { first_user self.old name.now ≡ None }
-        ensures { self.new ≡ without_view self.old name.now }
+        ensures dropped { self.new ≡ without_view self.old name.now }
+        ensures gone { view_named self.new name.now ≡ None }
     {
         let _entry = self.views.shift_remove(name);
     }
