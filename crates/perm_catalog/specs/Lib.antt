@@ -1,3 +1,6 @@
 pub mod Changes
+pub mod Columns
 pub mod Contents
 pub mod Lookups
+pub mod Reads
+pub mod Sound

@@ -6,6 +6,7 @@ mod column;
 mod drop_held;
 mod entries;
 mod last;
+pub mod laws;
 mod renew;
 
 pub use catalog::{Catalog, CatalogRefusal};
