@@ -7,6 +7,7 @@ use Rattle.std.specs.Map.{keys_of}
 use Rattle.bag_algebra.specs.Bags.{Bag}
 use Rattle.bag_algebra.specs.Fits.{bag_fits}
 use Rattle.bag_algebra.specs.Kinds.{width_of}
+use Rattle.bag_algebra.specs.Scoped.{is_scoped}
 use Rattle.bag_algebra.specs.WellFormed.{WellFormed, PlacesIn, KeysIn}
 use Rattle.bag_algebra.specs.declared.query.Answer.{Answer}
 use Rattle.perm_catalog.specs.Changes.{table_named, view_named}
@@ -37,14 +38,15 @@ pub record IsHeldRead (c : Contents) (view : ViewEntry) (read : TableRead) : Typ
   pub kinds : column_kinds table.columns ≡ read.kinds
   pub used : uses_name view name ≡ true
 
--- the names of an answer are as many as its columns, of which there is one, and its keys are among its columns
+-- a closed, well formed and scoped query with a column, as many names as columns, and keys among its columns
 pub record IsSoundAnswer (answer : Answer) : Type 0 where
   pub closed : WellFormed [] answer.query
+  pub scoped : is_scoped answer.query ≡ true
   pub some : 0 < width_of answer.query
   pub named : length answer.names ≡ width_of answer.query
   pub keys : KeysIn (width_of answer.query) answer.keys
 
--- a closed, well formed query whose names, keys and places fit it, over tables that are held and named
+-- its answer is sound, its places are among the columns, and every table that it reads is held and named
 pub record IsSoundView (c : Contents) (view : ViewEntry) : Type 0 where
   pub answer : IsSoundAnswer view.answer
   pub places : IfSome view.places (PlacesIn (width_of view.answer.query))
