@@ -6,9 +6,12 @@ mod column;
 mod drop_held;
 mod entries;
 mod last;
-pub mod laws;
+mod laws;
 mod renew;
+#[cfg(test)]
+mod tests;
 
 pub use catalog::{Catalog, CatalogRefusal};
 pub use column::Column;
 pub use entries::{Kept, Mark, TableEntry, ViewEntry};
+pub use laws::catalogs_stay_sound;
