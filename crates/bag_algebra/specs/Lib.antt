@@ -1,13 +1,16 @@
 pub mod Bags
 pub mod ColumnItems
 pub mod Expressions
+pub mod Fits
 pub mod Kinds
 pub mod Meaning
 pub mod Means
 pub mod Outcome
 pub mod Patterns
 pub mod PlaceNames
+pub mod Rewriting
 pub mod TableRows
+pub mod WellFormed
 pub mod WorkedRows
 pub mod Built
 pub mod Children

@@ -1,0 +1,51 @@
+-- When a plain query is a rewriting of a query: on every database and under all outer rows that fit, its rows are, as a
+-- set, those of the query's PROVENANCE, and it meets the same faults (after Glavic and Alonso, ICDE 2009).
+use Rattle.std.specs.Prelude.{◌≡◌, Bool, true, false, ◌&&◌, List, ◌++◌}
+use Rattle.perm_values.specs.declared.kind.Kind.{Kind}
+use Rattle.bag_algebra.specs.Bags.{Row, Bag, member}
+use Rattle.bag_algebra.specs.Fits.{TablesFit, env_fits}
+use Rattle.bag_algebra.specs.Kinds.{kinds_of, shape, place_kinds}
+use Rattle.bag_algebra.specs.Meaning.{Database, meaning}
+use Rattle.bag_algebra.specs.Outcome.{Outcome, Good, Bad}
+use Rattle.bag_algebra.specs.Patterns.{BaseOf, FilterOf, ProjectOf, JoinOf, UnionOf, IntersectOf, ExceptOf, DistinctOf, AggregateOf, LimitOf, ProvOf}
+use Rattle.bag_algebra.specs.WellFormed.{WellFormed}
+use Rattle.bag_algebra.specs.declared.query.Query.{Query, Row_of-Sublink, more_of-Sublink, end_of-Sublink}
+use Rattle.bag_algebra.specs.declared.query.Query.TheVariants.{Table, Single}
+
+-- no PROVENANCE anywhere, sublinks included
+abbrev mutual
+  pub is_plain : Query → Bool
+  is_plain (Table id kinds) = true
+  is_plain Single = true
+  is_plain (BaseOf input places label) = is_plain input
+  is_plain (FilterOf input condition _ subs) = is_plain input && subs_plain subs
+  is_plain (ProjectOf input items _ subs) = is_plain input && subs_plain subs
+  is_plain (JoinOf kind left right condition _ subs) = is_plain left && is_plain right && subs_plain subs
+  is_plain (UnionOf all left right) = is_plain left && is_plain right
+  is_plain (IntersectOf all left right) = is_plain left && is_plain right
+  is_plain (ExceptOf all left right) = is_plain left && is_plain right
+  is_plain (DistinctOf input) = is_plain input
+  is_plain (AggregateOf input groups aggregates) = is_plain input
+  is_plain (LimitOf input keys count) = is_plain input
+  is_plain (ProvOf input) = false
+
+  pub subs_plain : {m : _} → Row_of-Sublink m → Bool
+  subs_plain end_of-Sublink = true
+  subs_plain (more_of-Sublink kind tested query subs) = is_plain query && subs_plain subs
+
+-- the same set of faults, or the same set of rows
+abbrev pub SameSet : Outcome Bag → Outcome Bag → Type 0
+SameSet (Good us) (Good vs) = (t : Row) → member t us ≡ member t vs
+SameSet (Good us) (Bad g) = ⊥
+SameSet (Bad f) (Good vs) = ⊥
+SameSet (Bad f) (Bad g) = f ≡ g
+
+-- p is a rewriting of q
+pub record IsRewrite (q p : Query) : Type 0 where
+  pub plain : is_plain p ≡ true
+  pub kinds : kinds_of p ≡ kinds_of q ++ place_kinds (shape q)
+  pub formed : (outer : List (List Kind)) → WellFormed outer q → WellFormed outer p
+  pub tables : (db : Database) → TablesFit db q → TablesFit db p
+  pub rows : (outer : List (List Kind)) (db : Database) (env : List Row) →
+             WellFormed outer q → TablesFit db q → env_fits env outer ≡ true →
+             SameSet (meaning (ProvOf q) db env) (meaning p db env)
