@@ -4,3 +4,9 @@ pub mod OrderOfRows
 pub mod OrderOfSets
 pub mod OrderOfGroups
 pub mod OrderOfQueries
+pub mod WhereGood
+pub mod ValueKinds
+pub mod RowKinds
+pub mod NodeKinds
+pub mod GroupKinds
+pub mod QueryKinds

@@ -1,1 +1,3 @@
 pub mod SameMeaning
+pub mod FitsPlaces
+pub mod Fitting

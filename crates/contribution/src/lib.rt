@@ -3,4 +3,4 @@
 
 mod laws;
 
-pub use laws::order_of_rows_is_free;
+pub use laws::{order_of_rows_is_free, rows_have_the_kinds, values_have_their_kinds};
