@@ -10,3 +10,5 @@ pub mod RowKinds
 pub mod NodeKinds
 pub mod GroupKinds
 pub mod QueryKinds
+pub mod LongerKinds
+pub mod Growth

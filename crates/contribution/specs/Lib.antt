@@ -1,3 +1,5 @@
 pub mod SameMeaning
 pub mod FitsPlaces
 pub mod Fitting
+pub mod Longer
+pub mod SameColumns

@@ -1,6 +1,11 @@
 //! Laws of the definitions: each is the contract of a function that does nothing.
+mod growth;
 mod kinds;
 mod order;
 
+pub use growth::{
+    closed_queries_see_no_outer_row, longer_outer_kinds_serve_too, meaning_rests_on_named_columns,
+    values_added_to_outer_rows_change_nothing,
+};
 pub use kinds::{rows_have_the_kinds, values_have_their_kinds};
 pub use order::order_of_rows_is_free;
