@@ -1,0 +1,3 @@
+pub mod BagMembers
+pub mod GoodRows
+pub mod NoRowLost
