@@ -13,11 +13,21 @@ use Rattle.perm_values.specs.declared.value.Value.{Value}
 use Rattle.bag_algebra.proofs.Columns.{in-with_lists}
 use Rattle.bag_algebra.proofs.Members.{IsIn, in-map, from-map, in-append_left, in-append_right, from-append, in-flat_map, in-filter, from-filter, in-member, member-in}
 use Rattle.bag_algebra.specs.Bags.{Row, Bag, member, once, nulls, sorted, union_of, intersect_of, except_of}
-use Rattle.bag_algebra.specs.Means.{Means, Witness, Held, SubMeans, Blanks, with_lists, paired, beside, good_rows, base_means, filter_means, project_means, join_means, joined_rows, keeps_left, keeps_right, met_pairs, unmatched_left, unmatched_right, pair_lists, left_lists, right_lists, is_met, holds_of, kept, gives, union_means, intersect_means, except_means, differing_lists, distinct_means, limit_means, unlisted_means}
+use Rattle.bag_algebra.specs.Means.{Means, Witness, Held, SubMeans, Blanks, with_lists, paired, beside, good_rows, base_means, filter_means, project_means, join_means, joined_rows, keeps_left, keeps_right, met_pairs, unmatched_left, unmatched_right, pair_lists, left_lists, right_lists, is_met, holds_of, kept, gives, union_means, intersect_means, except_means, differing_lists, distinct_means, limit_means, unlisted_means, aggregate_means, provenance_means, class_lists, grouped, contribution_of, chosen, is_some_row, good_value, all_empty}
 use Rattle.bag_algebra.specs.Outcome.{Outcome, Good, Bad, and_then, mapped, both, both_then, gather, each}
+use Rattle.bag_algebra.specs.Kinds.{shape, width_of}
+use Rattle.bag_algebra.specs.Meaning.{Database, denote, sub_denote, optional_value, condition_on, arguments_on}
+use Rattle.bag_algebra.specs.Patterns.{BaseOf, FilterOf, ProjectOf, JoinOf, UnionOf, IntersectOf, ExceptOf, DistinctOf, AggregateOf, LimitOf, ProvOf}
+use Rattle.bag_algebra.specs.declared.query.AggFn.{AggFn}
+use Rattle.bag_algebra.specs.declared.query.Aggr.{Aggr}
 use Rattle.bag_algebra.specs.declared.query.JoinKind.{JoinKind}
+use Rattle.bag_algebra.specs.declared.query.SubKind.{SubKind}
+use Rattle.bag_algebra.specs.declared.query.Query.{Query, Row_of-Sublink, more_of-Sublink, end_of-Sublink}
+use Rattle.bag_algebra.specs.declared.query.Query.TheVariants.{Table, Single}
 use Rattle.contribution.proofs.BagMembers.{from-once, from-union, from-intersect, from-except, from-take, from-sorted}
+use Rattle.contribution.proofs.Classes.{OfClass, from-grouped, some_of_class}
 use Rattle.contribution.proofs.GoodRows.{from-and_then, from-mapped, from-both, from-both_then, from-gather, from-each, from-kept}
+use Rattle.contribution.proofs.TruthKept.{from-chosen, some_chosen}
 
 -- there is a list
 abbrev pub Listed : List Witness → Type 0
@@ -220,3 +230,62 @@ pub none_lost-limit : (keys : List Key) (count : ℕ) (m : Means) → NoneLost m
 none_lost-limit keys count m n = none_lost-with_lists _ _ (λ t h.
     n.listed t (from-sorted (printed_cmp keys) t (good_rows m.rows) (from-take t count (sorted (printed_cmp keys) (good_rows m.rows))
     (from-mapped (λ bag. take count (sorted (printed_cmp keys) bag)) m.rows t h))))
+
+-- ---- grouping
+
+module _ (groups : List ℕ) (blank : Witness) (m : Means) where
+  listed-class : (us : Bag) (t : Row) → OfClass groups us t → ((v : Row) → IsIn v us → Listed (m.lists v)) → Listed (class_lists groups blank m us t)
+  listed-class [] t c all = (blank, inl refl)
+  listed-class (u ∷ us) t c all = let found = some_of_class groups u us t c in listed-flat_map m.lists found.0 _ found.2 (all found.0 found.1)
+
+pub none_lost-aggregate : (groups : List ℕ) (functions : List AggFn) (arguments : Row → Outcome Row) (blank : Witness) (m : Means) →
+    NoneLost m → NoneLost (aggregate_means groups functions arguments blank m)
+none_lost-aggregate groups functions arguments blank m n = none_lost-with_lists _ _ (λ t h.
+    listed-class groups blank m (good_rows m.rows) t
+    (from-grouped groups functions arguments (good_rows m.rows) t (from-and_then m.rows (grouped groups functions arguments) t h)) n.listed)
+
+-- ---- sublinks
+
+listed-chosen : (blank : Witness) (kind : SubKind) (x : Value) (lists : Row → List Witness) (bag : Bag) → ((v : Row) → IsIn v bag → Listed (lists v)) →
+    Listed (cond (is_some_row bag) (flat_map lists (chosen kind x bag)) (blank ∷ []))
+listed-chosen blank kind x lists [] all = (blank, inl refl)
+listed-chosen blank kind x lists (row ∷ rows) all =
+    let found = some_chosen kind x row rows in
+    listed-flat_map lists found.0 _ found.1 (all found.0 (from-chosen kind x (row ∷ rows) found.0 found.1))
+
+-- each sublink contributes at least one list
+pub listed-contribution : (blank : Witness) (kind : SubKind) (x : Value) (m : Means) → NoneLost m → Listed (contribution_of blank kind x m)
+listed-contribution blank kind x m n = listed-chosen blank kind x m.lists (good_rows m.rows) n.listed
+
+-- ---- all queries
+
+mutual
+  pub none_lost : (q : Query) (db : Database) (env : List Row) → NoneLost (denote q db env)
+  none_lost (Table id kinds) db env = none_lost-unlisted (Good (db id))
+  none_lost Single db env = none_lost-unlisted (Good ([] ∷ []))
+  none_lost (BaseOf input places label) db env = none_lost-base places (denote input db env)
+  none_lost (FilterOf input condition _ subs) db env =
+      none_lost-filter _ _ (denote input db env) (none_lost-subs subs db env) (none_lost input db env)
+  none_lost (ProjectOf input items _ subs) db env =
+      none_lost-project _ _ (denote input db env) (none_lost-subs subs db env) (none_lost input db env)
+  none_lost (JoinOf kind left right condition _ subs) db env =
+      let s = sub_denote subs db env in
+      none_lost-join kind (condition_on condition env s) s.contributions
+      (record { left = all_empty (shape left); right = all_empty (shape right); subs = s.blank }) (width_of left) (width_of right) (denote left db env) (denote right db env) (none_lost-subs subs db env) (none_lost left db env) (none_lost right db env)
+  none_lost (UnionOf all left right) db env =
+      none_lost-union all _ _ (denote left db env) (denote right db env) (none_lost left db env) (none_lost right db env)
+  none_lost (IntersectOf all left right) db env =
+      none_lost-intersect all (denote left db env) (denote right db env) (none_lost left db env) (none_lost right db env)
+  none_lost (ExceptOf all left right) db env =
+      none_lost-except all _ (denote left db env) (denote right db env) (none_lost left db env) (none_lost right db env)
+  none_lost (DistinctOf input) db env = none_lost-distinct (denote input db env) (none_lost input db env)
+  none_lost (AggregateOf input groups aggregates) db env =
+      none_lost-aggregate groups (map (λ (aggregate : Aggr). aggregate.function) aggregates) (arguments_on aggregates env) (all_empty (shape input))
+      (denote input db env) (none_lost input db env)
+  none_lost (LimitOf input keys count) db env = none_lost-limit keys count (denote input db env) (none_lost input db env)
+  none_lost (ProvOf input) db env = none_lost-unlisted _
+
+  pub none_lost-subs : {m : _} (subs : Row_of-Sublink m) (db : Database) (env : List Row) (u : Row) → AllListed ((sub_denote subs db env).contributions u)
+  none_lost-subs end_of-Sublink db env u = tt
+  none_lost-subs (more_of-Sublink kind tested query subs) db env u =
+      (listed-contribution (all_empty (shape query)) kind (good_value (optional_value tested env u)) (denote query db (u ∷ env)) (none_lost query db (u ∷ env)), none_lost-subs subs db env u)
