@@ -97,7 +97,7 @@ each-beside ps qs rs ss ws contributions a (first {ws = vs} {more = more} ps' qs
     (append_assoc ps ps' qs') (append_assoc rs rs' ss')
     (each-beside (ps ++ ps') qs' (rs ++ rs') ss' (paired ws vs) more (each-paired ps ps' rs rs' ws vs a b) c)
 
-from-lists : (rows : Outcome Bag) (lists : Row → List Witness) (t : Row) (w : Witness) → IsIn w ((with_lists rows lists).lists t) → IsIn t (good_rows rows) × IsIn w (lists t)
+pub from-lists : (rows : Outcome Bag) (lists : Row → List Witness) (t : Row) (w : Witness) → IsIn w ((with_lists rows lists).lists t) → IsIn t (good_rows rows) × IsIn w (lists t)
 from-lists (Good bag) lists t w h = from-with_lists bag lists t w h
 from-lists (Bad faults) lists t w h = absurd h
 

@@ -1,3 +1,9 @@
 //! The contribution of source rows to the rows of an answer: places, their names, and the laws of witness lists.
 #![tactic(auto)]
 
+mod laws;
+
+pub use laws::{
+    contributing_rows_keep_the_value, entries_stand_at_their_places, no_row_is_lost,
+    provenance_stands_once,
+};
