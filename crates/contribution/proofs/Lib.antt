@@ -1,3 +1,4 @@
+pub mod Added
 pub mod BagMembers
 pub mod Classes
 pub mod EntriesAtPlaces

@@ -2,8 +2,10 @@
 #![tactic(auto)]
 
 mod laws;
+mod places;
 
 pub use laws::{
     contributing_rows_keep_the_value, entries_stand_at_their_places, no_row_is_lost,
     provenance_stands_once,
 };
+pub use places::{PlaceList, kinds, shape};
