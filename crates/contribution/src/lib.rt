@@ -2,10 +2,12 @@
 #![tactic(auto)]
 
 mod laws;
+mod names;
 mod places;
 
 pub use laws::{
     contributing_rows_keep_the_value, entries_stand_at_their_places, no_row_is_lost,
     provenance_stands_once,
 };
+pub use names::prov_names;
 pub use places::{PlaceList, kinds, shape};
