@@ -1,6 +1,7 @@
 pub mod Added
 pub mod BagMembers
 pub mod Classes
+pub mod ColumnQueries
 pub mod EntriesAtPlaces
 pub mod GoodRows
 pub mod ListedRows

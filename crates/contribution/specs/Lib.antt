@@ -1,3 +1,4 @@
 pub mod HeldRows
 pub mod LabelNames
+pub mod NullRow
 pub mod SublinkValues
