@@ -1,4 +1,5 @@
-//! The contribution of source rows to the rows of an answer: places, their names, and the laws of witness lists.
+//! The contribution of source rows to the rows of an answer: places, their names, and the laws of what queries mean and
+//! of their witness lists.
 #![tactic(auto)]
 
 mod blank;
@@ -10,7 +11,7 @@ mod reorder;
 pub use blank::null_row;
 pub use laws::{
     contributing_rows_keep_the_value, entries_stand_at_their_places, no_row_is_lost,
-    provenance_stands_once,
+    order_of_rows_is_free, provenance_stands_once, rows_have_the_kinds, values_have_their_kinds,
 };
 pub use names::prov_names;
 pub use places::{PlaceList, kinds, shape};
