@@ -1,5 +1,9 @@
-pub mod SameMeaning
 pub mod FitsPlaces
 pub mod Fitting
+pub mod HeldRows
+pub mod LabelNames
 pub mod Longer
+pub mod NullRow
 pub mod SameColumns
+pub mod SameMeaning
+pub mod SublinkValues

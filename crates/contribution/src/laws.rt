@@ -2,6 +2,7 @@
 mod growth;
 mod kinds;
 mod order;
+mod witnesses;
 
 pub use growth::{
     closed_queries_see_no_outer_row, longer_outer_kinds_serve_too, meaning_rests_on_named_columns,
@@ -9,3 +10,7 @@ pub use growth::{
 };
 pub use kinds::{rows_have_the_kinds, values_have_their_kinds};
 pub use order::order_of_rows_is_free;
+pub use witnesses::{
+    contributing_rows_keep_the_value, entries_stand_at_their_places, no_row_is_lost,
+    provenance_stands_once,
+};

@@ -1,10 +1,20 @@
-//! The laws of what queries mean and of their witness lists.
+//! The contribution of source rows to the rows of an answer: places, their names, and the laws of what queries mean and
+//! of their witness lists.
 #![tactic(auto)]
 
+mod blank;
 mod laws;
+mod names;
+mod places;
+mod reorder;
 
+pub use blank::null_row;
 pub use laws::{
-    closed_queries_see_no_outer_row, longer_outer_kinds_serve_too, meaning_rests_on_named_columns,
-    order_of_rows_is_free, rows_have_the_kinds, values_added_to_outer_rows_change_nothing,
-    values_have_their_kinds,
+    closed_queries_see_no_outer_row, contributing_rows_keep_the_value,
+    entries_stand_at_their_places, longer_outer_kinds_serve_too, meaning_rests_on_named_columns,
+    no_row_is_lost, order_of_rows_is_free, provenance_stands_once, rows_have_the_kinds,
+    values_added_to_outer_rows_change_nothing, values_have_their_kinds,
 };
+pub use names::prov_names;
+pub use places::{PlaceList, kinds, shape};
+pub use reorder::regroup;
