@@ -19,6 +19,7 @@ pub mod OrderOfSets
 pub mod QueryKinds
 pub mod RowKinds
 pub mod SharedMembers
+pub mod TablesRead
 pub mod TruthKept
 pub mod ValueKinds
 pub mod WhereGood

@@ -1,3 +1,4 @@
+pub mod EachTable
 pub mod FitsPlaces
 pub mod Fitting
 pub mod HeldRows

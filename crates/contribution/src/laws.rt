@@ -9,7 +9,7 @@ pub use growth::{
     values_added_to_outer_rows_change_nothing,
 };
 pub use kinds::{rows_have_the_kinds, values_have_their_kinds};
-pub use order::order_of_rows_is_free;
+pub use order::{order_of_rows_is_free, queries_read_their_tables_alone};
 pub use witnesses::{
     contributing_rows_keep_the_value, entries_stand_at_their_places, no_row_is_lost,
     provenance_stands_once,
