@@ -8,3 +8,4 @@ pub mod NullRow
 pub mod SameColumns
 pub mod SameMeaning
 pub mod SublinkValues
+pub mod WorkedForms
