@@ -7,7 +7,7 @@ use Rattle.null_logic.specs.declared.operator.Operator.TheVariants as op
 use Rattle.perm_values.specs.declared.kind.Kind.{Kind}
 use Rattle.perm_values.specs.declared.kind.Kind.TheVariants as kind
 use Rattle.perm_values.specs.declared.value.Value.{Value}
-use Rattle.perm_values.specs.declared.value.Value.TheVariants.{Null, Integer, Text, Boolean}
+use Rattle.perm_values.specs.declared.value.Value.TheVariants.{Null, Integer, Text}
 use Rattle.perm_values.specs.Rows.{same_row}
 use Rattle.bag_algebra.specs.Bags.{Row, Bag, count}
 use Rattle.bag_algebra.specs.Fits.{env_fits}
