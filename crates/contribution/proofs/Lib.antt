@@ -1,4 +1,5 @@
 pub mod Added
+pub mod AddedColumns
 pub mod Agreement
 pub mod BagMembers
 pub mod Classes
