@@ -48,7 +48,7 @@ none-in : {X : Type 0} (xs : List X) → ((x : X) → IsIn x xs → ⊥) → xs 
 none-in [] f = refl
 none-in (x ∷ xs) f = absurd (f x (inl refl))
 
-some-in : {X : Type 0} (xs : List X) → xs ≢ [] → (x : X) × IsIn x xs
+pub some-in : {X : Type 0} (xs : List X) → xs ≢ [] → (x : X) × IsIn x xs
 some-in [] f = absurd (f refl)
 some-in (x ∷ xs) f = (x, inl refl)
 
