@@ -29,13 +29,15 @@ module _ (outer : List (List Kind)) (q : Query) (db : Database) (env : List Row)
   pub first_columns : (t : Row) → IsTrue (member t bag) ↔ ((u : Row) × IsTrue (member u found) × (take (width_of q) u ≡ t))
   first_columns t = (
     λ h.
-    let list = some-in (witnesses q db env t) ((row-listed q db env bag t good).0 h) in
-    let u = t ++ flat list.0 in
-    (u, (provenance-pairs q db env bag found u good provenance).1 (t, list.0, h, contains-from_in list.0 (witnesses q db env t) list.1, λ i. u),
-    cut-off (width_of q) t (flat list.0) (width t h)),
+        let list = some-in (witnesses q db env t) ((row-listed q db env bag t good).0 h) in
+        let u = t ++ flat list.0 in (
+          u,
+          (provenance-pairs q db env bag found u good provenance).1 (t, list.0, h, contains-from_in list.0 (witnesses q db env t) list.1, λ i. u),
+          cut-off (width_of q) t (flat list.0) (width t h),
+        ),
     λ front.
-    let pair = (provenance-pairs q db env bag found front.0 good provenance).0 front.1 in
-    let same : pair.0 ≡ t =
-    sym (cut-off (width_of q) pair.0 (flat pair.1) (width pair.0 pair.2)) ∙ ap (take (width_of q)) pair.4 ∙ front.2 in
-    subst (λ r. IsTrue (member r bag)) same pair.2,
+        let pair = (provenance-pairs q db env bag found front.0 good provenance).0 front.1 in
+        let same : pair.0 ≡ t =
+        sym (cut-off (width_of q) pair.0 (flat pair.1) (width pair.0 pair.2)) ∙ ap (take (width_of q)) pair.4 ∙ front.2 in
+        subst (λ r. IsTrue (member r bag)) same pair.2,
   )

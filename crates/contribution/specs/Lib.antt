@@ -5,3 +5,4 @@ pub mod LabelNames
 pub mod NullRow
 pub mod SameMeaning
 pub mod SublinkValues
+pub mod WorkedPlaces
