@@ -5,6 +5,7 @@ pub mod BagMembers
 pub mod Classes
 pub mod ColumnQueries
 pub mod EntriesAtPlaces
+pub mod FirstColumns
 pub mod GoodRows
 pub mod GroupKinds
 pub mod Growth

@@ -48,19 +48,19 @@ none-in : {X : Type 0} (xs : List X) → ((x : X) → IsIn x xs → ⊥) → xs 
 none-in [] f = refl
 none-in (x ∷ xs) f = absurd (f x (inl refl))
 
-some-in : {X : Type 0} (xs : List X) → xs ≢ [] → (x : X) × IsIn x xs
+pub some-in : {X : Type 0} (xs : List X) → xs ≢ [] → (x : X) × IsIn x xs
 some-in [] f = absurd (f refl)
 some-in (x ∷ xs) f = (x, inl refl)
 
 -- a row is in a good answer exactly where it has a list
 pub row-listed : (q : Query) (db : Database) (env : List Row) (bag : Bag) (t : Row) → meaning q db env ≡ Good bag → IsTrue (member t bag) ↔ (witnesses q db env t ≢ [])
 row-listed q db env bag t e = (
-    λ h none.
-    let l = (none_lost q db env).listed t (subst (IsIn t) (sym (ap good_rows e)) (member-in t bag h)) in
-    subst (IsIn l.0) none l.1,
-    λ some.
-    let w = some-in (witnesses q db env t) some in
-    in-member t bag (subst (IsIn t) (ap good_rows e) ((only_rows q db env).row t w.0 w.1)),
+  λ h none.
+      let l = (none_lost q db env).listed t (subst (IsIn t) (sym (ap good_rows e)) (member-in t bag h)) in
+      subst (IsIn l.0) none l.1,
+  λ some.
+      let w = some-in (witnesses q db env t) some in
+      in-member t bag (subst (IsIn t) (ap good_rows e) ((only_rows q db env).row t w.0 w.1)),
 )
 
 pub no_list-where_bad : (q : Query) (db : Database) (env : List Row) (faults : Faults) (t : Row) → meaning q db env ≡ Bad faults → witnesses q db env t ≡ []
@@ -129,8 +129,7 @@ in-beside_lists q db env bag u p =
 pub provenance-pairs : (q : Query) (db : Database) (env : List Row) (bag found : Bag) (u : Row) → meaning q db env ≡ Good bag → meaning (ProvOf q) db env ≡ Good found →
     IsTrue (member u found) ↔ IsPair q db env bag u
 provenance-pairs q db env bag found u e f =
-    let is : found ≡ once (beside_lists q db env bag) = provenance-found q db env found f ∙ ap (λ o. once (beside_lists q db env (good_rows o))) e in
-    (
+    let is : found ≡ once (beside_lists q db env bag) = provenance-found q db env found f ∙ ap (λ o. once (beside_lists q db env (good_rows o))) e in (
       λ h. from-beside_lists q db env bag u (from-once u (beside_lists q db env bag) (subst (IsIn u) is (member-in u found h))),
       λ p. in-member u found (subst (IsIn u) (sym is) (in-once u (beside_lists q db env bag) (in-beside_lists q db env bag u p))),
     )

@@ -177,15 +177,15 @@ none_lost-join kind condition contributions blanks left_width right_width l r al
     let rights = cond (keeps_right kind) (right_lists condition r blanks left_width us vs t) [] in
     elim (from-joined_rows kind condition left_width right_width us vs t (from-both_then l.rows r.rows (joined_rows kind condition left_width right_width) t h)) [
       | pair m ↦ listed-left (pairs ++ lefts) rights (listed-left pairs lefts
-      (listed-pair condition contributions l r us vs t all m (p.listed m.left m.in_left) (q.listed m.right m.in_right)))
+          (listed-pair condition contributions l r us vs t all m (p.listed m.left m.in_left) (q.listed m.right m.in_right)))
       | left_alone keeps u here makes ↦ listed-left (pairs ++ lefts) rights (listed-right pairs lefts (kept_side (keeps_left kind) _ keeps
-      (listed-flat_map (λ u. map (λ w. w ++ blanks.right ++ blanks.subs) (l.lists u)) u _
-      (in-filter (λ u. same_row (u ++ nulls right_width) t) u (unmatched_left condition us vs) here ((row_decides _ t).1 makes))
-      (listed-map (λ w. w ++ blanks.right ++ blanks.subs) (l.lists u) (p.listed u (from-filter _ u us here).0)))))
+          (listed-flat_map (λ u. map (λ w. w ++ blanks.right ++ blanks.subs) (l.lists u)) u _
+          (in-filter (λ u. same_row (u ++ nulls right_width) t) u (unmatched_left condition us vs) here ((row_decides _ t).1 makes))
+          (listed-map (λ w. w ++ blanks.right ++ blanks.subs) (l.lists u) (p.listed u (from-filter _ u us here).0)))))
       | right_alone keeps v here makes ↦ listed-right (pairs ++ lefts) rights (kept_side (keeps_right kind) _ keeps
-      (listed-flat_map (λ v. map (λ w. blanks.left ++ w ++ blanks.subs) (r.lists v)) v _
-      (in-filter (λ v. same_row (nulls left_width ++ v) t) v (unmatched_right condition us vs) here ((row_decides _ t).1 makes))
-      (listed-map (λ w. blanks.left ++ w ++ blanks.subs) (r.lists v) (q.listed v (from-filter _ v vs here).0))))
+          (listed-flat_map (λ v. map (λ w. blanks.left ++ w ++ blanks.subs) (r.lists v)) v _
+          (in-filter (λ v. same_row (nulls left_width ++ v) t) v (unmatched_right condition us vs) here ((row_decides _ t).1 makes))
+          (listed-map (λ w. blanks.left ++ w ++ blanks.subs) (r.lists v) (q.listed v (from-filter _ v vs here).0))))
     ])
 
 -- ---- set operations

@@ -7,6 +7,8 @@ mod laws;
 mod names;
 mod places;
 mod reorder;
+#[cfg(test)]
+mod tests;
 
 pub use blank::null_row;
 pub use laws::{

@@ -1,9 +1,12 @@
 //! The places of a query's witness lists, and the kinds of its columns.
-ghost use Rattle.std.specs.Prelude.{◌≡◌, ◌++◌, [], ◌∷◌, IfOk, OnOk, map};
+ghost use Rattle.std.specs.Prelude.{◌≡◌, ◌++◌, [], ◌∷◌, List as Items, Some, All, IfOk, OnOk, map};
+ghost use Rattle.bag_algebra.specs.Bags.{Row as Cells};
 ghost use Rattle.bag_algebra.specs.Children.{subs_shape};
 ghost use Rattle.bag_algebra.specs.Kinds.{kinds_of, kind_in, kinds_in, shape, place_kinds};
+ghost use Rattle.bag_algebra.specs.Meaning.{Database, witnesses};
 ghost use Rattle.bag_algebra.specs.declared.expr.Item.{Item as Column};
 ghost use Rattle.bag_algebra.specs.declared.query.Aggr.{Aggr as Aggregated};
+ghost use Rattle.contribution.specs.HeldRows.{held_rows, StandAt};
 
 use bag_algebra::{Aggr, Item, Label, Place, Query, Sublink};
 use perm_values::{Copyable, Kind, List, NoMemory};
@@ -15,9 +18,12 @@ pub struct PlaceList {
     pub places: List<Place>,
 }
 
-/// The places of the query's witness lists: one for each source. It fails only for want of memory.
+/// The places of the query's witness lists: one for each source. Each entry of a witness list stands at its place: it is
+/// empty, or one of the rows that the source holds. It fails only for want of memory.
 pub fn shape(alloc: Global, query: &Query) -> Result<PlaceList, NoMemory>
-    ensures { IfOk result (λ list. list.places ≡ shape query.now) }
+    ensures places { IfOk result (λ list. list.places ≡ shape query.now) }
+    ensures entries { IfOk result (λ list. (db : Database) (env : Items Cells) (t : Cells) →
+        All (StandAt list.places (held_rows query.now db (Some env))) (witnesses query.now db env t)) }
 {
     let mut places = List::new(alloc);
     add_places(alloc, query, &mut places)?;
@@ -96,7 +102,10 @@ fn add_places(alloc: Global, query: &Query, found: &mut List<Place>) -> Result<(
             add_sub_places(alloc, subs.as_slice(), found)
         }
         Query::Join {
-            left, right, subs, ..
+            left,
+            right,
+            subs,
+            ..
         } => {
             add_places(alloc, left.get(), found)?;
             add_places(alloc, right.get(), found)?;
@@ -123,11 +132,7 @@ fn add_places(alloc: Global, query: &Query, found: &mut List<Place>) -> Result<(
 
 /// The places of the sublinks' queries, in the order of their numbers.
 #[cycle(shape)]
-fn add_sub_places(
-    alloc: Global,
-    subs: &[Sublink],
-    found: &mut List<Place>,
-) -> Result<(), NoMemory>
+fn add_sub_places(alloc: Global, subs: &[Sublink], found: &mut List<Place>) -> Result<(), NoMemory>
     ensures { OnOk result (found.new ≡ found.old ++ subs_shape subs.now) }
 {
     for sub in subs {

@@ -56,11 +56,7 @@ fn columns(alloc: Global, query: &Query, order: &[usize]) -> Result<List<Item>, 
     column_items(alloc, found.as_slice(), order)
 }
 
-fn column_items(
-    alloc: Global,
-    kinds: &[Kind],
-    order: &[usize],
-) -> Result<List<Item>, NoMemory>
+fn column_items(alloc: Global, kinds: &[Kind], order: &[usize]) -> Result<List<Item>, NoMemory>
     requires { PlacesIn (length kinds.now) order.now }
     ensures { IfOk result (λ items. items ≡ column_items kinds.now order.now) }
 {

@@ -1,14 +1,16 @@
 //! Laws of witness lists.
-ghost use Rattle.std.specs.Prelude.{◌≡◌, ◌≢◌, ◌↔◌, ◌≤◌, ◌++◌, List, [], All, Contains, IsTrue, Some};
+ghost use Rattle.std.specs.Prelude.{◌≡◌, ◌≢◌, ◌↔◌, ◌≤◌, ◌++◌, List, [], All, Contains, IsTrue, Some, take};
+ghost use Rattle.perm_values.specs.declared.kind.Kind.{Kind};
 ghost use Rattle.bag_algebra.specs.Bags.{Row as Cells, Bag, member, count};
 ghost use Rattle.bag_algebra.specs.Children.{subs_denote};
-ghost use Rattle.bag_algebra.specs.Kinds.{shape};
+ghost use Rattle.bag_algebra.specs.Kinds.{shape, width_of};
 ghost use Rattle.bag_algebra.specs.Meaning.{Database, meaning, witnesses};
 ghost use Rattle.bag_algebra.specs.Means.{Witness, flat, sub_value, chosen};
 ghost use Rattle.bag_algebra.specs.Outcome.{Good, Bad, Faults, each};
 ghost use Rattle.bag_algebra.specs.Patterns.{ProvOf};
 ghost use Rattle.bag_algebra.specs.declared.query.Query.{Query};
 ghost use Rattle.bag_algebra.specs.declared.query.Sublink.{Sublink};
+ghost use Rattle.contribution.specs.Fitting.{Fitting};
 ghost use Rattle.contribution.specs.HeldRows.{held_rows, StandAt};
 ghost use Rattle.contribution.specs.SublinkValues.{sublink_value, contributing_value};
 
@@ -39,13 +41,16 @@ pub fn entries_stand_at_their_places()
 {}
 
 /// PROVENANCE of a query holds each of its rows beside each of the row's flattened witness lists, and each such pair once.
-/// It is bad exactly where the query is, with the same faults.
+/// So its first columns are, as a set, the rows of the query. It is bad exactly where the query is, with the same faults.
 pub fn provenance_stands_once()
     ensures once { (q : Query) (db : Database) (env : List Cells) (found : Bag) (u : Cells) → meaning (ProvOf q) db env ≡ Good found →
         count u found ≤ 1 }
     ensures pairs { (q : Query) (db : Database) (env : List Cells) (bag found : Bag) (u : Cells) →
         meaning q db env ≡ Good bag → meaning (ProvOf q) db env ≡ Good found →
         IsTrue (member u found) ↔ ((t : Cells) × (w : Witness) × IsTrue (member t bag) × Contains (witnesses q db env t) w × (t ++ flat w ≡ u)) }
+    ensures first_columns { (outer : List (List Kind)) (q : Query) (db : Database) (env : List Cells) (bag found : Bag) →
+        Fitting outer q db env → meaning q db env ≡ Good bag → meaning (ProvOf q) db env ≡ Good found →
+        (t : Cells) → IsTrue (member t bag) ↔ ((u : Cells) × IsTrue (member u found) × (take (width_of q) u ≡ t)) }
     ensures faults { (q : Query) (db : Database) (env : List Cells) (faults : Faults) →
         (meaning (ProvOf q) db env ≡ Bad faults) ↔ (meaning q db env ≡ Bad faults) }
 {}
