@@ -64,8 +64,7 @@ module _ (scopes : List (List Kind)) (subs : List Sublink) (db : Database) (u v 
       ((subs_denote subs db env).answers u ≡ (subs_denote subs db other).answers v) × ((subs_denote subs db env).contributions u ≡ (subs_denote subs db other).contributions v)
   subs-same f same =
       let here = sub_denote-row_of_subs subs db env in
-      let there = sub_denote-row_of_subs subs db other in
-      (
+      let there = sub_denote-row_of_subs subs db other in (
         (λ i. (sym here i).answers u) ∙ answers-same scopes u v env other same db (row_of_subs subs) f ∙ (λ i. (there i).answers v),
         (λ i. (sym here i).contributions u) ∙ contributions-same scopes u v env other same db (row_of_subs subs) f ∙ (λ i. (there i).contributions v),
       )

@@ -5,7 +5,8 @@ mod order;
 mod witnesses;
 
 pub use growth::{
-    closed_queries_see_no_outer_row, columns_added_to_a_row_change_nothing, longer_outer_kinds_serve_too, meaning_rests_on_named_columns,
+    closed_queries_see_no_outer_row, columns_added_to_a_row_change_nothing,
+    longer_outer_kinds_serve_too, meaning_rests_on_named_columns,
     values_added_to_outer_rows_change_nothing,
 };
 pub use kinds::{rows_have_the_kinds, values_have_their_kinds};
