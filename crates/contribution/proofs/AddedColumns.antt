@@ -1,7 +1,7 @@
 -- A node's conditions, items, arguments and sublinks on a row rest on the columns that the scopes name alone: they are
 -- the same on a longer row.
-use Rattle.std.proofs.Common.{◌≡◌, ℕ, zero, suc, true, List, [], ◌∷◌, ◌++◌, Some, refl, sym, ◌∙◌}
-use Rattle.perm_values.specs.Rows.{value_at, row_fits}
+use Rattle.std.proofs.Common.{◌≡◌, ℕ, zero, suc, true, List, ◌∷◌, ◌++◌, Some, refl, sym, ◌∙◌}
+use Rattle.perm_values.specs.Rows.{value_at}
 use Rattle.perm_values.specs.declared.kind.Kind.{Kind}
 use Rattle.perm_values.specs.declared.kind.Kind.TheVariants.{Boolean}
 use Rattle.bag_algebra.specs.Bags.{Row}
@@ -10,14 +10,14 @@ use Rattle.bag_algebra.specs.Children.{subs_denote}
 use Rattle.bag_algebra.specs.Expressions.{row_at}
 use Rattle.bag_algebra.specs.Fits.{row_begins}
 use Rattle.bag_algebra.specs.Kinds.{kinds_of, shape}
-use Rattle.bag_algebra.specs.Meaning.{Database, denote, sub_denote, optional_value, condition_on, items_on, arguments_on}
+use Rattle.bag_algebra.specs.Meaning.{Database, sub_denote, condition_on, items_on, arguments_on}
 use Rattle.bag_algebra.specs.Means.{all_empty, contribution_of, good_value, sub_value}
 use Rattle.bag_algebra.specs.Outcome.{and_then, both, both_then}
 use Rattle.bag_algebra.specs.WellFormed.{column_kind, HasKind, ItemsForm, AggregatesForm, SubsForm}
 use Rattle.bag_algebra.specs.declared.expr.Expr.{Expr}
 use Rattle.bag_algebra.specs.declared.expr.Item.{Item}
 use Rattle.bag_algebra.specs.declared.query.Aggr.{Aggr}
-use Rattle.bag_algebra.specs.declared.query.Query.{Query, Row_of-Sublink, more_of-Sublink, end_of-Sublink}
+use Rattle.bag_algebra.specs.declared.query.Query.{Row_of-Sublink, more_of-Sublink, end_of-Sublink}
 use Rattle.bag_algebra.specs.declared.query.Sublink.{Sublink}
 use Rattle.contribution.proofs.Growth.{value-same, items-same, arguments-same, tested-same, denote-same, value_at-longer}
 use Rattle.contribution.proofs.QueryKinds.{each-all}

@@ -47,11 +47,11 @@ permuted-turn (u ∷ us) vs ws = joined (onward u (permuted-turn us vs ws)) (pas
   past u [] ws = permuted-refl (u ∷ ws)
   past u (v ∷ vs) ws = joined (turn u v (vs ++ ws)) (onward v (past u vs ws))
 
-or_turn : (a b c : Bool) → (a || (b || c)) ≡ (b || (a || c))
-or_turn true true c = refl
-or_turn true false c = refl
-or_turn false true c = refl
-or_turn false false c = refl
+pub or-turn : (a b c : Bool) → (a || (b || c)) ≡ (b || (a || c))
+or-turn true true c = refl
+or-turn true false c = refl
+or-turn false true c = refl
+or-turn false false c = refl
 
 or_comm : (a b : Bool) → (a || b) ≡ (b || a)
 or_comm true true = refl
@@ -61,9 +61,9 @@ or_comm false false = refl
 
 pub union-turn : (f g h : Faults) → union f (union g h) ≡ union g (union f h)
 union-turn f g h = λ i. record {
-  divides = or_turn f.divides g.divides h.divides i;
-  range = or_turn f.range g.range h.range i;
-  several = or_turn f.several g.several h.several i;
+  divides = or-turn f.divides g.divides h.divides i;
+  range = or-turn f.range g.range h.range i;
+  several = or-turn f.several g.several h.several i;
 }
 
 pub union-comm : (f g : Faults) → union f g ≡ union g f

@@ -1,5 +1,5 @@
 -- A query's meaning rests on the columns that its outer kinds name alone.
-use Rattle.std.proofs.Common.{◌≡◌, ℕ, zero, suc, Bool, true, false, ◌&&◌, List, [], ◌∷◌, ◌++◌, map, slice_get, Option, Some, None, refl, sym, ap, true≢false}
+use Rattle.std.proofs.Common.{◌≡◌, ℕ, zero, suc, true, List, [], ◌∷◌, ◌++◌, map, slice_get, Option, Some, None, refl, sym, ap, true≢false}
 use Rattle.null_logic.specs.Comparison.{is_null}
 use Rattle.null_logic.specs.declared.operator.Operator.{Operator}
 use Rattle.null_logic.specs.declared.operator.Operator.TheVariants as op
@@ -29,7 +29,7 @@ use Rattle.bag_algebra.specs.declared.query.Query.TheVariants.{Table, Single}
 use Rattle.bag_algebra.specs.declared.query.SubKind.{SubKind}
 use Rattle.bag_algebra.specs.declared.query.SubKind.TheVariants as sub
 use Rattle.contribution.proofs.QueryKinds.{each-all}
-use Rattle.contribution.proofs.ValueKinds.{and-true}
+use Rattle.contribution.proofs.ValueKinds.{and-true, and-parts}
 use Rattle.contribution.proofs.WhereGood.{Each}
 use Rattle.contribution.specs.Longer.{Longer, more_lists, more_items}
 use Rattle.contribution.specs.SameColumns.{SameColumns}
@@ -184,15 +184,11 @@ mutual
 
 -- ---- values added at the end of outer rows
 
-and_parts : (a b : Bool) → (a && b) ≡ true → (a ≡ true) × (b ≡ true)
-and_parts true b e = (refl, e)
-and_parts false b e = absurd (true≢false (sym e))
-
 pub value_at-longer : (row more : Row) (kinds : List Kind) (place : ℕ) (kind : Kind) → row_begins row kinds ≡ true → slice_get kinds place ≡ Some kind → value_at row place ≡ value_at (row ++ more) place
 value_at-longer row more [] place kind b e = cc
 value_at-longer [] more (k ∷ kinds) place kind b e = absurd (true≢false (sym b))
 value_at-longer (v ∷ row) more (k ∷ kinds) zero kind b e = refl
-value_at-longer (v ∷ row) more (k ∷ kinds) (suc place) kind b e = value_at-longer row more kinds place kind (and_parts (fits v k) (row_begins row kinds) b).1 e
+value_at-longer (v ∷ row) more (k ∷ kinds) (suc place) kind b e = value_at-longer row more kinds place kind (and-parts (fits v k) (row_begins row kinds) b).1 e
 
 pub longer-same_columns : (outer : List (List Kind)) {env other : List Row} → Longer env other → env_fits env outer ≡ true → SameColumns outer env other
 longer-same_columns outer l f = record { same = at outer l f } where
@@ -200,14 +196,14 @@ longer-same_columns outer l f = record { same = at outer l f } where
       (level place : ℕ) (kind : Kind) → column_kind outer level place ≡ Some kind → value_at (row_at env level) place ≡ value_at (row_at other level) place
   at [] l f level place kind e = cc
   at (kinds ∷ outer) (more_lists further) f level place kind e = absurd (true≢false (sym f))
-  at (kinds ∷ outer) (more_items {lists = env} row more l) f zero place kind e = value_at-longer row more kinds place kind (and_parts (row_begins row kinds) (env_fits env outer) f).0 e
-  at (kinds ∷ outer) (more_items {lists = env} row more l) f (suc level) place kind e = at outer l (and_parts (row_begins row kinds) (env_fits env outer) f).1 level place kind e
+  at (kinds ∷ outer) (more_items {lists = env} row more l) f zero place kind e = value_at-longer row more kinds place kind (and-parts (row_begins row kinds) (env_fits env outer) f).0 e
+  at (kinds ∷ outer) (more_items {lists = env} row more l) f (suc level) place kind e = at outer l (and-parts (row_begins row kinds) (env_fits env outer) f).1 level place kind e
 
 pub row_begins-longer : (row more : Row) (kinds : List Kind) → row_begins row kinds ≡ true → row_begins (row ++ more) kinds ≡ true
 row_begins-longer row more [] b = refl
 row_begins-longer [] more (k ∷ kinds) b = absurd (true≢false (sym b))
 row_begins-longer (v ∷ row) more (k ∷ kinds) b =
-    let parts = and_parts (fits v k) (row_begins row kinds) b in
+    let parts = and-parts (fits v k) (row_begins row kinds) b in
     and-true (fits v k) (row_begins (row ++ more) kinds) parts.0 (row_begins-longer row more kinds parts.1)
 
 -- longer rows fit too
@@ -215,14 +211,14 @@ pub env_fits-longer : (outer : List (List Kind)) {env other : List Row} → Long
 env_fits-longer [] l f = refl
 env_fits-longer (kinds ∷ outer) (more_lists further) f = absurd (true≢false (sym f))
 env_fits-longer (kinds ∷ outer) (more_items {lists = env} {longer = other} row more l) f =
-    let parts = and_parts (row_begins row kinds) (env_fits env outer) f in
+    let parts = and-parts (row_begins row kinds) (env_fits env outer) f in
     and-true (row_begins (row ++ more) kinds) (env_fits other outer) (row_begins-longer row more kinds parts.0) (env_fits-longer outer l parts.1)
 
 row_begins-shorter : (row : Row) (kinds more : List Kind) → row_begins row (kinds ++ more) ≡ true → row_begins row kinds ≡ true
 row_begins-shorter row [] more b = refl
 row_begins-shorter [] (k ∷ kinds) more b = b
 row_begins-shorter (v ∷ row) (k ∷ kinds) more b =
-    let parts = and_parts (fits v k) (row_begins row (kinds ++ more)) b in
+    let parts = and-parts (fits v k) (row_begins row (kinds ++ more)) b in
     and-true (fits v k) (row_begins row kinds) parts.0 (row_begins-shorter row kinds more parts.1)
 
 -- rows that fit longer kinds fit the kinds
@@ -230,7 +226,7 @@ pub env_fits-shorter : {outer longer : List (List Kind)} (env : List Row) → Lo
 env_fits-shorter env (more_lists further) f = refl
 env_fits-shorter [] (more_items kinds more l) f = f
 env_fits-shorter (row ∷ env) (more_items {lists = outer} {longer = longer} kinds more l) f =
-    let parts = and_parts (row_begins row (kinds ++ more)) (env_fits env longer) f in
+    let parts = and-parts (row_begins row (kinds ++ more)) (env_fits env longer) f in
     and-true (row_begins row kinds) (env_fits env outer) (row_begins-shorter row kinds more parts.0) (env_fits-shorter env l parts.1)
 
 -- ---- as the laws say it

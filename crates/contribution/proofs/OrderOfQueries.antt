@@ -24,10 +24,11 @@ use Rattle.bag_algebra.specs.declared.query.Query.TheVariants.{Table, Single}
 use Rattle.bag_algebra.specs.declared.query.SubKind.{SubKind}
 use Rattle.bag_algebra.specs.declared.query.SubKind.TheVariants.{Exists, Any, All, Scalar}
 use Rattle.contribution.proofs.Agreement.{Agree, agree_good, agree_bad, agree-refl}
+use Rattle.contribution.proofs.MembersByIndex.{in-from_contains, contains-from_in}
 use Rattle.contribution.proofs.OrderOfGroups.{aggregate_means-alike}
 use Rattle.contribution.proofs.OrderOfRows.{Alike, any-permuted, permuted-good_rows, unlisted_means-alike, base_means-alike, SameContributions, filter_means-alike, project_means-alike, join_means-alike}
 use Rattle.contribution.proofs.OrderOfSets.{shared-either, union_means-alike, intersect_means-alike, except_means-alike, distinct_means-alike, limit_means-alike, provenance_means-alike}
-use Rattle.contribution.proofs.SharedMembers.{Shared, shared-refl, shared-permuted, shared-flat_map, none_each, next_each, contains-in, in-contains}
+use Rattle.contribution.proofs.SharedMembers.{Shared, shared-refl, shared-permuted, shared-flat_map, none_each, next_each}
 use Rattle.contribution.specs.EachTable.{EachSubTable}
 use Rattle.contribution.specs.SameMeaning.{SameTables, SameRows, SameMembers, SameMeaning}
 
@@ -183,8 +184,8 @@ same_rows (agree_bad f) = refl
 
 same_members : {X : Type 0} {xs ys : List X} → Shared xs ys → SameMembers xs ys
 same_members {X} {xs} {ys} s = record {
-  there = λ x h. in-contains x ys (s.there.within x (contains-in x xs h));
-  back = λ x h. in-contains x xs (s.back.within x (contains-in x ys h));
+  there = λ x h. contains-from_in x ys (s.there.within x (in-from_contains x xs h));
+  back = λ x h. contains-from_in x xs (s.back.within x (in-from_contains x ys h));
 }
 
 pub same_meaning : (q : Query) (db other : Database) (env : List Row) → SameTables db other q → SameMeaning (denote q db env) (denote q other env)

@@ -1,5 +1,5 @@
 -- Every row of a good answer has the query's kinds, and every witness list fits the query's places.
-use Rattle.std.proofs.Common.{◌≡◌, zero, suc, Bool, true, false, ◌&&◌, List, [], ◌∷◌, ◌++◌, map, length, All, Contains, Option, Some, None, refl, sym, subst, arith, true≢false}
+use Rattle.std.proofs.Common.{◌≡◌, suc, true, List, [], ◌∷◌, ◌++◌, map, length, All, Contains, Option, Some, None, refl, sym, subst, arith}
 use Rattle.std.specs.Prelude.{⊤}
 use Rattle.std.specs.List.{flat_map}
 use Rattle.perm_values.specs.Rows.{row_fits}
@@ -29,9 +29,9 @@ use Rattle.bag_algebra.specs.declared.query.SubKind.TheVariants as sub
 use Rattle.contribution.proofs.GroupKinds.{GivesNumber, ArgumentFits, ArgumentsFrom, arguments-behind, NumbersGiven, aggregate_means-fit}
 use Rattle.contribution.proofs.NodeKinds.{ContributionsOn, unlisted_means-fit, base_means-fit, filter_means-fit, project_means-fit, join_means-fit, union_means-fit, intersect_means-fit, except_means-fit, distinct_means-fit, limit_means-fit, provenance_means-fit}
 use Rattle.contribution.proofs.RowKinds.{RowFits, BagFits, ListsFit, MeansFit, row_fits-length, value_at-fits, all_empty-fits, fits_places-append, one-fits, lists_fit-flat_map, lists_fit-where, no_sublink, next_sublink}
-use Rattle.contribution.proofs.SharedMembers.{contains-in}
-use Rattle.contribution.proofs.ValueKinds.{Fits, GoodFits, null-fits, truth-fits, boolean-fits, fits-begins, and-true, value-fits}
-use Rattle.contribution.proofs.WhereGood.{WhereGood, Each, any_value, each-in, each-of, good-and_then, good-both, good-both_then}
+use Rattle.contribution.proofs.MembersByIndex.{in-from_contains, all-from_in}
+use Rattle.contribution.proofs.ValueKinds.{Fits, GoodFits, null-fits, truth-fits, boolean-fits, fits-begins, and-true, and-parts, value-fits}
+use Rattle.contribution.proofs.WhereGood.{WhereGood, Each, any_value, each-in, good-and_then, good-both, good-both_then}
 use Rattle.contribution.specs.Fitting.{Fitting}
 use Rattle.contribution.specs.FitsPlaces.{FitsPlaces, no_place}
 
@@ -158,10 +158,9 @@ module _ (kinds : List Kind) (outer : List (List Kind)) (env : List Row) (u : Ro
 
 bag-fits : (bag : Bag) (kinds : List Kind) → bag_fits bag kinds ≡ true → BagFits kinds bag
 bag-fits [] kinds e = tt
-bag-fits (row ∷ bag) kinds e = at (row_fits row kinds) (bag_fits bag kinds) refl e (bag-fits bag kinds) where
-  at : (a b : Bool) → row_fits row kinds ≡ a → (a && b) ≡ true → (b ≡ true → BagFits kinds bag) → BagFits kinds (row ∷ bag)
-  at true b f e next = (record { fit = f }, next e)
-  at false b f e next = absurd (true≢false (sym e))
+bag-fits (row ∷ bag) kinds e =
+    let parts = and-parts (row_fits row kinds) (bag_fits bag kinds) e in
+    (record { fit = parts.0 }, bag-fits bag kinds parts.1)
 
 fits-bag : (bag : Bag) (kinds : List Kind) → BagFits kinds bag → bag_fits bag kinds ≡ true
 fits-bag [] kinds h = refl
@@ -238,11 +237,6 @@ mutual
 
 -- ---- as the laws say it
 
-pub all-each : {X : Type 0} (P : X → Type 0) (xs : List X) → Each P xs → All P xs
-all-each P [] h k d i = absurd (omega (arith, i))
-all-each P (x ∷ xs) h zero d i = h.0
-all-each P (x ∷ xs) h (suc k) d i = all-each P xs h.1 k d (omega arith)
-
 pub value_has-kind : (scopes : List (List Kind)) (subs : List Kind) (e : Expr) (kind : Kind) (u : Row) (env : List Row) (answers : List Value) (v : Value) →
     HasKind scopes subs e kind → env_fits (u ∷ env) scopes ≡ true → row_fits answers subs ≡ true → value e u env answers ≡ Good v → fits v kind ≡ true
 value_has-kind scopes subs e kind u env answers v form fitting answered good =
@@ -254,11 +248,11 @@ module _ (outer : List (List Kind)) (q : Query) (db : Database) (env : List Row)
 
   pub rows_have-width : (bag : Bag) → Fitting outer q db env → meaning q db env ≡ Good bag → All (λ row. length row ≡ width_of q) bag
   rows_have-width bag f good =
-      all-each (λ row. length row ≡ width_of q) bag (each-of (λ row. length row ≡ width_of q) bag (λ row i.
-      row_fits-length row (kinds_of q) (each-in (RowFits (kinds_of q)) row bag (rows_have-kinds bag f good) i).fit))
+      all-from_in (λ row. length row ≡ width_of q) bag (λ row i.
+      row_fits-length row (kinds_of q) (each-in (RowFits (kinds_of q)) row bag (rows_have-kinds bag f good) i).fit)
 
   pub bag_has-kinds : (bag : Bag) → Fitting outer q db env → meaning q db env ≡ Good bag → bag_fits bag (kinds_of q) ≡ true
   bag_has-kinds bag f good = fits-bag bag (kinds_of q) (rows_have-kinds bag f good)
 
   pub lists_fit-places : (t : Row) (w : Witness) → Fitting outer q db env → Contains (witnesses q db env t) w → FitsPlaces (shape q) w
-  lists_fit-places t w f here = ((denote-fits q outer db env f.formed f.tables f.outer_rows).lists t).list w (contains-in w (witnesses q db env t) here)
+  lists_fit-places t w f here = ((denote-fits q outer db env f.formed f.tables f.outer_rows).lists t).list w (in-from_contains w (witnesses q db env t) here)

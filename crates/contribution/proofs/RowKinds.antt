@@ -1,21 +1,19 @@
 -- Each node keeps its rows of its kinds, and its witness lists of its places.
-use Rattle.std.proofs.Common.{◌≡◌, ℕ, zero, suc, inl, inr, Bool, true, false, cond, not, ◌&&◌, List, [], ◌∷◌, ◌++◌, map, filter, take, length, Ordering, append_assoc, append-nil, refl, sym, ap, subst, true≢false}
+use Rattle.std.proofs.Common.{◌≡◌, ℕ, zero, suc, inl, inr, Bool, true, false, cond, List, [], ◌∷◌, ◌++◌, map, filter, take, length, Ordering, append_assoc, append-nil, refl, sym, ap, subst, true≢false}
 use Rattle.std.specs.List.{flat_map}
-use Rattle.perm_values.specs.Rows.{same_row, value_at, picked, row_fits}
+use Rattle.perm_values.specs.Rows.{value_at, picked, row_fits}
 use Rattle.perm_values.specs.Values.{fits}
 use Rattle.perm_values.specs.declared.kind.Kind.{Kind}
 use Rattle.perm_values.specs.declared.value.Value.TheVariants.{Null}
-use Rattle.bag_algebra.proofs.BagLaws.{permuted-sym}
 use Rattle.bag_algebra.proofs.Members.{IsIn, from-map, from-append, from-flat_map, from-filter}
-use Rattle.bag_algebra.proofs.SortedBags.{permuted-sorted}
-use Rattle.bag_algebra.specs.Bags.{Row, Bag, member, others, once, without_first, in_both, beyond, union_of, intersect_of, except_of, sorted, nulls}
+use Rattle.bag_algebra.specs.Bags.{Row, Bag, others, once, union_of, intersect_of, except_of, sorted, nulls}
 use Rattle.bag_algebra.specs.Kinds.{kind_in, kinds_in, place_kinds}
 use Rattle.bag_algebra.specs.Means.{Witness, Means, flat, all_empty, paired, beside, good_rows}
 use Rattle.bag_algebra.specs.Outcome.{Outcome, Good, Bad}
 use Rattle.bag_algebra.specs.declared.place.Place.{Place}
-use Rattle.contribution.proofs.SharedMembers.{in-permuted}
-use Rattle.contribution.proofs.ValueKinds.{Fits, null-fits, and-true}
-use Rattle.contribution.proofs.WhereGood.{WhereGood, Each, each-append, each-in, each-of}
+use Rattle.contribution.proofs.BagMembers.{from-once, from-union, from-intersect, from-except, from-take, from-sorted}
+use Rattle.contribution.proofs.ValueKinds.{Fits, null-fits, and-true, and-parts}
+use Rattle.contribution.proofs.WhereGood.{WhereGood, Each, each-in, each-of}
 use Rattle.contribution.specs.FitsPlaces.{FitsPlaces, no_place, held, empty}
 
 pub record RowFits (kinds : List Kind) (row : Row) : Type 0 where
@@ -36,16 +34,12 @@ pub record MeansFit (kinds : List Kind) (places : List Place) (m : Means) : Type
 
 pub row_fits-append : (u v : Row) (kinds more : List Kind) → RowFits kinds u → RowFits more v → RowFits (kinds ++ more) (u ++ v)
 row_fits-append u v kinds more f g = record { fit = at u kinds f.fit } where
-  parts : (a b : Bool) → (a && b) ≡ true → (a ≡ true) × (b ≡ true)
-  parts true b e = (refl, e)
-  parts false b e = absurd (true≢false (sym e))
-
   at : (u : Row) (kinds : List Kind) → row_fits u kinds ≡ true → row_fits (u ++ v) (kinds ++ more) ≡ true
   at [] [] e = g.fit
   at [] (k ∷ kinds) e = absurd (true≢false (sym e))
   at (a ∷ u) [] e = absurd (true≢false (sym e))
   at (a ∷ u) (k ∷ kinds) e =
-      let both_fit = parts (fits a k) (row_fits u kinds) e in
+      let both_fit = and-parts (fits a k) (row_fits u kinds) e in
       and-true (fits a k) (row_fits (u ++ v) (kinds ++ more)) both_fit.0 (at u kinds both_fit.1)
 
 pub nulls-fit : (kinds : List Kind) → RowFits kinds (nulls (length kinds))
@@ -54,16 +48,12 @@ nulls-fit kinds = record { fit = at kinds } where
   at [] = refl
   at (k ∷ kinds) = and-true (fits Null k) (row_fits (nulls (length kinds)) kinds) (null-fits k).fit (at kinds)
 
-and_parts : (a b : Bool) → (a && b) ≡ true → (a ≡ true) × (b ≡ true)
-and_parts true b e = (refl, e)
-and_parts false b e = absurd (true≢false (sym e))
-
 -- a value at any place fits the kind there; out of range it is NULL
 pub value_at-fits : (row : Row) (kinds : List Kind) (place : ℕ) → row_fits row kinds ≡ true → Fits (kind_in kinds place) (value_at row place)
 value_at-fits [] kinds place e = null-fits (kind_in kinds place)
 value_at-fits (v ∷ row) [] place e = absurd (true≢false (sym e))
-value_at-fits (v ∷ row) (k ∷ kinds) zero e = record { fit = (and_parts (fits v k) (row_fits row kinds) e).0 }
-value_at-fits (v ∷ row) (k ∷ kinds) (suc place) e = value_at-fits row kinds place (and_parts (fits v k) (row_fits row kinds) e).1
+value_at-fits (v ∷ row) (k ∷ kinds) zero e = record { fit = (and-parts (fits v k) (row_fits row kinds) e).0 }
+value_at-fits (v ∷ row) (k ∷ kinds) (suc place) e = value_at-fits row kinds place (and-parts (fits v k) (row_fits row kinds) e).1
 
 pub picked-fits : (places : List ℕ) (row : Row) (kinds : List Kind) → RowFits kinds row → RowFits (kinds_in kinds places) (picked places row)
 picked-fits places row kinds f = record { fit = at places } where
@@ -76,7 +66,7 @@ pub row_fits-length : (row : Row) (kinds : List Kind) → row_fits row kinds ≡
 row_fits-length [] [] e = refl
 row_fits-length [] (k ∷ kinds) e = absurd (true≢false (sym e))
 row_fits-length (v ∷ row) [] e = absurd (true≢false (sym e))
-row_fits-length (v ∷ row) (k ∷ kinds) e = ap suc (row_fits-length row kinds (and_parts (fits v k) (row_fits row kinds) e).1)
+row_fits-length (v ∷ row) (k ∷ kinds) e = ap suc (row_fits-length row kinds (and-parts (fits v k) (row_fits row kinds) e).1)
 
 -- ---- bags
 
@@ -89,12 +79,10 @@ module _ {X : Type 0} (P : X → Type 0) where
   each-where false xs ys h g = g
 
   pub each-take : (n : ℕ) (xs : List X) → Each P xs → Each P (take n xs)
-  each-take zero xs h = tt
-  each-take (suc n) [] h = tt
-  each-take (suc n) (x ∷ xs) h = (h.0, each-take n xs h.1)
+  each-take n xs h = each-of P (take n xs) (λ x i. each-in P x xs h (from-take x n xs i))
 
   pub each-sorted : (cmp : X → X → Ordering) (xs : List X) → Each P xs → Each P (sorted cmp xs)
-  each-sorted cmp xs h = each-of P (sorted cmp xs) (λ x i. each-in P x xs h (in-permuted x (permuted-sym (permuted-sorted cmp xs)) i))
+  each-sorted cmp xs h = each-of P (sorted cmp xs) (λ x i. each-in P x xs h (from-sorted cmp x xs i))
 
 pub each-map : {X Y : Type 0} (P : X → Type 0) (Q : Y → Type 0) (f : X → Y) (xs : List X) → Each P xs → ((x : X) → P x → Q (f x)) → Each Q (map f xs)
 each-map P Q f [] h next = tt
@@ -102,27 +90,16 @@ each-map P Q f (x ∷ xs) h next = (next x h.0, each-map P Q f xs h.1 next)
 
 module _ (P : Row → Type 0) where
   pub each-once : (us : Bag) → Each P us → Each P (once us)
-  each-once [] h = tt
-  each-once (u ∷ us) h = (h.0, each-filter P (λ v. not (same_row u v)) (once us) (each-once us h.1))
-
-  each-in_both : (us vs : Bag) → Each P us → Each P (in_both us vs)
-  each-in_both [] vs h = tt
-  each-in_both (u ∷ us) vs h =
-      each-where P (member u vs) (u ∷ in_both us (without_first u vs)) (in_both us vs) (h.0, each-in_both us (without_first u vs) h.1) (each-in_both us vs h.1)
-
-  each-beyond : (us vs : Bag) → Each P us → Each P (beyond us vs)
-  each-beyond [] vs h = tt
-  each-beyond (u ∷ us) vs h =
-      each-where P (member u vs) (beyond us (without_first u vs)) (u ∷ beyond us vs) (each-beyond us (without_first u vs) h.1) (h.0, each-beyond us vs h.1)
+  each-once us h = each-of P (once us) (λ t i. each-in P t us h (from-once t us i))
 
   pub each-union_of : (all : Bool) (us vs : Bag) → Each P us → Each P vs → Each P (union_of all us vs)
-  each-union_of all us vs h g = each-where P all (us ++ vs) (once (us ++ vs)) (each-append P us vs h g) (each-once (us ++ vs) (each-append P us vs h g))
+  each-union_of all us vs h g = each-of P (union_of all us vs) (λ t i. elim (from-union all t us vs i) [ inl l ↦ each-in P t us h l | inr r ↦ each-in P t vs g r ])
 
   pub each-intersect_of : (all : Bool) (us vs : Bag) → Each P us → Each P (intersect_of all us vs)
-  each-intersect_of all us vs h = each-where P all (in_both us vs) _ (each-in_both us vs h) (each-once _ (each-filter P (λ u. member u vs) us h))
+  each-intersect_of all us vs h = each-of P (intersect_of all us vs) (λ t i. each-in P t us h (from-intersect all t us vs i).0)
 
   pub each-except_of : (all : Bool) (us vs : Bag) → Each P us → Each P (except_of all us vs)
-  each-except_of all us vs h = each-where P all (beyond us vs) _ (each-beyond us vs h) (each-once _ (each-filter P (λ u. not (member u vs)) us h))
+  each-except_of all us vs h = each-of P (except_of all us vs) (λ t i. each-in P t us h (from-except all t us vs i))
 
 pub good_rows-each : (P : Row → Type 0) (o : Outcome Bag) → WhereGood (Each P) o → Each P (good_rows o)
 good_rows-each P (Good bag) h = h

@@ -1,5 +1,5 @@
 -- Lists that have the same members, and what keeps them so.
-use Rattle.std.proofs.Common.{◌≡◌, ℕ, zero, suc, ◌<◌, length, slice_index_or, Contains, inl, inr, Bool, true, false, cond, List, [], ◌∷◌, ◌++◌, map, subst, arith}
+use Rattle.std.proofs.Common.{◌≡◌, inl, inr, Bool, true, false, cond, List, [], ◌∷◌, ◌++◌, map, subst}
 use Rattle.std.specs.List.{flat_map}
 use Rattle.bag_algebra.proofs.BagLaws.{Permuted, nothing, onward, turn, joined, permuted-sym}
 use Rattle.bag_algebra.proofs.Members.{IsIn, in-map, from-map, in-append_left, in-append_right, from-append, in-flat_map, from-flat_map}
@@ -99,17 +99,3 @@ shared_each-refl (c ∷ cs) = next_each (shared-refl c) (shared_each-refl cs)
 pub shared-beside : {vs ws : List Witness} {more further : List (List Witness)} → Shared vs ws → SharedEach more further → Shared (beside vs more) (beside ws further)
 shared-beside s none_each = s
 shared-beside s (next_each r e) = shared-beside (shared-paired s r) e
-
--- ---- as std says membership
-
-pub contains-in : {X : Type 0} (x : X) (xs : List X) → Contains xs x → IsIn x xs
-contains-in x [] found = absurd (omega (arith, found.1))
-contains-in x (y ∷ ys) found = at found.0 found.1 found.2 (contains-in x ys) where
-  at : (k : ℕ) → k < suc (length ys) → slice_index_or (y ∷ ys) k x ≡ x → (Contains ys x → IsIn x ys) → IsIn x (y ∷ ys)
-  at zero h e further = inl e
-  at (suc k) h e further = inr (further (k, omega arith, e))
-
-pub in-contains : {X : Type 0} (x : X) (xs : List X) → IsIn x xs → Contains xs x
-in-contains x [] h = absurd h
-in-contains x (y ∷ ys) (inl e) = (zero, omega arith, e)
-in-contains x (y ∷ ys) (inr h) = let found = in-contains x ys h in (suc found.0, omega (arith, found.1), found.2)

@@ -40,9 +40,9 @@ null-fits kind.Boolean = record { fit = refl }
 
 -- ---- columns
 
-both_true : (a b : Bool) → (a && b) ≡ true → (a ≡ true) × (b ≡ true)
-both_true true b e = (refl, e)
-both_true false b e = absurd (true≢false (sym e))
+pub and-parts : (a b : Bool) → (a && b) ≡ true → (a ≡ true) × (b ≡ true)
+and-parts true b e = (refl, e)
+and-parts false b e = absurd (true≢false (sym e))
 
 pub and-true : (a b : Bool) → a ≡ true → b ≡ true → (a && b) ≡ true
 and-true true b e f = f
@@ -58,15 +58,15 @@ module _ {A : Type 0} where
 pub begins-fits : (row : Row) (kinds : List Kind) (place : ℕ) (kind : Kind) → row_begins row kinds ≡ true → slice_get kinds place ≡ Some kind → Fits kind (value_at row place)
 begins-fits row [] place kind b e = nothing_there e
 begins-fits [] (k ∷ kinds) place kind b e = absurd (true≢false (sym b))
-begins-fits (v ∷ row) (k ∷ kinds) zero kind b e = record { fit = subst (λ l. fits v l ≡ true) (the_one e) (both_true (fits v k) (row_begins row kinds) b).0 }
-begins-fits (v ∷ row) (k ∷ kinds) (suc place) kind b e = begins-fits row kinds place kind (both_true (fits v k) (row_begins row kinds) b).1 e
+begins-fits (v ∷ row) (k ∷ kinds) zero kind b e = record { fit = subst (λ l. fits v l ≡ true) (the_one e) (and-parts (fits v k) (row_begins row kinds) b).0 }
+begins-fits (v ∷ row) (k ∷ kinds) (suc place) kind b e = begins-fits row kinds place kind (and-parts (fits v k) (row_begins row kinds) b).1 e
 
 pub fits-begins : (row : Row) (kinds : List Kind) → row_fits row kinds ≡ true → row_begins row kinds ≡ true
 fits-begins [] [] f = refl
 fits-begins [] (k ∷ kinds) f = f
 fits-begins (v ∷ row) [] f = refl
 fits-begins (v ∷ row) (k ∷ kinds) f =
-    let parts = both_true (fits v k) (row_fits row kinds) f in
+    let parts = and-parts (fits v k) (row_fits row kinds) f in
     and-true (fits v k) (row_begins row kinds) parts.0 (fits-begins row kinds parts.1)
 
 -- a column of rows that fit
@@ -74,8 +74,8 @@ pub column-fits : (env : List Row) (scopes : List (List Kind)) (level place : �
     Fits kind (value_at (row_at env level) place)
 column-fits env [] level place kind f e = nothing_there e
 column-fits [] (kinds ∷ scopes) level place kind f e = absurd (true≢false (sym f))
-column-fits (row ∷ env) (kinds ∷ scopes) zero place kind f e = begins-fits row kinds place kind (both_true (row_begins row kinds) (env_fits env scopes) f).0 e
-column-fits (row ∷ env) (kinds ∷ scopes) (suc level) place kind f e = column-fits env scopes level place kind (both_true (row_begins row kinds) (env_fits env scopes) f).1 e
+column-fits (row ∷ env) (kinds ∷ scopes) zero place kind f e = begins-fits row kinds place kind (and-parts (row_begins row kinds) (env_fits env scopes) f).0 e
+column-fits (row ∷ env) (kinds ∷ scopes) (suc level) place kind f e = column-fits env scopes level place kind (and-parts (row_begins row kinds) (env_fits env scopes) f).1 e
 
 -- ---- operators
 
