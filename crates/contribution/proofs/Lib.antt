@@ -20,6 +20,7 @@ pub mod OrderOfRows
 pub mod OrderOfSets
 pub mod QueryKinds
 pub mod RowKinds
+pub mod SetsOfNodes
 pub mod SetsOfRows
 pub mod SharedMembers
 pub mod TablesRead

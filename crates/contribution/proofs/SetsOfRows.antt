@@ -1,12 +1,12 @@
 -- Outcomes as sets: one is below another where it has no further rows and no further faults. What looks at every item
 -- is the least outcome above what each item gives, so it rests on the set of items alone.
-use Rattle.std.proofs.Common.{◌≡◌, inl, inr, Bool, true, false, ◌||◌, List, [], ◌∷◌, ◌++◌, map, refl, sym, ap, ◌∙◌, subst}
+use Rattle.std.proofs.Common.{◌≡◌, inl, inr, Bool, true, false, ◌||◌, List, [], ◌∷◌, ◌++◌, map, refl, sym, ap, ◌∙◌, subst, subst₂}
 use Rattle.bag_algebra.proofs.Members.{IsIn, in-append_left, in-append_right, from-append, in-member, member-in, same_members}
 use Rattle.bag_algebra.specs.Bags.{Row, Bag, member}
 use Rattle.bag_algebra.specs.Outcome.{Faults, union, Outcome, Good, Bad, and_then, mapped, both, both_then, gather, each}
 use Rattle.bag_algebra.specs.Rewriting.{SameSet}
 use Rattle.contribution.proofs.Agreement.{joined_lists, union-comm, each-gather}
-use Rattle.contribution.proofs.SharedMembers.{Within, Shared}
+use Rattle.contribution.proofs.SharedMembers.{Within, Shared, shared-refl, shared-sym, shared-trans}
 
 -- ---- sets of faults
 
@@ -126,3 +126,101 @@ below-gather f x (y ∷ xs) (inr h) = below-trans (below-gather f x xs h) (below
 pub gather-below : {X Y : Type 0} (f : X → Outcome (List Y)) (xs : List X) (o : Outcome (List Y)) → ((x : X) → IsIn x xs → Below (f x) o) → Below (gather f xs) o
 gather-below f [] o h = below-nothing o
 gather-below f (x ∷ xs) o h = below-joined (h x (inl refl)) (gather-below f xs o (λ y i. h y (inr i)))
+
+-- ---- one set
+
+-- both good with the same members, or both bad with one set of faults
+pub data SetAgree {X : Type 0} : Outcome (List X) → Outcome (List X) → Type 0 where
+  set_good : {us vs : List X} → Shared us vs → SetAgree (Good us) (Good vs)
+  set_bad : (f : Faults) → SetAgree (Bad f) (Bad f)
+
+pub set_agree-refl : {X : Type 0} (o : Outcome (List X)) → SetAgree o o
+set_agree-refl (Good us) = set_good (shared-refl us)
+set_agree-refl (Bad f) = set_bad f
+
+pub set_agree-sym : {X : Type 0} {o p : Outcome (List X)} → SetAgree o p → SetAgree p o
+set_agree-sym (set_good s) = set_good (shared-sym s)
+set_agree-sym (set_bad f) = set_bad f
+
+good_agrees : {X : Type 0} {o : Outcome (List X)} (us vs : List X) → Shared us vs → SetAgree (Good vs) o → SetAgree (Good us) o
+good_agrees us vs s (set_good r) = set_good (shared-trans s r)
+
+pub set_agree-trans : {X : Type 0} {o p r : Outcome (List X)} → SetAgree o p → SetAgree p r → SetAgree o r
+set_agree-trans (set_good {us} {vs} s) b = good_agrees us vs s b
+set_agree-trans (set_bad f) b = b
+
+pub set_agree-below : {X : Type 0} {o p : Outcome (List X)} → SetAgree o p → Below o p
+set_agree-below (set_good s) = below_good s.there
+set_agree-below (set_bad f) = below_worse (included-refl f)
+
+-- each is below the other
+pub set_agree-of_below : {X : Type 0} {o p : Outcome (List X)} → Below o p → Below p o → SetAgree o p
+set_agree-of_below (below_good {us} {vs} s) b = good_set us vs s b where
+  good_set : {X : Type 0} (us vs : List X) → Within us vs → Below (Good vs) (Good us) → SetAgree (Good us) (Good vs)
+  good_set us vs s (below_good r) = set_good (record { there = s; back = r })
+set_agree-of_below (below_bad us g) b = worse_good us g b where
+  worse_good : {X : Type 0} (us : List X) (g : Faults) → Below (Bad g) (Good us) → SetAgree (Good us) (Bad g)
+  worse_good us g b = elim b [ ]
+set_agree-of_below (below_worse {f} {g} s) b = bad_set f g s b where
+  bad_set : {X : Type 0} (f g : Faults) → Included f g → Below {X = X} (Bad g) (Bad f) → SetAgree {X = X} (Bad f) (Bad g)
+  bad_set {X} f g s (below_worse r) = subst (λ h. SetAgree {X = X} (Bad f) (Bad h)) (included-both s r) (set_bad f)
+
+pub set_agree-same_set : {o p : Outcome Bag} → SetAgree o p → SameSet o p
+set_agree-same_set (set_good {us} {vs} s) = same_members us vs s.there.within s.back.within
+set_agree-same_set (set_bad f) = refl
+
+pub same_set-agrees : (o p : Outcome Bag) → SameSet o p → SetAgree o p
+same_set-agrees (Good us) (Good vs) e = set_good (record {
+  there = record { within = λ t h. member-in t vs (sym (e t) ∙ in-member t us h) };
+  back = record { within = λ t h. member-in t us (e t ∙ in-member t vs h) };
+})
+same_set-agrees (Good us) (Bad g) e = absurd e
+same_set-agrees (Bad f) (Good vs) e = absurd e
+same_set-agrees (Bad f) (Bad g) e = subst (λ h. SetAgree {X = Row} (Bad f) (Bad h)) e (set_bad f)
+
+-- ---- items that are related to one another
+
+-- each item of the one list has one of the other that gives the same, and the other way round
+pub record Matched {X Y Z : Type 0} (f : X → Outcome (List Z)) (g : Y → Outcome (List Z)) (xs : List X) (ys : List Y) : Type 0 where
+  pub there : (x : X) → IsIn x xs → (y : Y) × IsIn y ys × SetAgree (f x) (g y)
+  pub back : (y : Y) → IsIn y ys → (x : X) × IsIn x xs × SetAgree (f x) (g y)
+
+pub gather-matched : {X Y Z : Type 0} (f : X → Outcome (List Z)) (g : Y → Outcome (List Z)) (xs : List X) (ys : List Y) → Matched f g xs ys → SetAgree (gather f xs) (gather g ys)
+gather-matched f g xs ys m =
+    set_agree-of_below
+    (gather-below f xs (gather g ys) (λ x i. let found = m.there x i in below-trans (set_agree-below found.2) (below-gather g found.0 ys found.1)))
+    (gather-below g ys (gather f xs) (λ y i. let found = m.back y i in below-trans (set_agree-below (set_agree-sym found.2)) (below-gather f found.0 xs found.1)))
+
+pub gather-set : {X Z : Type 0} (f g : X → Outcome (List Z)) {us vs : List X} → Shared us vs → ((x : X) → SetAgree (f x) (g x)) → SetAgree (gather f us) (gather g vs)
+gather-set f g {us} {vs} s e =
+    gather-matched f g us vs (record { there = λ x i. (x, s.there.within x i, e x); back = λ x i. (x, s.back.within x i, e x) })
+
+pub each-set : {X Z : Type 0} (f : X → Outcome Z) {us vs : List X} → Shared us vs → SetAgree (each f us) (each f vs)
+each-set {X} {Z} f {us} {vs} s =
+    let single : X → Outcome (List Z) = λ x. mapped (λ y. y ∷ []) (f x) in
+    subst₂ SetAgree (each-gather f us) (each-gather f vs) (gather-set single single s (λ x. set_agree-refl (single x)))
+
+-- ---- what comes after
+
+pub and_then-set : {X Y : Type 0} (k l : List X → Outcome (List Y)) {o p : Outcome (List X)} → SetAgree o p → ((us vs : List X) → Shared us vs → SetAgree (k us) (l vs)) →
+    SetAgree (and_then o k) (and_then p l)
+and_then-set k l (set_good {us} {vs} s) next = next us vs s
+and_then-set k l (set_bad f) next = set_bad f
+
+pub mapped-set : {X Y : Type 0} (k l : List X → List Y) {o p : Outcome (List X)} → SetAgree o p → ((us vs : List X) → Shared us vs → Shared (k us) (l vs)) → SetAgree (mapped k o) (mapped l p)
+mapped-set k l (set_good {us} {vs} s) next = set_good (next us vs s)
+mapped-set k l (set_bad f) next = set_bad f
+
+pub both_then-set : {X Y Z : Type 0} (k l : List X → List Y → Outcome (List Z)) {o p : Outcome (List X)} {r s : Outcome (List Y)} → SetAgree o p → SetAgree r s →
+    ((us vs : List X) (xs ys : List Y) → Shared us vs → Shared xs ys → SetAgree (k us xs) (l vs ys)) → SetAgree (both_then o r k) (both_then p s l)
+both_then-set k l (set_good {us} {vs} a) (set_good {us = xs} {vs = ys} b) next = next us vs xs ys a b
+both_then-set k l (set_good a) (set_bad g) next = set_bad g
+both_then-set k l (set_bad f) (set_good b) next = set_bad f
+both_then-set k l (set_bad f) (set_bad g) next = set_bad (union f g)
+
+pub both-set : {X Y Z : Type 0} (k l : List X → List Y → List Z) {o p : Outcome (List X)} {r s : Outcome (List Y)} → SetAgree o p → SetAgree r s →
+    ((us vs : List X) (xs ys : List Y) → Shared us vs → Shared xs ys → Shared (k us xs) (l vs ys)) → SetAgree (both k o r) (both l p s)
+both-set k l (set_good {us} {vs} a) (set_good {us = xs} {vs = ys} b) next = set_good (next us vs xs ys a b)
+both-set k l (set_good a) (set_bad g) next = set_bad g
+both-set k l (set_bad f) (set_good b) next = set_bad f
+both-set k l (set_bad f) (set_bad g) next = set_bad (union f g)

@@ -2,6 +2,7 @@
 mod growth;
 mod kinds;
 mod order;
+mod sets;
 mod witnesses;
 
 pub use growth::{
@@ -11,6 +12,7 @@ pub use growth::{
 };
 pub use kinds::{rows_have_the_kinds, values_have_their_kinds};
 pub use order::{order_of_rows_is_free, queries_read_their_tables_alone};
+pub use sets::sets_of_rows_decide;
 pub use witnesses::{
     contributing_rows_keep_the_value, entries_stand_at_their_places, no_row_is_lost,
     provenance_stands_once,
