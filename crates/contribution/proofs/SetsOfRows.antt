@@ -1,7 +1,8 @@
 -- Outcomes as sets: one is below another where it has no further rows and no further faults. What looks at every item
 -- is the least outcome above what each item gives, so it rests on the set of items alone.
-use Rattle.std.proofs.Common.{◌≡◌, inl, inr, Bool, true, false, ◌||◌, List, [], ◌∷◌, ◌++◌, map, refl, sym, ap, ◌∙◌, subst, subst₂}
-use Rattle.bag_algebra.proofs.Members.{IsIn, in-append_left, in-append_right, from-append, in-member, member-in, same_members}
+use Rattle.std.proofs.Common.{◌≡◌, inl, inr, Bool, true, false, ◌||◌, List, [], ◌∷◌, ◌++◌, map, refl, sym, ap, ◌∙◌, subst, subst₂, append_assoc}
+use Rattle.std.specs.List.{flat_map}
+use Rattle.bag_algebra.proofs.Members.{IsIn, in-flat_map, from-flat_map, in-append_left, in-append_right, from-append, in-member, member-in, same_members}
 use Rattle.bag_algebra.specs.Bags.{Row, Bag, member}
 use Rattle.bag_algebra.specs.Outcome.{Faults, union, Outcome, Good, Bad, and_then, mapped, both, both_then, gather, each}
 use Rattle.bag_algebra.specs.Rewriting.{SameSet}
@@ -224,3 +225,37 @@ both-set k l (set_good {us} {vs} a) (set_good {us = xs} {vs = ys} b) next = set_
 both-set k l (set_good a) (set_bad g) next = set_bad g
 both-set k l (set_bad f) (set_good b) next = set_bad f
 both-set k l (set_bad f) (set_bad g) next = set_bad (union f g)
+
+-- ---- items of items
+
+-- looking at every item of every group is looking at every group
+pub gather-flat_map : {X Y Z : Type 0} (f : Y → Outcome (List Z)) (g : X → List Y) (xs : List X) → SetAgree (gather f (flat_map g xs)) (gather (λ x. gather f (g x)) xs)
+gather-flat_map f g xs =
+    set_agree-of_below
+    (gather-below f (flat_map g xs) (gather (λ x. gather f (g x)) xs) (λ y i.
+    let found = from-flat_map g y xs i in
+    below-trans (below-gather f y (g found.0) found.2) (below-gather (λ x. gather f (g x)) found.0 xs found.1)))
+    (gather-below (λ x. gather f (g x)) xs (gather f (flat_map g xs)) (λ x i.
+    gather-below f (g x) (gather f (flat_map g xs)) (λ y j. below-gather f y (flat_map g xs) (in-flat_map g y x xs i j))))
+
+flat_map-append : {X Y : Type 0} (h : X → List Y) (xs ys : List X) → flat_map h (xs ++ ys) ≡ flat_map h xs ++ flat_map h ys
+flat_map-append h [] ys = refl
+flat_map-append h (x ∷ xs) ys = ap (λ l. h x ++ l) (flat_map-append h xs ys) ∙ sym (append_assoc (h x) (flat_map h xs) (flat_map h ys))
+
+mapped-joined : {X Y : Type 0} (h : X → List Y) (o p : Outcome (List X)) → mapped (flat_map h) (joined_lists o p) ≡ joined_lists (mapped (flat_map h) o) (mapped (flat_map h) p)
+mapped-joined h (Good xs) (Good ys) = ap Good (flat_map-append h xs ys)
+mapped-joined h (Good xs) (Bad g) = refl
+mapped-joined h (Bad f) (Good ys) = refl
+mapped-joined h (Bad f) (Bad g) = refl
+
+-- what is made of each gathered item may be made of each item's own
+pub mapped-gather : {X Y Z : Type 0} (h : Y → List Z) (f : X → Outcome (List Y)) (xs : List X) → mapped (flat_map h) (gather f xs) ≡ gather (λ x. mapped (flat_map h) (f x)) xs
+mapped-gather h f [] = refl
+mapped-gather h f (x ∷ xs) = mapped-joined h (f x) (gather f xs) ∙ ap (joined_lists (mapped (flat_map h) (f x))) (mapped-gather h f xs)
+
+-- where all items of a list that has one meet the same faults, so does the list
+pub gather-all_bad : {X Y : Type 0} (f : X → Outcome (List Y)) (faults : Faults) (x : X) (xs : List X) → IsIn x xs → ((y : X) → IsIn y xs → f y ≡ Bad faults) → SetAgree (gather f xs) (Bad faults)
+gather-all_bad {X} {Y} f faults x xs here bad =
+    set_agree-of_below
+    (gather-below f xs (Bad faults) (λ y i. subst (λ o. Below o (Bad faults)) (sym (bad y i)) (below-refl (Bad faults))))
+    (subst (λ o. Below {X = Y} o (gather f xs)) (bad x here) (below-gather f x xs here))
