@@ -1,11 +1,11 @@
 -- The classes of a grouping: each row of the answer is of a class, whose group values are its first columns.
-use Rattle.std.proofs.Common.{◌≡◌, ℕ, inl, inr, List, [], ◌∷◌, ◌++◌, map, filter, take, length, refl, sym, ap, ◌∙◌, subst}
+use Rattle.std.proofs.Common.{◌≡◌, ℕ, inl, inr, List, [], ◌∷◌, ◌++◌, map, take, length, refl, sym, ap, ◌∙◌}
 use Rattle.perm_values.specs.Rows.{same_row, picked, value_at}
 use Rattle.perm_values.specs.ValueLaws.{row_decides}
 use Rattle.bag_algebra.proofs.Members.{IsIn, from-map, in-filter}
-use Rattle.bag_algebra.specs.Bags.{Row, Bag, once}
+use Rattle.bag_algebra.specs.Bags.{Row, Bag}
 use Rattle.bag_algebra.specs.Means.{good_row, good_rows, class_keys, class_of, class_row, aggregates_of, grouped}
-use Rattle.bag_algebra.specs.Outcome.{Outcome, Good, Bad, and_then, mapped, each}
+use Rattle.bag_algebra.specs.Outcome.{Outcome, Good, Bad, mapped, each}
 use Rattle.bag_algebra.specs.declared.query.AggFn.{AggFn}
 use Rattle.contribution.proofs.BagMembers.{from-once}
 use Rattle.contribution.proofs.GoodRows.{from-and_then, from-each}

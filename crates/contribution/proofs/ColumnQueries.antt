@@ -1,28 +1,25 @@
 -- The query of one row of NULLs, and the columns of a query in another order.
-use Rattle.std.proofs.Common.{◌≡◌, ℕ, zero, suc, ◌<◌, Bool, true, ◌&&◌, List, [], ◌∷◌, ◌++◌, map, length, Some, Result, Ok, Err, IfOk, All, IsTrue, slice_index_or, refl, sym, ap, ◌∙◌, subst, arith}
+use Rattle.std.proofs.Common.{◌≡◌, ℕ, zero, suc, ◌<◌, Bool, true, ◌&&◌, List, [], ◌∷◌, map, length, Some, Result, Ok, Err, IfOk, All, refl, sym, ap, ◌∙◌, subst, arith}
 use Rattle.std.specs.Prelude.{slice_get}
 use Rattle.perm_values.specs.Rows.{picked}
 use Rattle.perm_values.specs.Values.{fits}
 use Rattle.perm_values.specs.declared.kind.Kind.{Kind}
 use Rattle.perm_values.specs.declared.kind.Kind.TheVariants.{Integer, Text, Boolean}
 use Rattle.perm_values.specs.declared.no_memory.NoMemory.{NoMemory}
-use Rattle.perm_values.specs.declared.value.Value.{Value}
 use Rattle.perm_values.specs.declared.value.Value.TheVariants.{Null}
 use Rattle.bag_algebra.proofs.Columns.{column_items-give, each-good, with_lists-rows}
 use Rattle.bag_algebra.specs.Bags.{Row, Bag, nulls}
 use Rattle.bag_algebra.specs.ColumnItems.{column_item, column_items}
-use Rattle.bag_algebra.specs.Expressions.{value}
 use Rattle.bag_algebra.specs.Fits.{TablesFit}
 use Rattle.bag_algebra.specs.Kinds.{kinds_of, kinds_in, kind_in, width_of}
-use Rattle.bag_algebra.specs.Meaning.{Database, denote, meaning, items_on}
+use Rattle.bag_algebra.specs.Meaning.{Database, meaning, items_on}
 use Rattle.bag_algebra.specs.Means.{no_subs}
 use Rattle.bag_algebra.specs.Outcome.{Outcome, Good, Bad, and_then, mapped, both, each}
 use Rattle.bag_algebra.specs.Patterns.{ProjectOf}
 use Rattle.bag_algebra.specs.Rewriting.{is_plain}
-use Rattle.bag_algebra.specs.WellFormed.{WellFormed, PlacesIn, ItemsForm, HasKind, column_kind}
+use Rattle.bag_algebra.specs.WellFormed.{WellFormed, PlacesIn, ItemsForm, HasKind}
 use Rattle.bag_algebra.specs.declared.expr.Item.{Item}
 use Rattle.bag_algebra.specs.declared.query.Query.{Query, end_of-Sublink}
-use Rattle.bag_algebra.specs.declared.query.Query.TheVariants.{Single}
 use Rattle.contribution.specs.NullRow.{null_item, null_row_of}
 
 -- what holds of the query that a call makes

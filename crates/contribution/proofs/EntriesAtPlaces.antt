@@ -1,17 +1,17 @@
 -- Each entry of a witness list stands at its place.
-use Rattle.std.proofs.Common.{◌≡◌, ℕ, ◌⊎◌, inl, inr, Bool, true, false, cond, not, ◌&&◌, List, [], ◌∷◌, ◌++◌, map, filter, length, take, Option, Some, None, IfSome, IsTrue, refl, sym, ap, ◌∙◌, subst, append_assoc, append-nil}
+use Rattle.std.proofs.Common.{◌≡◌, ℕ, inl, inr, Bool, true, false, cond, ◌&&◌, List, [], ◌∷◌, ◌++◌, map, filter, length, Option, Some, None, IfSome, IsTrue, refl, sym, ap, ◌∙◌, subst, append_assoc, append-nil}
 use Rattle.std.proofs.lemmas.List.{length-map}
-use Rattle.std.specs.List.{flat_map, list_any}
+use Rattle.std.specs.List.{flat_map}
 use Rattle.perm_values.specs.Rows.{same_row, picked, value_at}
 use Rattle.perm_values.specs.declared.key.Key.{Key}
 use Rattle.perm_values.specs.declared.kind.Kind.{Kind}
 use Rattle.perm_values.specs.declared.value.Value.{Value}
 use Rattle.bag_algebra.proofs.Columns.{from-with_lists}
-use Rattle.bag_algebra.proofs.Members.{IsIn, in-map, from-map, from-append, from-flat_map, from-filter, in-member}
+use Rattle.bag_algebra.proofs.Members.{IsIn, in-map, from-map, from-append, from-flat_map, in-member}
 use Rattle.bag_algebra.specs.Bags.{Row, Bag, member, nulls}
 use Rattle.bag_algebra.specs.Kinds.{shape, sub_shape, kinds_in, kind_in, kinds_of, width_of}
 use Rattle.bag_algebra.specs.Meaning.{Database, denote, meaning, sub_denote, optional_value, condition_on, items_on, arguments_on}
-use Rattle.bag_algebra.specs.Means.{Means, Entry, Held, Empty, Witness, SubMeans, Blanks, with_lists, paired, beside, good_rows, all_empty, base_means, filter_means, project_means, join_means, keeps_left, keeps_right, is_met, unmatched_left, unmatched_right, pair_lists, left_lists, right_lists, union_means, intersect_means, except_means, differing_lists, distinct_means, limit_means, unlisted_means, aggregate_means, class_lists, class_of, contribution_of, chosen, is_some_row, good_value}
+use Rattle.bag_algebra.specs.Means.{Means, Held, Empty, Witness, Blanks, with_lists, paired, beside, good_rows, all_empty, base_means, filter_means, project_means, join_means, keeps_left, keeps_right, is_met, unmatched_left, unmatched_right, pair_lists, left_lists, right_lists, union_means, intersect_means, except_means, differing_lists, distinct_means, limit_means, unlisted_means, aggregate_means, class_lists, contribution_of, chosen, is_some_row, good_value}
 use Rattle.bag_algebra.specs.Outcome.{Outcome, Good, Bad}
 use Rattle.bag_algebra.specs.Patterns.{BaseOf, FilterOf, ProjectOf, JoinOf, UnionOf, IntersectOf, ExceptOf, DistinctOf, AggregateOf, LimitOf, ProvOf}
 use Rattle.bag_algebra.specs.declared.place.Place.{Place}
@@ -22,7 +22,7 @@ use Rattle.bag_algebra.specs.declared.query.Label.{Label}
 use Rattle.bag_algebra.specs.declared.query.SubKind.{SubKind}
 use Rattle.bag_algebra.specs.declared.query.Query.{Query, Row_of-Sublink, more_of-Sublink, end_of-Sublink}
 use Rattle.bag_algebra.specs.declared.query.Query.TheVariants.{Table, Single}
-use Rattle.contribution.specs.HeldRows.{table_rows, input_rows, restricted, held_rows, sub_held_rows, StandsAt, StandAt}
+use Rattle.contribution.specs.HeldRows.{table_rows, input_rows, restricted, held_rows, sub_held_rows, StandAt}
 
 abbrev pub Rows : Type 0
 Rows = List (Option Bag)

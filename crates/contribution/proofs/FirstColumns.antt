@@ -1,8 +1,8 @@
 -- The first columns of PROVENANCE are the rows of its query.
-use Rattle.std.proofs.Common.{◌≡◌, ◌↔◌, ℕ, List, ◌∷◌, ◌++◌, All, Contains, IsTrue, length, take, sym, ap, ◌∙◌, subst}
+use Rattle.std.proofs.Common.{◌≡◌, ◌↔◌, ℕ, List, ◌++◌, All, IsTrue, length, take, sym, ap, ◌∙◌, subst}
 use Rattle.std.proofs.Math.Seq.{take-append_seam}
 use Rattle.perm_values.specs.declared.kind.Kind.{Kind}
-use Rattle.bag_algebra.proofs.Members.{IsIn, member-in, in-member}
+use Rattle.bag_algebra.proofs.Members.{IsIn, member-in}
 use Rattle.bag_algebra.specs.Bags.{Row, Bag, member}
 use Rattle.bag_algebra.specs.Kinds.{width_of}
 use Rattle.bag_algebra.specs.Meaning.{Database, meaning, witnesses}
@@ -10,7 +10,7 @@ use Rattle.bag_algebra.specs.Means.{flat}
 use Rattle.bag_algebra.specs.Outcome.{Good}
 use Rattle.bag_algebra.specs.Patterns.{ProvOf}
 use Rattle.bag_algebra.specs.declared.query.Query.{Query}
-use Rattle.contribution.proofs.ListedRows.{IsPair, row-listed, some-in, provenance-pairs}
+use Rattle.contribution.proofs.ListedRows.{row-listed, some-in, provenance-pairs}
 use Rattle.contribution.proofs.MembersByIndex.{contains-from_in}
 use Rattle.contribution.proofs.QueryKinds.{rows_have-width}
 use Rattle.contribution.specs.Fitting.{Fitting}

@@ -1,10 +1,9 @@
 -- The rows of good outcomes, and where each comes from.
-use Rattle.std.proofs.Common.{◌≡◌, ◌⊎◌, inl, inr, Bool, true, false, cond, List, [], ◌∷◌, ◌++◌, refl, sym, ap, ◌∙◌, subst}
-use mathlib.Core.Bool.{true≢false}
+use Rattle.std.proofs.Common.{◌≡◌, ◌⊎◌, inl, inr, Bool, true, false, cond, List, [], ◌∷◌, ◌++◌, refl, sym, ap, subst}
 use Rattle.perm_values.specs.declared.value.Value.{Value}
 use Rattle.bag_algebra.proofs.Members.{IsIn, from-append}
 use Rattle.bag_algebra.specs.Bags.{Row, Bag}
-use Rattle.bag_algebra.specs.Means.{Means, Witness, good_rows, is_met, holds_of, kept, with_lists}
+use Rattle.bag_algebra.specs.Means.{Witness, good_rows, is_met, holds_of, kept, with_lists}
 use Rattle.bag_algebra.specs.Outcome.{Outcome, Good, Bad, and_then, mapped, both, both_then, gather, each}
 
 pub good_rows-with_lists : (rows : Outcome Bag) (lists : Row → List Witness) → good_rows (with_lists rows lists).rows ≡ good_rows rows

@@ -1,5 +1,5 @@
 -- Only rows of good answers have witness lists.
-use Rattle.std.proofs.Common.{◌≡◌, ◌≢◌, ◌↔◌, ◌≤◌, ℕ, inl, inr, Bool, true, false, cond, List, [], ◌∷◌, ◌++◌, Contains, IsTrue, map, refl, sym, ap, ◌∙◌, subst, arith}
+use Rattle.std.proofs.Common.{◌≡◌, ◌≢◌, ◌↔◌, ◌≤◌, inl, Bool, true, false, cond, List, [], ◌∷◌, ◌++◌, Contains, IsTrue, refl, sym, ap, ◌∙◌, subst, arith}
 use Rattle.std.specs.List.{flat_map}
 use Rattle.bag_algebra.proofs.BagLaws.{count-once}
 use Rattle.bag_algebra.proofs.Members.{IsIn, in-map, from-map, in-flat_map, from-flat_map, in-member, member-in}
@@ -7,7 +7,7 @@ use Rattle.bag_algebra.specs.Bags.{Row, Bag, member, count, once}
 use Rattle.bag_algebra.specs.Built.{rows-with_lists}
 use Rattle.bag_algebra.specs.Children.{subs_denote}
 use Rattle.bag_algebra.specs.Meaning.{Database, denote, meaning, witnesses, optional_value}
-use Rattle.bag_algebra.specs.Means.{Means, Witness, with_lists, good_rows, flat, with_witnesses, sub_value, chosen}
+use Rattle.bag_algebra.specs.Means.{Means, Witness, with_lists, good_rows, flat, with_witnesses}
 use Rattle.bag_algebra.specs.Outcome.{Outcome, Good, Bad, Faults, mapped, both_then, both, each}
 use Rattle.bag_algebra.specs.Patterns.{BaseOf, FilterOf, ProjectOf, JoinOf, UnionOf, IntersectOf, ExceptOf, DistinctOf, AggregateOf, LimitOf, ProvOf}
 use Rattle.bag_algebra.specs.declared.query.Query.{Query}
@@ -17,7 +17,7 @@ use Rattle.contribution.proofs.BagMembers.{from-once, in-once}
 use Rattle.contribution.proofs.EntriesAtPlaces.{from-lists}
 use Rattle.contribution.proofs.GoodRows.{good_rows-with_lists}
 use Rattle.contribution.proofs.MembersByIndex.{in-from_contains, contains-from_in}
-use Rattle.contribution.proofs.NoRowLost.{NoneLost, none_lost}
+use Rattle.contribution.proofs.NoRowLost.{none_lost}
 use Rattle.contribution.proofs.TruthKept.{chosen-keeps_value}
 use Rattle.contribution.specs.SublinkValues.{sublink_value, contributing_value}
 

@@ -1,20 +1,16 @@
 -- A row of a good answer has a witness list.
-use Rattle.std.proofs.Common.{◌≡◌, ℕ, ◌⊎◌, inl, inr, Bool, true, false, cond, not, ◌&&◌, ◌||◌, List, [], ◌∷◌, ◌++◌, map, filter, length, take, refl, sym, ap, ◌∙◌, subst}
+use Rattle.std.proofs.Common.{◌≡◌, ℕ, inl, inr, Bool, true, false, cond, not, ◌&&◌, List, [], ◌∷◌, ◌++◌, map, filter, take, refl, sym, ap, ◌∙◌, subst}
 use Rattle.std.specs.List.{flat_map, list_any}
 use mathlib.Core.Bool.{true≢false}
-use Rattle.null_logic.specs.Comparison.{compare_values}
-use Rattle.null_logic.specs.Logic.{is_true, truth_of, truth_not}
-use Rattle.null_logic.specs.declared.compare.Compare.{Compare}
-use Rattle.null_logic.specs.declared.truth.Truth.{Truth}
 use Rattle.perm_values.specs.Rows.{same_row, picked, printed_cmp}
 use Rattle.perm_values.specs.ValueLaws.{row_decides}
 use Rattle.perm_values.specs.declared.key.Key.{Key}
 use Rattle.perm_values.specs.declared.value.Value.{Value}
 use Rattle.bag_algebra.proofs.Columns.{in-with_lists}
-use Rattle.bag_algebra.proofs.Members.{IsIn, in-map, from-map, in-append_left, in-append_right, from-append, in-flat_map, in-filter, from-filter, in-member, member-in}
-use Rattle.bag_algebra.specs.Bags.{Row, Bag, member, once, nulls, sorted, union_of, intersect_of, except_of}
-use Rattle.bag_algebra.specs.Means.{Means, Witness, Held, SubMeans, Blanks, with_lists, paired, beside, good_rows, base_means, filter_means, project_means, join_means, joined_rows, keeps_left, keeps_right, met_pairs, unmatched_left, unmatched_right, pair_lists, left_lists, right_lists, is_met, holds_of, kept, gives, union_means, intersect_means, except_means, differing_lists, distinct_means, limit_means, unlisted_means, aggregate_means, provenance_means, class_lists, grouped, contribution_of, chosen, is_some_row, good_value, all_empty}
-use Rattle.bag_algebra.specs.Outcome.{Outcome, Good, Bad, and_then, mapped, both, both_then, gather, each}
+use Rattle.bag_algebra.proofs.Members.{IsIn, in-map, from-map, in-append_left, in-append_right, from-append, in-flat_map, in-filter, from-filter}
+use Rattle.bag_algebra.specs.Bags.{Row, Bag, once, nulls, sorted, union_of, intersect_of, except_of}
+use Rattle.bag_algebra.specs.Means.{Means, Witness, Held, Blanks, with_lists, paired, beside, good_rows, base_means, filter_means, project_means, join_means, joined_rows, keeps_left, keeps_right, met_pairs, unmatched_left, unmatched_right, pair_lists, left_lists, right_lists, is_met, kept, gives, union_means, intersect_means, except_means, differing_lists, distinct_means, limit_means, unlisted_means, aggregate_means, class_lists, grouped, contribution_of, chosen, is_some_row, good_value, all_empty}
+use Rattle.bag_algebra.specs.Outcome.{Outcome, Good, Bad, gather, each}
 use Rattle.bag_algebra.specs.Kinds.{shape, width_of}
 use Rattle.bag_algebra.specs.Meaning.{Database, denote, sub_denote, optional_value, condition_on, arguments_on}
 use Rattle.bag_algebra.specs.Patterns.{BaseOf, FilterOf, ProjectOf, JoinOf, UnionOf, IntersectOf, ExceptOf, DistinctOf, AggregateOf, LimitOf, ProvOf}

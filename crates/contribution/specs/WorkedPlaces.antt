@@ -1,17 +1,16 @@
 -- Worked examples of places, of their names and of what stands at them: over r(a INTEGER, b TEXT) and s(c INTEGER).
-use Rattle.std.specs.Prelude.{◌≡◌, ℕ, pos, true, false, cond, ◌==◌, List, [], ◌∷◌, ◌++◌, Some, None, refl, codes}
+use Rattle.std.specs.Prelude.{◌≡◌, ℕ, pos, true, cond, ◌==◌, List, [], ◌∷◌, ◌++◌, Some, None, refl, codes}
 use Rattle.std.specs.Fmt.{decimal}
 use Rattle.perm_values.specs.declared.kind.Kind.{Kind}
 use Rattle.perm_values.specs.declared.kind.Kind.TheVariants as kind
 use Rattle.perm_values.specs.declared.value.Value.{Value}
-use Rattle.perm_values.specs.declared.value.Value.TheVariants.{Integer, Text, Boolean}
+use Rattle.perm_values.specs.declared.value.Value.TheVariants.{Integer, Text}
 use Rattle.bag_algebra.specs.Kinds.{shape}
 use Rattle.bag_algebra.specs.Meaning.{Database, witnesses}
 use Rattle.bag_algebra.specs.Means.{Held, Empty}
 use Rattle.bag_algebra.specs.Patterns.{BaseOf, FilterOf, ProjectOf, UnionOf}
 use Rattle.bag_algebra.specs.PlaceNames.{place_names}
-use Rattle.bag_algebra.specs.declared.expr.Expr.TheVariants.{Col, Lit, Sub}
-use Rattle.bag_algebra.specs.declared.expr.Item.{Item}
+use Rattle.bag_algebra.specs.declared.expr.Expr.TheVariants.{Col, Sub}
 use Rattle.bag_algebra.specs.declared.place.Place.{Place}
 use Rattle.bag_algebra.specs.declared.query.Label.{Label}
 use Rattle.bag_algebra.specs.declared.query.Label.TheVariants.{Relation, External}

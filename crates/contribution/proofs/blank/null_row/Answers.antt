@@ -1,19 +1,16 @@
-use Rattle.std.proofs.Common.{◌≡◌, ◌∙◌, List, [], ◌∷◌, map, length, IsTrue, IfOk, refl, sym, ap, subst}
-use Rattle.perm_values.specs.Rows.{picked}
+use Rattle.std.proofs.Common.{◌≡◌, List, [], ◌∷◌, length, IsTrue, IfOk, refl, subst}
 use Rattle.perm_values.specs.declared.kind.Kind.{Kind}
 use Rattle.bag_algebra.specs.Bags.{Row, nulls}
-use Rattle.bag_algebra.specs.ColumnItems.{column_items}
-use Rattle.bag_algebra.specs.Fits.{TablesFit}
-use Rattle.bag_algebra.specs.Kinds.{kinds_of, kinds_in}
+use Rattle.bag_algebra.specs.Kinds.{kinds_of}
 use Rattle.bag_algebra.specs.Meaning.{Database, meaning}
-use Rattle.bag_algebra.specs.Outcome.{Good, mapped}
+use Rattle.bag_algebra.specs.Outcome.{Good}
 use Rattle.bag_algebra.specs.Patterns.{ProjectOf}
 use Rattle.bag_algebra.specs.Rewriting.{is_plain}
 use Rattle.bag_algebra.specs.WellFormed.{WellFormed}
-use Rattle.bag_algebra.specs.declared.query.Query.{Query, end_of-Sublink}
+use Rattle.bag_algebra.specs.declared.query.Query.{end_of-Sublink}
 use Rattle.bag_algebra.specs.declared.query.Query.TheVariants.{Single}
-use Rattle.contribution.proofs.ColumnQueries.{of_made, kinds_of-null_row, meaning-null_row, formed-null_row, kinds_of-columns, meaning-columns, plain-columns, tables-columns, formed-columns}
-use Rattle.contribution.specs.NullRow.{null_item, null_row_of}
+use Rattle.contribution.proofs.ColumnQueries.{of_made, kinds_of-null_row, meaning-null_row, formed-null_row}
+use Rattle.contribution.specs.NullRow.{null_row_of}
 use Rattle.contribution.proofs.blank.null_row.Goals as goal
 
 pub returns-clause-made : goal.returns-clause-made
