@@ -1,4 +1,5 @@
 pub mod Added
+pub mod AddedColumns
 pub mod Agreement
 pub mod BagMembers
 pub mod Classes
@@ -7,7 +8,9 @@ pub mod EntriesAtPlaces
 pub mod FirstColumns
 pub mod GoodRows
 pub mod GroupKinds
+pub mod Growth
 pub mod ListedRows
+pub mod LongerKinds
 pub mod MembersByIndex
 pub mod NoRowLost
 pub mod NodeKinds
@@ -18,6 +21,7 @@ pub mod OrderOfSets
 pub mod QueryKinds
 pub mod RowKinds
 pub mod SharedMembers
+pub mod TablesRead
 pub mod TruthKept
 pub mod ValueKinds
 pub mod WhereGood

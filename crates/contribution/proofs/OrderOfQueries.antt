@@ -8,7 +8,7 @@ use Rattle.null_logic.specs.declared.truth.Truth.TheVariants.{True, False, Unkno
 use Rattle.perm_values.specs.declared.value.Value.{Value}
 use Rattle.perm_values.specs.declared.value.Value.TheVariants.{Boolean}
 use Rattle.bag_algebra.proofs.BagLaws.{Permuted, nothing, onward, turn, joined, permuted-map, permuted-filter, permuted-from_same_bag, same_bag-from_permuted}
-use Rattle.bag_algebra.specs.Bags.{Row, Bag}
+use Rattle.bag_algebra.specs.Bags.{Row, Bag, SameBag}
 use Rattle.bag_algebra.specs.Expressions.{value}
 use Rattle.bag_algebra.specs.Kinds.{shape, width_of}
 use Rattle.bag_algebra.specs.Meaning.{Database, denote, sub_denote, optional_value, condition_on, items_on, arguments_on}
@@ -28,7 +28,8 @@ use Rattle.contribution.proofs.OrderOfGroups.{aggregate_means-alike}
 use Rattle.contribution.proofs.OrderOfRows.{Alike, any-permuted, permuted-good_rows, unlisted_means-alike, base_means-alike, SameContributions, filter_means-alike, project_means-alike, join_means-alike}
 use Rattle.contribution.proofs.OrderOfSets.{shared-either, union_means-alike, intersect_means-alike, except_means-alike, distinct_means-alike, limit_means-alike, provenance_means-alike}
 use Rattle.contribution.proofs.SharedMembers.{Shared, shared-refl, shared-permuted, shared-flat_map, none_each, next_each, contains-in, in-contains}
-use Rattle.contribution.specs.SameMeaning.{SameDatabase, SameRows, SameMembers, SameMeaning}
+use Rattle.contribution.specs.EachTable.{EachSubTable}
+use Rattle.contribution.specs.SameMeaning.{SameTables, SameRows, SameMembers, SameMeaning}
 
 -- ---- sublinks
 
@@ -139,36 +140,40 @@ join_node kind condition env left_blank right_blank left_width right_width {s} {
 
 -- ---- queries
 
+-- the same bag for each table of the sublinks
+abbrev SameSubTables : Database → Database → {m : _} → Row_of-Sublink m → Type 0
+SameSubTables db other subs = EachSubTable (λ id kinds. SameBag (db id) (other id)) subs
+
 mutual
-  pub denote-alike : (q : Query) (db other : Database) → SameDatabase db other → (env : List Row) → Alike (denote q db env) (denote q other env)
-  denote-alike (Table id kinds) db other same env = unlisted_means-alike (agree_good (permuted-from_same_bag (db id) (other id) (same.bags id)))
+  pub denote-alike : (q : Query) (db other : Database) → SameTables db other q → (env : List Row) → Alike (denote q db env) (denote q other env)
+  denote-alike (Table id kinds) db other same env = unlisted_means-alike (agree_good (permuted-from_same_bag (db id) (other id) same))
   denote-alike Single db other same env = unlisted_means-alike (agree-refl (Good ([] ∷ [])))
   denote-alike (BaseOf input places label) db other same env = base_means-alike places (denote-alike input db other same env)
   denote-alike (FilterOf input condition _ subs) db other same env =
-      let s = sub_denote-alike subs db other same env in
-      filter_node condition env s (denote-alike input db other same env)
+      let s = sub_denote-alike subs db other same.1 env in
+      filter_node condition env s (denote-alike input db other same.0 env)
   denote-alike (ProjectOf input items _ subs) db other same env =
-      let s = sub_denote-alike subs db other same env in
-      project_node items env s (denote-alike input db other same env)
+      let s = sub_denote-alike subs db other same.1 env in
+      project_node items env s (denote-alike input db other same.0 env)
   denote-alike (JoinOf kind left right condition _ subs) db other same env =
       join_node kind condition env (all_empty (shape left)) (all_empty (shape right)) (width_of left) (width_of right)
-      (sub_denote-alike subs db other same env) (denote-alike left db other same env) (denote-alike right db other same env)
+      (sub_denote-alike subs db other same.2 env) (denote-alike left db other same.0 env) (denote-alike right db other same.1 env)
   denote-alike (UnionOf all left right) db other same env =
-      union_means-alike all (all_empty (shape left)) (all_empty (shape right)) (denote-alike left db other same env) (denote-alike right db other same env)
+      union_means-alike all (all_empty (shape left)) (all_empty (shape right)) (denote-alike left db other same.0 env) (denote-alike right db other same.1 env)
   denote-alike (IntersectOf all left right) db other same env =
-      intersect_means-alike all (denote-alike left db other same env) (denote-alike right db other same env)
+      intersect_means-alike all (denote-alike left db other same.0 env) (denote-alike right db other same.1 env)
   denote-alike (ExceptOf all left right) db other same env =
-      except_means-alike all (all_empty (shape right)) (denote-alike left db other same env) (denote-alike right db other same env)
+      except_means-alike all (all_empty (shape right)) (denote-alike left db other same.0 env) (denote-alike right db other same.1 env)
   denote-alike (DistinctOf input) db other same env = distinct_means-alike (denote-alike input db other same env)
   denote-alike (AggregateOf input groups aggregates) db other same env =
       aggregate_means-alike groups (map (λ (aggregate : Aggr). aggregate.function) aggregates) (arguments_on aggregates env) (all_empty (shape input)) (denote-alike input db other same env)
   denote-alike (LimitOf input keys count) db other same env = limit_means-alike keys count (denote-alike input db other same env)
   denote-alike (ProvOf input) db other same env = provenance_means-alike (denote-alike input db other same env)
 
-  pub sub_denote-alike : {m : _} (subs : Row_of-Sublink m) (db other : Database) → SameDatabase db other → (env : List Row) → AlikeSubs (sub_denote subs db env) (sub_denote subs other env)
+  pub sub_denote-alike : {m : _} (subs : Row_of-Sublink m) (db other : Database) → SameSubTables db other subs → (env : List Row) → AlikeSubs (sub_denote subs db env) (sub_denote subs other env)
   sub_denote-alike end_of-Sublink db other same env = no_subs-alike
   sub_denote-alike (more_of-Sublink kind tested query subs) db other same env =
-      with_sub-alike kind (optional_value tested env) (all_empty (shape query)) (λ u. denote-alike query db other same (u ∷ env)) (sub_denote-alike subs db other same env)
+      with_sub-alike kind (optional_value tested env) (all_empty (shape query)) (λ u. denote-alike query db other same.0 (u ∷ env)) (sub_denote-alike subs db other same.1 env)
 
 -- ---- as the law says it
 
@@ -182,7 +187,7 @@ same_members {X} {xs} {ys} s = record {
   back = λ x h. in-contains x xs (s.back.within x (contains-in x ys h));
 }
 
-pub same_meaning : (q : Query) (db other : Database) (env : List Row) → SameDatabase db other → SameMeaning (denote q db env) (denote q other env)
+pub same_meaning : (q : Query) (db other : Database) (env : List Row) → SameTables db other q → SameMeaning (denote q db env) (denote q other env)
 same_meaning q db other env same =
     let a = denote-alike q db other same env in
     record { rows = same_rows a.rows; lists = λ t. same_members (a.lists t) }
