@@ -1,5 +1,11 @@
 pub mod BagLaws
+pub mod Closing
 pub mod Columns
 mod FiniteMap
+pub mod Levels
 pub mod Members
+pub mod Rest
+pub mod Seeking
 pub mod SortedBags
+pub mod Truths
+pub mod Widths

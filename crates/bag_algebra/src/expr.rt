@@ -1,5 +1,8 @@
+ghost use Rattle.std.specs.Prelude.{◌≡◌, IfOk};
+
 use null_logic::{Arith, Operator, Truth};
-use perm_values::{Boxed, Kind, List, Value};
+use perm_values::{Boxed, Copyable, Kind, List, NoMemory, Value};
+use std::alloc::Global;
 
 /// An expression over the rows that it sees: its node's own row, and the outer rows around it.
 #[derive(Debug, Drop)]
@@ -71,4 +74,124 @@ pub struct Arm {
 pub struct Item {
     pub expr: Expr,
     pub kind: Kind,
+}
+
+impl Copyable for Expr {
+    fn copy(&self, alloc: Global) -> Result<Expr, NoMemory> {
+        copy_expr(alloc, self)
+    }
+}
+
+impl Copyable for ChainStep {
+    fn copy(&self, alloc: Global) -> Result<ChainStep, NoMemory> {
+        Ok(ChainStep {
+            op: self.op,
+            part: copy_expr(alloc, &self.part)?,
+        })
+    }
+}
+
+impl Copyable for Arm {
+    fn copy(&self, alloc: Global) -> Result<Arm, NoMemory> {
+        let condition = copy_expr(alloc, &self.condition)?;
+        let value = copy_expr(alloc, &self.value)?;
+        Ok(Arm { condition, value })
+    }
+}
+
+impl Copyable for Item {
+    fn copy(&self, alloc: Global) -> Result<Item, NoMemory> {
+        Ok(Item {
+            expr: copy_expr(alloc, &self.expr)?,
+            kind: self.kind,
+        })
+    }
+}
+
+#[cycle(copy_expr)]
+fn copy_expr(alloc: Global, expr: &Expr) -> Result<Expr, NoMemory>
+    ensures { IfOk result (λ copy. copy ≡ expr.now) }
+{
+    match expr {
+        Expr::Col { level, place } => Ok(Expr::Col {
+            level: *level,
+            place: *place,
+        }),
+        Expr::Lit { value, kind } => Ok(Expr::Lit {
+            value: value.copy(alloc)?,
+            kind: *kind,
+        }),
+        Expr::Op { op, parts } => Ok(Expr::Op {
+            op: *op,
+            parts: copy_parts(alloc, parts.as_slice())?,
+        }),
+        Expr::Chain { first, steps } => {
+            let first = copy_boxed(alloc, first)?;
+            let steps = copy_steps(alloc, steps.as_slice())?;
+            Ok(Expr::Chain { first, steps })
+        }
+        Expr::Case { arms, otherwise } => {
+            let arms = copy_arms(alloc, arms.as_slice())?;
+            let otherwise = copy_boxed(alloc, otherwise)?;
+            Ok(Expr::Case { arms, otherwise })
+        }
+        Expr::Sub { number } => Ok(Expr::Sub { number: *number }),
+        Expr::IsNull { part } => Ok(Expr::IsNull {
+            part: copy_boxed(alloc, part)?,
+        }),
+        Expr::IsTruth { truth, part } => Ok(Expr::IsTruth {
+            truth: *truth,
+            part: copy_boxed(alloc, part)?,
+        }),
+        Expr::Same { first, second } => {
+            let first = copy_boxed(alloc, first)?;
+            let second = copy_boxed(alloc, second)?;
+            Ok(Expr::Same { first, second })
+        }
+    }
+}
+
+#[cycle(copy_expr)]
+fn copy_boxed(alloc: Global, part: &Boxed<Expr>) -> Result<Boxed<Expr>, NoMemory>
+    ensures { IfOk result (λ copy. copy ≡ part.now) }
+{
+    let copy = copy_expr(alloc, part.get())?;
+    Boxed::new(alloc, copy)
+}
+
+#[cycle(copy_expr)]
+fn copy_parts(alloc: Global, parts: &[Expr]) -> Result<List<Expr>, NoMemory>
+    ensures { IfOk result (λ copy. copy ≡ parts.now) }
+{
+    let mut copy = List::new(alloc);
+    for part in parts {
+        copy.push(copy_expr(alloc, part)?)?;
+    }
+    Ok(copy)
+}
+
+#[cycle(copy_expr)]
+fn copy_steps(alloc: Global, steps: &[ChainStep]) -> Result<List<ChainStep>, NoMemory>
+    ensures { IfOk result (λ copy. copy ≡ steps.now) }
+{
+    let mut copy = List::new(alloc);
+    for step in steps {
+        let op = step.op;
+        let part = copy_expr(alloc, &step.part)?;
+        copy.push(ChainStep { op, part })?;
+    }
+    Ok(copy)
+}
+
+#[cycle(copy_expr)]
+fn copy_arms(alloc: Global, arms: &[Arm]) -> Result<List<Arm>, NoMemory>
+    ensures { IfOk result (λ copy. copy ≡ arms.now) }
+{
+    let mut copy = List::new(alloc);
+    for arm in arms {
+        let condition = copy_expr(alloc, &arm.condition)?;
+        let value = copy_expr(alloc, &arm.value)?;
+        copy.push(Arm { condition, value })?;
+    }
+    Ok(copy)
 }

@@ -2,8 +2,11 @@ pub mod Added
 pub mod AddedColumns
 pub mod Agreement
 pub mod BagMembers
+pub mod BuiltSources
 pub mod Classes
 pub mod ColumnQueries
+pub mod CrossBases
+pub mod CrossedRows
 pub mod EntriesAtPlaces
 pub mod FirstColumns
 pub mod GoodRows

@@ -1,3 +1,4 @@
+pub mod CrossBase
 pub mod EachTable
 pub mod FitsPlaces
 pub mod Fitting

@@ -3,6 +3,7 @@
 #![tactic(auto)]
 
 mod blank;
+mod cross;
 mod laws;
 mod names;
 mod places;
@@ -11,6 +12,7 @@ mod reorder;
 mod tests;
 
 pub use blank::null_row;
+pub use cross::{TableSource, cross_base};
 pub use laws::{
     closed_queries_see_no_outer_row, columns_added_to_a_row_change_nothing,
     contributing_rows_keep_the_value, entries_stand_at_their_places, longer_outer_kinds_serve_too,

@@ -182,7 +182,7 @@ fn add_all(found: &mut List<Kind>, kinds: &[Kind]) -> Result<(), NoMemory>
 }
 
 /// The kinds at the places; a place out of range counts as a text.
-fn add_picked(found: &mut List<Kind>, below: &[Kind], places: &[usize]) -> Result<(), NoMemory>
+pub(crate) fn add_picked(found: &mut List<Kind>, below: &[Kind], places: &[usize]) -> Result<(), NoMemory>
     ensures { OnOk result (found.new ≡ found.old ++ kinds_in below.now places.now) }
 {
     for place in places {
@@ -191,7 +191,7 @@ fn add_picked(found: &mut List<Kind>, below: &[Kind], places: &[usize]) -> Resul
     Ok(())
 }
 
-fn kind_or_text(kinds: &[Kind], place: usize) -> Kind
+pub(crate) fn kind_or_text(kinds: &[Kind], place: usize) -> Kind
     ensures { result ≡ kind_in kinds.now place }
 {
     if place < kinds.len() {

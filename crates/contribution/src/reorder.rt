@@ -13,7 +13,7 @@ ghost use Rattle.bag_algebra.specs.WellFormed.{WellFormed, PlacesIn};
 ghost use Rattle.bag_algebra.specs.declared.query.Query.{end_of-Sublink};
 ghost use Rattle.perm_values.specs.declared.kind.Kind.{Kind as Sort};
 
-use crate::places::kinds;
+use crate::places::{kind_or_text, kinds};
 use bag_algebra::{Expr, Item, Query};
 use perm_values::{Boxed, Kind, List, NoMemory};
 use std::alloc::Global;
@@ -49,15 +49,14 @@ pub(crate) fn projection(alloc: Global, query: Query, items: List<Item>) -> Resu
 
 /// The columns of the query at these places.
 fn columns(alloc: Global, query: &Query, order: &[usize]) -> Result<List<Item>, NoMemory>
-    requires { PlacesIn (width_of query.now) order.now }
     ensures { IfOk result (λ items. items ≡ column_items (kinds_of query.now) order.now) }
 {
     let found = kinds(alloc, query)?;
     column_items(alloc, found.as_slice(), order)
 }
 
-fn column_items(alloc: Global, kinds: &[Kind], order: &[usize]) -> Result<List<Item>, NoMemory>
-    requires { PlacesIn (length kinds.now) order.now }
+/// The columns at the places, with their kinds; one out of range counts as a text.
+pub(crate) fn column_items(alloc: Global, kinds: &[Kind], order: &[usize]) -> Result<List<Item>, NoMemory>
     ensures { IfOk result (λ items. items ≡ column_items kinds.now order.now) }
 {
     let mut items = List::new(alloc);
@@ -68,11 +67,10 @@ fn column_items(alloc: Global, kinds: &[Kind], order: &[usize]) -> Result<List<I
 }
 
 fn column_item(kinds: &[Kind], place: usize) -> Item
-    requires { place < length kinds.now }
     ensures { result ≡ column_item kinds.now place }
 {
     Item {
         expr: Expr::Col { level: 0, place },
-        kind: kinds[place],
+        kind: kind_or_text(kinds, place),
     }
 }

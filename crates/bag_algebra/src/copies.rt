@@ -1,0 +1,216 @@
+//! Copies of queries, each equal to its source.
+ghost use Rattle.std.specs.Prelude.{◌≡◌, IfOk};
+
+use crate::expr::Expr;
+use crate::query::{Aggr, Answer, Label, Query, Sublink};
+use perm_values::{Boxed, Copyable, List, NoMemory};
+use std::alloc::Global;
+
+impl Copyable for Query {
+    fn copy(&self, alloc: Global) -> Result<Query, NoMemory> {
+        copy_query(alloc, self)
+    }
+}
+
+impl Copyable for Sublink {
+    fn copy(&self, alloc: Global) -> Result<Sublink, NoMemory> {
+        let tested = copy_option(alloc, &self.tested)?;
+        let query = copy_query(alloc, &self.query)?;
+        Ok(Sublink {
+            kind: self.kind,
+            tested,
+            query,
+        })
+    }
+}
+
+impl Copyable for Aggr {
+    fn copy(&self, alloc: Global) -> Result<Aggr, NoMemory> {
+        Ok(Aggr {
+            function: self.function,
+            argument: copy_option(alloc, &self.argument)?,
+            kind: self.kind,
+        })
+    }
+}
+
+impl Copyable for Label {
+    fn copy(&self, alloc: Global) -> Result<Label, NoMemory> {
+        match self {
+            Label::Relation { name, columns } => Ok(Label::Relation {
+                name: name.copy(alloc)?,
+                columns: columns.copy(alloc)?,
+            }),
+            Label::External { columns } => Ok(Label::External {
+                columns: columns.copy(alloc)?,
+            }),
+        }
+    }
+}
+
+impl Copyable for Answer {
+    fn copy(&self, alloc: Global) -> Result<Answer, NoMemory> {
+        Ok(Answer {
+            query: copy_query(alloc, &self.query)?,
+            names: self.names.copy(alloc)?,
+            keys: self.keys.copy(alloc)?,
+        })
+    }
+}
+
+#[cycle(copy_query)]
+fn copy_query(alloc: Global, query: &Query) -> Result<Query, NoMemory>
+    ensures { IfOk result (λ copy. copy ≡ query.now) }
+{
+    match query {
+        Query::Table { id, kinds } => Ok(Query::Table {
+            id: *id,
+            kinds: kinds.copy(alloc)?,
+        }),
+        Query::Single => Ok(Query::Single),
+        Query::Base {
+            input,
+            places,
+            label,
+        } => {
+            let places = places.copy(alloc)?;
+            let label = label.copy(alloc)?;
+            let input = copy_boxed(alloc, input)?;
+            Ok(Query::Base {
+                input,
+                places,
+                label,
+            })
+        }
+        Query::Filter {
+            input,
+            condition,
+            subs,
+        } => {
+            let condition = condition.copy(alloc)?;
+            let subs = copy_subs(alloc, subs.as_slice())?;
+            let input = copy_boxed(alloc, input)?;
+            Ok(Query::Filter {
+                input,
+                condition,
+                subs,
+            })
+        }
+        Query::Project { input, items, subs } => {
+            let items = items.copy(alloc)?;
+            let subs = copy_subs(alloc, subs.as_slice())?;
+            let input = copy_boxed(alloc, input)?;
+            Ok(Query::Project { input, items, subs })
+        }
+        Query::Join {
+            kind,
+            left,
+            right,
+            condition,
+            subs,
+        } => {
+            let condition = condition.copy(alloc)?;
+            let subs = copy_subs(alloc, subs.as_slice())?;
+            let left = copy_boxed(alloc, left)?;
+            let right = copy_boxed(alloc, right)?;
+            Ok(Query::Join {
+                kind: *kind,
+                left,
+                right,
+                condition,
+                subs,
+            })
+        }
+        Query::Union { all, left, right } => {
+            let left = copy_boxed(alloc, left)?;
+            let right = copy_boxed(alloc, right)?;
+            Ok(Query::Union {
+                all: *all,
+                left,
+                right,
+            })
+        }
+        Query::Intersect { all, left, right } => {
+            let left = copy_boxed(alloc, left)?;
+            let right = copy_boxed(alloc, right)?;
+            Ok(Query::Intersect {
+                all: *all,
+                left,
+                right,
+            })
+        }
+        Query::Except { all, left, right } => {
+            let left = copy_boxed(alloc, left)?;
+            let right = copy_boxed(alloc, right)?;
+            Ok(Query::Except {
+                all: *all,
+                left,
+                right,
+            })
+        }
+        Query::Distinct { input } => Ok(Query::Distinct {
+            input: copy_boxed(alloc, input)?,
+        }),
+        Query::Aggregate {
+            input,
+            groups,
+            aggregates,
+        } => {
+            let groups = groups.copy(alloc)?;
+            let aggregates = aggregates.copy(alloc)?;
+            let input = copy_boxed(alloc, input)?;
+            Ok(Query::Aggregate {
+                input,
+                groups,
+                aggregates,
+            })
+        }
+        Query::Limit { input, keys, count } => {
+            let keys = keys.copy(alloc)?;
+            let input = copy_boxed(alloc, input)?;
+            Ok(Query::Limit {
+                input,
+                keys,
+                count: *count,
+            })
+        }
+        Query::Prov { input } => Ok(Query::Prov {
+            input: copy_boxed(alloc, input)?,
+        }),
+    }
+}
+
+#[cycle(copy_query)]
+fn copy_boxed(alloc: Global, query: &Boxed<Query>) -> Result<Boxed<Query>, NoMemory>
+    ensures { IfOk result (λ copy. copy ≡ query.now) }
+{
+    let copy = copy_query(alloc, query.get())?;
+    Boxed::new(alloc, copy)
+}
+
+#[cycle(copy_query)]
+fn copy_subs(alloc: Global, subs: &[Sublink]) -> Result<List<Sublink>, NoMemory>
+    ensures { IfOk result (λ copy. copy ≡ subs.now) }
+{
+    let mut copy = List::new(alloc);
+    for sub in subs {
+        let kind = sub.kind;
+        let tested = copy_option(alloc, &sub.tested)?;
+        let query = copy_query(alloc, &sub.query)?;
+        copy.push(Sublink {
+            kind,
+            tested,
+            query,
+        })?;
+    }
+    Ok(copy)
+}
+
+fn copy_option(alloc: Global, part: &Option<Expr>) -> Result<Option<Expr>, NoMemory>
+    ensures { IfOk result (λ copy. copy ≡ part.now) }
+{
+    match part {
+        Some(part) => Ok(Some(part.copy(alloc)?)),
+        None => Ok(None),
+    }
+}
