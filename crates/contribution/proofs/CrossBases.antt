@@ -1,0 +1,209 @@
+-- The cross base of a query whose sources are over tables.
+use Rattle.std.proofs.Common.{◌≡◌, ◌↔◌, ℕ, zero, suc, ◌<◌, Bool, true, false, ◌&&◌, List, [], ◌∷◌, ◌++◌, map, length, Some, None, Option, IsTrue, refl, sym, ap, ◌∙◌, subst, append_assoc, true≢false}
+use Rattle.perm_values.specs.declared.kind.Kind.{Kind}
+use Rattle.bag_algebra.proofs.Members.{IsIn, in-member, member-in}
+use Rattle.bag_algebra.specs.Bags.{Row, Bag, member}
+use Rattle.bag_algebra.specs.ColumnItems.{column_items}
+use Rattle.bag_algebra.specs.Fits.{TablesFit, SubTablesFit, bag_fits}
+use Rattle.bag_algebra.specs.Kinds.{kinds_of, kinds_in, shape, sub_shape, place_kinds}
+use Rattle.bag_algebra.specs.Meaning.{Database, meaning}
+use Rattle.bag_algebra.specs.Means.{flat}
+use Rattle.bag_algebra.specs.Outcome.{Good}
+use Rattle.bag_algebra.specs.Patterns.{BaseOf, FilterOf, ProjectOf, JoinOf, UnionOf, IntersectOf, ExceptOf, DistinctOf, AggregateOf, LimitOf, ProvOf}
+use Rattle.bag_algebra.specs.Rewriting.{is_plain}
+use Rattle.bag_algebra.specs.Scoped.{is_table, over_tables, subs_over_tables}
+use Rattle.bag_algebra.specs.WellFormed.{WellFormed, SubsForm, PlacesIn, no_sublinks}
+use Rattle.bag_algebra.specs.declared.place.Place.{Place}
+use Rattle.bag_algebra.specs.declared.query.Label.{Label}
+use Rattle.bag_algebra.specs.declared.query.Query.{Query, Row_of-Sublink, more_of-Sublink, end_of-Sublink}
+use Rattle.bag_algebra.specs.declared.query.Query.TheVariants.{Table, Single}
+use Rattle.contribution.proofs.ColumnQueries.{kinds_of-null_row, kinds_of-columns, formed-null_row, formed-columns}
+use Rattle.contribution.proofs.CrossedRows.{Sourced, no_source, one_more, FlatAt, held_by, crossed_rows, meaning-crossed, flat-from_crossed, crossed-from_flat}
+use Rattle.contribution.proofs.EntriesAtPlaces.{Rows}
+use Rattle.contribution.specs.CrossBase.{base_source, table_sources, sub_table_sources, source_query, crossed, cross_base_of, always}
+use Rattle.contribution.specs.HeldRows.{table_rows, restricted, held_rows, sub_held_rows, StandAt}
+use Rattle.contribution.specs.declared.cross.TableSource.{TableSource}
+
+-- ---- each place is that of a source over a table
+
+pub sourced-append : {db : Database} {ps qs : List Place} {rs ss : Rows} {vs ws : List TableSource} → Sourced db ps rs vs → Sourced db qs ss ws → Sourced db (ps ++ qs) (rs ++ ss) (vs ++ ws)
+sourced-append no_source b = b
+sourced-append (one_more place source same rest) b = one_more place source same (sourced-append rest b)
+
+sourced-base : (input : Query) (places : List ℕ) (label : Label) (db : Database) → is_table input ≡ true →
+    Sourced db (record { label = label; kinds = kinds_in (kinds_of input) places } ∷ []) (restricted places (table_rows input db) ∷ []) (base_source input places)
+sourced-base (Table id kinds) places label db e = one_more _ (record { id = id; kinds = kinds; places = places }) refl no_source
+sourced-base Single places label db e = absurd (true≢false (sym e))
+sourced-base (BaseOf input inner own) places label db e = absurd (true≢false (sym e))
+sourced-base (FilterOf input condition _ subs) places label db e = absurd (true≢false (sym e))
+sourced-base (ProjectOf input items _ subs) places label db e = absurd (true≢false (sym e))
+sourced-base (JoinOf kind left right condition _ subs) places label db e = absurd (true≢false (sym e))
+sourced-base (UnionOf all left right) places label db e = absurd (true≢false (sym e))
+sourced-base (IntersectOf all left right) places label db e = absurd (true≢false (sym e))
+sourced-base (ExceptOf all left right) places label db e = absurd (true≢false (sym e))
+sourced-base (DistinctOf input) places label db e = absurd (true≢false (sym e))
+sourced-base (AggregateOf input groups aggregates) places label db e = absurd (true≢false (sym e))
+sourced-base (LimitOf input keys count) places label db e = absurd (true≢false (sym e))
+sourced-base (ProvOf input) places label db e = absurd (true≢false (sym e))
+
+first_true : (a b : Bool) → (a && b) ≡ true → a ≡ true
+first_true true b e = refl
+first_true false b e = absurd (true≢false (sym e))
+
+second_true : (a b : Bool) → (a && b) ≡ true → b ≡ true
+second_true true b e = e
+second_true false b e = absurd (true≢false (sym e))
+
+mutual
+  pub sourced : (q : Query) (db : Database) → over_tables q ≡ true → Sourced db (shape q) (held_rows q db None) (table_sources q)
+  sourced (Table id kinds) db e = no_source
+  sourced Single db e = no_source
+  sourced (BaseOf input places label) db e = sourced-base input places label db e
+  sourced (FilterOf input condition _ subs) db e = sourced-append (sourced input db (first_true _ _ e)) (sourced-subs subs db (second_true _ _ e))
+  sourced (ProjectOf input items _ subs) db e = sourced-append (sourced input db (first_true _ _ e)) (sourced-subs subs db (second_true _ _ e))
+  sourced (JoinOf kind left right condition _ subs) db e =
+      let inputs = first_true (over_tables left && over_tables right) (subs_over_tables subs) e in
+      sourced-append (sourced-append (sourced left db (first_true _ _ inputs)) (sourced right db (second_true _ _ inputs)))
+      (sourced-subs subs db (second_true (over_tables left && over_tables right) (subs_over_tables subs) e))
+  sourced (UnionOf all left right) db e = sourced-append (sourced left db (first_true _ _ e)) (sourced right db (second_true _ _ e))
+  sourced (IntersectOf all left right) db e = sourced-append (sourced left db (first_true _ _ e)) (sourced right db (second_true _ _ e))
+  sourced (ExceptOf all left right) db e = sourced-append (sourced left db (first_true _ _ e)) (sourced right db (second_true _ _ e))
+  sourced (DistinctOf input) db e = sourced input db e
+  sourced (AggregateOf input groups aggregates) db e = sourced input db e
+  sourced (LimitOf input keys count) db e = sourced input db e
+  sourced (ProvOf input) db e = no_source
+
+  pub sourced-subs : {m : _} (subs : Row_of-Sublink m) (db : Database) → subs_over_tables subs ≡ true → Sourced db (sub_shape subs) (sub_held_rows subs db) (sub_table_sources subs)
+  sourced-subs end_of-Sublink db e = no_source
+  sourced-subs (more_of-Sublink kind tested query subs) db e =
+      sourced-append (sourced query db (first_true _ _ e)) (sourced-subs subs db (second_true _ _ e))
+
+pub meaning-cross_base : (q : Query) → over_tables q ≡ true → (db : Database) (env : List Row) →
+    (found : Bag) × (meaning (cross_base_of q) db env ≡ Good found) × ((u : Row) → IsTrue (member u found) ↔ FlatAt (shape q) (held_rows q db None) u)
+meaning-cross_base q e db env =
+    let rows = crossed_rows db (table_sources q) in
+    (
+      rows,
+      meaning-crossed (table_sources q) db env,
+      λ u. (
+        λ h. flat-from_crossed db (sourced q db e) u (member-in u rows h),
+        λ w. in-member u rows (subst (λ r. IsIn r rows) w.2 (crossed-from_flat db (sourced q db e) w.0 w.1)),
+      ),
+    )
+
+kinds_of-crossed : (db : Database) {places : List Place} {rows : Rows} {sources : List TableSource} → Sourced db places rows sources → kinds_of (crossed sources Single) ≡ place_kinds places
+kinds_of-crossed db no_source = refl
+kinds_of-crossed db (one_more place source same rest) =
+    λ i. (kinds_of-columns (Table source.id source.kinds) source.places ∙ sym same) i ++ kinds_of-crossed db rest i
+
+pub kinds_of-cross_base : (q : Query) → over_tables q ≡ true → kinds_of (cross_base_of q) ≡ place_kinds (shape q)
+kinds_of-cross_base q e = kinds_of-crossed (λ id. []) (sourced q (λ id. []) e)
+
+and_yes : (b : Bool) → b ≡ true → ((true && b) && true) ≡ true
+and_yes b e = ap (λ b. (true && b) && true) e
+
+plain-crossed : (sources : List TableSource) → is_plain (crossed sources Single) ≡ true
+plain-crossed [] = refl
+plain-crossed (source ∷ sources) = and_yes (is_plain (crossed sources Single)) (plain-crossed sources)
+
+pub plain-cross_base : (q : Query) → is_plain (cross_base_of q) ≡ true
+plain-cross_base q = plain-crossed (table_sources q)
+
+-- ---- what holds of each source
+
+module _ (P : TableSource → Type 0) where
+  pub data EachSource : List TableSource → Type 0 where
+    none : EachSource []
+    some : {sources : List TableSource} (source : TableSource) → P source → EachSource sources → EachSource (source ∷ sources)
+
+  each_source-append : {vs ws : List TableSource} → EachSource vs → EachSource ws → EachSource (vs ++ ws)
+  each_source-append none b = b
+  each_source-append (some source p rest) b = some source p (each_source-append rest b)
+
+-- the places of the source are in range
+abbrev pub InRange : TableSource → Type 0
+InRange source = PlacesIn (length source.kinds) source.places
+
+ranged-base : (input : Query) (places : List ℕ) → PlacesIn (length (kinds_of input)) places → EachSource InRange (base_source input places)
+ranged-base (Table id kinds) places within = some (record { id = id; kinds = kinds; places = places }) within none
+ranged-base other places within = none
+
+ranged-none : {m : _} (subs : Row_of-Sublink m) → no_sublinks subs → EachSource InRange (sub_table_sources subs)
+ranged-none end_of-Sublink f = none
+ranged-none (more_of-Sublink kind tested query subs) f = absurd f
+
+mutual
+  pub ranged : (q : Query) (outer : List (List Kind)) → WellFormed outer q → EachSource InRange (table_sources q)
+  ranged (Table id kinds) outer f = none
+  ranged Single outer f = none
+  ranged (BaseOf input places label) outer f = ranged-base input places f.in_range
+  ranged (FilterOf input condition _ subs) outer f = each_source-append InRange (ranged input outer f.input) (ranged-subs subs (kinds_of input ∷ outer) f.subs)
+  ranged (ProjectOf input items _ subs) outer f = each_source-append InRange (ranged input outer f.input) (ranged-subs subs (kinds_of input ∷ outer) f.subs)
+  ranged (JoinOf kind left right condition _ subs) outer f =
+      each_source-append InRange (each_source-append InRange (ranged left outer f.left) (ranged right outer f.right)) (ranged-none subs f.subs)
+  ranged (UnionOf all left right) outer f = each_source-append InRange (ranged left outer f.left_side) (ranged right outer f.right_side)
+  ranged (IntersectOf all left right) outer f = each_source-append InRange (ranged left outer f.left_side) (ranged right outer f.right_side)
+  ranged (ExceptOf all left right) outer f = each_source-append InRange (ranged left outer f.left_side) (ranged right outer f.right_side)
+  ranged (DistinctOf input) outer f = ranged input outer f
+  ranged (AggregateOf input groups aggregates) outer f = ranged input outer f.input
+  ranged (LimitOf input keys count) outer f = ranged input outer f.input
+  ranged (ProvOf input) outer f = none
+
+  pub ranged-subs : {m : _} (subs : Row_of-Sublink m) (scopes : List (List Kind)) → SubsForm scopes subs → EachSource InRange (sub_table_sources subs)
+  ranged-subs end_of-Sublink scopes f = none
+  ranged-subs (more_of-Sublink kind tested query subs) scopes f = each_source-append InRange (ranged query scopes f.query) (ranged-subs subs scopes f.others)
+
+formed-source_query : (source : TableSource) (outer : List (List Kind)) → InRange source → WellFormed outer (source_query source)
+formed-source_query source outer within = record {
+  left_side = formed-columns (Table source.id source.kinds) source.places within outer tt;
+  right_side = formed-null_row (kinds_in source.kinds source.places) outer;
+  same_kinds = kinds_of-columns (Table source.id source.kinds) source.places ∙ sym (kinds_of-null_row (kinds_in source.kinds source.places));
+}
+
+formed-crossed : (sources : List TableSource) (outer : List (List Kind)) → EachSource InRange sources → WellFormed outer (crossed sources Single)
+formed-crossed [] outer none = tt
+formed-crossed (source ∷ sources) outer (some _ within rest) = record {
+  left = formed-source_query source outer within;
+  right = formed-crossed sources outer rest;
+  subs = tt;
+  condition = record { fitting = refl; gives = refl };
+}
+
+pub formed-cross_base : (q : Query) (outer other : List (List Kind)) → WellFormed outer q → WellFormed other (cross_base_of q)
+formed-cross_base q outer other f = formed-crossed (table_sources q) other (ranged q outer f)
+
+-- the table of the source has rows of its kinds
+abbrev pub TableFits : Database → TableSource → Type 0
+TableFits db source = bag_fits (db source.id) source.kinds ≡ true
+
+fitting-base : (input : Query) (places : List ℕ) (db : Database) → TablesFit db input → EachSource (TableFits db) (base_source input places)
+fitting-base (Table id kinds) places db fit = some (record { id = id; kinds = kinds; places = places }) fit none
+fitting-base other places db fit = none
+
+mutual
+  pub fitting : (q : Query) (db : Database) → TablesFit db q → EachSource (TableFits db) (table_sources q)
+  fitting (Table id kinds) db f = none
+  fitting Single db f = none
+  fitting (BaseOf input places label) db f = fitting-base input places db f
+  fitting (FilterOf input condition _ subs) db f = each_source-append (TableFits db) (fitting input db f.0) (fitting-subs subs db f.1)
+  fitting (ProjectOf input items _ subs) db f = each_source-append (TableFits db) (fitting input db f.0) (fitting-subs subs db f.1)
+  fitting (JoinOf kind left right condition _ subs) db f =
+      each_source-append (TableFits db) (each_source-append (TableFits db) (fitting left db f.0) (fitting right db f.1)) (fitting-subs subs db f.2)
+  fitting (UnionOf all left right) db f = each_source-append (TableFits db) (fitting left db f.0) (fitting right db f.1)
+  fitting (IntersectOf all left right) db f = each_source-append (TableFits db) (fitting left db f.0) (fitting right db f.1)
+  fitting (ExceptOf all left right) db f = each_source-append (TableFits db) (fitting left db f.0) (fitting right db f.1)
+  fitting (DistinctOf input) db f = fitting input db f
+  fitting (AggregateOf input groups aggregates) db f = fitting input db f
+  fitting (LimitOf input keys count) db f = fitting input db f
+  fitting (ProvOf input) db f = none
+
+  pub fitting-subs : {m : _} (subs : Row_of-Sublink m) (db : Database) → SubTablesFit db subs → EachSource (TableFits db) (sub_table_sources subs)
+  fitting-subs end_of-Sublink db f = none
+  fitting-subs (more_of-Sublink kind tested query subs) db f = each_source-append (TableFits db) (fitting query db f.0) (fitting-subs subs db f.1)
+
+tables-crossed : (sources : List TableSource) (db : Database) → EachSource (TableFits db) sources → TablesFit db (crossed sources Single)
+tables-crossed [] db none = tt
+tables-crossed (source ∷ sources) db (some _ fit rest) = (((fit, tt), (tt, tt)), tables-crossed sources db rest, tt)
+
+pub tables-cross_base : (q : Query) (db : Database) → TablesFit db q → TablesFit db (cross_base_of q)
+tables-cross_base q db f = tables-crossed (table_sources q) db (fitting q db f)

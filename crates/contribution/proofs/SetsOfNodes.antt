@@ -1,0 +1,157 @@
+-- Nodes whose rows and faults rest on the sets of their inputs' rows alone: how often a row stands there doesn't count.
+use Rattle.std.proofs.Common.{◌≡◌, ℕ, inl, inr, Bool, true, false, cond, not, List, [], ◌∷◌, ◌++◌, map, filter, refl, sym, ap, ◌∙◌, subst, subst₂}
+use Rattle.std.specs.List.{list_any}
+use Rattle.std.specs.Cmp.{both_ways}
+use Rattle.perm_values.specs.declared.kind.Kind.{Kind}
+use Rattle.perm_values.specs.declared.value.Value.{Value}
+use Rattle.bag_algebra.proofs.Members.{IsIn, in-filter, from-filter, one_of, or-first, or-second, in-member, member-in}
+use Rattle.bag_algebra.specs.Bags.{Row, Bag, member, once, union_of, intersect_of, except_of, nulls}
+use Rattle.bag_algebra.specs.Built.{meaning-Filter, meaning-Project, meaning-Join, meaning-Union, meaning-Intersect, meaning-Except, meaning-Distinct}
+use Rattle.bag_algebra.specs.Children.{subs_denote}
+use Rattle.bag_algebra.specs.Kinds.{kinds_of, width_of}
+use Rattle.bag_algebra.specs.Meaning.{Database, meaning, condition_on, items_on}
+use Rattle.bag_algebra.specs.Means.{kept, keeps_left, keeps_right, is_met, unmatched_left, unmatched_right, met_pairs, joined_rows}
+use Rattle.bag_algebra.specs.Outcome.{Outcome, Good, Bad, and_then, mapped, both, both_then, gather, each}
+use Rattle.bag_algebra.specs.Rewriting.{SameSet}
+use Rattle.bag_algebra.specs.declared.expr.Expr.{Expr}
+use Rattle.bag_algebra.specs.declared.expr.Item.{Item}
+use Rattle.bag_algebra.specs.declared.query.JoinKind.{JoinKind}
+use Rattle.bag_algebra.specs.declared.query.Query.{Query}
+use Rattle.bag_algebra.specs.declared.query.Query.TheVariants.{Filter, Project, Join, Union, Intersect, Except, Distinct}
+use Rattle.bag_algebra.specs.declared.query.Sublink.{Sublink}
+use Rattle.contribution.proofs.BagMembers.{from-once, in-once}
+use Rattle.contribution.proofs.SetsOfRows.{SetAgree, set_good, set_bad, set_agree-refl, same_set-agrees, set_agree-same_set, gather-set, each-set, and_then-set, mapped-set, both_then-set, both-set}
+use Rattle.contribution.proofs.SharedMembers.{Within, Shared, shared-map, shared-append, shared-where, shared-trans}
+
+-- ---- lists with the same members
+
+any_in : {X : Type 0} (test : X → Bool) (x : X) (xs : List X) → IsIn x xs → test x ≡ true → list_any test xs ≡ true
+any_in test x [] h e = absurd h
+any_in test x (y ∷ ys) (inl same) e = or-first (test y) (list_any test ys) (ap test same ∙ e)
+any_in test x (y ∷ ys) (inr h) e = or-second (test y) (list_any test ys) (any_in test x ys h e)
+
+from_any : {X : Type 0} (test : X → Bool) (xs : List X) → list_any test xs ≡ true → (x : X) × IsIn x xs × (test x ≡ true)
+from_any test [] e = cc
+from_any test (y ∷ ys) e = elim (one_of (test y) (list_any test ys) e) [
+  | inl here ↦ (y, inl refl, here)
+  | inr there ↦ let found = from_any test ys there in (found.0, inr found.1, found.2)
+]
+
+any_within : {X : Type 0} (test : X → Bool) {us vs : List X} → Within us vs → list_any test us ≡ true → list_any test vs ≡ true
+any_within test {us} {vs} s e = let found = from_any test us e in any_in test found.0 vs (s.within found.0 found.1) found.2
+
+pub any-shared : {X : Type 0} (test : X → Bool) {us vs : List X} → Shared us vs → list_any test us ≡ list_any test vs
+any-shared test {us} {vs} s = both_ways (list_any test us) (list_any test vs) (any_within test s.there) (any_within test s.back)
+
+pub shared-filter : {X : Type 0} (test : X → Bool) {us vs : List X} → Shared us vs → Shared (filter test us) (filter test vs)
+shared-filter test {us} {vs} s = record {
+  there = record { within = λ x h. let found = from-filter test x us h in in-filter test x vs (s.there.within x found.0) found.1 };
+  back = record { within = λ x h. let found = from-filter test x vs h in in-filter test x us (s.back.within x found.0) found.1 };
+}
+
+pub shared-once : (us : Bag) → Shared (once us) us
+shared-once us = record { there = record { within = λ t h. from-once t us h }; back = record { within = λ t h. in-once t us h } }
+
+once_shared : {us vs : Bag} → Shared us vs → Shared (once us) (once vs)
+once_shared {us} {vs} s = record {
+  there = record { within = λ t h. in-once t vs (s.there.within t (from-once t us h)) };
+  back = record { within = λ t h. in-once t us (s.back.within t (from-once t vs h)) };
+}
+
+shared-either_once : (all : Bool) {us vs : Bag} → Shared us vs → Shared (cond all us (once us)) (cond all vs (once vs))
+shared-either_once true s = s
+shared-either_once false s = once_shared s
+
+member_shared : (t : Row) {us vs : Bag} → Shared us vs → member t us ≡ member t vs
+member_shared t {us} {vs} s =
+    both_ways (member t us) (member t vs) (λ e. in-member t vs (s.there.within t (member-in t us e))) (λ e. in-member t us (s.back.within t (member-in t vs e)))
+
+shared-members : (test : Bool → Bool) {us vs xs ys : Bag} → Shared us vs → Shared xs ys → Shared (filter (λ u. test (member u xs)) us) (filter (λ u. test (member u ys)) vs)
+shared-members test {us} {vs} {xs} {ys} s r =
+    let e : (λ (u : Row). test (member u xs)) ≡ (λ (u : Row). test (member u ys)) = λ i u. test (member_shared u r i) in
+    subst (λ f. Shared (filter (λ u. test (member u xs)) us) (filter f vs)) e (shared-filter _ s)
+
+-- ---- joins
+
+module _ (condition : Row → Outcome Value) {us vs xs ys : Bag} (s : Shared us vs) (r : Shared xs ys) where
+  unmatched_left-shared : Shared (unmatched_left condition us xs) (unmatched_left condition vs ys)
+  unmatched_left-shared =
+      let e : (λ (u : Row). not (list_any (λ v. is_met (condition (u ++ v))) xs)) ≡ (λ (u : Row). not (list_any (λ v. is_met (condition (u ++ v))) ys)) =
+      λ i u. not (any-shared (λ v. is_met (condition (u ++ v))) r i) in
+      subst (λ test. Shared (unmatched_left condition us xs) (filter test vs)) e (shared-filter _ s)
+
+  unmatched_right-shared : Shared (unmatched_right condition us xs) (unmatched_right condition vs ys)
+  unmatched_right-shared =
+      let e : (λ (v : Row). not (list_any (λ u. is_met (condition (u ++ v))) us)) ≡ (λ (v : Row). not (list_any (λ u. is_met (condition (u ++ v))) vs)) =
+      λ i v. not (any-shared (λ u. is_met (condition (u ++ v))) s i) in
+      subst (λ test. Shared (unmatched_right condition us xs) (filter test ys)) e (shared-filter _ r)
+
+  pub joined_rows-set : (kind : JoinKind) (left_width right_width : ℕ) → SetAgree (joined_rows kind condition left_width right_width us xs) (joined_rows kind condition left_width right_width vs ys)
+  joined_rows-set kind left_width right_width =
+      mapped-set _ _
+      (gather-set (λ u. gather (λ v. kept condition (u ++ v)) xs) (λ u. gather (λ v. kept condition (u ++ v)) ys) s
+      (λ u. gather-set (λ v. kept condition (u ++ v)) (λ v. kept condition (u ++ v)) r (λ v. set_agree-refl (kept condition (u ++ v)))))
+      (λ pairs others p.
+      shared-append (shared-append p (shared-where (keeps_left kind) (keeps_left kind) refl (shared-map (λ u. u ++ nulls right_width) unmatched_left-shared)))
+      (shared-where (keeps_right kind) (keeps_right kind) refl (shared-map (λ v. nulls left_width ++ v) unmatched_right-shared)))
+
+-- ---- queries
+
+module _ (db : Database) (env : List Row) where
+  -- a node over inputs that are one set
+  module _ (input other : Query) (e : SameSet (meaning input db env) (meaning other db env)) where
+    input_agrees : SetAgree (meaning input db env) (meaning other db env)
+    input_agrees = same_set-agrees (meaning input db env) (meaning other db env) e
+
+    pub filter-same_set : (condition : Expr) (subs : List Sublink) → SameSet (meaning (Filter input condition subs) db env) (meaning (Filter other condition subs) db env)
+    filter-same_set condition subs =
+        let test = condition_on condition env (subs_denote subs db env) in
+        subst₂ SameSet (sym (meaning-Filter db env input condition subs)) (sym (meaning-Filter db env other condition subs))
+        (set_agree-same_set (and_then-set (gather (kept test)) (gather (kept test)) input_agrees (λ us vs s. gather-set (kept test) (kept test) s (λ u. set_agree-refl (kept test u)))))
+
+    pub project-same_set : (items : List Item) (subs : List Sublink) → SameSet (meaning (Project input items subs) db env) (meaning (Project other items subs) db env)
+    project-same_set items subs =
+        let made = items_on items env (subs_denote subs db env) in
+        subst₂ SameSet (sym (meaning-Project db env input items subs)) (sym (meaning-Project db env other items subs))
+        (set_agree-same_set (and_then-set (each made) (each made) input_agrees (λ us vs s. each-set made s)))
+
+    pub distinct-same_set : SameSet (meaning (Distinct input) db env) (meaning (Distinct other) db env)
+    distinct-same_set =
+        subst₂ SameSet (sym (meaning-Distinct db env input)) (sym (meaning-Distinct db env other))
+        (set_agree-same_set (mapped-set once once input_agrees (λ us vs s. once_shared s)))
+
+  pub distinct-is_free : (q : Query) → SameSet (meaning (Distinct q) db env) (meaning q db env)
+  distinct-is_free q = subst (λ o. SameSet o (meaning q db env)) (sym (meaning-Distinct db env q)) (set_agree-same_set (at (meaning q db env))) where
+    at : (o : Outcome Bag) → SetAgree (mapped once o) o
+    at (Good us) = set_good (shared-once us)
+    at (Bad f) = set_bad f
+
+  module _ (left right other_left other_right : Query) (e : SameSet (meaning left db env) (meaning other_left db env)) (f : SameSet (meaning right db env) (meaning other_right db env)) where
+    left_agrees : SetAgree (meaning left db env) (meaning other_left db env)
+    left_agrees = same_set-agrees (meaning left db env) (meaning other_left db env) e
+
+    right_agrees : SetAgree (meaning right db env) (meaning other_right db env)
+    right_agrees = same_set-agrees (meaning right db env) (meaning other_right db env) f
+
+    pub join-same_set : (kind : JoinKind) (condition : Expr) (subs : List Sublink) → width_of left ≡ width_of other_left → width_of right ≡ width_of other_right →
+        SameSet (meaning (Join kind left right condition subs) db env) (meaning (Join kind other_left other_right condition subs) db env)
+    join-same_set kind condition subs l r =
+        let test = condition_on condition env (subs_denote subs db env) in
+        let joined : ℕ → ℕ → Outcome Bag = λ m n. both_then (meaning other_left db env) (meaning other_right db env) (joined_rows kind test m n) in
+        subst₂ SameSet (sym (meaning-Join db env kind left right condition subs)) ((λ i. joined (l i) (r i)) ∙ sym (meaning-Join db env kind other_left other_right condition subs))
+        (set_agree-same_set (both_then-set _ _ left_agrees right_agrees (λ us vs xs ys s t. joined_rows-set test s t kind (width_of left) (width_of right))))
+
+    pub union-same_set : (all : Bool) → SameSet (meaning (Union all left right) db env) (meaning (Union all other_left other_right) db env)
+    union-same_set all =
+        subst₂ SameSet (sym (meaning-Union db env all left right)) (sym (meaning-Union db env all other_left other_right))
+        (set_agree-same_set (both-set (union_of all) (union_of all) left_agrees right_agrees (λ us vs xs ys s t. shared-either_once all (shared-append s t))))
+
+    pub intersect-same_set : SameSet (meaning (Intersect false left right) db env) (meaning (Intersect false other_left other_right) db env)
+    intersect-same_set =
+        subst₂ SameSet (sym (meaning-Intersect db env false left right)) (sym (meaning-Intersect db env false other_left other_right))
+        (set_agree-same_set (both-set (intersect_of false) (intersect_of false) left_agrees right_agrees (λ us vs xs ys s t. once_shared (shared-members (λ b. b) s t))))
+
+    pub except-same_set : SameSet (meaning (Except false left right) db env) (meaning (Except false other_left other_right) db env)
+    except-same_set =
+        subst₂ SameSet (sym (meaning-Except db env false left right)) (sym (meaning-Except db env false other_left other_right))
+        (set_agree-same_set (both-set (except_of false) (except_of false) left_agrees right_agrees (λ us vs xs ys s t. once_shared (shared-members not s t))))

@@ -1,0 +1,13 @@
+pub mod CrossBase
+pub mod EachTable
+pub mod FitsPlaces
+pub mod Fitting
+pub mod HeldRows
+pub mod LabelNames
+pub mod Longer
+pub mod NullRow
+pub mod SameColumns
+pub mod SameMeaning
+pub mod SublinkValues
+pub mod WorkedForms
+pub mod WorkedPlaces

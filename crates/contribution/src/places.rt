@@ -1,0 +1,229 @@
+//! The places of a query's witness lists, and the kinds of its columns.
+ghost use Rattle.std.specs.Prelude.{◌≡◌, ◌++◌, [], ◌∷◌, List as Items, Some, All, IfOk, OnOk, map};
+ghost use Rattle.bag_algebra.specs.Bags.{Row as Cells};
+ghost use Rattle.bag_algebra.specs.Children.{subs_shape};
+ghost use Rattle.bag_algebra.specs.Kinds.{kinds_of, kind_in, kinds_in, shape, place_kinds};
+ghost use Rattle.bag_algebra.specs.Meaning.{Database, witnesses};
+ghost use Rattle.bag_algebra.specs.declared.expr.Item.{Item as Column};
+ghost use Rattle.bag_algebra.specs.declared.query.Aggr.{Aggr as Aggregated};
+ghost use Rattle.contribution.specs.HeldRows.{held_rows, StandAt};
+
+use bag_algebra::{Aggr, Item, Label, Place, Query, Sublink};
+use perm_values::{Copyable, Kind, List, NoMemory};
+use std::alloc::Global;
+
+/// The places of a query's witness lists, in order.
+#[derive(Debug, Drop)]
+pub struct PlaceList {
+    pub places: List<Place>,
+}
+
+/// The places of the query's witness lists: one for each source. Each entry of a witness list stands at its place: it is
+/// empty, or one of the rows that the source holds. It fails only for want of memory.
+pub fn shape(alloc: Global, query: &Query) -> Result<PlaceList, NoMemory>
+    ensures places { IfOk result (λ list. list.places ≡ shape query.now) }
+    ensures entries { IfOk result (λ list. (db : Database) (env : Items Cells) (t : Cells) →
+        All (StandAt list.places (held_rows query.now db (Some env))) (witnesses query.now db env t)) }
+{
+    let mut places = List::new(alloc);
+    add_places(alloc, query, &mut places)?;
+    Ok(PlaceList { places })
+}
+
+/// The kinds of the query's columns. It fails only for want of memory.
+pub fn kinds(alloc: Global, query: &Query) -> Result<List<Kind>, NoMemory>
+    ensures { IfOk result (λ kinds. kinds ≡ kinds_of query.now) }
+{
+    let mut found = List::new(alloc);
+    add_kinds(alloc, query, &mut found)?;
+    Ok(found)
+}
+
+#[cycle(shape)]
+fn add_kinds(alloc: Global, query: &Query, found: &mut List<Kind>) -> Result<(), NoMemory>
+    ensures { OnOk result (found.new ≡ found.old ++ kinds_of query.now) }
+{
+    match query {
+        Query::Table { kinds, .. } => add_all(found, kinds.as_slice()),
+        Query::Single => Ok(()),
+        Query::Base { input, .. } => add_kinds(alloc, input.get(), found),
+        Query::Filter { input, .. } => add_kinds(alloc, input.get(), found),
+        Query::Project { items, .. } => add_item_kinds(found, items.as_slice()),
+        Query::Join { left, right, .. } => {
+            add_kinds(alloc, left.get(), found)?;
+            add_kinds(alloc, right.get(), found)
+        }
+        Query::Union { left, .. } => add_kinds(alloc, left.get(), found),
+        Query::Intersect { left, .. } => add_kinds(alloc, left.get(), found),
+        Query::Except { left, .. } => add_kinds(alloc, left.get(), found),
+        Query::Distinct { input } => add_kinds(alloc, input.get(), found),
+        Query::Aggregate {
+            input,
+            groups,
+            aggregates,
+        } => {
+            let mut below = List::new(alloc);
+            add_kinds(alloc, input.get(), &mut below)?;
+            add_picked(found, below.as_slice(), groups.as_slice())?;
+            add_aggregate_kinds(found, aggregates.as_slice())
+        }
+        Query::Limit { input, .. } => add_kinds(alloc, input.get(), found),
+        Query::Prov { input } => {
+            add_kinds(alloc, input.get(), found)?;
+            let mut places = List::new(alloc);
+            add_places(alloc, input.get(), &mut places)?;
+            add_place_kinds(found, places.as_slice())
+        }
+    }
+}
+
+#[cycle(shape)]
+fn add_places(alloc: Global, query: &Query, found: &mut List<Place>) -> Result<(), NoMemory>
+    ensures { OnOk result (found.new ≡ found.old ++ shape query.now) }
+{
+    match query {
+        Query::Table { .. } => Ok(()),
+        Query::Single => Ok(()),
+        Query::Base {
+            input,
+            places,
+            label,
+        } => {
+            let mut below = List::new(alloc);
+            add_kinds(alloc, input.get(), &mut below)?;
+            add_source(alloc, found, below.as_slice(), places.as_slice(), label)
+        }
+        Query::Filter { input, subs, .. } => {
+            add_places(alloc, input.get(), found)?;
+            add_sub_places(alloc, subs.as_slice(), found)
+        }
+        Query::Project { input, subs, .. } => {
+            add_places(alloc, input.get(), found)?;
+            add_sub_places(alloc, subs.as_slice(), found)
+        }
+        Query::Join {
+            left,
+            right,
+            subs,
+            ..
+        } => {
+            add_places(alloc, left.get(), found)?;
+            add_places(alloc, right.get(), found)?;
+            add_sub_places(alloc, subs.as_slice(), found)
+        }
+        Query::Union { left, right, .. } => {
+            add_places(alloc, left.get(), found)?;
+            add_places(alloc, right.get(), found)
+        }
+        Query::Intersect { left, right, .. } => {
+            add_places(alloc, left.get(), found)?;
+            add_places(alloc, right.get(), found)
+        }
+        Query::Except { left, right, .. } => {
+            add_places(alloc, left.get(), found)?;
+            add_places(alloc, right.get(), found)
+        }
+        Query::Distinct { input } => add_places(alloc, input.get(), found),
+        Query::Aggregate { input, .. } => add_places(alloc, input.get(), found),
+        Query::Limit { input, .. } => add_places(alloc, input.get(), found),
+        Query::Prov { .. } => Ok(()),
+    }
+}
+
+/// The places of the sublinks' queries, in the order of their numbers.
+#[cycle(shape)]
+fn add_sub_places(alloc: Global, subs: &[Sublink], found: &mut List<Place>) -> Result<(), NoMemory>
+    ensures { OnOk result (found.new ≡ found.old ++ subs_shape subs.now) }
+{
+    for sub in subs {
+        add_places(alloc, &sub.query, found)?;
+    }
+    Ok(())
+}
+
+/// The place of a source whose input has columns of these kinds.
+fn add_source(
+    alloc: Global,
+    found: &mut List<Place>,
+    below: &[Kind],
+    places: &[usize],
+    label: &Label,
+) -> Result<(), NoMemory>
+    ensures { OnOk result (found.new ≡ found.old ++ (record { label = label.now; kinds = kinds_in below.now places.now }) ∷ []) }
+{
+    let mut kinds = List::new(alloc);
+    add_picked(&mut kinds, below, places)?;
+    let label = copy_label(alloc, label)?;
+    found.push(Place { label, kinds })
+}
+
+fn copy_label(alloc: Global, label: &Label) -> Result<Label, NoMemory>
+    ensures { IfOk result (λ made. made ≡ label.now) }
+{
+    match label {
+        Label::Relation { name, columns } => {
+            let name = name.copy(alloc)?;
+            let columns = columns.copy(alloc)?;
+            Ok(Label::Relation { name, columns })
+        }
+        Label::External { columns } => Ok(Label::External {
+            columns: columns.copy(alloc)?,
+        }),
+    }
+}
+
+fn add_all(found: &mut List<Kind>, kinds: &[Kind]) -> Result<(), NoMemory>
+    ensures { OnOk result (found.new ≡ found.old ++ kinds.now) }
+{
+    for kind in kinds {
+        found.push(*kind)?;
+    }
+    Ok(())
+}
+
+/// The kinds at the places; a place out of range counts as a text.
+pub(crate) fn add_picked(found: &mut List<Kind>, below: &[Kind], places: &[usize]) -> Result<(), NoMemory>
+    ensures { OnOk result (found.new ≡ found.old ++ kinds_in below.now places.now) }
+{
+    for place in places {
+        found.push(kind_or_text(below, *place))?;
+    }
+    Ok(())
+}
+
+pub(crate) fn kind_or_text(kinds: &[Kind], place: usize) -> Kind
+    ensures { result ≡ kind_in kinds.now place }
+{
+    if place < kinds.len() {
+        kinds[place]
+    } else {
+        Kind::Text
+    }
+}
+
+fn add_item_kinds(found: &mut List<Kind>, items: &[Item]) -> Result<(), NoMemory>
+    ensures { OnOk result (found.new ≡ found.old ++ map (λ (item : Column). item.kind) items.now) }
+{
+    for item in items {
+        found.push(item.kind)?;
+    }
+    Ok(())
+}
+
+fn add_aggregate_kinds(found: &mut List<Kind>, aggregates: &[Aggr]) -> Result<(), NoMemory>
+    ensures { OnOk result (found.new ≡ found.old ++ map (λ (aggregate : Aggregated). aggregate.kind) aggregates.now) }
+{
+    for aggregate in aggregates {
+        found.push(aggregate.kind)?;
+    }
+    Ok(())
+}
+
+fn add_place_kinds(found: &mut List<Kind>, places: &[Place]) -> Result<(), NoMemory>
+    ensures { OnOk result (found.new ≡ found.old ++ place_kinds places.now) }
+{
+    for place in places {
+        add_all(found, place.kinds.as_slice())?;
+    }
+    Ok(())
+}
