@@ -25,7 +25,7 @@ added-joined middle before last xs ys e f = f ∙ ap (λ zs. zs ++ ys) e ∙ app
 
 -- ---- a loop: what a word says of the items so far and one more
 
-one_more : {X : Type 0} (xs : List X) (i : ℕ) (x : X) → i < length xs → x ≡ get_or xs i x → take (i + 1) xs ≡ take i xs ++ x ∷ []
+pub one_more : {X : Type 0} (xs : List X) (i : ℕ) (x : X) → i < length xs → x ≡ get_or xs i x → take (i + 1) xs ≡ take i xs ++ x ∷ []
 one_more xs i x within e = take_more xs i x within ∙ ap (λ y. take i xs ++ y ∷ []) (sym e)
 
 pub place_kinds-append : (ps qs : List Place) → place_kinds (ps ++ qs) ≡ place_kinds ps ++ place_kinds qs

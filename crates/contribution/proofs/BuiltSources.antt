@@ -1,6 +1,5 @@
 -- The sources over tables of what the constructors of code make.
 use Rattle.std.proofs.Common.{◌≡◌, ℕ, ◌+◌, ◌<◌, Bool, List, [], ◌∷◌, ◌++◌, length, get_or, take, refl, sym, ap, ◌∙◌, append_assoc, append-nil}
-use Rattle.std.proofs.lemmas.List.{take_more}
 use Rattle.perm_values.specs.declared.key.Key.{Key}
 use Rattle.bag_algebra.specs.Built.{row_of_subs, Base-is, Filter-is, Project_with-is, Join-is, Union-is, Intersect-is, Except-is, Distinct-is, Aggregate-is, Limit-is, Prov-is}
 use Rattle.bag_algebra.specs.declared.expr.Expr.{Expr}
@@ -14,6 +13,7 @@ use Rattle.bag_algebra.specs.declared.query.Query.TheBlock.{shape-the_row-Query-
 use Rattle.bag_algebra.specs.declared.query.Query.TheVariants.{Base, Filter, Project, Join, Union, Intersect, Except, Distinct, Aggregate, Limit, Prov}
 use Rattle.bag_algebra.specs.declared.query.Sublink.{Sublink}
 use Rattle.bag_algebra.specs.Patterns.{JoinOf}
+use Rattle.contribution.proofs.Added.{one_more}
 use Rattle.contribution.specs.CrossBase.{base_source, table_sources, sub_table_sources, subs_table_sources, source_query, crossed, always}
 use Rattle.contribution.specs.declared.cross.TableSource.{TableSource}
 
@@ -68,9 +68,6 @@ unfolding shape-the_row-Query-0 hidden-the_row-Query-0 shape-the_row-Sublink-1 h
 Join_alone-is kind left right condition = refl
 
 -- ---- loops
-
-one_more : {X : Type 0} (xs : List X) (i : ℕ) (x : X) → i < length xs → x ≡ get_or xs i x → take (i + 1) xs ≡ take i xs ++ x ∷ []
-one_more xs i x within e = take_more xs i x within ∙ ap (λ y. take i xs ++ y ∷ []) (sym e)
 
 subs_table_sources-append : (ss rs : List Sublink) → subs_table_sources (ss ++ rs) ≡ subs_table_sources ss ++ subs_table_sources rs
 subs_table_sources-append [] rs = refl

@@ -81,8 +81,7 @@ mutual
 pub meaning-cross_base : (q : Query) → over_tables q ≡ true → (db : Database) (env : List Row) →
     (found : Bag) × (meaning (cross_base_of q) db env ≡ Good found) × ((u : Row) → IsTrue (member u found) ↔ FlatAt (shape q) (held_rows q db None) u)
 meaning-cross_base q e db env =
-    let rows = crossed_rows db (table_sources q) in
-    (
+    let rows = crossed_rows db (table_sources q) in (
       rows,
       meaning-crossed (table_sources q) db env,
       λ u. (

@@ -53,11 +53,7 @@ pub fn cross_base(alloc: Global, query: &Query) -> Result<Query, NoMemory>
 }
 
 #[cycle(add_sources)]
-fn add_sources(
-    alloc: Global,
-    query: &Query,
-    found: &mut List<TableSource>,
-) -> Result<(), NoMemory>
+fn add_sources(alloc: Global, query: &Query, found: &mut List<TableSource>) -> Result<(), NoMemory>
     ensures { OnOk result (found.new ≡ found.old ++ table_sources query.now) }
 {
     match query {
@@ -73,7 +69,10 @@ fn add_sources(
             add_sub_sources(alloc, subs.as_slice(), found)
         }
         Query::Join {
-            left, right, subs, ..
+            left,
+            right,
+            subs,
+            ..
         } => {
             add_sources(alloc, left.get(), found)?;
             add_sources(alloc, right.get(), found)?;
@@ -215,6 +214,10 @@ fn blank_row(alloc: Global, source: &TableSource) -> Result<Query, NoMemory>
     ensures { IfOk result (λ p. p ≡ null_row_of (kinds_in source.now.kinds source.now.places)) }
 {
     let mut kinds = List::new(alloc);
-    add_picked(&mut kinds, source.kinds.as_slice(), source.places.as_slice())?;
+    add_picked(
+        &mut kinds,
+        source.kinds.as_slice(),
+        source.places.as_slice(),
+    )?;
     null_row(alloc, kinds.as_slice())
 }

@@ -153,23 +153,8 @@ fn add_source(
 {
     let mut kinds = List::new(alloc);
     add_picked(&mut kinds, below, places)?;
-    let label = copy_label(alloc, label)?;
+    let label = label.copy(alloc)?;
     found.push(Place { label, kinds })
-}
-
-fn copy_label(alloc: Global, label: &Label) -> Result<Label, NoMemory>
-    ensures { IfOk result (λ made. made ≡ label.now) }
-{
-    match label {
-        Label::Relation { name, columns } => {
-            let name = name.copy(alloc)?;
-            let columns = columns.copy(alloc)?;
-            Ok(Label::Relation { name, columns })
-        }
-        Label::External { columns } => Ok(Label::External {
-            columns: columns.copy(alloc)?,
-        }),
-    }
 }
 
 fn add_all(found: &mut List<Kind>, kinds: &[Kind]) -> Result<(), NoMemory>
@@ -182,7 +167,11 @@ fn add_all(found: &mut List<Kind>, kinds: &[Kind]) -> Result<(), NoMemory>
 }
 
 /// The kinds at the places; a place out of range counts as a text.
-pub(crate) fn add_picked(found: &mut List<Kind>, below: &[Kind], places: &[usize]) -> Result<(), NoMemory>
+pub(crate) fn add_picked(
+    found: &mut List<Kind>,
+    below: &[Kind],
+    places: &[usize],
+) -> Result<(), NoMemory>
     ensures { OnOk result (found.new ≡ found.old ++ kinds_in below.now places.now) }
 {
     for place in places {

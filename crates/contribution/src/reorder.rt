@@ -56,7 +56,11 @@ fn columns(alloc: Global, query: &Query, order: &[usize]) -> Result<List<Item>, 
 }
 
 /// The columns at the places, with their kinds; one out of range counts as a text.
-pub(crate) fn column_items(alloc: Global, kinds: &[Kind], order: &[usize]) -> Result<List<Item>, NoMemory>
+pub(crate) fn column_items(
+    alloc: Global,
+    kinds: &[Kind],
+    order: &[usize],
+) -> Result<List<Item>, NoMemory>
     ensures { IfOk result (λ items. items ≡ column_items kinds.now order.now) }
 {
     let mut items = List::new(alloc);

@@ -12,12 +12,11 @@ pub loop-at-preserved : goal.loop-at-preserved
 loop-at-preserved c =
     let sources = c.args.sources.now in
     let at = c.loop-at.at in
-    let back : (at - 1) + 1 ≡ at = omega (arith, c.loop-at-test.true) in
-    (
+    let back : (at - 1) + 1 ≡ at = omega (arith, c.loop-at-test.true) in (
       ap (crossed (take (at - 1) sources)) c.in_ok-whole.ensures
-      ∙ sym (crossed-before sources (at - 1) c.index-sources-at.result c.loop-at.whole (omega (arith, c.loop-at-test.true, c.loop-at.invariant.1)) c.index-sources-at.is)
-      ∙ ap (λ n. crossed (take n sources) c.loop-at.whole) back
-      ∙ c.loop-at.invariant.0,
+          ∙ sym (crossed-before sources (at - 1) c.index-sources-at.result c.loop-at.whole (omega (arith, c.loop-at-test.true, c.loop-at.invariant.1)) c.index-sources-at.is)
+          ∙ ap (λ n. crossed (take n sources) c.loop-at.whole) back
+          ∙ c.loop-at.invariant.0,
       omega (arith, c.loop-at.invariant.1),
     )
 
