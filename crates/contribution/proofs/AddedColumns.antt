@@ -24,36 +24,43 @@ use Rattle.contribution.proofs.QueryKinds.{each-all}
 use Rattle.contribution.specs.SameColumns.{SameColumns}
 
 -- a row with more values at its end, under the same outer rows
-pub columns-added : (kinds : List Kind) (outer : List (List Kind)) (u more : Row) (env : List Row) → row_begins u kinds ≡ true → SameColumns (kinds ∷ outer) (u ∷ env) ((u ++ more) ∷ env)
+pub columns-added : (kinds : List Kind) (outer : List (List Kind)) (u more : Row) (env : List Row) → row_begins u kinds ≡ true →
+    SameColumns (kinds ∷ outer) (u ∷ env) ((u ++ more) ∷ env)
 columns-added kinds outer u more env b = record { same = at } where
-  at : (level place : ℕ) (kind : Kind) → column_kind (kinds ∷ outer) level place ≡ Some kind → value_at (row_at (u ∷ env) level) place ≡ value_at (row_at ((u ++ more) ∷ env) level) place
+  at : (level place : ℕ) (kind : Kind) → column_kind (kinds ∷ outer) level place ≡ Some kind →
+      value_at (row_at (u ∷ env) level) place ≡ value_at (row_at ((u ++ more) ∷ env) level) place
   at zero place kind e = value_at-longer u more kinds place kind b e
   at (suc level) place kind e = refl
 
 -- on rows that agree on the columns of the scopes
 module _ (scopes : List (List Kind)) (u v : Row) (env other : List Row) (same : SameColumns scopes (u ∷ env) (v ∷ other)) (db : Database) where
-  pub answers-same : {m : _} (subs : Row_of-Sublink m) → SubsForm scopes subs → (sub_denote subs db env).answers u ≡ (sub_denote subs db other).answers v
+  pub answers-same : {m : _} (subs : Row_of-Sublink m) → SubsForm scopes subs →
+      (sub_denote subs db env).answers u ≡ (sub_denote subs db other).answers v
   answers-same end_of-Sublink f = refl
   answers-same (more_of-Sublink kind tested query subs) f =
       λ i. both (λ w ws. w ∷ ws)
       (both_then (tested-same scopes u v env other same kind tested (kinds_of query) f.fitting i) (denote-same query scopes db (u ∷ env) (v ∷ other) f.query same i).rows (sub_value kind))
       (answers-same subs f.others i)
 
-  pub contributions-same : {m : _} (subs : Row_of-Sublink m) → SubsForm scopes subs → (sub_denote subs db env).contributions u ≡ (sub_denote subs db other).contributions v
+  pub contributions-same : {m : _} (subs : Row_of-Sublink m) → SubsForm scopes subs →
+      (sub_denote subs db env).contributions u ≡ (sub_denote subs db other).contributions v
   contributions-same end_of-Sublink f = refl
   contributions-same (more_of-Sublink kind tested query subs) f =
       λ i. contribution_of (all_empty (shape query)) kind (good_value (tested-same scopes u v env other same kind tested (kinds_of query) f.fitting i))
       (denote-same query scopes db (u ∷ env) (v ∷ other) f.query same i) ∷ contributions-same subs f.others i
 
-  pub condition-same : {m : _} (subs : Row_of-Sublink m) (condition : Expr) (sub_kinds : List Kind) → SubsForm scopes subs → HasKind scopes sub_kinds condition Boolean →
+  pub condition-same : {m : _} (subs : Row_of-Sublink m) (condition : Expr) (sub_kinds : List Kind) → SubsForm scopes subs →
+      HasKind scopes sub_kinds condition Boolean →
       condition_on condition env (sub_denote subs db env) u ≡ condition_on condition other (sub_denote subs db other) v
   condition-same subs condition sub_kinds f h = λ i. and_then (answers-same subs f i) (λ answers. value-same scopes sub_kinds u v env other same answers condition Boolean h i)
 
-  pub all_items-same : {m : _} (subs : Row_of-Sublink m) (items : List Item) (sub_kinds : List Kind) → SubsForm scopes subs → ItemsForm scopes sub_kinds items →
+  pub all_items-same : {m : _} (subs : Row_of-Sublink m) (items : List Item) (sub_kinds : List Kind) → SubsForm scopes subs →
+      ItemsForm scopes sub_kinds items →
       items_on items env (sub_denote subs db env) u ≡ items_on items other (sub_denote subs db other) v
   all_items-same subs items sub_kinds f h = λ i. and_then (answers-same subs f i) (λ answers. items-same scopes u v env other same sub_kinds answers items (each-all _ items h) i)
 
-pub all_arguments-same : (scopes : List (List Kind)) (u v : Row) (env other : List Row) → SameColumns scopes (u ∷ env) (v ∷ other) → (aggregates : List Aggr) → AggregatesForm scopes aggregates →
+pub all_arguments-same : (scopes : List (List Kind)) (u v : Row) (env other : List Row) → SameColumns scopes (u ∷ env) (v ∷ other) →
+    (aggregates : List Aggr) → AggregatesForm scopes aggregates →
     arguments_on aggregates env u ≡ arguments_on aggregates other v
 all_arguments-same scopes u v env other same aggregates f = arguments-same scopes u v env other same aggregates (each-all _ aggregates f)
 
@@ -69,12 +76,14 @@ module _ (scopes : List (List Kind)) (subs : List Sublink) (db : Database) (u v 
         (λ i. (sym here i).contributions u) ∙ contributions-same scopes u v env other same db (row_of_subs subs) f ∙ (λ i. (there i).contributions v),
       )
 
-  pub condition_with_subs-same : (condition : Expr) (sub_kinds : List Kind) → SubsForm scopes (row_of_subs subs) → HasKind scopes sub_kinds condition Boolean → SameColumns scopes (u ∷ env) (v ∷ other) →
+  pub condition_with_subs-same : (condition : Expr) (sub_kinds : List Kind) → SubsForm scopes (row_of_subs subs) →
+      HasKind scopes sub_kinds condition Boolean → SameColumns scopes (u ∷ env) (v ∷ other) →
       condition_on condition env (subs_denote subs db env) u ≡ condition_on condition other (subs_denote subs db other) v
   condition_with_subs-same condition sub_kinds f h same =
       λ i. and_then ((subs-same f same).0 i) (λ answers. value-same scopes sub_kinds u v env other same answers condition Boolean h i)
 
-  pub items_with_subs-same : (items : List Item) (sub_kinds : List Kind) → SubsForm scopes (row_of_subs subs) → ItemsForm scopes sub_kinds items → SameColumns scopes (u ∷ env) (v ∷ other) →
+  pub items_with_subs-same : (items : List Item) (sub_kinds : List Kind) → SubsForm scopes (row_of_subs subs) → ItemsForm scopes sub_kinds items →
+      SameColumns scopes (u ∷ env) (v ∷ other) →
       items_on items env (subs_denote subs db env) u ≡ items_on items other (subs_denote subs db other) v
   items_with_subs-same items sub_kinds f h same =
       λ i. and_then ((subs-same f same).0 i) (λ answers. items-same scopes u v env other same sub_kinds answers items (each-all _ items h) i)

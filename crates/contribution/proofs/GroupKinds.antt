@@ -65,7 +65,8 @@ sum-fits k (v ∷ vs) e = at (fits_64 (total (v ∷ vs))) where
   at true = number-fits k (total (v ∷ vs)) e
   at false = tt
 
-pub aggregated-fits : (function : AggFn) (k : Kind) (vs : List Value) → GivesNumber function k → Each (ArgumentFits function k) vs → GoodFits k (aggregated function vs)
+pub aggregated-fits : (function : AggFn) (k : Kind) (vs : List Value) → GivesNumber function k → Each (ArgumentFits function k) vs →
+    GoodFits k (aggregated function vs)
 aggregated-fits CountRows k vs e h = number-fits k _ e
 aggregated-fits Count k vs e h = number-fits k _ e
 aggregated-fits CountDistinct k vs e h = number-fits k _ e
@@ -92,14 +93,16 @@ no-arguments : (aggregates : List Aggr) (place : ℕ) → ArgumentsFrom aggregat
 no-arguments [] place = tt
 no-arguments (aggregate ∷ aggregates) place = (null-argument aggregate.function aggregate.kind, no-arguments aggregates (suc place))
 
-pub arguments-behind : (aggregates : List Aggr) (place : ℕ) (v : Value) (row : Row) → ArgumentsFrom aggregates place row → ArgumentsFrom aggregates (suc place) (v ∷ row)
+pub arguments-behind : (aggregates : List Aggr) (place : ℕ) (v : Value) (row : Row) → ArgumentsFrom aggregates place row →
+    ArgumentsFrom aggregates (suc place) (v ∷ row)
 arguments-behind [] place v row h = tt
 arguments-behind (aggregate ∷ aggregates) place v row h = (h.0, arguments-behind aggregates (suc place) v row h.1)
 
 pub record NumbersGiven (aggregates : List Aggr) : Type 0 where
   pub given : Each (λ (aggregate : Aggr). GivesNumber aggregate.function aggregate.kind) aggregates
 
-aggregates_of-fits : (aggregates : List Aggr) (place : ℕ) (rows : List Row) → Each (λ (aggregate : Aggr). GivesNumber aggregate.function aggregate.kind) aggregates →
+aggregates_of-fits : (aggregates : List Aggr) (place : ℕ) (rows : List Row) →
+    Each (λ (aggregate : Aggr). GivesNumber aggregate.function aggregate.kind) aggregates →
     Each (ArgumentsFrom aggregates place) rows → WhereGood (RowFits (aggregate_kinds aggregates)) (aggregates_of (functions_of aggregates) place rows)
 aggregates_of-fits [] place rows e h = record { fit = refl }
 aggregates_of-fits (aggregate ∷ aggregates) place rows e h =

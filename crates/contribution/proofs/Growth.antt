@@ -35,9 +35,11 @@ use Rattle.contribution.specs.Longer.{Longer, more_lists, more_items}
 use Rattle.contribution.specs.SameColumns.{SameColumns}
 
 -- beside one own row
-pub columns-own : (kinds : List Kind) (u : Row) {outer : List (List Kind)} {env other : List Row} → SameColumns outer env other → SameColumns (kinds ∷ outer) (u ∷ env) (u ∷ other)
+pub columns-own : (kinds : List Kind) (u : Row) {outer : List (List Kind)} {env other : List Row} → SameColumns outer env other →
+    SameColumns (kinds ∷ outer) (u ∷ env) (u ∷ other)
 columns-own kinds u {outer} {env} {other} s = record { same = at } where
-  at : (level place : ℕ) (kind : Kind) → column_kind (kinds ∷ outer) level place ≡ Some kind → value_at (row_at (u ∷ env) level) place ≡ value_at (row_at (u ∷ other) level) place
+  at : (level place : ℕ) (kind : Kind) → column_kind (kinds ∷ outer) level place ≡ Some kind →
+      value_at (row_at (u ∷ env) level) place ≡ value_at (row_at (u ∷ other) level) place
   at zero place kind e = refl
   at (suc level) place kind e = s.same level place kind e
 
@@ -74,16 +76,19 @@ module _ (scopes : List (List Kind)) (subs : List Kind) (u v : Row) (env other :
     value-same (SameOf first second) k f =
         λ i. both (λ w x. value.Boolean (same_value w x)) (value-same first f.parts.shared f.parts.parts.0 i) (value-same second f.parts.shared f.parts.parts.1 i)
 
-    values-same : {m : _} (parts : Row_of-Expr m) (k : Kind) → PartsHave scopes subs parts k → values parts u env answers ≡ values parts v other answers
+    values-same : {m : _} (parts : Row_of-Expr m) (k : Kind) → PartsHave scopes subs parts k →
+        values parts u env answers ≡ values parts v other answers
     values-same end_of-Expr k f = refl
     values-same (more_of-Expr part parts) k f = λ i. both (λ w ws. w ∷ ws) (value-same part k f.0 i) (values-same parts k f.1 i)
 
-    step_values-same : {m : _} (steps : Row_of-ChainStep m) → StepsHave scopes subs steps → step_values steps u env answers ≡ step_values steps v other answers
+    step_values-same : {m : _} (steps : Row_of-ChainStep m) → StepsHave scopes subs steps →
+        step_values steps u env answers ≡ step_values steps v other answers
     step_values-same end_of-ChainStep f = refl
     step_values-same (more_of-ChainStep operation part steps) f =
         λ i. both (λ w ss. record { operation = operation; operand = w } ∷ ss) (value-same part Integer f.0 i) (step_values-same steps f.1 i)
 
-    arm_value-same : {m : _} (arms : Row_of-Arm m) (k : Kind) (o p : Outcome Value) → ArmsHave scopes subs arms k → o ≡ p → arm_value arms u env answers o ≡ arm_value arms v other answers p
+    arm_value-same : {m : _} (arms : Row_of-Arm m) (k : Kind) (o p : Outcome Value) → ArmsHave scopes subs arms k → o ≡ p →
+        arm_value arms u env answers o ≡ arm_value arms v other answers p
     arm_value-same end_of-Arm k o p f e = e
     arm_value-same (more_of-Arm condition arm arms) k o p f e =
         λ i. chosen_arm (value-same condition Boolean f.condition i) (value-same arm k f.arm i) (arm_value-same arms k o p f.others e i)
@@ -91,13 +96,15 @@ module _ (scopes : List (List Kind)) (subs : List Kind) (u v : Row) (env other :
 -- ---- parts of queries
 
 module _ (scopes : List (List Kind)) (u v : Row) (env other : List Row) (s : SameColumns scopes (u ∷ env) (v ∷ other)) where
-  pub items-same : (subs : List Kind) (answers : List Value) (items : List Item) → Each (λ (item : Item). HasKind scopes subs item.expr item.kind) items →
+  pub items-same : (subs : List Kind) (answers : List Value) (items : List Item) →
+      Each (λ (item : Item). HasKind scopes subs item.expr item.kind) items →
       each (λ (item : Item). value item.expr u env answers) items ≡ each (λ (item : Item). value item.expr v other answers) items
   items-same subs answers [] h = refl
   items-same subs answers (item ∷ items) h =
       λ i. both (λ w ws. w ∷ ws) (value-same scopes subs u v env other s answers item.expr item.kind h.0 i) (items-same subs answers items h.1 i)
 
-  pub argument-same : (function : AggFn) (argument : Option Expr) (k : Kind) → aggr_form function argument scopes k → optional_value argument env u ≡ optional_value argument other v
+  pub argument-same : (function : AggFn) (argument : Option Expr) (k : Kind) → aggr_form function argument scopes k →
+      optional_value argument env u ≡ optional_value argument other v
   argument-same function None k f = refl
   argument-same CountRows (Some argument) k f = absurd f
   argument-same Count (Some argument) k f = value-same scopes [] u v env other s [] argument f.argument.shared f.argument.parts
@@ -106,13 +113,15 @@ module _ (scopes : List (List Kind)) (u v : Row) (env other : List Row) (s : Sam
   argument-same Min (Some argument) k f = value-same scopes [] u v env other s [] argument k f.0
   argument-same Max (Some argument) k f = value-same scopes [] u v env other s [] argument k f.0
 
-  pub arguments-same : (aggregates : List Aggr) → Each (λ (aggregate : Aggr). aggr_form aggregate.function aggregate.argument scopes aggregate.kind) aggregates →
+  pub arguments-same : (aggregates : List Aggr) →
+      Each (λ (aggregate : Aggr). aggr_form aggregate.function aggregate.argument scopes aggregate.kind) aggregates →
       arguments_on aggregates env u ≡ arguments_on aggregates other v
   arguments-same [] h = refl
   arguments-same (aggregate ∷ aggregates) h =
       λ i. both (λ w ws. w ∷ ws) (argument-same aggregate.function aggregate.argument aggregate.kind h.0 i) (arguments-same aggregates h.1 i)
 
-  pub tested-same : (kind : SubKind) (tested : Option Expr) (kinds : List Kind) → sub_form kind tested scopes kinds → optional_value tested env u ≡ optional_value tested other v
+  pub tested-same : (kind : SubKind) (tested : Option Expr) (kinds : List Kind) → sub_form kind tested scopes kinds →
+      optional_value tested env u ≡ optional_value tested other v
   tested-same kind None kinds f = refl
   tested-same sub.Exists (Some tested) kinds f = absurd f
   tested-same (sub.Any c) (Some tested) kinds f = value-same scopes [] u v env other s [] tested f.column f.compared
@@ -122,29 +131,35 @@ module _ (scopes : List (List Kind)) (u v : Row) (env other : List Row) (s : Sam
 -- ---- nodes
 
 module _ (kinds : List Kind) (outer : List (List Kind)) (env other : List Row) (same : SameColumns outer env other) where
-  condition_on-same : (subs : List Kind) (condition : Expr) (s r : SubMeans) → s ≡ r → HasKind (kinds ∷ outer) subs condition Boolean → condition_on condition env s ≡ condition_on condition other r
+  condition_on-same : (subs : List Kind) (condition : Expr) (s r : SubMeans) → s ≡ r → HasKind (kinds ∷ outer) subs condition Boolean →
+      condition_on condition env s ≡ condition_on condition other r
   condition_on-same subs condition s r e f =
       λ i u. and_then ((e i).answers u) (λ answers. value-same (kinds ∷ outer) subs u u env other (columns-own kinds u same) answers condition Boolean f i)
 
-  items_on-same : (subs : List Kind) (items : List Item) (s r : SubMeans) → s ≡ r → ItemsForm (kinds ∷ outer) subs items → items_on items env s ≡ items_on items other r
+  items_on-same : (subs : List Kind) (items : List Item) (s r : SubMeans) → s ≡ r → ItemsForm (kinds ∷ outer) subs items →
+      items_on items env s ≡ items_on items other r
   items_on-same subs items s r e f =
       λ i u. and_then ((e i).answers u) (λ answers. items-same (kinds ∷ outer) u u env other (columns-own kinds u same) subs answers items (each-all _ items f) i)
 
-  arguments_on-same : (aggregates : List Aggr) → AggregatesForm (kinds ∷ outer) aggregates → arguments_on aggregates env ≡ arguments_on aggregates other
+  arguments_on-same : (aggregates : List Aggr) → AggregatesForm (kinds ∷ outer) aggregates →
+      arguments_on aggregates env ≡ arguments_on aggregates other
   arguments_on-same aggregates f = λ i u. arguments-same (kinds ∷ outer) u u env other (columns-own kinds u same) aggregates (each-all _ aggregates f) i
 
-  tested_on-same : (kind : SubKind) (tested : Option Expr) (columns : List Kind) → sub_form kind tested (kinds ∷ outer) columns → optional_value tested env ≡ optional_value tested other
+  tested_on-same : (kind : SubKind) (tested : Option Expr) (columns : List Kind) → sub_form kind tested (kinds ∷ outer) columns →
+      optional_value tested env ≡ optional_value tested other
   tested_on-same kind tested columns f = λ i u. tested-same (kinds ∷ outer) u u env other (columns-own kinds u same) kind tested columns f i
 
 -- ---- queries
 
 -- a join has no sublinks
-joined_subs-same : {m : _} (subs : Row_of-Sublink m) (db : Database) (env other : List Row) → no_sublinks subs → sub_denote subs db env ≡ sub_denote subs db other
+joined_subs-same : {m : _} (subs : Row_of-Sublink m) (db : Database) (env other : List Row) → no_sublinks subs →
+    sub_denote subs db env ≡ sub_denote subs db other
 joined_subs-same end_of-Sublink db env other h = refl
 joined_subs-same (more_of-Sublink kind tested query subs) db env other h = absurd h
 
 mutual
-  pub denote-same : (q : Query) (outer : List (List Kind)) (db : Database) (env other : List Row) → WellFormed outer q → SameColumns outer env other → denote q db env ≡ denote q db other
+  pub denote-same : (q : Query) (outer : List (List Kind)) (db : Database) (env other : List Row) → WellFormed outer q →
+      SameColumns outer env other → denote q db env ≡ denote q db other
   denote-same (Table id kinds) outer db env other f s = refl
   denote-same Single outer db env other f s = refl
   denote-same (BaseOf input places label) outer db env other f s = λ i. base_means places (denote-same input outer db env other f.input s i)
@@ -174,7 +189,8 @@ mutual
   denote-same (LimitOf input keys count) outer db env other f s = λ i. limit_means keys count (denote-same input outer db env other f.input s i)
   denote-same (ProvOf input) outer db env other f s = λ i. provenance_means (denote-same input outer db env other f s i)
 
-  pub sub_denote-same : {m : _} (subs : Row_of-Sublink m) (kinds : List Kind) (outer : List (List Kind)) (db : Database) (env other : List Row) → SubsForm (kinds ∷ outer) subs →
+  pub sub_denote-same : {m : _} (subs : Row_of-Sublink m) (kinds : List Kind) (outer : List (List Kind)) (db : Database) (env other : List Row) →
+      SubsForm (kinds ∷ outer) subs →
       SameColumns outer env other → sub_denote subs db env ≡ sub_denote subs db other
   sub_denote-same end_of-Sublink kinds outer db env other f s = refl
   sub_denote-same (more_of-Sublink kind tested query subs) kinds outer db env other f s =
@@ -184,13 +200,15 @@ mutual
 
 -- ---- values added at the end of outer rows
 
-pub value_at-longer : (row more : Row) (kinds : List Kind) (place : ℕ) (kind : Kind) → row_begins row kinds ≡ true → slice_get kinds place ≡ Some kind → value_at row place ≡ value_at (row ++ more) place
+pub value_at-longer : (row more : Row) (kinds : List Kind) (place : ℕ) (kind : Kind) → row_begins row kinds ≡ true →
+    slice_get kinds place ≡ Some kind → value_at row place ≡ value_at (row ++ more) place
 value_at-longer row more [] place kind b e = cc
 value_at-longer [] more (k ∷ kinds) place kind b e = absurd (true≢false (sym b))
 value_at-longer (v ∷ row) more (k ∷ kinds) zero kind b e = refl
 value_at-longer (v ∷ row) more (k ∷ kinds) (suc place) kind b e = value_at-longer row more kinds place kind (and-parts (fits v k) (row_begins row kinds) b).1 e
 
-pub longer-same_columns : (outer : List (List Kind)) {env other : List Row} → Longer env other → env_fits env outer ≡ true → SameColumns outer env other
+pub longer-same_columns : (outer : List (List Kind)) {env other : List Row} → Longer env other → env_fits env outer ≡ true →
+    SameColumns outer env other
 longer-same_columns outer l f = record { same = at outer l f } where
   at : (outer : List (List Kind)) {env other : List Row} → Longer env other → env_fits env outer ≡ true →
       (level place : ℕ) (kind : Kind) → column_kind outer level place ≡ Some kind → value_at (row_at env level) place ≡ value_at (row_at other level) place
@@ -222,7 +240,8 @@ row_begins-shorter (v ∷ row) (k ∷ kinds) more b =
     and-true (fits v k) (row_begins row kinds) parts.0 (row_begins-shorter row kinds more parts.1)
 
 -- rows that fit longer kinds fit the kinds
-pub env_fits-shorter : {outer longer : List (List Kind)} (env : List Row) → Longer outer longer → env_fits env longer ≡ true → env_fits env outer ≡ true
+pub env_fits-shorter : {outer longer : List (List Kind)} (env : List Row) → Longer outer longer → env_fits env longer ≡ true →
+    env_fits env outer ≡ true
 env_fits-shorter env (more_lists further) f = refl
 env_fits-shorter [] (more_items kinds more l) f = f
 env_fits-shorter (row ∷ env) (more_items {lists = outer} {longer = longer} kinds more l) f =
@@ -231,7 +250,8 @@ env_fits-shorter (row ∷ env) (more_items {lists = outer} {longer = longer} kin
 
 -- ---- as the laws say it
 
-pub denote-longer : (outer : List (List Kind)) (q : Query) (db : Database) (env other : List Row) → WellFormed outer q → env_fits env outer ≡ true → Longer env other →
+pub denote-longer : (outer : List (List Kind)) (q : Query) (db : Database) (env other : List Row) → WellFormed outer q → env_fits env outer ≡ true →
+    Longer env other →
     denote q db env ≡ denote q db other
 denote-longer outer q db env other f fitting l = denote-same q outer db env other f (longer-same_columns outer l fitting)
 

@@ -23,14 +23,16 @@ use Rattle.contribution.specs.Longer.{Longer, more_lists, more_items}
 pub record NamesAlso (outer longer : List (List Kind)) : Type 0 where
   pub named : (level place : ℕ) (kind : Kind) → column_kind outer level place ≡ Some kind → column_kind longer level place ≡ Some kind
 
-pub slice_get-longer : {X : Type 0} (items more : List X) (place : ℕ) (x : X) → slice_get items place ≡ Some x → slice_get (items ++ more) place ≡ Some x
+pub slice_get-longer : {X : Type 0} (items more : List X) (place : ℕ) (x : X) → slice_get items place ≡ Some x →
+    slice_get (items ++ more) place ≡ Some x
 slice_get-longer [] more place x e = cc
 slice_get-longer (y ∷ items) more zero x e = e
 slice_get-longer (y ∷ items) more (suc place) x e = slice_get-longer items more place x e
 
 pub longer-names : {outer longer : List (List Kind)} → Longer outer longer → NamesAlso outer longer
 longer-names l = record { named = at l } where
-  at : {outer longer : List (List Kind)} → Longer outer longer → (level place : ℕ) (kind : Kind) → column_kind outer level place ≡ Some kind → column_kind longer level place ≡ Some kind
+  at : {outer longer : List (List Kind)} → Longer outer longer → (level place : ℕ) (kind : Kind) → column_kind outer level place ≡ Some kind →
+      column_kind longer level place ≡ Some kind
   at (more_lists further) level place kind e = cc
   at (more_items items more l) zero place kind e = slice_get-longer items more place kind e
   at (more_items items more l) (suc level) place kind e = at l level place kind e
@@ -101,7 +103,8 @@ pub all-kept : {X : Type 0} (P Q : X → Type 0) (xs : List X) → ((x : X) → 
 all-kept P Q xs keep h = λ k d i. keep _ (h k d i)
 
 module _ {scopes longer : List (List Kind)} (n : NamesAlso scopes longer) where
-  aggr_form-longer : (function : AggFn) (argument : Option Expr) (k : Kind) → aggr_form function argument scopes k → aggr_form function argument longer k
+  aggr_form-longer : (function : AggFn) (argument : Option Expr) (k : Kind) → aggr_form function argument scopes k →
+      aggr_form function argument longer k
   aggr_form-longer CountRows None k f = f
   aggr_form-longer CountRows (Some argument) k f = f
   aggr_form-longer Count None k f = f
@@ -115,7 +118,8 @@ module _ {scopes longer : List (List Kind)} (n : NamesAlso scopes longer) where
   aggr_form-longer Max None k f = f
   aggr_form-longer Max (Some argument) k f = (has_kind-longer n [] argument k f.0, f.1)
 
-  sub_form-longer : (kind : SubKind) (tested : Option Expr) (kinds : List Kind) → sub_form kind tested scopes kinds → sub_form kind tested longer kinds
+  sub_form-longer : (kind : SubKind) (tested : Option Expr) (kinds : List Kind) → sub_form kind tested scopes kinds →
+      sub_form kind tested longer kinds
   sub_form-longer sub.Exists None kinds f = f
   sub_form-longer sub.Exists (Some tested) kinds f = f
   sub_form-longer (sub.Any c) None kinds f = f
@@ -166,7 +170,8 @@ mutual
   well_formed-longer (LimitOf input keys count) outer longer n f = record { input = well_formed-longer input outer longer n f.input; keys = f.keys; bound = f.bound }
   well_formed-longer (ProvOf input) outer longer n f = well_formed-longer input outer longer n f
 
-  pub subs_form-longer : {m : _} (subs : Row_of-Sublink m) (scopes longer : List (List Kind)) → NamesAlso scopes longer → SubsForm scopes subs → SubsForm longer subs
+  pub subs_form-longer : {m : _} (subs : Row_of-Sublink m) (scopes longer : List (List Kind)) → NamesAlso scopes longer → SubsForm scopes subs →
+      SubsForm longer subs
   subs_form-longer end_of-Sublink scopes longer n f = tt
   subs_form-longer (more_of-Sublink kind tested query subs) scopes longer n f = record {
     query = well_formed-longer query scopes longer n f.query;

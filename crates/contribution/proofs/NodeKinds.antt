@@ -20,7 +20,8 @@ use Rattle.contribution.specs.FitsPlaces.{FitsPlaces, no_place, held}
 
 module _ {kinds : List Kind} {places : List Place} where
   -- rows that fit, and lists that fit for each of them
-  pub with_lists-fit : (o : Outcome Bag) (f : Row → List Witness) → WhereGood (BagFits kinds) o → ((t : Row) → RowFits kinds t → ListsFit places (f t)) →
+  pub with_lists-fit : (o : Outcome Bag) (f : Row → List Witness) → WhereGood (BagFits kinds) o →
+      ((t : Row) → RowFits kinds t → ListsFit places (f t)) →
       MeansFit kinds places (with_lists o f)
   with_lists-fit (Good bag) f h g = record { rows = h; lists = λ t. at t (member t bag) refl } where
     at : (t : Row) (b : Bool) → member t bag ≡ b → ListsFit places (cond b (f t) [])
@@ -70,7 +71,8 @@ project_means-fit {before} {kinds} items contributions m i c f =
 -- ---- joins
 
 module _ (left_kinds right_kinds : List Kind) (condition : Row → Outcome Value) where
-  met_pairs-fit : (us vs : Bag) → BagFits left_kinds us → BagFits right_kinds vs → WhereGood (BagFits (left_kinds ++ right_kinds)) (met_pairs condition us vs)
+  met_pairs-fit : (us vs : Bag) → BagFits left_kinds us → BagFits right_kinds vs →
+      WhereGood (BagFits (left_kinds ++ right_kinds)) (met_pairs condition us vs)
   met_pairs-fit us vs f g =
       good-gather (RowFits left_kinds) (RowFits (left_kinds ++ right_kinds)) (λ u. gather (λ v. kept condition (u ++ v)) vs) us f (λ u h.
       good-gather (RowFits right_kinds) (RowFits (left_kinds ++ right_kinds)) (λ v. kept condition (u ++ v)) vs g (λ v i.
@@ -148,7 +150,8 @@ module _ {kinds : List Kind} {left_places right_places : List Place} (all : Bool
       (good-both (BagFits kinds) (BagFits kinds) (BagFits kinds) (intersect_of all) l.rows r.rows f.rows g.rows (λ us vs h i. each-intersect_of (RowFits kinds) all us vs h))
       (λ t h. lists_fit-paired (l.lists t) (r.lists t) (f.lists t) (g.lists t))
 
-  pub except_means-fit : (right_blank : Witness) → FitsPlaces right_places right_blank → MeansFit kinds (left_places ++ right_places) (except_means all right_blank l r)
+  pub except_means-fit : (right_blank : Witness) → FitsPlaces right_places right_blank →
+      MeansFit kinds (left_places ++ right_places) (except_means all right_blank l r)
   except_means-fit right_blank right_fits =
       with_lists-fit _ _
       (good-both (BagFits kinds) (BagFits kinds) (BagFits kinds) (except_of all) l.rows r.rows f.rows g.rows (λ us vs h i. each-except_of (RowFits kinds) all us vs h))

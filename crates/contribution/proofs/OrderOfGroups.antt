@@ -41,7 +41,8 @@ filter_turn test other (v ∷ vs) = at (test v) (other v) refl refl (filter_turn
 abbrev leading : Value → List Value → List Value
 leading v vs = v ∷ filter (λ w. not (same_value v w)) vs
 
-leading_turn : (u v : Value) (vs : List Value) (b d : Bool) → same_value u v ≡ b → same_value v u ≡ d → Permuted (leading u (leading v vs)) (leading v (leading u vs))
+leading_turn : (u v : Value) (vs : List Value) (b d : Bool) → same_value u v ≡ b → same_value v u ≡ d →
+    Permuted (leading u (leading v vs)) (leading v (leading u vs))
 leading_turn u v vs true d e f =
     subst (λ w. Permuted (leading u (leading w vs)) (leading w (leading u vs))) ((value_decides u v).0 e) (permuted-refl (leading u (leading u vs)))
 leading_turn u v vs false true e f =
@@ -110,7 +111,8 @@ aggregated-permuted Sum p = sum_of-permuted (present-permuted p)
 aggregated-permuted Min p = ap (λ vs. Good (first_or_null vs)) (sorted-permuted value_cmp value_exact (present-permuted p))
 aggregated-permuted Max p = ap (λ vs. Good (first_or_null vs)) (sorted-permuted falling falling_exact (present-permuted p))
 
-pub aggregates_of-permuted : (functions : List AggFn) (place : ℕ) {us vs : List Row} → Permuted us vs → aggregates_of functions place us ≡ aggregates_of functions place vs
+pub aggregates_of-permuted : (functions : List AggFn) (place : ℕ) {us vs : List Row} → Permuted us vs →
+    aggregates_of functions place us ≡ aggregates_of functions place vs
 aggregates_of-permuted [] place p = refl
 aggregates_of-permuted (function ∷ functions) place p =
     λ i. both (λ v vs. v ∷ vs) (aggregated-permuted function (permuted-map (λ a. value_at a place) p) i) (aggregates_of-permuted functions (suc place) p i)

@@ -88,7 +88,8 @@ contribution_of-alike blank kind x {m} {n} a =
     let p = permuted-good_rows a.rows in
     shared-either _ _ (is_some_row-permuted p) (shared-flat_map m.lists n.lists (shared-permuted (chosen-permuted kind x p)) a.lists) (shared-refl (blank ∷ []))
 
-sub_answer-alike : (kind : SubKind) (x : Outcome Value) {o p : Outcome Bag} → Agree o p → both_then x o (sub_value kind) ≡ both_then x p (sub_value kind)
+sub_answer-alike : (kind : SubKind) (x : Outcome Value) {o p : Outcome Bag} → Agree o p →
+    both_then x o (sub_value kind) ≡ both_then x p (sub_value kind)
 sub_answer-alike kind (Good x) (agree_good p) = sub_value-permuted kind x p
 sub_answer-alike kind (Good x) (agree_bad f) = refl
 sub_answer-alike kind (Bad g) (agree_good p) = refl
@@ -103,7 +104,8 @@ pub record AlikeSubs (s r : SubMeans) : Type 0 where
 pub no_subs-alike : AlikeSubs no_subs no_subs
 no_subs-alike = record { answers = λ u. refl; contributions = record { on = λ u. none_each }; blank = refl }
 
-pub with_sub-alike : (kind : SubKind) (tested : Row → Outcome Value) {m n : Row → Means} (blank : Witness) {s r : SubMeans} → ((u : Row) → Alike (m u) (n u)) → AlikeSubs s r →
+pub with_sub-alike : (kind : SubKind) (tested : Row → Outcome Value) {m n : Row → Means} (blank : Witness) {s r : SubMeans} →
+    ((u : Row) → Alike (m u) (n u)) → AlikeSubs s r →
     AlikeSubs (with_sub kind tested m blank s) (with_sub kind tested n blank r)
 with_sub-alike kind tested blank a more = record {
   answers = λ u i. both (λ v vs. v ∷ vs) (sub_answer-alike kind (tested u) (a u).rows i) (more.answers u i);
@@ -111,7 +113,8 @@ with_sub-alike kind tested blank a more = record {
   blank = ap (λ w. blank ++ w) more.blank;
 }
 
-condition_on-alike : (condition : Expr) (env : List Row) {s r : SubMeans} → AlikeSubs s r → condition_on condition env s ≡ condition_on condition env r
+condition_on-alike : (condition : Expr) (env : List Row) {s r : SubMeans} → AlikeSubs s r →
+    condition_on condition env s ≡ condition_on condition env r
 condition_on-alike condition env a = λ i u. and_then (a.answers u i) (value condition u env)
 
 items_on-alike : (items : List Item) (env : List Row) {s r : SubMeans} → AlikeSubs s r → items_on items env s ≡ items_on items env r
@@ -171,7 +174,8 @@ mutual
   denote-alike (LimitOf input keys count) db other same env = limit_means-alike keys count (denote-alike input db other same env)
   denote-alike (ProvOf input) db other same env = provenance_means-alike (denote-alike input db other same env)
 
-  pub sub_denote-alike : {m : _} (subs : Row_of-Sublink m) (db other : Database) → SameSubTables db other subs → (env : List Row) → AlikeSubs (sub_denote subs db env) (sub_denote subs other env)
+  pub sub_denote-alike : {m : _} (subs : Row_of-Sublink m) (db other : Database) → SameSubTables db other subs → (env : List Row) →
+      AlikeSubs (sub_denote subs db env) (sub_denote subs other env)
   sub_denote-alike end_of-Sublink db other same env = no_subs-alike
   sub_denote-alike (more_of-Sublink kind tested query subs) db other same env =
       with_sub-alike kind (optional_value tested env) (all_empty (shape query)) (λ u. denote-alike query db other same.0 (u ∷ env)) (sub_denote-alike subs db other same.1 env)

@@ -19,7 +19,8 @@ pub record Alike (m n : Means) : Type 0 where
 pub member-permuted : (t : Row) {us vs : Bag} → Permuted us vs → member t us ≡ member t vs
 member-permuted t {us} {vs} p = member-same_bag t us vs (same_bag-from_permuted p)
 
-pub with_lists-alike : {o p : Outcome Bag} (f g : Row → List Witness) → Agree o p → ((t : Row) → Shared (f t) (g t)) → Alike (with_lists o f) (with_lists p g)
+pub with_lists-alike : {o p : Outcome Bag} (f g : Row → List Witness) → Agree o p → ((t : Row) → Shared (f t) (g t)) →
+    Alike (with_lists o f) (with_lists p g)
 with_lists-alike f g (agree_good {xs = us} {ys = vs} p) s = record {
   rows = agree_good p;
   lists = λ t. shared-where (member t us) (member t vs) (member-permuted t p) (s t);
@@ -69,13 +70,15 @@ any-permuted test (turn u v us) = or-turn (test u) (test v) (list_any test us)
 any-permuted test (joined p q) = any-permuted test p ∙ any-permuted test q
 
 module _ (condition : Row → Outcome Value) where
-  permuted-unmatched_left : {us vs xs ys : Bag} → Permuted us vs → Permuted xs ys → Permuted (unmatched_left condition us xs) (unmatched_left condition vs ys)
+  permuted-unmatched_left : {us vs xs ys : Bag} → Permuted us vs → Permuted xs ys →
+      Permuted (unmatched_left condition us xs) (unmatched_left condition vs ys)
   permuted-unmatched_left {us} {vs} {xs} {ys} p q =
       let e : (λ (u : Row). not (list_any (λ v. is_met (condition (u ++ v))) xs)) ≡ (λ (u : Row). not (list_any (λ v. is_met (condition (u ++ v))) ys)) =
       λ i u. not (any-permuted (λ v. is_met (condition (u ++ v))) q i) in
       subst (λ test. Permuted (unmatched_left condition us xs) (filter test vs)) e (permuted-filter _ p)
 
-  permuted-unmatched_right : {us vs xs ys : Bag} → Permuted us vs → Permuted xs ys → Permuted (unmatched_right condition us xs) (unmatched_right condition vs ys)
+  permuted-unmatched_right : {us vs xs ys : Bag} → Permuted us vs → Permuted xs ys →
+      Permuted (unmatched_right condition us xs) (unmatched_right condition vs ys)
   permuted-unmatched_right {us} {vs} {xs} {ys} p q =
       let e : (λ (v : Row). not (list_any (λ u. is_met (condition (u ++ v))) us)) ≡ (λ (v : Row). not (list_any (λ u. is_met (condition (u ++ v))) vs)) =
       λ i v. not (any-permuted (λ u. is_met (condition (u ++ v))) p i) in
@@ -107,12 +110,14 @@ module _ (condition : Row → Outcome Value) where
         shared-where (same_row (u ++ v) t && is_met (condition (u ++ v))) _ refl
         (shared-beside (shared-paired (a.lists u) (b.lists v)) (s.on (u ++ v)))))
 
-    shared-left_lists : (blanks : Blanks) (width : ℕ) → Shared (left_lists condition l blanks width us xs t) (left_lists condition m blanks width vs ys t)
+    shared-left_lists : (blanks : Blanks) (width : ℕ) →
+        Shared (left_lists condition l blanks width us xs t) (left_lists condition m blanks width vs ys t)
     shared-left_lists blanks width =
         shared-flat_map _ _ (shared-permuted (permuted-filter (λ u. same_row (u ++ nulls width) t) (permuted-unmatched_left p q)))
         (λ u. shared-map (λ w. w ++ blanks.right ++ blanks.subs) (a.lists u))
 
-    shared-right_lists : (blanks : Blanks) (width : ℕ) → Shared (right_lists condition r blanks width us xs t) (right_lists condition n blanks width vs ys t)
+    shared-right_lists : (blanks : Blanks) (width : ℕ) →
+        Shared (right_lists condition r blanks width us xs t) (right_lists condition n blanks width vs ys t)
     shared-right_lists blanks width =
         shared-flat_map _ _ (shared-permuted (permuted-filter (λ v. same_row (nulls width ++ v) t) (permuted-unmatched_right p q)))
         (λ v. shared-map (λ w. blanks.left ++ w ++ blanks.subs) (b.lists v))

@@ -14,7 +14,8 @@ use Rattle.contribution.proofs.SharedMembers.{Shared, shared-refl, shared-permut
 -- ---- counts of INTERSECT ALL and EXCEPT ALL
 
 -- the count of a row of the bag, and of the others, without it
-front_count : (t u : Row) (vs : Bag) → member u vs ≡ true → count t vs ≡ cond (same_row u t) (suc (count t (without_first u vs))) (count t (without_first u vs))
+front_count : (t u : Row) (vs : Bag) → member u vs ≡ true →
+    count t vs ≡ cond (same_row u t) (suc (count t (without_first u vs))) (count t (without_first u vs))
 front_count t u vs e = permuted-counts (permuted-to_front u vs e) t
 
 both_step : (m s : Bool) (t u : Row) (us vs : Bag) → member u vs ≡ m → same_row u t ≡ s →
@@ -76,7 +77,8 @@ permuted-members test {us} {vs} {xs} {ys} p q =
 pub union_of-permuted : (all : Bool) (us vs xs ys : Bag) → Permuted us vs → Permuted xs ys → Permuted (union_of all us xs) (union_of all vs ys)
 union_of-permuted all us vs xs ys p q = permuted-either all (permuted-append p q) (permuted-append p q)
 
-pub intersect_of-permuted : (all : Bool) (us vs xs ys : Bag) → Permuted us vs → Permuted xs ys → Permuted (intersect_of all us xs) (intersect_of all vs ys)
+pub intersect_of-permuted : (all : Bool) (us vs xs ys : Bag) → Permuted us vs → Permuted xs ys →
+    Permuted (intersect_of all us xs) (intersect_of all vs ys)
 intersect_of-permuted all us vs xs ys p q =
     permuted-either all
     (by_counts (in_both us xs) (in_both vs ys) (λ t. count-in_both t us xs ∙ (λ i. min (permuted-counts p t i) (permuted-counts q t i)) ∙ sym (count-in_both t vs ys)))

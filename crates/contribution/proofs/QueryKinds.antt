@@ -47,10 +47,12 @@ each-all P (x ∷ xs) h = (h 0 x (omega arith), each-all P xs (λ k d i. h (suc 
 pub record Seen (kinds : List Kind) (outer : List (List Kind)) (env : List Row) (u : Row) : Type 0 where
   pub fitting : env_fits (u ∷ env) (kinds ∷ outer) ≡ true
 
-pub seen-row : (kinds : List Kind) (outer : List (List Kind)) (env : List Row) (u : Row) → env_fits env outer ≡ true → RowFits kinds u → Seen kinds outer env u
+pub seen-row : (kinds : List Kind) (outer : List (List Kind)) (env : List Row) (u : Row) → env_fits env outer ≡ true → RowFits kinds u →
+    Seen kinds outer env u
 seen-row kinds outer env u e f = record { fitting = and-true (row_begins u kinds) (env_fits env outer) (fits-begins u kinds f.fit) e }
 
-optional_value-fits : (part : Expr) (k : Kind) (kinds : List Kind) (outer : List (List Kind)) (env : List Row) (u : Row) → Seen kinds outer env u → HasKind (kinds ∷ outer) [] part k →
+optional_value-fits : (part : Expr) (k : Kind) (kinds : List Kind) (outer : List (List Kind)) (env : List Row) (u : Row) → Seen kinds outer env u →
+    HasKind (kinds ∷ outer) [] part k →
     GoodFits k (optional_value (Some part) env u)
 optional_value-fits part k kinds outer env u s form = value-fits (kinds ∷ outer) [] u env [] s.fitting refl part k form
 
@@ -70,13 +72,15 @@ scalar-fits kinds [] h = null-fits (kind_in kinds 0)
 scalar-fits kinds (row ∷ []) h = value_at-fits row kinds 0 (h.0).fit
 scalar-fits kinds (row ∷ other ∷ rows) h = tt
 
-sub_value-fits : (kind : SubKind) (x : Value) (kinds : List Kind) (bag : Bag) → BagFits kinds bag → GoodFits (sub_kind kind kinds) (sub_value kind x bag)
+sub_value-fits : (kind : SubKind) (x : Value) (kinds : List Kind) (bag : Bag) → BagFits kinds bag →
+    GoodFits (sub_kind kind kinds) (sub_value kind x bag)
 sub_value-fits sub.Exists x kinds bag h = boolean-fits (is_some_row bag)
 sub_value-fits (sub.Any c) x kinds bag h = truth-fits (some_of (comparisons c x bag))
 sub_value-fits (sub.All c) x kinds bag h = truth-fits (all_of (comparisons c x bag))
 sub_value-fits sub.Scalar x kinds bag h = scalar-fits kinds bag h
 
-pub contribution_of-fits : {kinds : List Kind} {places : List Place} (blank : Witness) (kind : SubKind) (x : Value) (m : Means) → FitsPlaces places blank → MeansFit kinds places m →
+pub contribution_of-fits : {kinds : List Kind} {places : List Place} (blank : Witness) (kind : SubKind) (x : Value) (m : Means) →
+    FitsPlaces places blank → MeansFit kinds places m →
     ListsFit places (contribution_of blank kind x m)
 contribution_of-fits {kinds} {places} blank kind x m b f =
     lists_fit-where (is_some_row (good_rows m.rows)) (flat_map m.lists (chosen kind x (good_rows m.rows))) (blank ∷ [])
@@ -98,7 +102,8 @@ with_sub-fit {kinds} {query_kinds} {answer_kinds} kind tested m blank s b f more
 
 -- ---- items and arguments
 
-items-fit : (scopes : List (List Kind)) (answer_kinds : List Kind) (u : Row) (env : List Row) (answers : List Value) → env_fits (u ∷ env) scopes ≡ true → row_fits answers answer_kinds ≡ true →
+items-fit : (scopes : List (List Kind)) (answer_kinds : List Kind) (u : Row) (env : List Row) (answers : List Value) →
+    env_fits (u ∷ env) scopes ≡ true → row_fits answers answer_kinds ≡ true →
     (items : List Item) → Each (λ (item : Item). HasKind scopes answer_kinds item.expr item.kind) items →
     WhereGood (RowFits (map (λ (item : Item). item.kind) items)) (each (λ (item : Item). value item.expr u env answers) items)
 items-fit scopes answer_kinds u env answers e a [] h = record { fit = refl }
@@ -115,7 +120,8 @@ items_on-fit items kinds outer answer_kinds env s form e f u g =
     good-and_then (RowFits answer_kinds) (RowFits (map (λ (item : Item). item.kind) items)) (s.answers u) (λ answers. each (λ (item : Item). value item.expr u env answers) items)
     (f.answers u g) (λ answers h. items-fit (kinds ∷ outer) answer_kinds u env answers (seen-row kinds outer env u e g).fitting h.fit items (each-all _ items form))
 
-number_given : (function : AggFn) (argument : Option Expr) (scopes : List (List Kind)) (k : Kind) → aggr_form function argument scopes k → GivesNumber function k
+number_given : (function : AggFn) (argument : Option Expr) (scopes : List (List Kind)) (k : Kind) → aggr_form function argument scopes k →
+    GivesNumber function k
 number_given function.CountRows None scopes k h = h
 number_given function.CountRows (Some argument) scopes k h = absurd h
 number_given function.Count None scopes k h = absurd h
@@ -135,7 +141,8 @@ numbers_given scopes aggregates form = record { given = at aggregates (each-all 
   at (aggregate ∷ aggregates) h = (number_given aggregate.function aggregate.argument scopes aggregate.kind h.0, at aggregates h.1)
 
 module _ (kinds : List Kind) (outer : List (List Kind)) (env : List Row) (u : Row) (s : Seen kinds outer env u) where
-  argument-fits : (function : AggFn) (argument : Option Expr) (k : Kind) → aggr_form function argument (kinds ∷ outer) k → WhereGood (ArgumentFits function k) (optional_value argument env u)
+  argument-fits : (function : AggFn) (argument : Option Expr) (k : Kind) → aggr_form function argument (kinds ∷ outer) k →
+      WhereGood (ArgumentFits function k) (optional_value argument env u)
   argument-fits function.CountRows argument k h = any_value (optional_value argument env u)
   argument-fits function.Count argument k h = any_value (optional_value argument env u)
   argument-fits function.CountDistinct argument k h = any_value (optional_value argument env u)
@@ -145,7 +152,8 @@ module _ (kinds : List Kind) (outer : List (List Kind)) (env : List Row) (u : Ro
   argument-fits function.Max None k h = absurd h
   argument-fits function.Max (Some argument) k h = optional_value-fits argument k kinds outer env u s h.0
 
-  arguments-fit : (aggregates : List Aggr) → Each (λ (aggregate : Aggr). aggr_form aggregate.function aggregate.argument (kinds ∷ outer) aggregate.kind) aggregates →
+  arguments-fit : (aggregates : List Aggr) →
+      Each (λ (aggregate : Aggr). aggr_form aggregate.function aggregate.argument (kinds ∷ outer) aggregate.kind) aggregates →
       WhereGood (ArgumentsFrom aggregates 0) (arguments_on aggregates env u)
   arguments-fit [] h = tt
   arguments-fit (aggregate ∷ aggregates) h =
@@ -168,12 +176,14 @@ fits-bag (row ∷ bag) kinds h = and-true (row_fits row kinds) (bag_fits bag kin
 
 -- ---- queries
 
-filter_node : {kinds answer_kinds : List Kind} {places sub_places : List Place} (condition : Expr) (env : List Row) (s : SubMeans) (m : Means) → SubsFit kinds sub_places answer_kinds s → MeansFit kinds places m →
+filter_node : {kinds answer_kinds : List Kind} {places sub_places : List Place} (condition : Expr) (env : List Row) (s : SubMeans) (m : Means) →
+    SubsFit kinds sub_places answer_kinds s → MeansFit kinds places m →
     MeansFit kinds (places ++ sub_places) (filter_means (condition_on condition env s) s.contributions m)
 filter_node condition env s m f g = filter_means-fit (condition_on condition env s) s.contributions m f.contributions g
 
 -- a join has no sublinks
-joined_subs-fit : {m : _} (kinds : List Kind) (subs : Row_of-Sublink m) (db : Database) (env : List Row) → no_sublinks subs → SubsFit kinds (sub_shape subs) [] (sub_denote subs db env)
+joined_subs-fit : {m : _} (kinds : List Kind) (subs : Row_of-Sublink m) (db : Database) (env : List Row) → no_sublinks subs →
+    SubsFit kinds (sub_shape subs) [] (sub_denote subs db env)
 joined_subs-fit kinds end_of-Sublink db env h = no_subs-fit kinds
 joined_subs-fit kinds (more_of-Sublink kind tested query subs) db env h = absurd h
 
@@ -186,11 +196,13 @@ join_node left_kinds right_kinds answer_kinds kind condition env s left_blank ri
     join_means-fit left_kinds right_kinds (condition_on condition env s) kind s.contributions (record { left = left_blank; right = right_blank; subs = s.blank }) l r
     f.contributions left_fits right_fits f.blank g h
 
-same_kinds : {kinds more : List Kind} {places : List Place} (q : Query) (db : Database) (env : List Row) → kinds ≡ more → MeansFit kinds places (denote q db env) → MeansFit more places (denote q db env)
+same_kinds : {kinds more : List Kind} {places : List Place} (q : Query) (db : Database) (env : List Row) → kinds ≡ more →
+    MeansFit kinds places (denote q db env) → MeansFit more places (denote q db env)
 same_kinds {places = places} q db env e f = subst (λ k. MeansFit k places (denote q db env)) e f
 
 mutual
-  pub denote-fits : (q : Query) (outer : List (List Kind)) (db : Database) (env : List Row) → WellFormed outer q → TablesFit db q → env_fits env outer ≡ true →
+  pub denote-fits : (q : Query) (outer : List (List Kind)) (db : Database) (env : List Row) → WellFormed outer q → TablesFit db q →
+      env_fits env outer ≡ true →
       MeansFit (kinds_of q) (shape q) (denote q db env)
   denote-fits (Table id kinds) outer db env form tables e = unlisted_means-fit (Good (db id)) (bag-fits (db id) kinds tables)
   denote-fits Single outer db env form tables e = unlisted_means-fit (Good ([] ∷ [])) (record { fit = refl }, tt)
@@ -227,7 +239,8 @@ mutual
   denote-fits (LimitOf input keys count) outer db env form tables e = limit_means-fit (denote input db env) (denote-fits input outer db env form.input tables e) keys count
   denote-fits (ProvOf input) outer db env form tables e = provenance_means-fit (denote input db env) (denote-fits input outer db env form tables e)
 
-  pub sub_denote-fits : {m : _} (subs : Row_of-Sublink m) (kinds : List Kind) (outer : List (List Kind)) (db : Database) (env : List Row) → SubsForm (kinds ∷ outer) subs → SubTablesFit db subs →
+  pub sub_denote-fits : {m : _} (subs : Row_of-Sublink m) (kinds : List Kind) (outer : List (List Kind)) (db : Database) (env : List Row) →
+      SubsForm (kinds ∷ outer) subs → SubTablesFit db subs →
       env_fits env outer ≡ true → SubsFit kinds (sub_shape subs) (sub_kinds subs) (sub_denote subs db env)
   sub_denote-fits end_of-Sublink kinds outer db env form tables e = no_subs-fit kinds
   sub_denote-fits (more_of-Sublink kind tested query subs) kinds outer db env form tables e =

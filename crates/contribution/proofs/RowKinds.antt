@@ -130,19 +130,23 @@ none-fit places = record { list = λ w i. absurd i }
 pub lists_fit-append : {places : List Place} (vs ws : List Witness) → ListsFit places vs → ListsFit places ws → ListsFit places (vs ++ ws)
 lists_fit-append vs ws f g = record { list = λ w i. elim (from-append w vs ws i) [ inl l ↦ f.list w l | inr r ↦ g.list w r ] }
 
-pub lists_fit-where : {places : List Place} (b : Bool) (vs ws : List Witness) → ListsFit places vs → ListsFit places ws → ListsFit places (cond b vs ws)
+pub lists_fit-where : {places : List Place} (b : Bool) (vs ws : List Witness) → ListsFit places vs → ListsFit places ws →
+    ListsFit places (cond b vs ws)
 lists_fit-where true vs ws f g = f
 lists_fit-where false vs ws f g = g
 
-pub lists_fit-flat_map : {X : Type 0} {places : List Place} (f : X → List Witness) (xs : List X) → ((x : X) → IsIn x xs → ListsFit places (f x)) → ListsFit places (flat_map f xs)
+pub lists_fit-flat_map : {X : Type 0} {places : List Place} (f : X → List Witness) (xs : List X) → ((x : X) → IsIn x xs → ListsFit places (f x)) →
+    ListsFit places (flat_map f xs)
 lists_fit-flat_map f xs h = record { list = λ w i. let found = from-flat_map f w xs i in (h found.0 found.1).list w found.2 }
 
-pub lists_fit-map : {places more : List Place} (f : Witness → Witness) (ws : List Witness) → ((w : Witness) → FitsPlaces places w → FitsPlaces more (f w)) → ListsFit places ws → ListsFit more (map f ws)
+pub lists_fit-map : {places more : List Place} (f : Witness → Witness) (ws : List Witness) →
+    ((w : Witness) → FitsPlaces places w → FitsPlaces more (f w)) → ListsFit places ws → ListsFit more (map f ws)
 lists_fit-map {places} {more} f ws h g = record {
   list = λ w i. let found = from-map f w ws i in subst (FitsPlaces more) found.2 (h found.0 (g.list found.0 found.1));
 }
 
-pub lists_fit-paired : {places more : List Place} (vs ws : List Witness) → ListsFit places vs → ListsFit more ws → ListsFit (places ++ more) (paired vs ws)
+pub lists_fit-paired : {places more : List Place} (vs ws : List Witness) → ListsFit places vs → ListsFit more ws →
+    ListsFit (places ++ more) (paired vs ws)
 lists_fit-paired vs ws f g = lists_fit-flat_map (λ v. map (λ w. v ++ w) ws) vs (λ v i. lists_fit-map (λ w. v ++ w) ws (λ w h. fits_places-append (f.list v i) h) g)
 
 -- the contributions of sublinks, one after another, fit their places

@@ -1,17 +1,16 @@
 -- Nodes whose rows and faults rest on the sets of their inputs' rows alone: how often a row stands there doesn't count.
-use Rattle.std.proofs.Common.{◌≡◌, ℕ, inl, inr, Bool, true, false, cond, not, List, [], ◌∷◌, ◌++◌, map, filter, refl, sym, ap, ◌∙◌, subst, subst₂}
+use Rattle.std.proofs.Common.{◌≡◌, ℕ, inl, inr, Bool, true, false, cond, not, List, [], ◌∷◌, ◌++◌, filter, refl, sym, ap, ◌∙◌, subst, subst₂}
 use Rattle.std.specs.List.{list_any}
 use Rattle.std.specs.Cmp.{both_ways}
-use Rattle.perm_values.specs.declared.kind.Kind.{Kind}
 use Rattle.perm_values.specs.declared.value.Value.{Value}
 use Rattle.bag_algebra.proofs.Members.{IsIn, in-filter, from-filter, one_of, or-first, or-second, in-member, member-in}
 use Rattle.bag_algebra.specs.Bags.{Row, Bag, member, once, union_of, intersect_of, except_of, nulls}
 use Rattle.bag_algebra.specs.Built.{meaning-Filter, meaning-Project, meaning-Join, meaning-Union, meaning-Intersect, meaning-Except, meaning-Distinct}
 use Rattle.bag_algebra.specs.Children.{subs_denote}
-use Rattle.bag_algebra.specs.Kinds.{kinds_of, width_of}
+use Rattle.bag_algebra.specs.Kinds.{width_of}
 use Rattle.bag_algebra.specs.Meaning.{Database, meaning, condition_on, items_on}
-use Rattle.bag_algebra.specs.Means.{kept, keeps_left, keeps_right, is_met, unmatched_left, unmatched_right, met_pairs, joined_rows}
-use Rattle.bag_algebra.specs.Outcome.{Outcome, Good, Bad, and_then, mapped, both, both_then, gather, each}
+use Rattle.bag_algebra.specs.Means.{kept, keeps_left, keeps_right, is_met, unmatched_left, unmatched_right, joined_rows}
+use Rattle.bag_algebra.specs.Outcome.{Outcome, Good, Bad, mapped, both_then, gather, each}
 use Rattle.bag_algebra.specs.Rewriting.{SameSet}
 use Rattle.bag_algebra.specs.declared.expr.Expr.{Expr}
 use Rattle.bag_algebra.specs.declared.expr.Item.{Item}
@@ -21,7 +20,7 @@ use Rattle.bag_algebra.specs.declared.query.Query.TheVariants.{Filter, Project, 
 use Rattle.bag_algebra.specs.declared.query.Sublink.{Sublink}
 use Rattle.contribution.proofs.BagMembers.{from-once, in-once}
 use Rattle.contribution.proofs.SetsOfRows.{SetAgree, set_good, set_bad, set_agree-refl, same_set-agrees, set_agree-same_set, gather-set, each-set, and_then-set, mapped-set, both_then-set, both-set}
-use Rattle.contribution.proofs.SharedMembers.{Within, Shared, shared-map, shared-append, shared-where, shared-trans}
+use Rattle.contribution.proofs.SharedMembers.{Within, Shared, shared-map, shared-append, shared-where}
 
 -- ---- lists with the same members
 
@@ -66,7 +65,8 @@ member_shared : (t : Row) {us vs : Bag} → Shared us vs → member t us ≡ mem
 member_shared t {us} {vs} s =
     both_ways (member t us) (member t vs) (λ e. in-member t vs (s.there.within t (member-in t us e))) (λ e. in-member t us (s.back.within t (member-in t vs e)))
 
-shared-members : (test : Bool → Bool) {us vs xs ys : Bag} → Shared us vs → Shared xs ys → Shared (filter (λ u. test (member u xs)) us) (filter (λ u. test (member u ys)) vs)
+shared-members : (test : Bool → Bool) {us vs xs ys : Bag} → Shared us vs → Shared xs ys →
+    Shared (filter (λ u. test (member u xs)) us) (filter (λ u. test (member u ys)) vs)
 shared-members test {us} {vs} {xs} {ys} s r =
     let e : (λ (u : Row). test (member u xs)) ≡ (λ (u : Row). test (member u ys)) = λ i u. test (member_shared u r i) in
     subst (λ f. Shared (filter (λ u. test (member u xs)) us) (filter f vs)) e (shared-filter _ s)
@@ -86,7 +86,8 @@ module _ (condition : Row → Outcome Value) {us vs xs ys : Bag} (s : Shared us 
       λ i v. not (any-shared (λ u. is_met (condition (u ++ v))) s i) in
       subst (λ test. Shared (unmatched_right condition us xs) (filter test ys)) e (shared-filter _ r)
 
-  pub joined_rows-set : (kind : JoinKind) (left_width right_width : ℕ) → SetAgree (joined_rows kind condition left_width right_width us xs) (joined_rows kind condition left_width right_width vs ys)
+  pub joined_rows-set : (kind : JoinKind) (left_width right_width : ℕ) →
+      SetAgree (joined_rows kind condition left_width right_width us xs) (joined_rows kind condition left_width right_width vs ys)
   joined_rows-set kind left_width right_width =
       mapped-set _ _
       (gather-set (λ u. gather (λ v. kept condition (u ++ v)) xs) (λ u. gather (λ v. kept condition (u ++ v)) ys) s
@@ -103,13 +104,15 @@ module _ (db : Database) (env : List Row) where
     input_agrees : SetAgree (meaning input db env) (meaning other db env)
     input_agrees = same_set-agrees (meaning input db env) (meaning other db env) e
 
-    pub filter-same_set : (condition : Expr) (subs : List Sublink) → SameSet (meaning (Filter input condition subs) db env) (meaning (Filter other condition subs) db env)
+    pub filter-same_set : (condition : Expr) (subs : List Sublink) →
+        SameSet (meaning (Filter input condition subs) db env) (meaning (Filter other condition subs) db env)
     filter-same_set condition subs =
         let test = condition_on condition env (subs_denote subs db env) in
         subst₂ SameSet (sym (meaning-Filter db env input condition subs)) (sym (meaning-Filter db env other condition subs))
         (set_agree-same_set (and_then-set (gather (kept test)) (gather (kept test)) input_agrees (λ us vs s. gather-set (kept test) (kept test) s (λ u. set_agree-refl (kept test u)))))
 
-    pub project-same_set : (items : List Item) (subs : List Sublink) → SameSet (meaning (Project input items subs) db env) (meaning (Project other items subs) db env)
+    pub project-same_set : (items : List Item) (subs : List Sublink) →
+        SameSet (meaning (Project input items subs) db env) (meaning (Project other items subs) db env)
     project-same_set items subs =
         let made = items_on items env (subs_denote subs db env) in
         subst₂ SameSet (sym (meaning-Project db env input items subs)) (sym (meaning-Project db env other items subs))
@@ -133,7 +136,8 @@ module _ (db : Database) (env : List Row) where
     right_agrees : SetAgree (meaning right db env) (meaning other_right db env)
     right_agrees = same_set-agrees (meaning right db env) (meaning other_right db env) f
 
-    pub join-same_set : (kind : JoinKind) (condition : Expr) (subs : List Sublink) → width_of left ≡ width_of other_left → width_of right ≡ width_of other_right →
+    pub join-same_set : (kind : JoinKind) (condition : Expr) (subs : List Sublink) → width_of left ≡ width_of other_left →
+        width_of right ≡ width_of other_right →
         SameSet (meaning (Join kind left right condition subs) db env) (meaning (Join kind other_left other_right condition subs) db env)
     join-same_set kind condition subs l r =
         let test = condition_on condition env (subs_denote subs db env) in

@@ -1,9 +1,9 @@
 -- Outcomes as sets: one is below another where it has no further rows and no further faults. What looks at every item
 -- is the least outcome above what each item gives, so it rests on the set of items alone.
-use Rattle.std.proofs.Common.{◌≡◌, inl, inr, Bool, true, false, ◌||◌, List, [], ◌∷◌, ◌++◌, map, refl, sym, ap, ◌∙◌, subst, subst₂, append_assoc}
+use Rattle.std.proofs.Common.{◌≡◌, inl, inr, Bool, true, false, ◌||◌, List, [], ◌∷◌, ◌++◌, refl, sym, ap, ◌∙◌, subst, subst₂, append_assoc}
 use Rattle.std.specs.List.{flat_map}
 use Rattle.bag_algebra.proofs.Members.{IsIn, in-flat_map, from-flat_map, in-append_left, in-append_right, from-append, in-member, member-in, same_members}
-use Rattle.bag_algebra.specs.Bags.{Row, Bag, member}
+use Rattle.bag_algebra.specs.Bags.{Row, Bag}
 use Rattle.bag_algebra.specs.Outcome.{Faults, union, Outcome, Good, Bad, and_then, mapped, both, both_then, gather, each}
 use Rattle.bag_algebra.specs.Rewriting.{SameSet}
 use Rattle.contribution.proofs.Agreement.{joined_lists, union-comm, each-gather}
@@ -113,7 +113,8 @@ below-joined (below_bad us g) b = under_bad us b where
   under_bad us (below_bad vs g) = below_bad (us ++ vs) g
   under_bad us (below_worse r) = below_worse r
 below-joined (below_worse {f = f} s) b = worse_joined f s b where
-  worse_joined : {X : Type 0} {g : Faults} {p : Outcome (List X)} (f : Faults) → Included f g → Below p (Bad g) → Below (joined_lists (Bad f) p) (Bad g)
+  worse_joined : {X : Type 0} {g : Faults} {p : Outcome (List X)} (f : Faults) → Included f g → Below p (Bad g) →
+      Below (joined_lists (Bad f) p) (Bad g)
   worse_joined f s (below_bad vs g) = below_worse s
   worse_joined f s (below_worse r) = below_worse (included-union s r)
 
@@ -124,7 +125,8 @@ below-gather f x [] h = absurd h
 below-gather f x (y ∷ xs) (inl e) = subst (λ z. Below (f z) (gather f (y ∷ xs))) e (below-left (f y) (gather f xs))
 below-gather f x (y ∷ xs) (inr h) = below-trans (below-gather f x xs h) (below-right (f y) (gather f xs))
 
-pub gather-below : {X Y : Type 0} (f : X → Outcome (List Y)) (xs : List X) (o : Outcome (List Y)) → ((x : X) → IsIn x xs → Below (f x) o) → Below (gather f xs) o
+pub gather-below : {X Y : Type 0} (f : X → Outcome (List Y)) (xs : List X) (o : Outcome (List Y)) → ((x : X) → IsIn x xs → Below (f x) o) →
+    Below (gather f xs) o
 gather-below f [] o h = below-nothing o
 gather-below f (x ∷ xs) o h = below-joined (h x (inl refl)) (gather-below f xs o (λ y i. h y (inr i)))
 
@@ -186,13 +188,15 @@ pub record Matched {X Y Z : Type 0} (f : X → Outcome (List Z)) (g : Y → Outc
   pub there : (x : X) → IsIn x xs → (y : Y) × IsIn y ys × SetAgree (f x) (g y)
   pub back : (y : Y) → IsIn y ys → (x : X) × IsIn x xs × SetAgree (f x) (g y)
 
-pub gather-matched : {X Y Z : Type 0} (f : X → Outcome (List Z)) (g : Y → Outcome (List Z)) (xs : List X) (ys : List Y) → Matched f g xs ys → SetAgree (gather f xs) (gather g ys)
+pub gather-matched : {X Y Z : Type 0} (f : X → Outcome (List Z)) (g : Y → Outcome (List Z)) (xs : List X) (ys : List Y) → Matched f g xs ys →
+    SetAgree (gather f xs) (gather g ys)
 gather-matched f g xs ys m =
     set_agree-of_below
     (gather-below f xs (gather g ys) (λ x i. let found = m.there x i in below-trans (set_agree-below found.2) (below-gather g found.0 ys found.1)))
     (gather-below g ys (gather f xs) (λ y i. let found = m.back y i in below-trans (set_agree-below (set_agree-sym found.2)) (below-gather f found.0 xs found.1)))
 
-pub gather-set : {X Z : Type 0} (f g : X → Outcome (List Z)) {us vs : List X} → Shared us vs → ((x : X) → SetAgree (f x) (g x)) → SetAgree (gather f us) (gather g vs)
+pub gather-set : {X Z : Type 0} (f g : X → Outcome (List Z)) {us vs : List X} → Shared us vs → ((x : X) → SetAgree (f x) (g x)) →
+    SetAgree (gather f us) (gather g vs)
 gather-set f g {us} {vs} s e =
     gather-matched f g us vs (record { there = λ x i. (x, s.there.within x i, e x); back = λ x i. (x, s.back.within x i, e x) })
 
@@ -203,16 +207,19 @@ each-set {X} {Z} f {us} {vs} s =
 
 -- ---- what comes after
 
-pub and_then-set : {X Y : Type 0} (k l : List X → Outcome (List Y)) {o p : Outcome (List X)} → SetAgree o p → ((us vs : List X) → Shared us vs → SetAgree (k us) (l vs)) →
+pub and_then-set : {X Y : Type 0} (k l : List X → Outcome (List Y)) {o p : Outcome (List X)} → SetAgree o p →
+    ((us vs : List X) → Shared us vs → SetAgree (k us) (l vs)) →
     SetAgree (and_then o k) (and_then p l)
 and_then-set k l (set_good {us} {vs} s) next = next us vs s
 and_then-set k l (set_bad f) next = set_bad f
 
-pub mapped-set : {X Y : Type 0} (k l : List X → List Y) {o p : Outcome (List X)} → SetAgree o p → ((us vs : List X) → Shared us vs → Shared (k us) (l vs)) → SetAgree (mapped k o) (mapped l p)
+pub mapped-set : {X Y : Type 0} (k l : List X → List Y) {o p : Outcome (List X)} → SetAgree o p →
+    ((us vs : List X) → Shared us vs → Shared (k us) (l vs)) → SetAgree (mapped k o) (mapped l p)
 mapped-set k l (set_good {us} {vs} s) next = set_good (next us vs s)
 mapped-set k l (set_bad f) next = set_bad f
 
-pub both_then-set : {X Y Z : Type 0} (k l : List X → List Y → Outcome (List Z)) {o p : Outcome (List X)} {r s : Outcome (List Y)} → SetAgree o p → SetAgree r s →
+pub both_then-set : {X Y Z : Type 0} (k l : List X → List Y → Outcome (List Z)) {o p : Outcome (List X)} {r s : Outcome (List Y)} → SetAgree o p →
+    SetAgree r s →
     ((us vs : List X) (xs ys : List Y) → Shared us vs → Shared xs ys → SetAgree (k us xs) (l vs ys)) → SetAgree (both_then o r k) (both_then p s l)
 both_then-set k l (set_good {us} {vs} a) (set_good {us = xs} {vs = ys} b) next = next us vs xs ys a b
 both_then-set k l (set_good a) (set_bad g) next = set_bad g
@@ -229,7 +236,8 @@ both-set k l (set_bad f) (set_bad g) next = set_bad (union f g)
 -- ---- items of items
 
 -- looking at every item of every group is looking at every group
-pub gather-flat_map : {X Y Z : Type 0} (f : Y → Outcome (List Z)) (g : X → List Y) (xs : List X) → SetAgree (gather f (flat_map g xs)) (gather (λ x. gather f (g x)) xs)
+pub gather-flat_map : {X Y Z : Type 0} (f : Y → Outcome (List Z)) (g : X → List Y) (xs : List X) →
+    SetAgree (gather f (flat_map g xs)) (gather (λ x. gather f (g x)) xs)
 gather-flat_map f g xs =
     set_agree-of_below
     (gather-below f (flat_map g xs) (gather (λ x. gather f (g x)) xs) (λ y i.
@@ -242,19 +250,22 @@ flat_map-append : {X Y : Type 0} (h : X → List Y) (xs ys : List X) → flat_ma
 flat_map-append h [] ys = refl
 flat_map-append h (x ∷ xs) ys = ap (λ l. h x ++ l) (flat_map-append h xs ys) ∙ sym (append_assoc (h x) (flat_map h xs) (flat_map h ys))
 
-mapped-joined : {X Y : Type 0} (h : X → List Y) (o p : Outcome (List X)) → mapped (flat_map h) (joined_lists o p) ≡ joined_lists (mapped (flat_map h) o) (mapped (flat_map h) p)
+mapped-joined : {X Y : Type 0} (h : X → List Y) (o p : Outcome (List X)) →
+    mapped (flat_map h) (joined_lists o p) ≡ joined_lists (mapped (flat_map h) o) (mapped (flat_map h) p)
 mapped-joined h (Good xs) (Good ys) = ap Good (flat_map-append h xs ys)
 mapped-joined h (Good xs) (Bad g) = refl
 mapped-joined h (Bad f) (Good ys) = refl
 mapped-joined h (Bad f) (Bad g) = refl
 
 -- what is made of each gathered item may be made of each item's own
-pub mapped-gather : {X Y Z : Type 0} (h : Y → List Z) (f : X → Outcome (List Y)) (xs : List X) → mapped (flat_map h) (gather f xs) ≡ gather (λ x. mapped (flat_map h) (f x)) xs
+pub mapped-gather : {X Y Z : Type 0} (h : Y → List Z) (f : X → Outcome (List Y)) (xs : List X) →
+    mapped (flat_map h) (gather f xs) ≡ gather (λ x. mapped (flat_map h) (f x)) xs
 mapped-gather h f [] = refl
 mapped-gather h f (x ∷ xs) = mapped-joined h (f x) (gather f xs) ∙ ap (joined_lists (mapped (flat_map h) (f x))) (mapped-gather h f xs)
 
 -- where all items of a list that has one meet the same faults, so does the list
-pub gather-all_bad : {X Y : Type 0} (f : X → Outcome (List Y)) (faults : Faults) (x : X) (xs : List X) → IsIn x xs → ((y : X) → IsIn y xs → f y ≡ Bad faults) → SetAgree (gather f xs) (Bad faults)
+pub gather-all_bad : {X Y : Type 0} (f : X → Outcome (List Y)) (faults : Faults) (x : X) (xs : List X) → IsIn x xs →
+    ((y : X) → IsIn y xs → f y ≡ Bad faults) → SetAgree (gather f xs) (Bad faults)
 gather-all_bad {X} {Y} f faults x xs here bad =
     set_agree-of_below
     (gather-below f xs (Bad faults) (λ y i. subst (λ o. Below o (Bad faults)) (sym (bad y i)) (below-refl (Bad faults))))

@@ -90,12 +90,14 @@ shared-paired {vs} {xs} {ws} {ys} s r =
 -- list by list
 pub data SharedEach : List (List Witness) → List (List Witness) → Type 0 where
   none_each : SharedEach [] []
-  next_each : {vs ws : List Witness} {more further : List (List Witness)} → Shared vs ws → SharedEach more further → SharedEach (vs ∷ more) (ws ∷ further)
+  next_each : {vs ws : List Witness} {more further : List (List Witness)} → Shared vs ws → SharedEach more further →
+      SharedEach (vs ∷ more) (ws ∷ further)
 
 pub shared_each-refl : (cs : List (List Witness)) → SharedEach cs cs
 shared_each-refl [] = none_each
 shared_each-refl (c ∷ cs) = next_each (shared-refl c) (shared_each-refl cs)
 
-pub shared-beside : {vs ws : List Witness} {more further : List (List Witness)} → Shared vs ws → SharedEach more further → Shared (beside vs more) (beside ws further)
+pub shared-beside : {vs ws : List Witness} {more further : List (List Witness)} → Shared vs ws → SharedEach more further →
+    Shared (beside vs more) (beside ws further)
 shared-beside s none_each = s
 shared-beside s (next_each r e) = shared-beside (shared-paired s r) e

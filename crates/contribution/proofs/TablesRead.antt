@@ -20,7 +20,8 @@ use Rattle.contribution.specs.SameMeaning.{SameTables, EqualTables}
 -- ---- what each table has
 
 mutual
-  pub each_table-kept : (P Q : ℕ → List Kind → Type 0) → ((id : ℕ) (kinds : List Kind) → P id kinds → Q id kinds) → (q : Query) → EachTable P q → EachTable Q q
+  pub each_table-kept : (P Q : ℕ → List Kind → Type 0) → ((id : ℕ) (kinds : List Kind) → P id kinds → Q id kinds) → (q : Query) → EachTable P q →
+      EachTable Q q
   each_table-kept P Q keep (Table id kinds) h = keep id kinds h
   each_table-kept P Q keep Single h = tt
   each_table-kept P Q keep (BaseOf input places label) h = each_table-kept P Q keep input h
@@ -36,7 +37,8 @@ mutual
   each_table-kept P Q keep (LimitOf input keys count) h = each_table-kept P Q keep input h
   each_table-kept P Q keep (ProvOf input) h = each_table-kept P Q keep input h
 
-  pub each_sub_table-kept : (P Q : ℕ → List Kind → Type 0) → ((id : ℕ) (kinds : List Kind) → P id kinds → Q id kinds) → {m : _} (subs : Row_of-Sublink m) → EachSubTable P subs → EachSubTable Q subs
+  pub each_sub_table-kept : (P Q : ℕ → List Kind → Type 0) → ((id : ℕ) (kinds : List Kind) → P id kinds → Q id kinds) →
+      {m : _} (subs : Row_of-Sublink m) → EachSubTable P subs → EachSubTable Q subs
   each_sub_table-kept P Q keep end_of-Sublink h = tt
   each_sub_table-kept P Q keep (more_of-Sublink kind tested query subs) h = (each_table-kept P Q keep query h.0, each_sub_table-kept P Q keep subs h.1)
 
@@ -69,7 +71,8 @@ mutual
   denote-equal_tables (LimitOf input keys count) db other env e = λ i. limit_means keys count (denote-equal_tables input db other env e i)
   denote-equal_tables (ProvOf input) db other env e = λ i. provenance_means (denote-equal_tables input db other env e i)
 
-  pub sub_denote-equal_tables : {m : _} (subs : Row_of-Sublink m) (db other : Database) (env : List Row) → EachSubTable (λ id kinds. db id ≡ other id) subs →
+  pub sub_denote-equal_tables : {m : _} (subs : Row_of-Sublink m) (db other : Database) (env : List Row) →
+      EachSubTable (λ id kinds. db id ≡ other id) subs →
       sub_denote subs db env ≡ sub_denote subs other env
   sub_denote-equal_tables end_of-Sublink db other env e = refl
   sub_denote-equal_tables (more_of-Sublink kind tested query subs) db other env e =
@@ -108,6 +111,7 @@ mutual
   tables_fit-same_tables (LimitOf input keys count) db other s f = tables_fit-same_tables input db other s f
   tables_fit-same_tables (ProvOf input) db other s f = tables_fit-same_tables input db other s f
 
-  sub_tables_fit-same_tables : {m : _} (subs : Row_of-Sublink m) (db other : Database) → EachSubTable (λ id kinds. SameBag (db id) (other id)) subs → SubTablesFit db subs → SubTablesFit other subs
+  sub_tables_fit-same_tables : {m : _} (subs : Row_of-Sublink m) (db other : Database) →
+      EachSubTable (λ id kinds. SameBag (db id) (other id)) subs → SubTablesFit db subs → SubTablesFit other subs
   sub_tables_fit-same_tables end_of-Sublink db other s f = tt
   sub_tables_fit-same_tables (more_of-Sublink kind tested query subs) db other s f = (tables_fit-same_tables query db other s.0 f.0, sub_tables_fit-same_tables subs db other s.1 f.1)

@@ -55,7 +55,8 @@ module _ {A : Type 0} where
   the_one : {a b : A} → Some a ≡ Some b → a ≡ b
   the_one e = cc
 
-pub begins-fits : (row : Row) (kinds : List Kind) (place : ℕ) (kind : Kind) → row_begins row kinds ≡ true → slice_get kinds place ≡ Some kind → Fits kind (value_at row place)
+pub begins-fits : (row : Row) (kinds : List Kind) (place : ℕ) (kind : Kind) → row_begins row kinds ≡ true → slice_get kinds place ≡ Some kind →
+    Fits kind (value_at row place)
 begins-fits row [] place kind b e = nothing_there e
 begins-fits [] (k ∷ kinds) place kind b e = absurd (true≢false (sym b))
 begins-fits (v ∷ row) (k ∷ kinds) zero kind b e = record { fit = subst (λ l. fits v l ≡ true) (the_one e) (and-parts (fits v k) (row_begins row kinds) b).0 }
@@ -70,7 +71,8 @@ fits-begins (v ∷ row) (k ∷ kinds) f =
     and-true (fits v k) (row_begins row kinds) parts.0 (fits-begins row kinds parts.1)
 
 -- a column of rows that fit
-pub column-fits : (env : List Row) (scopes : List (List Kind)) (level place : ℕ) (kind : Kind) → env_fits env scopes ≡ true → column_kind scopes level place ≡ Some kind →
+pub column-fits : (env : List Row) (scopes : List (List Kind)) (level place : ℕ) (kind : Kind) → env_fits env scopes ≡ true →
+    column_kind scopes level place ≡ Some kind →
     Fits kind (value_at (row_at env level) place)
 column-fits env [] level place kind f e = nothing_there e
 column-fits [] (kinds ∷ scopes) level place kind f e = absurd (true≢false (sym f))
@@ -94,12 +96,14 @@ with_one-fits : (kind : Kind) (vs : List Value) (f : Value → Outcome Value) �
 with_one-fits kind [] f h = null-fits kind
 with_one-fits kind (a ∷ vs) f h = h a
 
-with_two-fits : (kind : Kind) (vs : List Value) (f : Value → Value → Outcome Value) → ((a b : Value) → GoodFits kind (f a b)) → GoodFits kind (with_two vs f)
+with_two-fits : (kind : Kind) (vs : List Value) (f : Value → Value → Outcome Value) → ((a b : Value) → GoodFits kind (f a b)) →
+    GoodFits kind (with_two vs f)
 with_two-fits kind [] f h = null-fits kind
 with_two-fits kind (a ∷ []) f h = null-fits kind
 with_two-fits kind (a ∷ b ∷ vs) f h = h a b
 
-with_three-fits : (kind : Kind) (vs : List Value) (f : Value → Value → Value → Outcome Value) → ((a b c : Value) → GoodFits kind (f a b c)) → GoodFits kind (with_three vs f)
+with_three-fits : (kind : Kind) (vs : List Value) (f : Value → Value → Value → Outcome Value) → ((a b c : Value) → GoodFits kind (f a b c)) →
+    GoodFits kind (with_three vs f)
 with_three-fits kind [] f h = null-fits kind
 with_three-fits kind (a ∷ []) f h = null-fits kind
 with_three-fits kind (a ∷ b ∷ []) f h = null-fits kind
@@ -175,7 +179,8 @@ chain-fits v (step ∷ steps) h =
     good-and_then (Fits kind.Integer) (Fits kind.Integer) (arith_values step.operation v step.operand) (λ w. chain w steps)
     (arith_values-fits step.operation v step.operand) (λ w g. chain-fits w steps g)
 
-chosen_arm-fits : (kind : Kind) (condition arm after : Outcome Value) → GoodFits kind arm → GoodFits kind after → GoodFits kind (chosen_arm condition arm after)
+chosen_arm-fits : (kind : Kind) (condition arm after : Outcome Value) → GoodFits kind arm → GoodFits kind after →
+    GoodFits kind (chosen_arm condition arm after)
 chosen_arm-fits kind (Good c) arm after h g = by_truth (is_true (truth_of c)) h g where
   by_truth : (b : Bool) → GoodFits kind arm → GoodFits kind after → GoodFits kind (cond b arm after)
   by_truth true h g = h
@@ -211,7 +216,8 @@ module _ (scopes : List (List Kind)) (sub_kinds : List Kind) (u : Row) (env : Li
         (good-both (λ v. ⊤) (λ v. ⊤) (Fits kind.Boolean) (λ v w. Boolean (same_value v w)) (value first u env answers) (value second u env answers)
         (any_value (value first u env answers)) (any_value (value second u env answers)) (λ v w h g. boolean-fits (same_value v w)))
 
-    values-fit : {m : _} (parts : Row_of-Expr m) (k : Kind) → PartsHave scopes sub_kinds parts k → WhereGood (Each (Fits k)) (values parts u env answers)
+    values-fit : {m : _} (parts : Row_of-Expr m) (k : Kind) → PartsHave scopes sub_kinds parts k →
+        WhereGood (Each (Fits k)) (values parts u env answers)
     values-fit end_of-Expr k form = tt
     values-fit (more_of-Expr part parts) k form =
         good-both (Fits k) (Each (Fits k)) (Each (Fits k)) (λ v vs. v ∷ vs) (value part u env answers) (values parts u env answers)

@@ -40,13 +40,15 @@ module _ {X Y : Type 0} (P : X → Type 0) (Q : Y → Type 0) where
   good-and_then (Bad f) k h next = tt
 
 module _ {X Y Z : Type 0} (P : X → Type 0) (Q : Y → Type 0) (R : Z → Type 0) where
-  pub good-both : (f : X → Y → Z) (o : Outcome X) (p : Outcome Y) → WhereGood P o → WhereGood Q p → ((x : X) (y : Y) → P x → Q y → R (f x y)) → WhereGood R (both f o p)
+  pub good-both : (f : X → Y → Z) (o : Outcome X) (p : Outcome Y) → WhereGood P o → WhereGood Q p → ((x : X) (y : Y) → P x → Q y → R (f x y)) →
+      WhereGood R (both f o p)
   good-both f (Good x) (Good y) h g next = next x y h g
   good-both f (Good x) (Bad b) h g next = tt
   good-both f (Bad a) (Good y) h g next = tt
   good-both f (Bad a) (Bad b) h g next = tt
 
-  pub good-both_then : (o : Outcome X) (p : Outcome Y) (k : X → Y → Outcome Z) → WhereGood P o → WhereGood Q p → ((x : X) (y : Y) → P x → Q y → WhereGood R (k x y)) →
+  pub good-both_then : (o : Outcome X) (p : Outcome Y) (k : X → Y → Outcome Z) → WhereGood P o → WhereGood Q p →
+      ((x : X) (y : Y) → P x → Q y → WhereGood R (k x y)) →
       WhereGood R (both_then o p k)
   good-both_then (Good x) (Good y) k h g next = next x y h g
   good-both_then (Good x) (Bad b) k h g next = tt
@@ -54,7 +56,8 @@ module _ {X Y Z : Type 0} (P : X → Type 0) (Q : Y → Type 0) (R : Z → Type 
   good-both_then (Bad a) (Bad b) k h g next = tt
 
 module _ {X Y : Type 0} (P : X → Type 0) (Q : Y → Type 0) where
-  pub good-gather : (f : X → Outcome (List Y)) (xs : List X) → Each P xs → ((x : X) → P x → WhereGood (Each Q) (f x)) → WhereGood (Each Q) (gather f xs)
+  pub good-gather : (f : X → Outcome (List Y)) (xs : List X) → Each P xs → ((x : X) → P x → WhereGood (Each Q) (f x)) →
+      WhereGood (Each Q) (gather f xs)
   good-gather f [] h next = tt
   good-gather f (x ∷ xs) h next =
       good-both (Each Q) (Each Q) (Each Q) (λ y ys. y ++ ys) (f x) (gather f xs) (next x h.0) (good-gather f xs h.1 next) (λ ys zs i j. each-append Q ys zs i j)
