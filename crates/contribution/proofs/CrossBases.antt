@@ -1,13 +1,11 @@
 -- The cross base of a query whose sources are over tables.
-use Rattle.std.proofs.Common.{◌≡◌, ◌↔◌, ℕ, zero, suc, ◌<◌, Bool, true, false, ◌&&◌, List, [], ◌∷◌, ◌++◌, map, length, Some, None, Option, IsTrue, refl, sym, ap, ◌∙◌, subst, append_assoc, true≢false}
+use Rattle.std.proofs.Common.{◌≡◌, ◌↔◌, ℕ, Bool, true, false, ◌&&◌, List, [], ◌∷◌, ◌++◌, length, None, IsTrue, refl, sym, ap, ◌∙◌, subst, true≢false}
 use Rattle.perm_values.specs.declared.kind.Kind.{Kind}
 use Rattle.bag_algebra.proofs.Members.{IsIn, in-member, member-in}
 use Rattle.bag_algebra.specs.Bags.{Row, Bag, member}
-use Rattle.bag_algebra.specs.ColumnItems.{column_items}
 use Rattle.bag_algebra.specs.Fits.{TablesFit, SubTablesFit, bag_fits}
 use Rattle.bag_algebra.specs.Kinds.{kinds_of, kinds_in, shape, sub_shape, place_kinds}
 use Rattle.bag_algebra.specs.Meaning.{Database, meaning}
-use Rattle.bag_algebra.specs.Means.{flat}
 use Rattle.bag_algebra.specs.Outcome.{Good}
 use Rattle.bag_algebra.specs.Patterns.{BaseOf, FilterOf, ProjectOf, JoinOf, UnionOf, IntersectOf, ExceptOf, DistinctOf, AggregateOf, LimitOf, ProvOf}
 use Rattle.bag_algebra.specs.Rewriting.{is_plain}
@@ -18,10 +16,10 @@ use Rattle.bag_algebra.specs.declared.query.Label.{Label}
 use Rattle.bag_algebra.specs.declared.query.Query.{Query, Row_of-Sublink, more_of-Sublink, end_of-Sublink}
 use Rattle.bag_algebra.specs.declared.query.Query.TheVariants.{Table, Single}
 use Rattle.contribution.proofs.ColumnQueries.{kinds_of-null_row, kinds_of-columns, formed-null_row, formed-columns}
-use Rattle.contribution.proofs.CrossedRows.{Sourced, no_source, one_more, FlatAt, held_by, crossed_rows, meaning-crossed, flat-from_crossed, crossed-from_flat}
+use Rattle.contribution.proofs.CrossedRows.{Sourced, no_source, one_more, FlatAt, crossed_rows, meaning-crossed, flat-from_crossed, crossed-from_flat}
 use Rattle.contribution.proofs.EntriesAtPlaces.{Rows}
-use Rattle.contribution.specs.CrossBase.{base_source, table_sources, sub_table_sources, source_query, crossed, cross_base_of, always}
-use Rattle.contribution.specs.HeldRows.{table_rows, restricted, held_rows, sub_held_rows, StandAt}
+use Rattle.contribution.specs.CrossBase.{base_source, table_sources, sub_table_sources, source_query, crossed, cross_base_of}
+use Rattle.contribution.specs.HeldRows.{table_rows, restricted, held_rows, sub_held_rows}
 use Rattle.contribution.specs.declared.cross.TableSource.{TableSource}
 
 -- ---- each place is that of a source over a table

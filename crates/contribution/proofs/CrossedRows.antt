@@ -1,19 +1,18 @@
 -- The rows of sources beside one another: one for each way to put a row or nothing at each place.
-use Rattle.std.proofs.Common.{◌≡◌, ◌↔◌, ℕ, ◌⊎◌, inl, inr, Bool, true, false, List, [], ◌∷◌, ◌++◌, map, length, Some, IsTrue, refl, sym, ap, ◌∙◌, subst, append-nil}
+use Rattle.std.proofs.Common.{◌≡◌, ℕ, inl, inr, List, [], ◌∷◌, ◌++◌, map, length, Some, refl, sym, ap, ◌∙◌, append-nil}
 use Rattle.std.proofs.lemmas.List.{length-map}
 use Rattle.std.specs.List.{flat_map}
 use Rattle.perm_values.specs.Rows.{picked, value_at}
 use Rattle.perm_values.specs.declared.value.Value.{Value}
 use Rattle.bag_algebra.proofs.Columns.{with_lists-rows}
 use Rattle.bag_algebra.proofs.Members.{IsIn, in-map, from-map, in-append_left, in-append_right, from-append, in-flat_map, from-flat_map, in-member, member-in}
-use Rattle.bag_algebra.specs.Bags.{Row, Bag, member, nulls}
+use Rattle.bag_algebra.specs.Bags.{Row, Bag, nulls}
 use Rattle.bag_algebra.specs.Kinds.{kinds_in, kind_in, width_of}
 use Rattle.bag_algebra.specs.Meaning.{Database, meaning, condition_on}
 use Rattle.bag_algebra.specs.Means.{Held, Empty, Witness, flat, no_subs, kept, met_pairs, joined_rows}
 use Rattle.bag_algebra.specs.Outcome.{Outcome, Good, both, both_then, mapped, gather}
 use Rattle.bag_algebra.specs.declared.place.Place.{Place}
 use Rattle.bag_algebra.specs.declared.query.JoinKind.TheVariants.{Inner}
-use Rattle.bag_algebra.specs.declared.query.Query.{Query}
 use Rattle.bag_algebra.specs.declared.query.Query.TheVariants.{Table, Single}
 use Rattle.contribution.proofs.ColumnQueries.{meaning-columns, meaning-null_row}
 use Rattle.contribution.proofs.EntriesAtPlaces.{Rows}

@@ -1,4 +1,4 @@
-use Rattle.std.proofs.Common.{◌≡◌, [], ◌∷◌, ◌++◌, take, refl, sym, ap, ◌∙◌, append-nil}
+use Rattle.std.proofs.Common.{◌++◌, take, sym, ap, ◌∙◌, append-nil}
 use Rattle.contribution.proofs.Added.{added, added-behind, added-joined}
 use Rattle.contribution.proofs.BuiltSources.{table_sources-Base, table_sources-Filter, table_sources-Project, table_sources-Join, table_sources-Union, table_sources-Intersect, table_sources-Except, table_sources-Distinct, table_sources-Aggregate, table_sources-Limit, table_sources-Prov, subs_table_sources-more}
 use Rattle.contribution.proofs.cross.+add_sources.Goals as goal
