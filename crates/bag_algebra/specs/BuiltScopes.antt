@@ -194,38 +194,3 @@ is_scoped-Limit input keys count = ap is_scoped (Limit-is input keys count)
 
 pub is_scoped-Prov : (input : Query) → is_scoped (Prov input) ≡ (traceable input && is_scoped input)
 is_scoped-Prov input = ap is_scoped (Prov-is input)
-
--- ---- tables
-
-pub is_table-Base : (input : Query) (places : List ℕ) (label : Label) → is_table (Base input places label) ≡ false
-is_table-Base input places label = ap is_table (Base-is input places label)
-
-pub is_table-Filter : (input : Query) (condition : Expr) (subs : List Sublink) → is_table (Filter input condition subs) ≡ false
-is_table-Filter input condition subs = ap is_table (Filter-is input condition subs)
-
-pub is_table-Project : (input : Query) (items : List Item) (subs : List Sublink) → is_table (Project input items subs) ≡ false
-is_table-Project input items subs = ap is_table (Project_with-is input items subs)
-
-pub is_table-Join : (kind : JoinKind) (left right : Query) (condition : Expr) (subs : List Sublink) → is_table (Join kind left right condition subs) ≡ false
-is_table-Join kind left right condition subs = ap is_table (Join-is kind left right condition subs)
-
-pub is_table-Union : (all : Bool) (left right : Query) → is_table (Union all left right) ≡ false
-is_table-Union all left right = ap is_table (Union-is all left right)
-
-pub is_table-Intersect : (all : Bool) (left right : Query) → is_table (Intersect all left right) ≡ false
-is_table-Intersect all left right = ap is_table (Intersect-is all left right)
-
-pub is_table-Except : (all : Bool) (left right : Query) → is_table (Except all left right) ≡ false
-is_table-Except all left right = ap is_table (Except-is all left right)
-
-pub is_table-Distinct : (input : Query) → is_table (Distinct input) ≡ false
-is_table-Distinct input = ap is_table (Distinct-is input)
-
-pub is_table-Aggregate : (input : Query) (groups : List ℕ) (aggregates : List Aggr) → is_table (Aggregate input groups aggregates) ≡ false
-is_table-Aggregate input groups aggregates = ap is_table (Aggregate-is input groups aggregates)
-
-pub is_table-Limit : (input : Query) (keys : List Key) (count : ℕ) → is_table (Limit input keys count) ≡ false
-is_table-Limit input keys count = ap is_table (Limit-is input keys count)
-
-pub is_table-Prov : (input : Query) → is_table (Prov input) ≡ false
-is_table-Prov input = ap is_table (Prov-is input)

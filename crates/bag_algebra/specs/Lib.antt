@@ -23,3 +23,4 @@ pub mod Sought
 pub mod TableRows
 pub mod WellFormed
 pub mod WorkedRows
+pub mod WorkedTests

@@ -40,105 +40,149 @@ fn exists(alloc: Global) -> Result<Query, NoMemory> {
     })
 }
 
-/// `CASE WHEN c THEN c + c ELSE c END`
-fn case(alloc: Global) -> Result<Expr, NoMemory> {
-    let column = Expr::Col { level: 0, place: 0 };
-    let mut steps = List::new(alloc);
+fn column() -> Expr {
+    Expr::Col { level: 0, place: 0 }
+}
+
+fn step(alloc: Global) -> Result<ChainStep, NoMemory> {
     let step = ChainStep {
         op: Arith::Add,
-        part: column.copy(alloc)?,
+        part: column(),
     };
-    steps.push(step.copy(alloc)?)?;
-    let first = Boxed::new(alloc, column.copy(alloc)?)?;
+    step.copy(alloc)
+}
+
+/// `c + c`
+fn sum(alloc: Global) -> Result<Expr, NoMemory> {
+    let mut steps = List::new(alloc);
+    steps.push(step(alloc)?)?;
+    let first = Boxed::new(alloc, column())?;
+    Ok(Expr::Chain { first, steps })
+}
+
+fn arm(alloc: Global) -> Result<Arm, NoMemory> {
     let arm = Arm {
-        condition: column.copy(alloc)?,
-        value: Expr::Chain { first, steps },
+        condition: column(),
+        value: sum(alloc)?,
     };
+    arm.copy(alloc)
+}
+
+/// `CASE WHEN c THEN c + c ELSE c END`
+fn case(alloc: Global) -> Result<Expr, NoMemory> {
     let mut arms = List::new(alloc);
-    arms.push(arm.copy(alloc)?)?;
-    let otherwise = Boxed::new(alloc, column)?;
+    arms.push(arm(alloc)?)?;
+    let otherwise = Boxed::new(alloc, column())?;
     Ok(Expr::Case { arms, otherwise })
 }
 
-/// `SELECT PROVENANCE COUNT(*) FROM t`, the table a source.
-fn counted(alloc: Global) -> Result<Query, NoMemory> {
-    let mut places = List::new(alloc);
-    places.push(0)?;
+fn item(alloc: Global) -> Result<Item, NoMemory> {
+    let item = Item {
+        expr: case(alloc)?,
+        kind: Kind::Integer,
+    };
+    item.copy(alloc)
+}
+
+/// `SELECT CASE .. END FROM (..)`
+fn cases(alloc: Global) -> Result<Query, NoMemory> {
+    let mut items = List::new(alloc);
+    items.push(item(alloc)?)?;
+    let input = Boxed::new(alloc, exists(alloc)?)?;
+    Ok(Query::Project {
+        input,
+        items,
+        subs: List::new(alloc),
+    })
+}
+
+fn label(alloc: Global) -> Result<Label, NoMemory> {
     let label = Label::External {
         columns: List::new(alloc),
     };
-    let label = label.copy(alloc)?;
+    label.copy(alloc)
+}
+
+/// The table as a source.
+fn source(alloc: Global) -> Result<Query, NoMemory> {
     let input = Boxed::new(alloc, table(alloc)?)?;
-    let base = Query::Base {
+    let mut places = List::new(alloc);
+    places.push(0)?;
+    Ok(Query::Base {
         input,
         places,
-        label,
-    };
+        label: label(alloc)?,
+    })
+}
+
+fn count(alloc: Global) -> Result<Aggr, NoMemory> {
     let aggregate = Aggr {
         function: AggFn::CountRows,
         argument: None,
         kind: Kind::Integer,
     };
+    aggregate.copy(alloc)
+}
+
+/// `SELECT COUNT(*) FROM t`
+fn grouped(alloc: Global) -> Result<Query, NoMemory> {
+    let input = Boxed::new(alloc, source(alloc)?)?;
     let mut aggregates = List::new(alloc);
-    aggregates.push(aggregate.copy(alloc)?)?;
-    let input = Boxed::new(alloc, base)?;
-    let grouped = Query::Aggregate {
+    aggregates.push(count(alloc)?)?;
+    Ok(Query::Aggregate {
         input,
         groups: List::new(alloc),
         aggregates,
-    };
-    let input = Boxed::new(alloc, grouped)?;
+    })
+}
+
+/// `SELECT PROVENANCE COUNT(*) FROM t`
+fn counted(alloc: Global) -> Result<Query, NoMemory> {
+    let input = Boxed::new(alloc, grouped(alloc)?)?;
     Ok(Query::Prov { input })
+}
+
+/// Whether the measures and tests of a query are these.
+fn is_measured(query: &Query, height_wanted: u64, size_wanted: u64, width_wanted: usize) -> bool {
+    height(query) == height_wanted && size(query) == size_wanted && width(query) == width_wanted
+}
+
+fn last_kind(query: &Query) -> Option<Kind> {
+    let width = width(query);
+    if 0 < width {
+        Some(kind_at(query, width - 1))
+    } else {
+        None
+    }
 }
 
 #[test]
 fn measures_and_tests(rt: HostRuntime) -> Result<(), Fail> {
     let alloc = rt.alloc();
     let open = filter(alloc, 1)?;
-    let closed = exists(alloc)?.copy(alloc)?;
+    assert!(rt; is_measured(&open, 2, 2, 1));
+    assert!(rt; !is_closed(&open) && is_plain(&open));
+    let closed = exists(alloc)?;
+    assert!(rt; is_measured(&closed, 3, 4, 1));
+    assert!(rt; is_closed(&closed) && fault_free(&closed));
     let counted = counted(alloc)?.copy(alloc)?;
-    for (query, want) in [
-        (&open, (2, 2, 1, false, true)),
-        (&closed, (3, 4, 1, true, true)),
-        (&counted, (4, 4, 2, true, false)),
-    ] {
-        let (heights, sizes, widths, is_closed_wanted, is_plain_wanted) = want;
-        assert_eq!(rt; height(query), heights);
-        assert_eq!(rt; size(query), sizes);
-        assert_eq!(rt; width(query), widths);
-        assert_eq!(rt; is_closed(query), is_closed_wanted);
-        assert_eq!(rt; is_plain(query), is_plain_wanted);
-        assert!(rt; fault_free(query) && is_scoped(query));
-    }
-    if width(&counted) > 1 {
-        assert_eq!(rt; kind_at(&counted, 1), Kind::Integer);
-    }
+    assert!(rt; is_measured(&counted, 4, 4, 2));
+    assert!(rt; !is_plain(&counted) && is_scoped(&counted));
+    assert_eq!(rt; last_kind(&counted), Some(Kind::Integer));
     Ok(())
 }
 
 #[test]
-fn copies_and_tables(rt: HostRuntime) -> Result<(), Fail> {
+fn copies(rt: HostRuntime) -> Result<(), Fail> {
     let alloc = rt.alloc();
-    let item = Item {
-        expr: case(alloc)?,
-        kind: Kind::Integer,
-    };
-    let mut items = List::new(alloc);
-    items.push(item.copy(alloc)?)?;
-    let input = Boxed::new(alloc, exists(alloc)?)?;
-    let query = Query::Project {
-        input,
-        items,
-        subs: List::new(alloc),
-    };
     let answer = Answer {
-        query,
+        query: cases(alloc)?,
         names: List::new(alloc),
         keys: List::new(alloc),
     };
-    let answer = answer.copy(alloc)?;
-    assert_eq!(rt; size(&answer.query), 5);
-    assert!(rt; !fault_free(&answer.query));
+    let copy = answer.copy(alloc)?;
+    assert!(rt; is_measured(&copy.query, 4, 5, 1));
+    assert!(rt; !fault_free(&copy.query));
     Ok(())
 }
 
