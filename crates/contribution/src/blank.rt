@@ -20,7 +20,8 @@ use std::alloc::Global;
 pub fn null_row(alloc: Global, kinds: &[Kind]) -> Result<Query, NoMemory>
     ensures made { IfOk result (λ q. q ≡ null_row_of kinds.now) }
     ensures kinds { IfOk result (λ q. kinds_of q ≡ kinds.now) }
-    ensures rows { IfOk result (λ q. (db : Database) (env : Items Cells) → meaning q db env ≡ Good (nulls (length kinds.now) ∷ [])) }
+    ensures rows { IfOk result (λ q. (db : Database) (env : Items Cells) →
+        meaning q db env ≡ Good (nulls (length kinds.now) ∷ [])) }
     ensures formed { IfOk result (λ q. (outer : Items (Items Sort)) → WellFormed outer q) }
     ensures plain { IfOk result (λ q. IsTrue (is_plain q)) }
 {

@@ -41,9 +41,11 @@ pub fn cross_base(alloc: Global, query: &Query) -> Result<Query, NoMemory>
     requires { IsTrue (over_tables query.now) }
     ensures made { IfOk result (λ p. p ≡ cross_base_of query.now) }
     ensures kinds { IfOk result (λ p. kinds_of p ≡ place_kinds (shape query.now)) }
-    ensures rows { IfOk result (λ p. (db : Database) (env : Items Cells) → (found : Bag) × (meaning p db env ≡ Good found) ×
-        ((u : Cells) → IsTrue (member u found) ↔ ((w : Witness) × StandAt (shape query.now) (held_rows query.now db None) w × (flat w ≡ u)))) }
-    ensures formed { IfOk result (λ p. (outer other : Items (Items Sort)) → WellFormed outer query.now → WellFormed other p) }
+    ensures rows { IfOk result (λ p. (db : Database) (env : Items Cells) →
+        (found : Bag) × (meaning p db env ≡ Good found) × ((u : Cells) → IsTrue (member u found) ↔
+        ((w : Witness) × StandAt (shape query.now) (held_rows query.now db None) w × (flat w ≡ u)))) }
+    ensures formed { IfOk result (λ p. (outer other : Items (Items Sort)) →
+        WellFormed outer query.now → WellFormed other p) }
     ensures plain { IfOk result (λ p. IsTrue (is_plain p)) }
     ensures tables { IfOk result (λ p. (db : Database) → TablesFit db query.now → TablesFit db p) }
 {
@@ -196,7 +198,8 @@ fn source_query(alloc: Global, source: &TableSource) -> Result<Query, NoMemory>
 }
 
 fn source_rows(alloc: Global, source: &TableSource) -> Result<Query, NoMemory>
-    ensures { IfOk result (λ p. p ≡ ProjectOf (Table source.now.id source.now.kinds) (column_items source.now.kinds source.now.places) [] end_of-Sublink) }
+    ensures { IfOk result (λ p. p ≡
+        ProjectOf (Table source.now.id source.now.kinds) (column_items source.now.kinds source.now.places) [] end_of-Sublink) }
 {
     let items = column_items(alloc, source.kinds.as_slice(), source.places.as_slice())?;
     let kinds = source.kinds.copy(alloc)?;

@@ -149,7 +149,8 @@ fn add_source(
     places: &[usize],
     label: &Label,
 ) -> Result<(), NoMemory>
-    ensures { OnOk result (found.new ≡ found.old ++ (record { label = label.now; kinds = kinds_in below.now places.now }) ∷ []) }
+    ensures { OnOk result (found.new ≡
+        found.old ++ (record { label = label.now; kinds = kinds_in below.now places.now }) ∷ []) }
 {
     let mut kinds = List::new(alloc);
     add_picked(&mut kinds, below, places)?;

@@ -26,7 +26,8 @@ pub fn regroup(alloc: Global, query: Query, order: &[usize]) -> Result<Query, No
     requires { PlacesIn (width_of query) order.now }
     ensures made { IfOk result (λ p. p ≡ ProjectOf query (column_items (kinds_of query) order.now) [] end_of-Sublink) }
     ensures kinds { IfOk result (λ p. kinds_of p ≡ kinds_in (kinds_of query) order.now) }
-    ensures rows { IfOk result (λ p. (db : Database) (env : Items Cells) → meaning p db env ≡ mapped (map (picked order.now)) (meaning query db env)) }
+    ensures rows { IfOk result (λ p. (db : Database) (env : Items Cells) →
+        meaning p db env ≡ mapped (map (picked order.now)) (meaning query db env)) }
     ensures formed { IfOk result (λ p. (outer : Items (Items Sort)) → WellFormed outer query → WellFormed outer p) }
     ensures plain { IfOk result (λ p. is_plain p ≡ is_plain query) }
     ensures tables { IfOk result (λ p. (db : Database) → TablesFit db query → TablesFit db p) }

@@ -17,10 +17,10 @@ ghost use Rattle.contribution.specs.SublinkValues.{sublink_value, contributing_v
 /// No row is lost: where a query is good, a row is in its answer exactly where it has a witness list. Where it is bad no
 /// row has one.
 pub fn no_row_is_lost()
-    ensures good { (q : Query) (db : Database) (env : List Cells) (bag : Bag) (t : Cells) → meaning q db env ≡ Good bag →
-        IsTrue (member t bag) ↔ (witnesses q db env t ≢ []) }
-    ensures bad { (q : Query) (db : Database) (env : List Cells) (faults : Faults) (t : Cells) → meaning q db env ≡ Bad faults →
-        witnesses q db env t ≡ [] }
+    ensures good { (q : Query) (db : Database) (env : List Cells) (bag : Bag) (t : Cells) →
+        meaning q db env ≡ Good bag → IsTrue (member t bag) ↔ (witnesses q db env t ≢ []) }
+    ensures bad { (q : Query) (db : Database) (env : List Cells) (faults : Faults) (t : Cells) →
+        meaning q db env ≡ Bad faults → witnesses q db env t ≡ [] }
 {}
 
 /// Truth is kept: on each row of a node, each of its sublinks has the same value over the rows that contribute alone, with
@@ -43,11 +43,12 @@ pub fn entries_stand_at_their_places()
 /// PROVENANCE of a query holds each of its rows beside each of the row's flattened witness lists, and each such pair once.
 /// So its first columns are, as a set, the rows of the query. It is bad exactly where the query is, with the same faults.
 pub fn provenance_stands_once()
-    ensures once { (q : Query) (db : Database) (env : List Cells) (found : Bag) (u : Cells) → meaning (ProvOf q) db env ≡ Good found →
-        count u found ≤ 1 }
+    ensures once { (q : Query) (db : Database) (env : List Cells) (found : Bag) (u : Cells) →
+        meaning (ProvOf q) db env ≡ Good found → count u found ≤ 1 }
     ensures pairs { (q : Query) (db : Database) (env : List Cells) (bag found : Bag) (u : Cells) →
         meaning q db env ≡ Good bag → meaning (ProvOf q) db env ≡ Good found →
-        IsTrue (member u found) ↔ ((t : Cells) × (w : Witness) × IsTrue (member t bag) × Contains (witnesses q db env t) w × (t ++ flat w ≡ u)) }
+        IsTrue (member u found) ↔
+        ((t : Cells) × (w : Witness) × IsTrue (member t bag) × Contains (witnesses q db env t) w × (t ++ flat w ≡ u)) }
     ensures first_columns { (outer : List (List Kind)) (q : Query) (db : Database) (env : List Cells) (bag found : Bag) →
         Fitting outer q db env → meaning q db env ≡ Good bag → meaning (ProvOf q) db env ≡ Good found →
         (t : Cells) → IsTrue (member t bag) ↔ ((u : Cells) × IsTrue (member u found) × (take (width_of q) u ≡ t)) }
