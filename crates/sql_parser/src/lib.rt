@@ -1,0 +1,7 @@
+//! Reads the syntax tree of a script from its tokens.
+#![tactic(auto)]
+
+mod nesting;
+mod sort;
+
+pub use nesting::too_deep;
