@@ -1,8 +1,8 @@
 -- Reading by a rule from left to right, where the next token decides.
-use Rattle.std.specs.Prelude.{ℕ, zero, suc, Bool, true, false, ◌&&◌, cond, List, [], ◌∷◌, ◌++◌, length, Some, None}
+use Rattle.std.specs.Prelude.{ℕ, zero, suc, Bool, true, false, ◌&&◌, ◌||◌, ◌+◌, ◌*◌, cond, List, [], ◌∷◌, ◌++◌, length, Option, Some, None, ◌⊎◌}
 use Rattle.std.proofs.Common.{inl, inr}
 use Rattle.std.specs.List.{list_any}
-use Rattle.sql_parser.specs.Rules.{Rule, word, token, ◌then◌, ◌or◌, front, optional, many, placed, symbol, Grammar, RuleOf, ValueOf}
+use Rattle.sql_parser.specs.Rules.{Rule, word, token, ◌then◌, ◌or◌, front, optional, many, placed, symbol, Value, Grammar, RuleOf, ValueOf}
 
 -- a value and the tokens behind it, or the tokens from the first on that can't stand
 pub data Outcome (Token X : Type 0) : Type 0 where
@@ -17,18 +17,21 @@ abbrev pub mapped : {Token X Y : Type 0} → (X → Y) → Outcome Token X → O
 mapped f (Taken x rest) = Taken (f x) rest
 mapped f (Stopped rest) = Stopped rest
 
--- what a reader of a grammar knows of each symbol: whether nothing spells it, and which sorts begin it
+-- what a reader of a grammar knows of each symbol: whether nothing spells it, which sorts begin it, and a number
+-- below `ranks` that falls where one symbol's rule calls another before it took a token
 pub record Tables (g : Grammar) : Type 0 where
   pub empty : g.Symbol → Bool
   pub begins : g.Symbol → List g.Sort
+  pub rank : g.Symbol → ℕ
+  pub ranks : ℕ
 
 -- whether a rule can spell nothing
 abbrev pub nullable : {Sort Symbol : Type 0} → (Symbol → Bool) → Rule Sort Symbol → Bool
 nullable empty (word sort) = false
 nullable empty (token sorts) = false
 nullable empty (r then s) = nullable empty r && nullable empty s
-nullable empty (r or s) = nullable empty s
-nullable empty (front r s) = nullable empty s
+nullable empty (r or s) = nullable empty r || nullable empty s
+nullable empty (front r s) = nullable empty r || nullable empty s
 nullable empty (optional r) = true
 nullable empty (many r) = true
 nullable empty (placed r) = nullable empty r
@@ -109,3 +112,7 @@ module _ (g : Grammar) (tables : Tables g) where
   unfoldable pub reading_to : ℕ → (n : g.Symbol) → List g.Token → Outcome g.Token (g.Tree n)
   reading_to zero n ts = Stopped ts
   reading_to (suc depth) n ts = mapped (g.build n) (step (reading_to depth) (g.body n) ts)
+
+  -- calls go no deeper than this: each takes a token or falls in rank
+  unfoldable pub read : (n : g.Symbol) → List g.Token → Outcome g.Token (g.Tree n)
+  read n ts = reading_to (suc (length ts * tables.ranks + tables.rank n)) n ts

@@ -5,3 +5,5 @@ pub mod Nesting
 pub mod Symbols
 pub mod Building
 pub mod Grammar
+pub mod Tables
+pub mod Cursors

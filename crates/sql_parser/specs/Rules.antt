@@ -53,6 +53,11 @@ RuleOf g = Rule g.Sort g.Symbol
 abbrev pub ValueOf : (g : Grammar) → RuleOf g → Type 0
 ValueOf g r = Value g.Token g.Tree r
 
+-- the place of the first token, where there is one
+abbrev pub StartsAt : (g : Grammar) → ℕ → List g.Token → Type 0
+StartsAt g place [] = Unit {0}
+StartsAt g place (t ∷ us) = place ≡ g.place t
+
 -- the tokens spell a value by a rule
 pub data Spelled (g : Grammar) : (r : Rule g.Sort g.Symbol) → List g.Token → Value g.Token g.Tree r → Type 0 where
   a_word : {sort : g.Sort} {t : g.Token} → g.sort t ≡ sort → Spelled g (word sort) (t ∷ []) tt
@@ -68,7 +73,7 @@ pub data Spelled (g : Grammar) : (r : Rule g.Sort g.Symbol) → List g.Token →
   no_more : {r : RuleOf g} → Spelled g (many r) [] []
   one_more : {r : RuleOf g} {us vs : List g.Token} {x : ValueOf g r} {xs : List (ValueOf g r)}
       → Spelled g r us x → Spelled g (many r) vs xs → Spelled g (many r) (us ++ vs) (x ∷ xs)
-  at_place : {r : RuleOf g} {t : g.Token} {us : List g.Token} {x : ValueOf g r}
-      → Spelled g r (t ∷ us) x → Spelled g (placed r) (t ∷ us) (g.place t, x)
+  at_place : {r : RuleOf g} {place : ℕ} {us : List g.Token} {x : ValueOf g r}
+      → Spelled g r us x → StartsAt g place us → Spelled g (placed r) us (place, x)
   as_symbol : {n : g.Symbol} {us : List g.Token} {x : ValueOf g (g.body n)}
       → Spelled g (g.body n) us x → Spelled g (symbol n) us (g.build n x)
