@@ -1,3 +1,4 @@
 pub mod Begins
 pub mod Depth
 pub mod Sound
+pub mod TablesHold

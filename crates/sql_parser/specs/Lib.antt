@@ -6,4 +6,3 @@ pub mod Symbols
 pub mod Building
 pub mod Grammar
 pub mod Tables
-pub mod Cursors
