@@ -6,3 +6,4 @@ pub mod Symbols
 pub mod Building
 pub mod Grammar
 pub mod Tables
+pub mod Cursors

@@ -1,6 +1,8 @@
 //! Reads the syntax tree of a script from its tokens.
 #![tactic(auto)]
 
+mod cursor;
+mod fault;
 mod nesting;
 mod sort;
 

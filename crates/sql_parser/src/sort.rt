@@ -1,4 +1,5 @@
 ghost use Rattle.std.specs.Prelude.{◌≡◌, map};
+ghost use Rattle.std.specs.List.{list_any};
 ghost use Rattle.sql_parser.specs.Sorts as spec;
 
 use sql_lexer::{Token, TokenKind};
@@ -16,8 +17,6 @@ pub enum Sort {
     Literal,
     /// A symbol that the grammar doesn't name.
     Other,
-    /// No token: the end of the script.
-    Nothing,
     Opening,
     Closing,
     Comma,
@@ -249,4 +248,11 @@ pub(crate) fn same_sort(one: Sort, other: Sort) -> bool
     ensures { result ≡ spec.same_sort one other }
 {
     one == other
+}
+
+/// Whether a sort is one of these.
+pub(crate) fn is_among(found: Sort, sorts: &[Sort]) -> bool
+    ensures { result ≡ list_any (spec.same_sort found) sorts.now }
+{
+    sorts.iter().any(|sort| same_sort(found, *sort))
 }
