@@ -1,3 +1,5 @@
 pub mod Begins
+pub mod Complete
 pub mod Depth
+pub mod Fine
 pub mod Sound
