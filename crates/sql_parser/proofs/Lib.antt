@@ -3,3 +3,4 @@ pub mod Complete
 pub mod Depth
 pub mod Fine
 pub mod Sound
+pub mod Viable
