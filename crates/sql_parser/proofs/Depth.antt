@@ -54,7 +54,7 @@ module _ (g : Grammar) (tables : Tables g) where
   abbrev Alike : ((n : g.Symbol) → List g.Token → Outcome g.Token (g.Tree n)) → ((n : g.Symbol) → List g.Token → Outcome g.Token (g.Tree n)) → ℕ → Type 0
   Alike c d most = (n : g.Symbol) (ts : List g.Token) → length ts * tables.ranks + tables.rank n < most → c n ts ≡ d n ts
 
-  and_then-alike : (r : RuleOf g) {Y : Type 0} (ts : List g.Token) (o : Outcome g.Token (ValueOf g r)) (f h : ValueOf g r → List g.Token → Outcome g.Token Y)
+  pub and_then-alike : (r : RuleOf g) {Y : Type 0} (ts : List g.Token) (o : Outcome g.Token (ValueOf g r)) (f h : ValueOf g r → List g.Token → Outcome g.Token Y)
       → Claims g r ts o → ((x : ValueOf g r) (mid : List g.Token) → Spells g r ts x mid → f x mid ≡ h x mid) → and_then o f ≡ and_then o h
   and_then-alike r ts (Taken x mid) f h c e = e x mid c
   and_then-alike r ts (Stopped rest) f h c e = refl

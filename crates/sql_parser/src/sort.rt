@@ -202,6 +202,30 @@ pub(crate) const SYMBOLS: [(&str, Sort); 16] = [
     (">=", Sort::GreaterEqual),
 ];
 
+/// The sorts of tokens that may be a name.
+pub(crate) const NAMES: [Sort; 20] = [
+    Sort::Plain,
+    Sort::Quoted,
+    Sort::View,
+    Sort::Copy,
+    Sort::Header,
+    Sort::Explain,
+    Sort::Rewrite,
+    Sort::Show,
+    Sort::Fresh,
+    Sort::Integer,
+    Sort::Int,
+    Sort::BigInt,
+    Sort::Text,
+    Sort::Boolean,
+    Sort::Count,
+    Sort::Sum,
+    Sort::Min,
+    Sort::Max,
+    Sort::Coalesce,
+    Sort::NullIf,
+];
+
 /// The sort that a table gives a spelling, or else another one.
 fn listed(mut table: &[(&str, Sort)], spelled: &str, otherwise: Sort) -> Sort
     ensures { result ≡ spec.listed (map (λ entry. (entry.0.now, entry.1)) table.entry.now) spelled.now otherwise }
