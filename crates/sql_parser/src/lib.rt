@@ -1,0 +1,10 @@
+//! Reads the syntax tree of a script from its tokens.
+#![tactic(auto)]
+
+mod cursor;
+mod fault;
+mod names;
+mod nesting;
+mod sort;
+
+pub use nesting::too_deep;
