@@ -1,4 +1,5 @@
 pub mod Answers
+pub mod Commands
 pub mod Ends
 pub mod Reading
 pub mod Run

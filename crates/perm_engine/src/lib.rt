@@ -3,6 +3,7 @@
 
 mod command;
 mod create;
+mod form;
 mod insert;
 mod query;
 mod reader;
