@@ -2,6 +2,7 @@ pub mod Begins
 pub mod Complete
 pub mod Depth
 pub mod Fine
+pub mod Listing
 pub mod Sound
 pub mod Steps
 pub mod TablesHold

@@ -7,3 +7,5 @@ pub mod Building
 pub mod Grammar
 pub mod Tables
 pub mod Cursors
+pub mod Lists
+pub mod Readers
