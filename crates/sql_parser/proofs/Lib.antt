@@ -1,6 +1,7 @@
 pub mod Begins
 pub mod Complete
 pub mod Depth
+pub mod Exact
 pub mod Fine
 pub mod Local
 pub mod Sound
