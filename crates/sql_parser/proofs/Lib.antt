@@ -5,5 +5,7 @@ pub mod Exact
 pub mod Fine
 pub mod Local
 pub mod Sound
+pub mod Steps
 pub mod Swapped
+pub mod TablesHold
 pub mod Viable

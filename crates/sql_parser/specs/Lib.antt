@@ -1,3 +1,10 @@
+pub mod Building
+pub mod Cursors
 pub mod Descent
 pub mod FirstWrong
+pub mod Grammar
+pub mod Nesting
 pub mod Rules
+pub mod Sorts
+pub mod Symbols
+pub mod Tables

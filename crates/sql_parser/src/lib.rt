@@ -1,11 +1,10 @@
-//! Reads the tokens of a script as a syntax tree.
+//! Reads the syntax tree of a script from its tokens.
 #![tactic(auto)]
 
-ghost use Rattle.std.specs.Prelude.{◌≡◌};
+mod cursor;
+mod fault;
+mod names;
+mod nesting;
+mod sort;
 
-/// One more.
-pub fn echo(x: usize) -> usize
-    ensures { result ≡ x }
-{
-    x
-}
+pub use nesting::too_deep;
