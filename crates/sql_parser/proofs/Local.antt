@@ -9,7 +9,7 @@ use Rattle.sql_parser.proofs.Fine.{is_flat, IsFine, IsShut}
 use Rattle.sql_parser.proofs.Complete.{IsDecided, by, by-claims, many-is, flat-fine}
 use Rattle.sql_parser.proofs.Swapped.{Swapped, here, there, swapped-longer, swapped-lengths, swapped-longer', swapped, swapped-end, left_of, with_left, Kept, mapped-kept, next_is-swapped, begins_with-swapped}
 
-or_false : (a : Bool) → a || false ≡ true → a ≡ true
+pub or_false : (a : Bool) → a || false ≡ true → a ≡ true
 or_false true e = refl
 or_false false e = e
 
