@@ -1,7 +1,10 @@
 -- The next token decides each choice of the grammar of the SQL.
-use Rattle.std.proofs.Common.{◌≡◌, ◌||◌, Bool, true, false, List, [], ◌∷◌, ◌++◌, refl, sym, subst, ◌∙◌}
+use Rattle.std.proofs.Common.{◌≡◌, ◌||◌, Bool, true, false, ◌&&◌, List, [], ◌∷◌, ◌++◌, refl, sym, subst, ◌∙◌, arith}
 use denote.Enum.Bare.{sameb}
 use Rattle.std.specs.List.{list_any, list_all}
+use Rattle.sql_lexer.specs.declared.token.Token.{Token}
+use Rattle.sql_parser.specs.Rules.{token, ◌then◌, word, symbol}
+use Rattle.sql_parser.specs.Descent.{begins_with}
 use Rattle.sql_parser.specs.Grammar.{sql, body}
 use Rattle.sql_parser.specs.Sorts.{names, same_sort}
 use Rattle.sql_parser.specs.Symbols as n
@@ -11,7 +14,8 @@ use Rattle.sql_parser.specs.declared.sort.Sort.{Sort}
 use Rattle.sql_parser.specs.declared.sort.Sort.TheVariants as s
 use Rattle.sql_parser.proofs.Begins.{both_true, has}
 use Rattle.sql_parser.proofs.Complete.{IsDecided}
-use Rattle.sql_parser.proofs.Fine.{extends, is_fine, fine, IsFine, within, within-law}
+use Rattle.sql_parser.proofs.Fine.{extends, is_fine, fine, IsFine, IsShut, within, within-law}
+use Rattle.sql_parser.proofs.Shut.{value-stops}
 use Rattle.sql_parser.proofs.TablesHold.{told, has_begins, has_falls}
 
 abbrev primary_goes_on : List Sort
@@ -211,160 +215,101 @@ extends-within n.Coalesce = refl
 extends-within n.NullIf = refl
 extends-within n.Reference = refl
 
--- but for an item, which three tokens decide
-is_item : Symbol → Bool
-is_item n.ScriptOf = false
-is_item n.StatementOf = false
-is_item n.Create = false
-is_item n.CreateTable = false
-is_item n.CreateView = false
-is_item n.Columns = false
-is_item n.Column = false
-is_item n.ColumnKind = false
-is_item n.Copy = false
-is_item n.Insert = false
-is_item n.Row = false
-is_item n.Delete = false
-is_item n.Drop = false
-is_item n.Explain = false
-is_item n.Show = false
-is_item n.NameOf = false
-is_item n.Names = false
-is_item n.Qualified = false
-is_item n.ColumnOf = false
-is_item n.Query = false
-is_item n.Inner = false
-is_item n.InParentheses = false
-is_item n.Operand = false
-is_item n.QueryRest = false
-is_item n.Term = false
-is_item n.IntersectStep = false
-is_item n.UnionStep = false
-is_item n.Order = false
-is_item n.Key = false
-is_item n.Limit = false
-is_item n.CoreOf = false
-is_item n.Items = false
-is_item n.Item = true
-is_item n.ItemValue = false
-is_item n.Alias = false
-is_item n.Sources = false
-is_item n.Condition = false
-is_item n.Groups = false
-is_item n.Having = false
-is_item n.From = false
-is_item n.Join = false
-is_item n.JoinKind = false
-is_item n.Source = false
-is_item n.Aliased = false
-is_item n.Mark = false
-is_item n.Expr = false
-is_item n.Exprs = false
-is_item n.Both = false
-is_item n.Negated = false
-is_item n.Test = false
-is_item n.IsTest = false
-is_item n.Compared = false
-is_item n.Comparison = false
-is_item n.Ranged = false
-is_item n.Range = false
-is_item n.Members = false
-is_item n.Sum = false
-is_item n.SumStep = false
-is_item n.Product = false
-is_item n.ProductStep = false
-is_item n.Sign = false
-is_item n.Primary = false
-is_item n.Literal = false
-is_item n.Cast = false
-is_item n.CastKind = false
-is_item n.Case = false
-is_item n.Arm = false
-is_item n.Otherwise = false
-is_item n.Exists = false
-is_item n.Parentheses = false
-is_item n.Count = false
-is_item n.Counted = false
-is_item n.Aggregate = false
-is_item n.Coalesce = false
-is_item n.NullIf = false
-is_item n.Reference = false
+-- the tokens of `name . *` begin no value
+item-shut : IsShut sql sql_tables goes_on (token names then word s.Dot then word s.Star) (symbol n.ItemValue)
+item-shut [] e = absurd cc
+item-shut (t ∷ []) e = let parts = both_true {a = has sql sql_tables names t} {b = false} e in absurd cc
+item-shut (t ∷ u ∷ []) e =
+    let parts = both_true {a = has sql sql_tables names t} {b = has sql sql_tables (s.Dot ∷ []) u && false} e in
+    let more = both_true {a = has sql sql_tables (s.Dot ∷ []) u} {b = false} parts.1 in
+    absurd cc
+item-shut (t ∷ u ∷ v ∷ rest) e =
+    let parts = both_true {a = has sql sql_tables names t} {b = has sql sql_tables (s.Dot ∷ []) u && (has sql sql_tables (s.Star ∷ []) v && true)} e in
+    let more = both_true {a = has sql sql_tables (s.Dot ∷ []) u} {b = has sql sql_tables (s.Star ∷ []) v && true} parts.1 in
+    let last = both_true {a = has sql sql_tables (s.Star ∷ []) v} {b = true} more.1 in
+    (v ∷ rest, value-stops t u v rest parts.0 more.0 last.0, omega arith)
 
-fine-but_item : (n : Symbol) → is_fine sql sql_tables goes_on (body n) || is_item n ≡ true
-unfolding same_sort is_item
-fine-but_item n.ScriptOf = refl
-fine-but_item n.StatementOf = refl
-fine-but_item n.Create = refl
-fine-but_item n.CreateTable = refl
-fine-but_item n.CreateView = refl
-fine-but_item n.Columns = refl
-fine-but_item n.Column = refl
-fine-but_item n.ColumnKind = refl
-fine-but_item n.Copy = refl
-fine-but_item n.Insert = refl
-fine-but_item n.Row = refl
-fine-but_item n.Delete = refl
-fine-but_item n.Drop = refl
-fine-but_item n.Explain = refl
-fine-but_item n.Show = refl
-fine-but_item n.NameOf = refl
-fine-but_item n.Names = refl
-fine-but_item n.Qualified = refl
-fine-but_item n.ColumnOf = refl
-fine-but_item n.Query = refl
-fine-but_item n.Inner = refl
-fine-but_item n.InParentheses = refl
-fine-but_item n.Operand = refl
-fine-but_item n.QueryRest = refl
-fine-but_item n.Term = refl
-fine-but_item n.IntersectStep = refl
-fine-but_item n.UnionStep = refl
-fine-but_item n.Order = refl
-fine-but_item n.Key = refl
-fine-but_item n.Limit = refl
-fine-but_item n.CoreOf = refl
-fine-but_item n.Items = refl
-fine-but_item n.Item = refl
-fine-but_item n.ItemValue = refl
-fine-but_item n.Alias = refl
-fine-but_item n.Sources = refl
-fine-but_item n.Condition = refl
-fine-but_item n.Groups = refl
-fine-but_item n.Having = refl
-fine-but_item n.From = refl
-fine-but_item n.Join = refl
-fine-but_item n.JoinKind = refl
-fine-but_item n.Source = refl
-fine-but_item n.Aliased = refl
-fine-but_item n.Mark = refl
-fine-but_item n.Expr = refl
-fine-but_item n.Exprs = refl
-fine-but_item n.Both = refl
-fine-but_item n.Negated = refl
-fine-but_item n.Test = refl
-fine-but_item n.IsTest = refl
-fine-but_item n.Compared = refl
-fine-but_item n.Comparison = refl
-fine-but_item n.Ranged = refl
-fine-but_item n.Range = refl
-fine-but_item n.Members = refl
-fine-but_item n.Sum = refl
-fine-but_item n.SumStep = refl
-fine-but_item n.Product = refl
-fine-but_item n.ProductStep = refl
-fine-but_item n.Sign = refl
-fine-but_item n.Primary = refl
-fine-but_item n.Literal = refl
-fine-but_item n.Cast = refl
-fine-but_item n.CastKind = refl
-fine-but_item n.Case = refl
-fine-but_item n.Arm = refl
-fine-but_item n.Otherwise = refl
-fine-but_item n.Exists = refl
-fine-but_item n.Parentheses = refl
-fine-but_item n.Count = refl
-fine-but_item n.Counted = refl
-fine-but_item n.Aggregate = refl
-fine-but_item n.Coalesce = refl
-fine-but_item n.NullIf = refl
-fine-but_item n.Reference = refl
+all_fine : (n : Symbol) → IsFine sql sql_tables goes_on (body n)
+unfolding same_sort
+all_fine n.ScriptOf = fine sql sql_tables goes_on (body n.ScriptOf) refl
+all_fine n.StatementOf = fine sql sql_tables goes_on (body n.StatementOf) refl
+all_fine n.Create = fine sql sql_tables goes_on (body n.Create) refl
+all_fine n.CreateTable = fine sql sql_tables goes_on (body n.CreateTable) refl
+all_fine n.CreateView = fine sql sql_tables goes_on (body n.CreateView) refl
+all_fine n.Columns = fine sql sql_tables goes_on (body n.Columns) refl
+all_fine n.Column = fine sql sql_tables goes_on (body n.Column) refl
+all_fine n.ColumnKind = fine sql sql_tables goes_on (body n.ColumnKind) refl
+all_fine n.Copy = fine sql sql_tables goes_on (body n.Copy) refl
+all_fine n.Insert = fine sql sql_tables goes_on (body n.Insert) refl
+all_fine n.Row = fine sql sql_tables goes_on (body n.Row) refl
+all_fine n.Delete = fine sql sql_tables goes_on (body n.Delete) refl
+all_fine n.Drop = fine sql sql_tables goes_on (body n.Drop) refl
+all_fine n.Explain = fine sql sql_tables goes_on (body n.Explain) refl
+all_fine n.Show = fine sql sql_tables goes_on (body n.Show) refl
+all_fine n.NameOf = fine sql sql_tables goes_on (body n.NameOf) refl
+all_fine n.Names = fine sql sql_tables goes_on (body n.Names) refl
+all_fine n.Qualified = fine sql sql_tables goes_on (body n.Qualified) refl
+all_fine n.ColumnOf = fine sql sql_tables goes_on (body n.ColumnOf) refl
+all_fine n.Query = fine sql sql_tables goes_on (body n.Query) refl
+all_fine n.Inner = fine sql sql_tables goes_on (body n.Inner) refl
+all_fine n.InParentheses = fine sql sql_tables goes_on (body n.InParentheses) refl
+all_fine n.Operand = fine sql sql_tables goes_on (body n.Operand) refl
+all_fine n.QueryRest = fine sql sql_tables goes_on (body n.QueryRest) refl
+all_fine n.Term = fine sql sql_tables goes_on (body n.Term) refl
+all_fine n.IntersectStep = fine sql sql_tables goes_on (body n.IntersectStep) refl
+all_fine n.UnionStep = fine sql sql_tables goes_on (body n.UnionStep) refl
+all_fine n.Order = fine sql sql_tables goes_on (body n.Order) refl
+all_fine n.Key = fine sql sql_tables goes_on (body n.Key) refl
+all_fine n.Limit = fine sql sql_tables goes_on (body n.Limit) refl
+all_fine n.CoreOf = fine sql sql_tables goes_on (body n.CoreOf) refl
+all_fine n.Items = fine sql sql_tables goes_on (body n.Items) refl
+all_fine n.Item = (tt, (tt, refl, refl, item-shut), refl, refl)
+all_fine n.ItemValue = fine sql sql_tables goes_on (body n.ItemValue) refl
+all_fine n.Alias = fine sql sql_tables goes_on (body n.Alias) refl
+all_fine n.Sources = fine sql sql_tables goes_on (body n.Sources) refl
+all_fine n.Condition = fine sql sql_tables goes_on (body n.Condition) refl
+all_fine n.Groups = fine sql sql_tables goes_on (body n.Groups) refl
+all_fine n.Having = fine sql sql_tables goes_on (body n.Having) refl
+all_fine n.From = fine sql sql_tables goes_on (body n.From) refl
+all_fine n.Join = fine sql sql_tables goes_on (body n.Join) refl
+all_fine n.JoinKind = fine sql sql_tables goes_on (body n.JoinKind) refl
+all_fine n.Source = fine sql sql_tables goes_on (body n.Source) refl
+all_fine n.Aliased = fine sql sql_tables goes_on (body n.Aliased) refl
+all_fine n.Mark = fine sql sql_tables goes_on (body n.Mark) refl
+all_fine n.Expr = fine sql sql_tables goes_on (body n.Expr) refl
+all_fine n.Exprs = fine sql sql_tables goes_on (body n.Exprs) refl
+all_fine n.Both = fine sql sql_tables goes_on (body n.Both) refl
+all_fine n.Negated = fine sql sql_tables goes_on (body n.Negated) refl
+all_fine n.Test = fine sql sql_tables goes_on (body n.Test) refl
+all_fine n.IsTest = fine sql sql_tables goes_on (body n.IsTest) refl
+all_fine n.Compared = fine sql sql_tables goes_on (body n.Compared) refl
+all_fine n.Comparison = fine sql sql_tables goes_on (body n.Comparison) refl
+all_fine n.Ranged = fine sql sql_tables goes_on (body n.Ranged) refl
+all_fine n.Range = fine sql sql_tables goes_on (body n.Range) refl
+all_fine n.Members = fine sql sql_tables goes_on (body n.Members) refl
+all_fine n.Sum = fine sql sql_tables goes_on (body n.Sum) refl
+all_fine n.SumStep = fine sql sql_tables goes_on (body n.SumStep) refl
+all_fine n.Product = fine sql sql_tables goes_on (body n.Product) refl
+all_fine n.ProductStep = fine sql sql_tables goes_on (body n.ProductStep) refl
+all_fine n.Sign = fine sql sql_tables goes_on (body n.Sign) refl
+all_fine n.Primary = fine sql sql_tables goes_on (body n.Primary) refl
+all_fine n.Literal = fine sql sql_tables goes_on (body n.Literal) refl
+all_fine n.Cast = fine sql sql_tables goes_on (body n.Cast) refl
+all_fine n.CastKind = fine sql sql_tables goes_on (body n.CastKind) refl
+all_fine n.Case = fine sql sql_tables goes_on (body n.Case) refl
+all_fine n.Arm = fine sql sql_tables goes_on (body n.Arm) refl
+all_fine n.Otherwise = fine sql sql_tables goes_on (body n.Otherwise) refl
+all_fine n.Exists = fine sql sql_tables goes_on (body n.Exists) refl
+all_fine n.Parentheses = fine sql sql_tables goes_on (body n.Parentheses) refl
+all_fine n.Count = fine sql sql_tables goes_on (body n.Count) refl
+all_fine n.Counted = fine sql sql_tables goes_on (body n.Counted) refl
+all_fine n.Aggregate = fine sql sql_tables goes_on (body n.Aggregate) refl
+all_fine n.Coalesce = fine sql sql_tables goes_on (body n.Coalesce) refl
+all_fine n.NullIf = fine sql sql_tables goes_on (body n.NullIf) refl
+all_fine n.Reference = fine sql sql_tables goes_on (body n.Reference) refl
+
+ends : (n : Symbol) (t : Token) → has sql sql_tables (goes_on n) t ≡ false → has sql sql_tables (extends empty begins goes_on (body n)) t ≡ false
+ends n t e = within-law sql sql_tables told (extends empty begins goes_on (body n)) (goes_on n) t (extends-within n) e
+
+pub decided : IsDecided sql sql_tables goes_on
+decided = record { told = told; has_begins = has_begins; falls = has_falls; fine = all_fine; ends = ends }
