@@ -20,7 +20,7 @@ pub record IsDecided (g : Grammar) (tables : Tables g) (goes_on : g.Symbol → L
 
 module _ (g : Grammar) (tables : Tables g) (goes_on : g.Symbol → List g.Sort) (decided : IsDecided g tables goes_on) where
   -- reading by a rule
-  abbrev by : (r : RuleOf g) → List g.Token → Outcome g.Token (ValueOf g r)
+  abbrev pub by : (r : RuleOf g) → List g.Token → Outcome g.Token (ValueOf g r)
   by r ts = step g tables (read g tables) r ts
 
   pub by-claims : (r : RuleOf g) (ts : List g.Token) → Claims g r ts (by r ts)
@@ -114,7 +114,7 @@ module _ (g : Grammar) (tables : Tables g) (goes_on : g.Symbol → List g.Sort) 
   flat-spelled {r = r} {us = us} a rest flat = ap (λ sorts. begins_with g tables sorts (us ++ rest)) (sym (append-nil (singles r))) ∙ flat-begins a [] rest flat
 
   -- a sequence of single tokens is read whatever follows it
-  flat-fine : (r : RuleOf g) → is_flat r ≡ true → IsFine g tables goes_on r × (extends_of g tables goes_on r ≡ [])
+  pub flat-fine : (r : RuleOf g) → is_flat r ≡ true → IsFine g tables goes_on r × (extends_of g tables goes_on r ≡ [])
   flat-fine (word sort) flat = (tt, refl)
   flat-fine (token sorts) flat = (tt, refl)
   flat-fine (r then s) flat =

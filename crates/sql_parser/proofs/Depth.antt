@@ -29,7 +29,7 @@ module _ (g : Grammar) (tables : Tables g) where
   always true = refl
   always false = refl
 
-  all_below : Falls → (r : RuleOf g) → Below tables.ranks r
+  pub all_below : Falls → (r : RuleOf g) → Below tables.ranks r
   all_below h (word sort) = refl
   all_below h (token sorts) = refl
   all_below h (r then s) = rw (all_below h r, all_below h s) (always (nullable tables.empty r))
@@ -113,7 +113,7 @@ module _ (g : Grammar) (tables : Tables g) where
     step-alike (symbol n) k ts lower small few = alike n ts (omega (arith, ltb-true (tables.rank n) k lower))
 
   module _ (told : IsTold g) (has_begins : HasBegins g tables) (falls : Falls) where
-    deep_enough : (c d : ℕ) (n : g.Symbol) (ts : List g.Token) → length ts * tables.ranks + tables.rank n < c → length ts * tables.ranks + tables.rank n < d
+    pub deep_enough : (c d : ℕ) (n : g.Symbol) (ts : List g.Token) → length ts * tables.ranks + tables.rank n < c → length ts * tables.ranks + tables.rank n < d
         → reading_to g tables c n ts ≡ reading_to g tables d n ts
     unfolding reading_to
     deep_enough zero d n ts a b = absurd (omega arith)

@@ -107,3 +107,21 @@ apart-law g tables told (x ∷ xs) ys t e h = by_test (g.same (g.sort t) x) refl
       let there : list_any (g.same x) ys ≡ true = subst (λ sort. list_any (g.same sort) ys ≡ true) (told.sound (g.sort t) x f) h in
       let no : not true ≡ true = subst (λ b. not b ≡ true) there parts.0 in
       absurd cc
+
+-- each sort of the one is in the other
+abbrev pub within : {Sort : Type 0} → (Sort → Sort → Bool) → List Sort → List Sort → Bool
+within same xs ys = list_all (λ x. list_any (same x) ys) xs
+
+pub within-law : (g : Grammar) (tables : Tables g) (told : IsTold g) (xs ys : List g.Sort) (t : g.Token)
+    → within g.same xs ys ≡ true → has g tables ys t ≡ false → has g tables xs t ≡ false
+within-law g tables told [] ys t e h = refl
+within-law g tables told (x ∷ xs) ys t e h = by_test (g.same (g.sort t) x) refl (within-law g tables told xs ys t (parts.1) h) where
+  parts : (list_any (g.same x) ys ≡ true) × (within g.same xs ys ≡ true)
+  parts = both_true e
+
+  by_test : (b : Bool) → g.same (g.sort t) x ≡ b → list_any (g.same (g.sort t)) xs ≡ false → b || list_any (g.same (g.sort t)) xs ≡ false
+  by_test false f others = others
+  by_test true f others =
+      let there : list_any (g.same x) ys ≡ false = subst (λ sort. list_any (g.same sort) ys ≡ false) (told.sound (g.sort t) x f) h in
+      let no : true ≡ false = sym parts.0 ∙ there in
+      absurd cc
