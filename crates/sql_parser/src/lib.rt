@@ -7,11 +7,11 @@ mod laws;
 mod listed;
 mod names;
 mod nesting;
-mod script;
+mod parser;
 mod sort;
 mod syntax_error;
 
 pub use laws::{a_script_has_one_tree, an_unexpected_token_has_no_tree};
 pub use nesting::too_deep;
-pub use script::script;
+pub use parser::script;
 pub use syntax_error::SyntaxError;
