@@ -1,10 +1,10 @@
 -- Grammars that the next token decides.
-use Rattle.std.proofs.Common.{◌≡◌, ℕ, zero, suc, ◌+◌, ◌≤◌, ◌<◌, Bool, true, false, not, ◌&&◌, ◌||◌, cond, List, [], ◌∷◌, ◌++◌, length, refl, sym, ap, subst, ◌∙◌, arith}
+use Rattle.std.proofs.Common.{◌≡◌, suc, ◌+◌, Bool, true, false, not, ◌&&◌, ◌||◌, cond, List, [], ◌∷◌, ◌++◌, length, refl, sym, subst, ◌∙◌}
 use Rattle.std.specs.List.{list_any, list_all}
-use Rattle.sql_parser.specs.Rules.{Rule, word, token, ◌then◌, ◌or◌, front, optional, many, placed, symbol, Grammar, RuleOf, ValueOf}
-use Rattle.sql_parser.specs.Descent.{Outcome, Taken, Stopped, Tables, nullable, starts, next_is, begins_with, start_of, singles, step, read}
+use Rattle.sql_parser.specs.Rules.{Rule, word, token, ◌then◌, ◌or◌, front, optional, many, placed, symbol, Grammar, RuleOf}
+use Rattle.sql_parser.specs.Descent.{Stopped, Tables, nullable, starts, begins_with, start_of, singles, step, read}
 use Rattle.sql_parser.proofs.Sound.{IsTold}
-use Rattle.sql_parser.proofs.Begins.{both_true, or_left, or_right, has}
+use Rattle.sql_parser.proofs.Begins.{both_true, has}
 
 -- the sorts with which what a rule spelled may go on
 abbrev pub extends : {Sort Symbol : Type 0} → (Symbol → Bool) → (Symbol → List Sort) → (Symbol → List Sort) → Rule Sort Symbol → List Sort
@@ -106,4 +106,22 @@ apart-law g tables told (x ∷ xs) ys t e h = by_test (g.same (g.sort t) x) refl
   by_test true f others =
       let there : list_any (g.same x) ys ≡ true = subst (λ sort. list_any (g.same sort) ys ≡ true) (told.sound (g.sort t) x f) h in
       let no : not true ≡ true = subst (λ b. not b ≡ true) there parts.0 in
+      absurd cc
+
+-- each sort of the one is in the other
+abbrev pub within : {Sort : Type 0} → (Sort → Sort → Bool) → List Sort → List Sort → Bool
+within same xs ys = list_all (λ x. list_any (same x) ys) xs
+
+pub within-law : (g : Grammar) (tables : Tables g) (told : IsTold g) (xs ys : List g.Sort) (t : g.Token)
+    → within g.same xs ys ≡ true → has g tables ys t ≡ false → has g tables xs t ≡ false
+within-law g tables told [] ys t e h = refl
+within-law g tables told (x ∷ xs) ys t e h = by_test (g.same (g.sort t) x) refl (within-law g tables told xs ys t (parts.1) h) where
+  parts : (list_any (g.same x) ys ≡ true) × (within g.same xs ys ≡ true)
+  parts = both_true e
+
+  by_test : (b : Bool) → g.same (g.sort t) x ≡ b → list_any (g.same (g.sort t)) xs ≡ false → b || list_any (g.same (g.sort t)) xs ≡ false
+  by_test false f others = others
+  by_test true f others =
+      let there : list_any (g.same x) ys ≡ false = subst (λ sort. list_any (g.same sort) ys ≡ false) (told.sound (g.sort t) x f) h in
+      let no : true ≡ false = sym parts.0 ∙ there in
       absurd cc

@@ -1,6 +1,6 @@
 -- Where reading stops, the tokens before begin something that the rule spells.
-use Rattle.std.proofs.Common.{◌≡◌, ℕ, zero, suc, Bool, true, false, ◌&&◌, cond, List, [], ◌∷◌, ◌++◌, length, Option, Some, None, inl, inr, refl, sym, ap, subst, ◌∙◌, append_assoc, append-nil, lit<, arith}
-use Rattle.sql_parser.specs.Rules.{Rule, word, token, ◌then◌, ◌or◌, front, optional, many, placed, symbol, Grammar, RuleOf, ValueOf, StartsAt, Spelled, a_word, a_token, both, first, second, front_first, front_second, absent, present, no_more, one_more, at_place, as_symbol}
+use Rattle.std.proofs.Common.{◌≡◌, ℕ, zero, suc, Bool, true, false, ◌&&◌, cond, List, [], ◌∷◌, ◌++◌, length, Option, Some, None, is_some, option_map, inl, inr, refl, sym, ap, subst, ◌∙◌, append_assoc, arith}
+use Rattle.sql_parser.specs.Rules.{Rule, word, token, ◌then◌, ◌or◌, front, optional, many, placed, symbol, Grammar, RuleOf, ValueOf, Spelled, a_word, a_token, both, first, second, front_first, front_second, absent, present, no_more, one_more, at_place, as_symbol}
 use Rattle.sql_parser.specs.Descent.{Outcome, Taken, Stopped, and_then, mapped, Tables, next_is, begins_with, start_of, singles, place_of, take_word, take_token, repeated, step, reading_to, read}
 use Rattle.sql_parser.proofs.Sound.{IsTold, Claims, Spells, step-claims, reading-claims}
 use Rattle.sql_parser.proofs.Begins.{both_true}
@@ -17,6 +17,10 @@ filled (optional r) = filled r
 filled (many r) = filled r
 filled (placed r) = filled r
 filled (symbol n) = true
+
+pub from_some : {A : Type 0} (o : Option A) → is_some o ≡ true → A
+from_some None e = absurd cc
+from_some (Some a) e = a
 
 module _ (g : Grammar) where
   abbrev pub IsSampled : RuleOf g → Type 0
@@ -37,11 +41,35 @@ module _ (g : Grammar) where
   Viable r ts (Taken x rest) = Unit {0}
   Viable r ts (Stopped rest) = IsViable r ts rest
 
-  module _ (samples : HasSamples) where
-    placed_sample : (r : RuleOf g) (us : List g.Token) (x : ValueOf g r) → Spelled g r us x → (place : ℕ) × Spelled g (placed r) us (place, x)
-    placed_sample r [] x a = (0, at_place a tt)
-    placed_sample r (t ∷ us) x a = (g.place t, at_place a refl)
+  abbrev pub placed_sample : (r : RuleOf g) (us : List g.Token) (x : ValueOf g r) → Spelled g r us x → (place : ℕ) × Spelled g (placed r) us (place, x)
+  placed_sample r [] x a = (0, at_place a tt)
+  placed_sample r (t ∷ us) x a = (g.place t, at_place a refl)
 
+  -- the first alternatives of a rule, where the symbols have this
+  module _ (token_for : g.Sort → g.Token) (sorted : (sort : g.Sort) → g.sort (token_for sort) ≡ sort) where
+    sample_by : ((n : g.Symbol) → Option (IsSampled (symbol n))) → (r : RuleOf g) → Option (IsSampled r)
+    sample_by calls (word sort) = Some (token_for sort ∷ [], tt, a_word (sorted sort))
+    sample_by calls (token []) = None
+    sample_by calls (token (sort ∷ sorts)) = Some (token_for sort ∷ [], token_for sort, a_token (0, omega arith, sym (sorted sort)))
+    sample_by calls (r then s) = paired (sample_by calls r) (sample_by calls s) where
+      paired : Option (IsSampled r) → Option (IsSampled s) → Option (IsSampled (r then s))
+      paired None b = None
+      paired (Some a) None = None
+      paired (Some a) (Some b) = Some (a.0 ++ b.0, (a.1, b.1), both a.2 b.2)
+    sample_by calls (r or s) = option_map (λ a. (a.0, inl a.1, first a.2)) (sample_by calls r)
+    sample_by calls (front r s) = option_map (λ a. (a.0, inl a.1, front_first a.2)) (sample_by calls r)
+    sample_by calls (optional r) = Some ([], None, absent)
+    sample_by calls (many r) = Some ([], [], no_more)
+    sample_by calls (placed r) = option_map (λ a. let b = placed_sample r a.0 a.1 a.2 in (a.0, (b.0, a.1), b.1)) (sample_by calls r)
+    sample_by calls (symbol n) = calls n
+
+    -- the same for symbols, no deeper than this number of calls
+    unfoldable pub sampler : ℕ → (n : g.Symbol) → Option (IsSampled (symbol n))
+    unfolding sample_by
+    sampler zero n = None
+    sampler (suc depth) n = option_map (λ a. (a.0, g.build n a.1, as_symbol a.2)) (sample_by (sampler depth) (g.body n))
+
+  module _ (samples : HasSamples) where
     sample : (r : RuleOf g) → filled r ≡ true → IsSampled r
     sample (word sort) full = (samples.token_for sort ∷ [], tt, a_word (samples.sorted sort))
     sample (token []) full = absurd cc
