@@ -1,8 +1,9 @@
 pub mod Answers
 pub mod Commands
 pub mod Ends
-pub mod Reading
+pub mod Lines
+pub mod Lists
 pub mod Run
-pub mod Spelling
+pub mod Scripts
 pub mod Statuses
 pub mod Step
