@@ -2,5 +2,6 @@ pub mod Ending
 pub mod Fitting
 pub mod Listing
 pub mod Misspelling
+pub mod Numbers
 pub mod Queries
 pub mod Running

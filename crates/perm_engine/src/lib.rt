@@ -3,8 +3,11 @@
 
 mod command;
 mod create;
+mod delete;
+mod drop_table;
 mod form;
 mod insert;
+mod laws;
 mod line;
 mod query;
 mod refusal;
@@ -19,6 +22,7 @@ mod tests;
 mod text;
 
 pub use command::Command;
+pub use laws::{a_run_has_numbers_left, bytes_are_one_script};
 pub use refusal::{Break, StepRefusal};
 pub use run::perm;
 pub use session::Session;
