@@ -1,6 +1,5 @@
 pub mod Ending
 pub mod Fitting
-pub mod Listing
 pub mod Misspelling
 pub mod Numbers
 pub mod Queries

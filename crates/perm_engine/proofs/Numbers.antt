@@ -6,12 +6,12 @@ use Rattle.perm_catalog.specs.Contents.{Contents}
 use Rattle.perm_catalog.specs.Lookups.{first_user}
 use Rattle.perm_catalog.specs.declared.entries.TableEntry.{TableEntry}
 use Rattle.sql_tree.specs.declared.statement.Statement.{Statement}
-use Rattle.perm_engine.specs.Commands.{command_of}
-use Rattle.perm_engine.specs.Lists.{all_of}
+use Rattle.sql_commands.specs.Commands.{command_of}
+use Rattle.sql_commands.specs.Lists.{all_of}
 use Rattle.perm_engine.specs.Run.{StopsBy, StopsAt}
 use Rattle.perm_engine.specs.Step.{Stepped, Turn, Stands, Refuses, unfit, last_number, drawing, with_entry, can_create, all_fit, insert_into, delete_from, drop_unused, select_places, place_from, names_of, step, step_of, turn}
-use Rattle.perm_engine.specs.declared.command.Command.{Command}
-use Rattle.perm_engine.specs.declared.command.Command.TheVariants.{CreateTable, Insert, Select, Delete, DropTable}
+use Rattle.sql_commands.specs.declared.command.Command.{Command}
+use Rattle.sql_commands.specs.declared.command.Command.TheVariants.{CreateTable, Insert, Select, Delete, DropTable}
 use Rattle.perm_engine.specs.declared.refusal.Break.{Break}
 
 data IsFrugal (c : Contents) : Turn → Type 0 where

@@ -1,8 +1,6 @@
 pub mod Answers
-pub mod Commands
 pub mod Ends
 pub mod Lines
-pub mod Lists
 pub mod Run
 pub mod Scripts
 pub mod Statuses

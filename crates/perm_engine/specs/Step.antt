@@ -23,10 +23,10 @@ use Rattle.perm_catalog.specs.Contents.{Contents}
 use Rattle.perm_catalog.specs.declared.column.Column.{Column}
 use Rattle.perm_catalog.specs.declared.entries.TableEntry.{TableEntry}
 use Rattle.sql_tree.specs.declared.statement.Statement.{Statement}
-use Rattle.perm_engine.specs.Commands.{command_of}
-use Rattle.perm_engine.specs.Lists.{all_of}
-use Rattle.perm_engine.specs.declared.command.Command.{Command}
-use Rattle.perm_engine.specs.declared.command.Command.TheVariants.{CreateTable, Insert, Select, Delete, DropTable}
+use Rattle.sql_commands.specs.Commands.{command_of}
+use Rattle.sql_commands.specs.Lists.{all_of}
+use Rattle.sql_commands.specs.declared.command.Command.{Command}
+use Rattle.sql_commands.specs.declared.command.Command.TheVariants.{CreateTable, Insert, Select, Delete, DropTable}
 use Rattle.perm_engine.specs.declared.refusal.Break.{Break}
 
 -- what a statement that stands answers: its text, and what the catalog holds then

@@ -1,11 +1,9 @@
 //! Runs scripts of SQL with provenance: from a command line and files to what is written and a status.
 #![tactic(auto)]
 
-mod command;
 mod create;
 mod delete;
 mod drop_table;
-mod form;
 mod insert;
 mod laws;
 mod line;
@@ -21,7 +19,6 @@ mod step;
 mod tests;
 mod text;
 
-pub use command::Command;
 pub use laws::{a_run_has_numbers_left, bytes_are_one_script};
 pub use refusal::{Break, StepRefusal};
 pub use run::perm;

@@ -2,7 +2,7 @@ ghost use Rattle.std.specs.Prelude.{◌≡◌, ◌++◌, ◌∷◌, [], IfOk, co
 ghost use Rattle.perm_catalog.specs.Changes.{table_named};
 ghost use Rattle.perm_engine.specs.Answers.{IsAnswer};
 ghost use Rattle.perm_engine.specs.Step.{names_of, with_entry, select_places, answer, answer_names, place_from, source_names};
-ghost use Rattle.perm_engine.specs.Lists.{all_of};
+ghost use Rattle.sql_commands.specs.Lists.{all_of};
 
 use crate::query::query_rows;
 use crate::refusal::StepRefusal;

@@ -3,12 +3,12 @@ ghost use Rattle.perm_catalog.specs.Changes.{nothing_held};
 ghost use Rattle.perm_engine.specs.Answers.{IsTurn};
 ghost use Rattle.perm_engine.specs.Step.{turn};
 
-use crate::form::command_of;
 use crate::refusal::StepRefusal;
 use crate::step::step;
 use perm_catalog::Catalog;
 use perm_io::Files;
 use perm_values::Bytes;
+use sql_commands::command_of;
 use sql_tree::Statement;
 use std::alloc::Global;
 use std::marker::Model;

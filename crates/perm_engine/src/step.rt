@@ -2,7 +2,6 @@ ghost use Rattle.std.specs.Prelude.{◌≡◌};
 ghost use Rattle.perm_engine.specs.Answers.{IsTurn};
 ghost use Rattle.perm_engine.specs.Step.{step};
 
-use crate::command::Command;
 use crate::create::create_table;
 use crate::delete::delete;
 use crate::drop_table::drop_table;
@@ -11,6 +10,7 @@ use crate::refusal::StepRefusal;
 use crate::select::select;
 use perm_catalog::Catalog;
 use perm_values::Bytes;
+use sql_commands::Command;
 use std::alloc::Global;
 
 /// Runs the command that stands at an offset: its text is made before the catalog is changed, so that a refused one

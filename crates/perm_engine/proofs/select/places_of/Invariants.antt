@@ -1,7 +1,7 @@
 use Rattle.std.proofs.Common.{◌≡◌, drop}
-use Rattle.perm_engine.specs.Lists.{all_of}
+use Rattle.sql_commands.specs.Lists.{all_of}
 use Rattle.perm_engine.specs.Step.{names_of, place_from}
-use Rattle.perm_engine.proofs.Listing.{in_front}
+use Rattle.sql_commands.proofs.Listing.{in_front}
 use Rattle.perm_engine.proofs.select.places_of.Given as goal
 
 -- the places of the names so far stand before those of the names left

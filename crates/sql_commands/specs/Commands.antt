@@ -1,7 +1,7 @@
 -- The statements of the forms that are run, as commands; a statement of any other form is none.
 use Rattle.perm_catalog.specs.declared.column.Column.{Column}
-use Rattle.perm_engine.specs.declared.command.Command.TheVariants.{CreateTable, Insert, Select, Delete, DropTable}
-use Rattle.perm_engine.specs.declared.command.Command.{Command}
+use Rattle.sql_commands.specs.declared.command.Command.TheVariants.{CreateTable, Insert, Select, Delete, DropTable}
+use Rattle.sql_commands.specs.declared.command.Command.{Command}
 use Rattle.perm_values.specs.declared.value.Value.TheVariants as value
 use Rattle.perm_values.specs.declared.value.Value.{Value}
 use Rattle.sql_tree.specs.declared.expression.ArmTree.{ArmTree}
@@ -28,7 +28,7 @@ use Rattle.sql_tree.specs.declared.statement.Statement.{Statement}
 use Rattle.sql_tree.specs.declared.statement.StatementBody.TheVariants as st
 use Rattle.sql_tree.specs.declared.statement.StatementBody.{StatementBody}
 use Rattle.sql_tree.specs.declared.statement.ValuesRow.{ValuesRow}
-use Rattle.perm_engine.specs.Lists.{is_empty, all_of}
+use Rattle.sql_commands.specs.Lists.{is_empty, all_of}
 use Rattle.std.specs.Prelude.{ℕ, Bool, true, false, not, cond, ◌&&◌, List, [], ◌∷◌, map, Option, Some, None, is_some, option_map}
 
 -- one level of an item, and of a query's body

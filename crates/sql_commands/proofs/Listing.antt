@@ -1,6 +1,6 @@
 -- What some items stand for, before what the others do.
 use Rattle.std.proofs.Common.{◌≡◌, List, [], ◌∷◌, ◌++◌, Option, Some, None, refl, sym, ap, append_assoc}
-use Rattle.perm_engine.specs.Lists.{before}
+use Rattle.sql_commands.specs.Lists.{before}
 
 abbrev pub in_front : {X : Type 0} → List X → Option (List X) → Option (List X)
 in_front front None = None

@@ -1,8 +1,8 @@
 ghost use Rattle.std.specs.Prelude.{◌≡◌, ◌∷◌, [], IfOk, map, cond, Some, None, option_map};
 ghost use Rattle.std.specs.Option.{option_copied};
-ghost use Rattle.perm_engine.specs.Commands as spec;
-ghost use Rattle.perm_engine.specs.Lists.{is_empty, all_of};
-ghost use Rattle.perm_engine.specs.declared.command.Command.TheVariants.{CreateTable, Insert, Delete, DropTable};
+ghost use Rattle.sql_commands.specs.Commands as spec;
+ghost use Rattle.sql_commands.specs.Lists.{is_empty, all_of};
+ghost use Rattle.sql_commands.specs.declared.command.Command.TheVariants.{CreateTable, Insert, Delete, DropTable};
 
 use crate::command::Command;
 use perm_catalog::Column;
@@ -13,8 +13,8 @@ use sql_tree::{
 };
 use std::alloc::Global;
 
-/// The statement as a command; `None` where it is of a form that isn't run.
-pub(crate) fn command_of(alloc: Global, statement: &Statement) -> Result<Option<Command>, NoMemory>
+/// The statement as a command; `None` exactly where it is of a form that isn't run. It fails only for want of memory.
+pub fn command_of(alloc: Global, statement: &Statement) -> Result<Option<Command>, NoMemory>
     ensures { IfOk result (λ command. command ≡ spec.command_of statement.now) }
 {
     match &statement.body {

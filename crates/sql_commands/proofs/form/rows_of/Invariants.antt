@@ -1,8 +1,8 @@
 use Rattle.std.proofs.Common.{◌≡◌, drop}
-use Rattle.perm_engine.proofs.Listing.{in_front}
-use Rattle.perm_engine.specs.Commands.{row_of}
-use Rattle.perm_engine.specs.Lists.{all_of}
-use Rattle.perm_engine.proofs.form.rows_of.Given as goal
+use Rattle.sql_commands.proofs.Listing.{in_front}
+use Rattle.sql_commands.specs.Commands.{row_of}
+use Rattle.sql_commands.specs.Lists.{all_of}
+use Rattle.sql_commands.proofs.form.rows_of.Given as goal
 
 -- what the items so far stand for stands before what the others do
 abbrev pub invariant-loop-row : goal.invariant-loop-row
