@@ -1,5 +1,7 @@
 pub mod Answers
+pub mod Copying
 pub mod Ends
+pub mod Found
 pub mod Reading
 pub mod Run
 pub mod Spelling

@@ -2,6 +2,7 @@
 #![tactic(auto)]
 
 mod command;
+mod copying;
 mod create;
 mod insert;
 mod query;
