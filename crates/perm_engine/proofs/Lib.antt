@@ -1,3 +1,4 @@
+pub mod CopiedFile
 pub mod Ending
 pub mod Fitting
 pub mod Places
