@@ -8,7 +8,6 @@ use Rattle.csv_tables.specs.declared.data_error.DataError.TheVariants as broken
 use Rattle.perm_values.specs.declared.kind.Kind.{Kind}
 use Rattle.perm_engine.specs.Copying.{Gives, IsCopied, unless_broken, unloaded}
 use Rattle.perm_engine.specs.Found.{Found, Read}
-use Rattle.perm_engine.specs.declared.copying.CopyRefusal.{CopyRefusal}
 use Rattle.perm_engine.specs.declared.copying.CopyRefusal.TheVariants.{Unfit}
 
 named : (rules : List DataError) (rule : DataError) (rows : Bag) → first_of rules ≡ Some rule → unless_broken rules rows ≡ Err (Unfit rule)
@@ -29,6 +28,6 @@ module _ (Can : Found → Type 0) (kinds : List Kind) (mark : List ℕ) (header 
   copied-broken broken.NoMemory first = tt
 
 -- an error that another became
-pub kept-error : {X : Type 0} (Says : Result X CopyRefusal → Type 0) (r : Result X CopyRefusal) (e : CopyRefusal) → IsErrAnd r (λ f. f ≡ e) → Says (Err e) → Says r
+pub kept-error : {X E : Type 0} (Says : Result X E → Type 0) (r : Result X E) (e : E) → IsErrAnd r (λ f. f ≡ e) → Says (Err e) → Says r
 kept-error Says (Ok x) e h says = absurd h
 kept-error Says (Err f) e h says = subst (λ g. Says (Err g)) (sym h) says

@@ -1,4 +1,5 @@
 pub mod CopiedFile
+pub mod CopiedInto
 pub mod Ending
 pub mod Fitting
 pub mod Places

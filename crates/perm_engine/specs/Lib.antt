@@ -1,5 +1,6 @@
 pub mod Answers
 pub mod Copying
+pub mod DataLines
 pub mod Ends
 pub mod Found
 pub mod Reading

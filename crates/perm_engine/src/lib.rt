@@ -2,8 +2,10 @@
 #![tactic(auto)]
 
 mod command;
+mod copy;
 mod copying;
 mod create;
+mod data_line;
 mod insert;
 mod query;
 mod reader;
