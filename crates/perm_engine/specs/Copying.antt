@@ -2,8 +2,6 @@
 use Rattle.std.specs.Prelude.{◌≡◌, ℕ, ◌-◌, ◌^◌, nat_eq, Bool, true, false, cond, List, [], ◌∷◌, ◌++◌, length, Option, Some, None, Result, Ok, Err, codes}
 use Rattle.std.specs.Fmt.{decimal}
 use Rattle.perm_values.specs.declared.kind.Kind.{Kind}
-use Rattle.perm_io.specs.declared.reading.ReadError.{ReadError}
-use Rattle.perm_io.specs.declared.reading.ReadError.TheVariants as read
 use Rattle.bag_algebra.specs.Bags.{Bag}
 use Rattle.csv_tables.specs.Loading.{broken_rules, spelled_rows}
 use Rattle.csv_tables.specs.declared.data_error.DataError.{DataError}
@@ -59,13 +57,7 @@ is_read_fault (Err (Unfit rule)) = false
 is_read_fault (Err ReadFault) = true
 is_read_fault (Err NoMemory) = false
 
--- what is a failed reading to a COPY, and what a rule that is broken
-abbrev pub unread : ReadError → CopyRefusal
-unread read.Missing = Missing
-unread read.TooLarge = TooLarge
-unread read.Fault = ReadFault
-unread read.NoMemory = NoMemory
-
+-- what is to a COPY what loading its file refuses
 abbrev pub unloaded : DataError → CopyRefusal
 unloaded (broken.Width row) = Unfit (broken.Width row)
 unloaded (broken.NotInteger row field) = Unfit (broken.NotInteger row field)

@@ -3,7 +3,7 @@ ghost use Rattle.csv_tables.specs.Loading.{all_fit};
 ghost use Rattle.csv_tables.specs.declared.data_error.DataError.TheVariants as broken;
 ghost use Rattle.perm_io.specs.Counts.{next_count, HasRisen, CountsFault};
 ghost use Rattle.perm_engine.specs.Found.{CanBe};
-ghost use Rattle.perm_engine.specs.Copying.{file_limit, is_read_fault, IsCopied, unloaded, unread};
+ghost use Rattle.perm_engine.specs.Copying.{file_limit, is_read_fault, IsCopied, unloaded};
 
 use csv_tables::{DataError, load};
 use perm_io::{Files, ReadError, read_all};
@@ -25,19 +25,6 @@ pub(crate) enum CopyRefusal {
     /// A call on it failed.
     ReadFault,
     NoMemory,
-}
-
-impl From<ReadError> for CopyRefusal {
-    ghost from_gives = { λ error made. made ≡ unread error };
-
-    fn from(error: ReadError) -> CopyRefusal {
-        match error {
-            ReadError::Missing => CopyRefusal::Missing,
-            ReadError::TooLarge => CopyRefusal::TooLarge,
-            ReadError::Fault => CopyRefusal::ReadFault,
-            ReadError::NoMemory => CopyRefusal::NoMemory,
-        }
-    }
 }
 
 impl From<DataError> for CopyRefusal {
@@ -77,7 +64,11 @@ pub(crate) fn file_rows<F: Files>(
     ensures begun { F.begun files.new ≡ next_count (F.begun files.old) }
     ensures held { F.held files.new ≡ F.held files.old }
 {
-    let bytes = read_all(alloc, files, name, FILE_LIMIT)?;
-    let rows = load(alloc, bytes.as_slice(), kinds, mark.bytes(), header)?;
-    Ok(rows)
+    match read_all(alloc, files, name, FILE_LIMIT) {
+        Ok(bytes) => Ok(load(alloc, bytes.as_slice(), kinds, mark.bytes(), header)?),
+        Err(ReadError::Missing) => Err(CopyRefusal::Missing),
+        Err(ReadError::TooLarge) => Err(CopyRefusal::TooLarge),
+        Err(ReadError::Fault) => Err(CopyRefusal::ReadFault),
+        Err(ReadError::NoMemory) => Err(CopyRefusal::NoMemory),
+    }
 }
