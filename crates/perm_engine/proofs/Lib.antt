@@ -1,5 +1,6 @@
 pub mod CopiedFile
 pub mod CopiedInto
+mod CopySamples
 pub mod Ending
 pub mod Fitting
 pub mod Places
