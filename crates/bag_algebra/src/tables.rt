@@ -81,6 +81,19 @@ impl Tables {
         }
     }
 
+    /// Removes the flagged rows of that identity, and counts them. It takes no memory.
+    pub fn drop_rows(&mut self, id: u64, doomed: &[bool]) -> u64
+        requires held { IsSome (map.get self.old id) }
+        requires flags { length doomed.now ≡ length (rows_in self.old id) }
+        ensures kept { self.new ≡ map.insert self.old id (unmarked doomed.now (rows_in self.old id)) }
+        ensures counted { result ≡ count_by (λ flag. flag) doomed.now }
+    {
+        match self.rows.get_mut(&id) {
+            Some(held) => held.remove_marked(doomed),
+            None => 0,
+        }
+    }
+
     /// Takes the identity out and gives its rows; `None` exactly where it isn't held. It takes no memory.
     pub fn remove(&mut self, id: u64) -> Option<Rows>
         ensures rows { result ≡ map.get self.old id }

@@ -1,2 +1,7 @@
 pub mod Changes
+pub mod Columns
 pub mod Contents
+pub mod Lookups
+pub mod Reads
+pub mod Sound
+pub mod WorkedCatalogs

@@ -1,8 +1,10 @@
-ghost use Rattle.std.specs.Prelude.{◌≡◌, ◌-◌, ◌^◌, ◌<◌, ◌↔◌, OnOk, OnErr, IsErrOf, IsTrue, true, None, is_some, IsSome, IfSome};
+ghost use Rattle.std.specs.Prelude.{◌≡◌, ◌-◌, ◌^◌, ◌<◌, ◌↔◌, OnOk, OnErr, IsErrOf, IsTrue, true, None, is_some, IsSome, IfSome, IfOk, length, count_by};
 ghost use Rattle.std.specs.Option.{option_copied};
-ghost use Rattle.perm_catalog.specs.Changes.{table_named, view_named, is_free, with_table, with_entry, with_more_rows, with_more_rows_undrawn, nothing_held};
+ghost use Rattle.perm_catalog.specs.Lookups.{declared_places, first_user, name_of_id};
+ghost use Rattle.perm_catalog.specs.Changes.{table_named, view_named, is_free, with_table, with_entry, with_more_rows, with_more_rows_undrawn, nothing_held, rows_at, with_fewer_rows, with_fewer_rows_undrawn, with_view, without_table, without_view};
 
 use crate::column::Column;
+use crate::drop_held::drop_held;
 use crate::entries::{Mark, TableEntry, ViewEntry};
 use crate::last::{add_last, room_for};
 use crate::renew::renew;
@@ -88,6 +90,40 @@ impl Catalog {
         &self.rows
     }
 
+    /// The places of the provenance columns that a table stores; `None` exactly where no table of that name has a mark.
+    pub fn declared(&self, name: &Chars) -> Option<&[usize]>
+        ensures { option_copied result ≡ declared_places self.now name.now }
+    {
+        match &self.tables.get(name)?.mark {
+            Some(mark) => Some(mark.places.as_slice()),
+            None => None,
+        }
+    }
+
+    /// The first view, in the order of creation, that names it; `None` exactly where no view does.
+    pub fn user_of(&self, name: &Chars) -> Option<&Chars>
+        ensures { option_copied result ≡ first_user self.now name.now }
+    {
+        for (view, entry) in self.views.iter() {
+            if entry.uses(name) {
+                return Some(view);
+            }
+        }
+        None
+    }
+
+    /// The name of the table that has this identity; `None` exactly where none has it.
+    pub fn name_of(&self, id: u64) -> Option<&Chars>
+        ensures { option_copied result ≡ name_of_id self.now id }
+    {
+        for (name, entry) in self.tables.iter() {
+            if entry.id == id {
+                return Some(name);
+            }
+        }
+        None
+    }
+
     /// Adds a table, last in the order of creation: the next number is drawn as its identity and its version.
     /// `VersionsSpent` comes exactly where that number is the last one. After a refusal nothing has changed.
     pub fn create(
@@ -163,5 +199,77 @@ impl Catalog {
         self.rows.add_rows(entry.id, rows)?;
         renew(&mut self.tables, name, self.next);
         Ok(())
+    }
+
+    /// Removes the flagged rows of a table and counts them. The table gets the next number as its version, also where no
+    /// row went, and stores no provenance from then on. It takes no memory. `VersionsSpent` comes exactly where that
+    /// number is the last one, and then nothing has changed.
+    pub fn delete_rows(&mut self, name: &Chars, doomed: &[bool]) -> Result<u64, CatalogRefusal>
+        requires table { IsSome (table_named self.old name.now) }
+        requires flags { IfSome (table_named self.old name.now) (λ entry. length doomed.now ≡ length (rows_at self.old entry.id)) }
+        ensures ok { OnOk result (IfSome (table_named self.old name.now) (λ entry. self.new ≡ with_fewer_rows self.old name.now entry.id doomed.now)) }
+        ensures counted { IfOk result (λ removed. removed ≡ count_by (λ flag. flag) doomed.now) }
+        ensures spent { IsErrOf result CatalogRefusal.VersionsSpent ↔ (self.old.next ≡ 2 ^ 64 - 1) }
+        ensures err { OnErr result ((result ≡ Err CatalogRefusal.VersionsSpent) × (self.new ≡ self.old)) }
+    {
+        if self.next == u64::MAX {
+            return Err(CatalogRefusal::VersionsSpent);
+        }
+        let removed = self.drop_from_table(name, doomed);
+        self.next += 1;
+        Ok(removed)
+    }
+
+    /// Removes flagged rows of a table and marks it with the next number, which isn't drawn.
+    fn drop_from_table(&mut self, name: &Chars, doomed: &[bool]) -> u64
+        requires table { IsSome (table_named self.old name.now) }
+        requires flags { IfSome (table_named self.old name.now) (λ entry. length doomed.now ≡ length (rows_at self.old entry.id)) }
+        ensures fewer { IfSome (table_named self.old name.now) (λ entry. self.new ≡ with_fewer_rows_undrawn self.old name.now entry.id doomed.now) }
+        ensures counted { result ≡ count_by (λ flag. flag) doomed.now }
+    {
+        let Some(entry) = self.tables.get(name) else {
+            return 0;
+        };
+        let removed = drop_held(&mut self.rows, entry.id, doomed);
+        renew(&mut self.tables, name, self.next);
+        removed
+    }
+
+    /// Adds a view, last in the order of creation. It fails only for want of memory, and then nothing has changed.
+    pub fn add_view(
+        &mut self,
+        alloc: Global,
+        name: &Chars,
+        entry: ViewEntry,
+    ) -> Result<(), NoMemory>
+        requires { IsTrue (is_free self.old name.now) }
+        ensures ok { OnOk result (self.new ≡ with_view self.old name.now entry) }
+        ensures err { OnErr result (self.new ≡ self.old) }
+    {
+        let key = room_for(alloc, &mut self.views, name)?;
+        add_last(&mut self.views, key, entry);
+        Ok(())
+    }
+
+    /// Takes a table that no view names out, with its rows. It takes no memory.
+    pub fn drop_table(&mut self, name: &Chars)
+        requires held { IsSome (table_named self.old name.now) }
+        requires unused { first_user self.old name.now ≡ None }
+        ensures dropped { IfSome (table_named self.old name.now) (λ entry. self.new ≡ without_table self.old name.now entry.id) }
+        ensures gone { table_named self.new name.now ≡ None }
+    {
+        if let Some(entry) = self.tables.shift_remove(name) {
+            let _rows = self.rows.remove(entry.id);
+        }
+    }
+
+    /// Takes a view that no view names out. It takes no memory.
+    pub fn drop_view(&mut self, name: &Chars)
+        requires held { IsSome (view_named self.old name.now) }
+        requires unused { first_user self.old name.now ≡ None }
+        ensures dropped { self.new ≡ without_view self.old name.now }
+        ensures gone { view_named self.new name.now ≡ None }
+    {
+        let _entry = self.views.shift_remove(name);
     }
 }

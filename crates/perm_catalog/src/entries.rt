@@ -36,3 +36,15 @@ pub struct ViewEntry {
     pub places: Option<List<usize>>,
     pub names_used: List<Chars>,
 }
+
+impl ViewEntry {
+    ghost use Rattle.std.specs.Prelude.{◌≡◌};
+    ghost use Rattle.perm_catalog.specs.Lookups.{uses_name};
+
+    /// Whether the view names this table or view, directly or through other views.
+    pub(crate) fn uses(&self, name: &Chars) -> bool
+        ensures { result ≡ uses_name self.now name.now }
+    {
+        self.names_used.as_slice().iter().any(|used| used == name)
+    }
+}

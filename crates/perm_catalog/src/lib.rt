@@ -3,10 +3,15 @@
 
 mod catalog;
 mod column;
+mod drop_held;
 mod entries;
 mod last;
+mod laws;
 mod renew;
+#[cfg(test)]
+mod tests;
 
 pub use catalog::{Catalog, CatalogRefusal};
 pub use column::Column;
 pub use entries::{Kept, Mark, TableEntry, ViewEntry};
+pub use laws::catalogs_stay_sound;

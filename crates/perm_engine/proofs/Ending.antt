@@ -1,5 +1,5 @@
 -- How the end of what is left of a run is the end of the whole run.
-use Rattle.std.proofs.Common.{◌≡◌, ◌∙◌, ℕ, ◌+◌, ◌≤◌, Bool, List, [], ◌∷◌, ◌++◌, length, take, Option, refl, sym, ap, append_assoc, arith, length-append, append-nil, zero-add, suc, drop, slice_get, ◌<◌, Some, None, subst, get_or}
+use Rattle.std.proofs.Common.{◌≡◌, ◌∙◌, ℕ, ◌+◌, ◌≤◌, Bool, List, [], ◌∷◌, ◌++◌, length, take, Option, refl, sym, ap, append_assoc, arith, length-append, append-nil, zero-add, suc, drop, slice_get, ◌<◌, Some, None, Err, subst, get_or}
 use Rattle.std.proofs.Math.Seq.{drop-cons}
 use Rattle.std.proofs.lemmas.List.{take-append-le, drop_all}
 use Rattle.std.proofs.lemmas.Option.{get_or_from_slice_get, slice_get_within}
@@ -8,10 +8,15 @@ use Rattle.std.specs.List.{flat_map}
 use Rattle.perm_io.proofs.Known.{append_known-append_known, append_known-nil}
 use Rattle.perm_io.specs.Counts.{HasRisen, CountsFault}
 use Rattle.perm_catalog.specs.Contents.{Contents}
-use Rattle.perm_engine.specs.Ends.{Written, IsSaid, IsCut, IsShort, Ends, joined}
-use Rattle.perm_engine.specs.Run.{Ran, text_of, line_alone, refused_line, go_on, run_from, after_text}
-use Rattle.perm_engine.specs.Step.{Stepped, step}
-use Rattle.perm_engine.specs.declared.command.Command.{Command}
+use Rattle.perm_engine.specs.Ends.{Written, IsSaid, IsCut, IsShort, Ends, EndsRefused, joined}
+use Rattle.perm_engine.specs.Run.{Ran, text_of, line_alone, go_on, run_from, after_text}
+use Rattle.sql_tree.specs.declared.statement.Statement.{Statement}
+use Rattle.perm_engine.specs.Lines.{error_line}
+use Rattle.perm_engine.specs.Step.{Turn, Stands, Refuses, turn}
+use Rattle.perm_engine.specs.Answers.{IsTurn}
+use Rattle.perm_engine.specs.declared.refusal.Break as broken
+use Rattle.perm_engine.specs.declared.refusal.StepRefusal.{StepRefusal}
+use Rattle.perm_engine.specs.declared.refusal.StepRefusal.TheVariants.{Break, NoMemory}
 use Rattle.perm_engine.specs.declared.status.Status.{Status}
 use Rattle.perm_engine.specs.declared.status.Status.TheVariants as status
 
@@ -70,29 +75,27 @@ Ends-behind texts ran w status.NoMemory h = record {
 -- ---- the loop over the statements
 
 -- the statements up to a place have run: their texts stand in the output, and the others are left
-pub record HasRun (commands : List Command) (start : Contents) (place : ℕ) (now : Contents) (before after : Option (List ℕ)) (faults_before faults_after : ℕ) : Type 0 where
+pub record HasRun (statements : List Statement) (start : Contents) (place : ℕ) (now : Contents) (before after : Option (List ℕ)) (faults_before faults_after : ℕ) : Type 0 where
   pub texts : List (List ℕ)
-  pub left : run_from start commands ≡ behind texts (run_from now (drop place commands))
+  pub left : run_from start statements ≡ behind texts (run_from now (drop place statements))
   pub text : after ≡ append_known before (joined texts)
   pub steady : faults_after ≡ faults_before
-  pub drawn : now.next ≤ place + 1
 
-pub HasRun-nothing : (commands : List Command) (start : Contents) (before : Option (List ℕ)) (faults : ℕ) → start.next ≤ 1 → HasRun commands start 0 start before before faults faults
-HasRun-nothing commands start before faults h = record {
+pub HasRun-nothing : (statements : List Statement) (start : Contents) (before : Option (List ℕ)) (faults : ℕ) → HasRun statements start 0 start before before faults faults
+HasRun-nothing statements start before faults = record {
   texts = [];
   left = refl;
   text = sym (append_known-nil before);
   steady = refl;
-  drawn = omega arith;
 }
 
 -- what ends the rest ends the whole
-pub HasRun-ends : (commands : List Command) (start : Contents) (place : ℕ) (now : Contents) (before after end : Option (List ℕ)) (faults_before faults_after faults_end : ℕ) (unflushed : Bool)
-    (h : HasRun commands start place now before after faults_before faults_after) (s : Status) →
-    Ends (run_from now (drop place commands)) (record { before = after; after = end; faults_before = faults_after; faults_after = faults_end; unflushed = unflushed }) s →
-    Ends (run_from start commands) (record { before = before; after = end; faults_before = faults_before; faults_after = faults_end; unflushed = unflushed }) s
-HasRun-ends commands start place now before after end faults_before faults_after faults_end unflushed h s e =
-    let rest = run_from now (drop place commands) in
+pub HasRun-ends : (statements : List Statement) (start : Contents) (place : ℕ) (now : Contents) (before after end : Option (List ℕ)) (faults_before faults_after faults_end : ℕ) (unflushed : Bool)
+    (h : HasRun statements start place now before after faults_before faults_after) (s : Status) →
+    Ends (run_from now (drop place statements)) (record { before = after; after = end; faults_before = faults_after; faults_after = faults_end; unflushed = unflushed }) s →
+    Ends (run_from start statements) (record { before = before; after = end; faults_before = faults_before; faults_after = faults_end; unflushed = unflushed }) s
+HasRun-ends statements start place now before after end faults_before faults_after faults_end unflushed h s e =
+    let rest = run_from now (drop place statements) in
     let w : Written = record { before = before; after = end; faults_before = faults_before; faults_after = faults_end; unflushed = unflushed } in
     let moved : Ends rest (since w h.texts) s = subst (λ (p : Option (List ℕ) × ℕ). Ends rest (record w { before = p.0; faults_before = p.1 }) s) (λ i. (h.text i, h.steady i)) e in
     subst (λ ran. Ends ran w s) (sym h.left) (Ends-behind h.texts rest w s moved)
@@ -103,10 +106,10 @@ next_left xs place x h =
     drop-cons xs place x (slice_get_within xs place x h) ∙ (λ i. get_or_from_slice_get xs place x x h i ∷ drop (e i) xs)
 
 -- what the next statement makes of the rest
-goes_on : (commands : List Command) (place : ℕ) (now : Contents) (command : Command) (o : Option Stepped) → slice_get commands place ≡ Some command → step now command ≡ o →
-    run_from now (drop place commands) ≡ go_on o (λ after. run_from after (drop (place + 1) commands))
-goes_on commands place now command o h e =
-    ap (run_from now) (next_left commands place command h) ∙ ap (λ p. go_on p (λ after. run_from after (drop (place + 1) commands))) e
+goes_on : (statements : List Statement) (place : ℕ) (now : Contents) (statement : Statement) (o : Turn) → slice_get statements place ≡ Some statement → turn now statement ≡ o →
+    run_from now (drop place statements) ≡ go_on o (λ after. run_from after (drop (place + 1) statements))
+goes_on statements place now statement o h e =
+    ap (run_from now) (next_left statements place statement h) ∙ ap (λ p. go_on p (λ after. run_from after (drop (place + 1) statements))) e
 
 behind-after : (texts : List (List ℕ)) (text : List ℕ) (ran : Ran) → behind texts (after_text text ran) ≡ behind (texts ++ text ∷ []) ran
 behind-after texts text ran = ap (λ l. record ran { texts = l }) (sym (append_assoc texts (text ∷ []) ran.texts))
@@ -114,27 +117,26 @@ behind-after texts text ran = ap (λ l. record ran { texts = l }) (sym (append_a
 joined-more : (texts : List (List ℕ)) (text : List ℕ) → joined (texts ++ text ∷ []) ≡ joined texts ++ text
 joined-more texts text = joined-append texts (text ∷ []) ∙ ap (λ l. joined texts ++ l) (append-nil text)
 
-module _ (commands : List Command) (start : Contents) (place : ℕ) (now : Contents) (before after : Option (List ℕ)) (faults_before faults_after : ℕ)
-    (h : HasRun commands start place now before after faults_before faults_after) where
+module _ (statements : List Statement) (start : Contents) (place : ℕ) (now : Contents) (before after : Option (List ℕ)) (faults_before faults_after : ℕ)
+    (h : HasRun statements start place now before after faults_before faults_after) where
   -- the next statement has run, and its text is written
-  pub HasRun-more : (command : Command) (text : List ℕ) (next : Contents) (more : Option (List ℕ)) (faults : ℕ) → slice_get commands place ≡ Some command →
-      step now command ≡ Some (record { text = text; contents = next }) → more ≡ append_known after text → faults ≡ faults_after → next.next ≤ now.next + 1 →
-      HasRun commands start (place + 1) next before more faults_before faults
-  HasRun-more command text next more faults found ran written still drawn = record {
+  pub HasRun-more : (statement : Statement) (text : List ℕ) (next : Contents) (more : Option (List ℕ)) (faults : ℕ) → slice_get statements place ≡ Some statement →
+      turn now statement ≡ Stands (record { text = text; contents = next }) → more ≡ append_known after text → faults ≡ faults_after →
+      HasRun statements start (place + 1) next before more faults_before faults
+  HasRun-more statement text next more faults found ran written still = record {
     texts = h.texts ++ text ∷ [];
-    left = h.left ∙ ap (behind h.texts) (goes_on commands place now command _ found ran) ∙ behind-after h.texts text (run_from next (drop (place + 1) commands));
+    left = h.left ∙ ap (behind h.texts) (goes_on statements place now statement _ found ran) ∙ behind-after h.texts text (run_from next (drop (place + 1) statements));
     text = written ∙ ap (λ k. append_known k text) h.text ∙ append_known-append_known before (joined h.texts) text ∙ ap (append_known before) (sym (joined-more h.texts text));
     steady = still ∙ h.steady;
-    drawn = omega (arith, h.drawn, drawn);
   }
 
   -- the next statement can't stand, and its line ends the run
-  pub HasRun-refused : (command : Command) (end : Option (List ℕ)) (faults : ℕ) (unflushed : Bool) (s : Status) → slice_get commands place ≡ Some command → step now command ≡ None →
-      Ends (line_alone refused_line status.Refused) (record { before = after; after = end; faults_before = faults_after; faults_after = faults; unflushed = unflushed }) s →
-      Ends (run_from start commands) (record { before = before; after = end; faults_before = faults_before; faults_after = faults; unflushed = unflushed }) s
-  HasRun-refused command end faults unflushed s found refused e =
-      HasRun-ends commands start place now before after end faults_before faults_after faults unflushed h s
-      (subst (λ ran. Ends ran (record { before = after; after = end; faults_before = faults_after; faults_after = faults; unflushed = unflushed }) s) (sym (goes_on commands place now command None found refused)) e)
+  pub HasRun-refused : (statement : Statement) (b : broken.Break) (end : Option (List ℕ)) (faults : ℕ) (unflushed : Bool) (s : Status) → slice_get statements place ≡ Some statement → turn now statement ≡ Refuses b →
+      Ends (line_alone (error_line b) status.Refused) (record { before = after; after = end; faults_before = faults_after; faults_after = faults; unflushed = unflushed }) s →
+      Ends (run_from start statements) (record { before = before; after = end; faults_before = faults_before; faults_after = faults; unflushed = unflushed }) s
+  HasRun-refused statement b end faults unflushed s found refused e =
+      HasRun-ends statements start place now before after end faults_before faults_after faults unflushed h s
+      (subst (λ ran. Ends ran (record { before = after; after = end; faults_before = faults_after; faults_after = faults; unflushed = unflushed }) s) (sym (goes_on statements place now statement (Refuses b) found refused)) e)
 
   cut : (text : List ℕ) (ran : Ran) (count : ℕ) → count ≤ length text → take count (text_of (after_text text ran)) ≡ take count text
   cut text ran count within =
@@ -142,15 +144,15 @@ module _ (commands : List Command) (start : Contents) (place : ℕ) (now : Conte
       take-append-le count (text ++ joined ran.texts) ran.line more ∙ take-append-le count text (joined ran.texts) within
 
   -- the next statement's text is cut short
-  pub HasRun-cut : (command : Command) (text : List ℕ) (next : Contents) (end : Option (List ℕ)) (faults count : ℕ) (unflushed : Bool) → slice_get commands place ≡ Some command →
-      step now command ≡ Some (record { text = text; contents = next }) → count < length text → end ≡ append_known after (take count text) → HasRisen faults_after faults →
-      Ends (run_from start commands) (record { before = before; after = end; faults_before = faults_before; faults_after = faults; unflushed = unflushed }) status.WriteFault
-  HasRun-cut command text next end faults count unflushed found ran within written risen =
-      let rest = run_from next (drop (place + 1) commands) in
+  pub HasRun-cut : (statement : Statement) (text : List ℕ) (next : Contents) (end : Option (List ℕ)) (faults count : ℕ) (unflushed : Bool) → slice_get statements place ≡ Some statement →
+      turn now statement ≡ Stands (record { text = text; contents = next }) → count < length text → end ≡ append_known after (take count text) → HasRisen faults_after faults →
+      Ends (run_from start statements) (record { before = before; after = end; faults_before = faults_before; faults_after = faults; unflushed = unflushed }) status.WriteFault
+  HasRun-cut statement text next end faults count unflushed found ran within written risen =
+      let rest = run_from next (drop (place + 1) statements) in
       let short : count ≤ length text = omega (arith, within) in
-      HasRun-ends commands start place now before after end faults_before faults_after faults unflushed h status.WriteFault
+      HasRun-ends statements start place now before after end faults_before faults_after faults unflushed h status.WriteFault
       (subst (λ r. Ends r (record { before = after; after = end; faults_before = faults_after; faults_after = faults; unflushed = unflushed }) status.WriteFault)
-      (sym (goes_on commands place now command _ found ran))
+      (sym (goes_on statements place now statement _ found ran))
       (record {
         count = count;
         within = rw (length-append, length-append) (omega (arith, within));
@@ -159,16 +161,26 @@ module _ (commands : List Command) (start : Contents) (place : ℕ) (now : Conte
       }))
 
   -- memory is wanting for the next statement
-  pub HasRun-short : (unflushed : Bool) → Ends (run_from start commands) (record { before = before; after = after; faults_before = faults_before; faults_after = faults_after; unflushed = unflushed }) status.NoMemory
+  pub HasRun-short : (unflushed : Bool) → Ends (run_from start statements) (record { before = before; after = after; faults_before = faults_before; faults_after = faults_after; unflushed = unflushed }) status.NoMemory
   HasRun-short unflushed =
-      HasRun-ends commands start place now before after after faults_before faults_after faults_after unflushed h status.NoMemory
+      HasRun-ends statements start place now before after after faults_before faults_after faults_after unflushed h status.NoMemory
       (record { count = 0; text = sym (append_known-nil after); steady = refl })
 
+  -- the next statement is refused, or memory is wanting for it or for its line
+  pub HasRun-stopped : (statement : Statement) (refusal : StepRefusal) (next : Contents) (end : Option (List ℕ)) (faults : ℕ) (unflushed : Bool) (s : Status) →
+      slice_get statements place ≡ Some statement → IsTurn (turn now statement) now next (Err refusal) →
+      EndsRefused refusal status.Refused (record { before = after; after = end; faults_before = faults_after; faults_after = faults; unflushed = unflushed }) s →
+      Ends (run_from start statements) (record { before = before; after = end; faults_before = faults_before; faults_after = faults; unflushed = unflushed }) s
+  HasRun-stopped statement (Break b) next end faults unflushed s found refused e = HasRun-refused statement b end faults unflushed s found refused.0 e
+  HasRun-stopped statement NoMemory next end faults unflushed s found refused e =
+      subst (λ (p : Option (List ℕ) × ℕ × Status). Ends (run_from start statements) (record { before = before; after = p.0; faults_before = faults_before; faults_after = p.1; unflushed = unflushed }) p.2)
+      (λ i. (sym e.text i, sym e.steady i, sym e.said i)) (HasRun-short unflushed)
+
   -- no statement is left
-  pub HasRun-done : (end : Option (List ℕ)) (faults : ℕ) (unflushed : Bool) (s : Status) → length commands ≤ place →
+  pub HasRun-done : (end : Option (List ℕ)) (faults : ℕ) (unflushed : Bool) (s : Status) → length statements ≤ place →
       Ends (line_alone [] status.Done) (record { before = after; after = end; faults_before = faults_after; faults_after = faults; unflushed = unflushed }) s →
-      Ends (run_from start commands) (record { before = before; after = end; faults_before = faults_before; faults_after = faults; unflushed = unflushed }) s
+      Ends (run_from start statements) (record { before = before; after = end; faults_before = faults_before; faults_after = faults; unflushed = unflushed }) s
   HasRun-done end faults unflushed s all e =
-      HasRun-ends commands start place now before after end faults_before faults_after faults unflushed h s
+      HasRun-ends statements start place now before after end faults_before faults_after faults unflushed h s
       (subst (λ ran. Ends ran (record { before = after; after = end; faults_before = faults_after; faults_after = faults; unflushed = unflushed }) s)
-      (sym (ap (run_from now) (drop_all place commands all))) e)
+      (sym (ap (run_from now) (drop_all place statements all))) e)

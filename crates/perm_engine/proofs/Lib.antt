@@ -3,11 +3,7 @@ pub mod CopiedInto
 mod CopySamples
 pub mod Ending
 pub mod Fitting
-pub mod Places
+pub mod Listing
+pub mod Misspelling
 pub mod Queries
-pub mod ReadingLaws
-pub mod ReadingLoops
-pub mod ReadingNames
-pub mod ReadingScripts
-pub mod ReadingStatements
 pub mod Running

@@ -1,8 +1,12 @@
 -- Which run a command line and its script's file stand for.
-use Rattle.std.proofs.Common.{◌≡◌, ◌⊎◌, ℕ, ◌≤◌, ◌<◌, Bool, false, List, [], ◌∷◌, length, Option, Some, get_or, refl, sym, ap, inl, inr, subst, arith, IsSome}
+use Rattle.std.proofs.Common.{◌≡◌, ◌⊎◌, ℕ, ◌≤◌, ◌<◌, Bool, false, List, [], ◌∷◌, length, Option, Some, Err, get_or, refl, sym, ap, inl, inr, subst, arith, IsSome}
 use Rattle.perm_io.specs.declared.named_file.NamedFile.{NamedFile}
-use Rattle.perm_engine.specs.Ends.{Written, Ends, EndsOne}
-use Rattle.perm_engine.specs.Run.{Ran, Found, Runs, RunsScript, RunsFile, CanBe, Read, is_one, usage, IsOfScript}
+use Rattle.perm_engine.specs.Ends.{Written, Ends, EndsOne, EndsRefused}
+use Rattle.perm_engine.specs.Run.{Ran, Found, Runs, RunsScript, RunsFile, CanBe, Read, is_one, usage, IsOfScript, line_alone}
+use Rattle.perm_engine.specs.Lines.{error_line}
+use Rattle.perm_engine.specs.Scripts.{IsReading}
+use Rattle.perm_engine.specs.declared.refusal.StepRefusal.{StepRefusal}
+use Rattle.perm_engine.specs.declared.refusal.StepRefusal.TheVariants.{Break, NoMemory}
 use Rattle.perm_engine.specs.declared.status.Status.{Status}
 use Rattle.perm_engine.specs.declared.status.Status.TheVariants as status
 
@@ -35,3 +39,8 @@ pub Runs-found : (words : List (List ℕ)) (name : List ℕ) (held : Option (Lis
 Runs-found words name held fault found w s one can (inl (ran, runs, ends)) =
     inl (ran, subst (λ ws. Runs ws held fault ran) (sym one) (found, can, runs), ends)
 Runs-found words name held fault found w s one can (inr silent) = inr silent
+
+-- bytes that are no script, and the line that says so
+pub EndsOne-refused : (bytes : List ℕ) (refusal : StepRefusal) (w : Written) (s : Status) → IsReading bytes (Err refusal) → EndsRefused refusal status.Syntax w s → EndsOne (RunsScript bytes) w s
+EndsOne-refused bytes (Break b) w s misspelled e = inl (line_alone (error_line b) status.Syntax, inr (b, misspelled, refl), e)
+EndsOne-refused bytes NoMemory w s misspelled e = inr e

@@ -4,7 +4,10 @@ use Rattle.std.specs.Io.KnownBytes.{append_known}
 use Rattle.std.specs.List.{flat_map}
 use Rattle.perm_io.specs.Counts.{HasRisen}
 use Rattle.perm_io.specs.declared.named_file.NamedFile.{NamedFile}
-use Rattle.perm_engine.specs.Run.{Ran, Runs, text_of}
+use Rattle.perm_engine.specs.Run.{Ran, Runs, text_of, line_alone}
+use Rattle.perm_engine.specs.Lines.{error_line}
+use Rattle.perm_engine.specs.declared.refusal.StepRefusal.{StepRefusal}
+use Rattle.perm_engine.specs.declared.refusal.StepRefusal.TheVariants.{Break, NoMemory}
 use Rattle.perm_engine.specs.declared.status.Status.{Status}
 use Rattle.perm_engine.specs.declared.status.Status.TheVariants as status
 
@@ -57,6 +60,11 @@ pub record IsSilent (w : Written) (s : Status) : Type 0 where
   pub said : s ≡ status.NoMemory
   pub text : w.after ≡ w.before
   pub steady : w.faults_after ≡ w.faults_before
+
+-- a refusal's line ends a run, where memory suffices
+abbrev pub EndsRefused : StepRefusal → Status → Written → Status → Type 0
+EndsRefused (Break b) given w s = Ends (line_alone (error_line b) given) w s
+EndsRefused NoMemory given w s = IsSilent w s
 
 -- one of the runs ends with this status, or memory was wanting before anything was written
 abbrev pub EndsOne : (Ran → Type 0) → Written → Status → Type 0

@@ -1,10 +1,12 @@
 pub mod Answers
+pub mod Commands
 pub mod Copying
 pub mod DataLines
 pub mod Ends
 pub mod Found
-pub mod Reading
+pub mod Lines
+pub mod Lists
 pub mod Run
-pub mod Spelling
+pub mod Scripts
 pub mod Statuses
 pub mod Step

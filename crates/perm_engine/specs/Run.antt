@@ -5,11 +5,12 @@ use Rattle.perm_io.specs.Named.{file_named}
 use Rattle.perm_io.specs.declared.named_file.NamedFile.{NamedFile}
 use Rattle.perm_catalog.specs.Changes.{nothing_held}
 use Rattle.perm_catalog.specs.Contents.{Contents}
-use Rattle.sql_lexer.specs.Lexes.{Lexes}
-use Rattle.sql_lexer.specs.declared.token.Token.{Token}
-use Rattle.perm_engine.specs.Spelling.{SpellsScript}
-use Rattle.perm_engine.specs.Step.{Stepped, step}
-use Rattle.perm_engine.specs.declared.command.Command.{Command}
+use Rattle.sql_tree.specs.declared.statement.Script.{Script}
+use Rattle.sql_tree.specs.declared.statement.Statement.{Statement}
+use Rattle.perm_engine.specs.Lines.{error_line}
+use Rattle.perm_engine.specs.Scripts.{IsScriptOf, IsMisspelled}
+use Rattle.perm_engine.specs.Step.{Turn, Stands, Refuses, turn}
+use Rattle.perm_engine.specs.declared.refusal.Break.{Break}
 use Rattle.perm_engine.specs.declared.status.Status.{Status}
 use Rattle.perm_engine.specs.declared.status.Status.TheVariants as status
 
@@ -34,27 +35,20 @@ line_alone line s = record { texts = []; line = line; status = s }
 abbrev pub after_text : List ℕ → Ran → Ran
 after_text text ran = record ran { texts = text ∷ ran.texts }
 
-abbrev pub refused_line : List ℕ
-refused_line = codes "error E10 at 0\n"
-
 -- the statements in order, up to the first that can't stand
-abbrev pub go_on : Option Stepped → (Contents → Ran) → Ran
-go_on None next = line_alone refused_line status.Refused
-go_on (Some stepped) next = after_text stepped.text (next stepped.contents)
+abbrev pub go_on : Turn → (Contents → Ran) → Ran
+go_on (Refuses b) next = line_alone (error_line b) status.Refused
+go_on (Stands stepped) next = after_text stepped.text (next stepped.contents)
 
-abbrev pub run_from : Contents → List Command → Ran
+abbrev pub run_from : Contents → List Statement → Ran
 run_from c [] = line_alone [] status.Done
-run_from c (command ∷ commands) = go_on (step c command) (λ after. run_from after commands)
-
--- the bytes spell these statements
-abbrev pub IsScriptOf : List ℕ → List Command → Type 0
-IsScriptOf bytes commands = (tokens : List Token) × Lexes bytes tokens × SpellsScript tokens commands
+run_from c (statement ∷ statements) = go_on (turn c statement) (λ after. run_from after statements)
 
 -- a script that is spelled runs from nothing; another one is refused as a whole
 abbrev pub RunsScript : List ℕ → Ran → Type 0
 RunsScript bytes ran =
-    ((commands : List Command) × IsScriptOf bytes commands × (ran ≡ run_from (nothing_held 1) commands))
-    ⊎ (((commands : List Command) → IsScriptOf bytes commands → ⊥) × (ran ≡ line_alone (codes "error E05 at 0\n") status.Syntax))
+    ((script : Script) × IsScriptOf bytes script × (ran ≡ run_from (nothing_held 1) script.statements))
+    ⊎ ((b : Break) × IsMisspelled bytes b × (ran ≡ line_alone (error_line b) status.Syntax))
 
 -- what became of the script's file
 pub data Found : Type 0 where

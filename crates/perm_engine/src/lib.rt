@@ -6,12 +6,15 @@ mod copy;
 mod copying;
 mod create;
 mod data_line;
+mod form;
 mod insert;
+mod line;
 mod query;
-mod reader;
 mod refusal;
 mod run;
+mod script;
 mod select;
+mod session;
 mod status;
 mod step;
 #[cfg(test)]
@@ -19,6 +22,7 @@ mod tests;
 mod text;
 
 pub use command::Command;
-pub use reader::{ReadRefusal, read_script, script_has_one_reading};
+pub use refusal::{Break, StepRefusal};
 pub use run::perm;
+pub use session::Session;
 pub use status::Status;

@@ -1,19 +1,18 @@
-ghost use Rattle.std.specs.Prelude.{◌≡◌, ◌<◌, ◌⊎◌, IsTrue, IfOk, IsErrOf, false, if◌then◌else◌, List as ItemsOf};
+ghost use Rattle.std.specs.Prelude.{◌≡◌, ◌<◌, ◌⊎◌, IsTrue, false, if◌then◌else◌};
 ghost use Rattle.perm_io.specs.Counts.{next_count, HasRisen};
 ghost use Rattle.perm_catalog.specs.Changes.{nothing_held};
-ghost use Rattle.perm_engine.specs.Ends.{Ends, EndsOne};
-ghost use Rattle.perm_engine.specs.Run.{Runs, RunsScript, IsScriptOf, run_from, line_alone, is_one, IsWhole, IsSteady, IsOfScript, script_limit};
-ghost use Rattle.perm_engine.specs.declared.command.Command.{Command};
+ghost use Rattle.perm_engine.specs.Ends.{Ends, EndsOne, EndsRefused};
+ghost use Rattle.perm_engine.specs.Lines.{error_line};
+ghost use Rattle.perm_engine.specs.Run.{Runs, RunsScript, run_from, line_alone, is_one, IsWhole, IsSteady, IsOfScript, script_limit};
 
-use crate::command::Command;
-use crate::reader::{ReadRefusal, read_script};
-use crate::refusal::StepRefusal;
+use crate::line::error_line;
+use crate::refusal::{Break, StepRefusal};
+use crate::script::script_of;
+use crate::session::Session;
 use crate::status::Status;
-use crate::step::step;
-use perm_catalog::Catalog;
 use perm_io::{Files, ReadError, Sink, read_all, write_all};
 use perm_values::{Chars, List};
-use sql_lexer::{LexError, tokens};
+use sql_tree::Statement;
 use std::alloc::Global;
 
 /// The greatest length of a script, in bytes.
@@ -40,9 +39,12 @@ fn finish<K: Sink>(out: &mut K, line: &[u8], status: Status) -> Status
     }
 }
 
-/// Runs the statements in order from an empty catalog, and writes their texts; the first that can't stand ends the run.
-fn run_commands<K: Sink>(alloc: Global, commands: &List<Command>, out: &mut K) -> Status
-    ensures ends { Ends (run_from (nothing_held 1) commands.now) (record {
+/// Writes the line of a break and flushes the output; the status is the one given, unless the output fails or memory is
+/// wanting for the line.
+fn end_broken<K: Sink>(alloc: Global, found: Break, status: Status, out: &mut K) -> Status
+    requires whole { IsWhole status }
+    requires script { IsOfScript status }
+    ensures ends { Ends (line_alone (error_line found) status) (record {
       before = K.written out.old;
       after = K.written out.new;
       faults_before = K.faults out.old;
@@ -51,15 +53,50 @@ fn run_commands<K: Sink>(alloc: Global, commands: &List<Command>, out: &mut K) -
     }) result }
     ensures status { IsOfScript result }
 {
-    let mut catalog = Catalog::new(alloc, 1);
-    for i in 0..commands.len() {
-        match step(alloc, &mut catalog, commands.get(i)) {
+    match error_line(alloc, found) {
+        Ok(line) => finish(out, line.as_slice(), status),
+        Err(_) => Status::NoMemory,
+    }
+}
+
+/// Ends the output with what a refusal says.
+fn refuse<K: Sink>(alloc: Global, refusal: StepRefusal, status: Status, out: &mut K) -> Status
+    requires whole { IsWhole status }
+    requires script { IsOfScript status }
+    ensures ends { EndsRefused refusal status (record {
+      before = K.written out.old;
+      after = K.written out.new;
+      faults_before = K.faults out.old;
+      faults_after = K.faults out.new;
+      unflushed = K.unflushed out.new;
+    }) result }
+    ensures status { IsOfScript result }
+{
+    match refusal {
+        StepRefusal::Break(found) => end_broken(alloc, found, status, out),
+        StepRefusal::NoMemory => Status::NoMemory,
+    }
+}
+
+/// Runs the statements in order from an empty catalog, and writes their texts; the first that can't stand ends the run.
+fn run_statements<K: Sink>(alloc: Global, statements: &List<Statement>, out: &mut K) -> Status
+    ensures ends { Ends (run_from (nothing_held 1) statements.now) (record {
+      before = K.written out.old;
+      after = K.written out.new;
+      faults_before = K.faults out.old;
+      faults_after = K.faults out.new;
+      unflushed = K.unflushed out.new;
+    }) result }
+    ensures status { IsOfScript result }
+{
+    let mut session = Session::new(alloc);
+    for i in 0..statements.len() {
+        match session.answer(statements.get(i)) {
             Ok(text) => match write_all(out, text.as_slice()) {
                 Ok(()) => {}
                 Err(_) => return Status::WriteFault,
             },
-            Err(StepRefusal::Refused) => return finish(out, b"error E10 at 0\n", Status::Refused),
-            Err(StepRefusal::NoMemory) => return Status::NoMemory,
+            Err(refusal) => return refuse(alloc, refusal, Status::Refused, out),
         }
     }
     finish(out, b"", Status::Done)
@@ -76,22 +113,9 @@ fn run_script<K: Sink>(alloc: Global, bytes: &[u8], out: &mut K) -> Status
     }) result }
     ensures status { IsOfScript result }
 {
-    match commands_of(alloc, bytes) {
-        Ok(commands) => run_commands(alloc, &commands, out),
-        Err(ReadRefusal::Unspelled) => finish(out, b"error E05 at 0\n", Status::Syntax),
-        Err(ReadRefusal::NoMemory) => Status::NoMemory,
-    }
-}
-
-/// The statements that the bytes spell.
-fn commands_of(alloc: Global, bytes: &[u8]) -> Result<List<Command>, ReadRefusal>
-    ensures ok { IfOk result (IsScriptOf bytes.now) }
-    ensures unspelled { IsErrOf result ReadRefusal.Unspelled → (commands : ItemsOf Command) → IsScriptOf bytes.now commands → ⊥ }
-{
-    match tokens(alloc, bytes) {
-        Ok(found) => read_script(alloc, found.as_slice()),
-        Err(LexError::NoMemory) => Err(ReadRefusal::NoMemory),
-        Err(_) => Err(ReadRefusal::Unspelled),
+    match script_of(alloc, bytes) {
+        Ok(script) => run_statements(alloc, &script.statements, out),
+        Err(refusal) => refuse(alloc, refusal, Status::Syntax, out),
     }
 }
 

@@ -1,5 +1,5 @@
-ghost use Rattle.std.specs.Prelude.{◌≡◌, ◌<◌, ◌≤◌, ◌+◌, ◌-◌, ◌^◌};
-ghost use Rattle.perm_engine.specs.Answers.{IsStep};
+ghost use Rattle.std.specs.Prelude.{◌≡◌};
+ghost use Rattle.perm_engine.specs.Answers.{IsTurn};
 ghost use Rattle.perm_engine.specs.Step.{step};
 
 use crate::command::Command;
@@ -11,19 +11,19 @@ use perm_catalog::Catalog;
 use perm_values::Bytes;
 use std::alloc::Global;
 
-/// Runs a statement: its text is made before the catalog is changed, so that a refused one leaves it as it was.
+/// Runs the command that stands at an offset: its text is made before the catalog is changed, so that a refused one
+/// leaves it as it was.
 pub(crate) fn step(
     alloc: Global,
     catalog: &mut Catalog,
     command: &Command,
+    at: usize,
 ) -> Result<Bytes, StepRefusal>
-    requires { catalog.old.next < 2 ^ 64 - 1 }
-    ensures step { IsStep (step catalog.old command.now) catalog.old catalog.new result }
-    ensures next { catalog.new.next ≤ catalog.old.next + 1 }
+    ensures { IsTurn (step catalog.old command.now at) catalog.old catalog.new result }
 {
     match command {
-        Command::CreateTable { table, columns } => create_table(alloc, catalog, table, columns),
-        Command::Insert { table, rows } => insert(alloc, catalog, table, rows),
+        Command::CreateTable { table, columns } => create_table(alloc, catalog, table, columns, at),
+        Command::Insert { table, rows } => insert(alloc, catalog, table, rows, at),
         Command::Select {
             provenance,
             columns,

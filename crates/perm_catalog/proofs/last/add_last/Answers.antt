@@ -1,5 +1,5 @@
 use mathlib.Core.Bool.{true≢false}
-use Rattle.std.proofs.Common.{◌≡◌, ◌∙◌, sym, OnOk, IsOk, Result, Ok, Err}
+use Rattle.std.proofs.Common.{◌∙◌, sym, OnOk, IsOk, Result, Ok, Err}
 use Rattle.indexmap.proofs.CallerLemmas.{insert_entry-new}
 use Rattle.perm_catalog.proofs.last.add_last.Goals as goal
 

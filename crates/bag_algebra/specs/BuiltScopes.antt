@@ -1,0 +1,231 @@
+-- Whether a query is plain and scoped, on what the constructors of code make, in words on plain lists of children.
+use Rattle.std.specs.Prelude.{◌≡◌, ℕ, Bool, true, false, ◌&&◌, List, [], ◌∷◌}
+use Rattle.std.proofs.Common.{refl, ap, ◌∙◌}
+use Rattle.perm_values.specs.declared.key.Key.{Key}
+use Rattle.bag_algebra.specs.Built.{row_of_subs, Base-is, Filter-is, Project_with-is, Join-is, Union-is, Intersect-is, Except-is, Distinct-is, Aggregate-is, Limit-is, Prov-is}
+use Rattle.bag_algebra.specs.Rewriting.{is_plain, subs_plain}
+use Rattle.bag_algebra.specs.Scoped.{is_table, over_tables, subs_over_tables, traceable, subs_traceable, is_scoped, subs_scoped}
+use Rattle.bag_algebra.specs.declared.expr.Expr.{Expr}
+use Rattle.bag_algebra.specs.declared.expr.Item.{Item}
+use Rattle.bag_algebra.specs.declared.query.Aggr.{Aggr}
+use Rattle.bag_algebra.specs.declared.query.JoinKind.{JoinKind}
+use Rattle.bag_algebra.specs.declared.query.Label.{Label}
+use Rattle.bag_algebra.specs.declared.query.Query.{Query}
+use Rattle.bag_algebra.specs.declared.query.Query.TheBlock.{shape-the_row-Sublink-1, hidden-the_row-Sublink-1}
+use Rattle.bag_algebra.specs.declared.query.Query.TheVariants.{Base, Filter, Project, Join, Union, Intersect, Except, Distinct, Aggregate, Limit, Prov}
+use Rattle.bag_algebra.specs.declared.query.Sublink.{Sublink}
+
+-- the queries of all sublinks are plain
+abbrev pub all_plain : List Sublink → Bool
+all_plain [] = true
+all_plain (sub ∷ subs) = is_plain sub.query && all_plain subs
+
+pub subs_plain-row_of_subs : (subs : List Sublink) → subs_plain (row_of_subs subs) ≡ all_plain subs
+unfolding shape-the_row-Sublink-1 hidden-the_row-Sublink-1 package.denote.Hole.Carrier.hidden
+subs_plain-row_of_subs [] = refl
+subs_plain-row_of_subs (sub ∷ subs) = ap (λ b. is_plain sub.query && b) (subs_plain-row_of_subs subs)
+
+-- those of all sublinks have sources over tables alone
+abbrev pub all_over_tables : List Sublink → Bool
+all_over_tables [] = true
+all_over_tables (sub ∷ subs) = over_tables sub.query && all_over_tables subs
+
+pub subs_over_tables-row_of_subs : (subs : List Sublink) → subs_over_tables (row_of_subs subs) ≡ all_over_tables subs
+unfolding shape-the_row-Sublink-1 hidden-the_row-Sublink-1 package.denote.Hole.Carrier.hidden
+subs_over_tables-row_of_subs [] = refl
+subs_over_tables-row_of_subs (sub ∷ subs) = ap (λ b. over_tables sub.query && b) (subs_over_tables-row_of_subs subs)
+
+-- and so have the sublinks that are reached in them
+abbrev pub all_traceable : List Sublink → Bool
+all_traceable [] = true
+all_traceable (sub ∷ subs) = (over_tables sub.query && traceable sub.query) && all_traceable subs
+
+pub subs_traceable-row_of_subs : (subs : List Sublink) → subs_traceable (row_of_subs subs) ≡ all_traceable subs
+unfolding shape-the_row-Sublink-1 hidden-the_row-Sublink-1 package.denote.Hole.Carrier.hidden
+subs_traceable-row_of_subs [] = refl
+subs_traceable-row_of_subs (sub ∷ subs) = ap (λ b. (over_tables sub.query && traceable sub.query) && b) (subs_traceable-row_of_subs subs)
+
+-- the queries of all sublinks are scoped
+abbrev pub all_scoped : List Sublink → Bool
+all_scoped [] = true
+all_scoped (sub ∷ subs) = is_scoped sub.query && all_scoped subs
+
+pub subs_scoped-row_of_subs : (subs : List Sublink) → subs_scoped (row_of_subs subs) ≡ all_scoped subs
+unfolding shape-the_row-Sublink-1 hidden-the_row-Sublink-1 package.denote.Hole.Carrier.hidden
+subs_scoped-row_of_subs [] = refl
+subs_scoped-row_of_subs (sub ∷ subs) = ap (λ b. is_scoped sub.query && b) (subs_scoped-row_of_subs subs)
+
+-- ---- plain queries
+
+pub is_plain-Base : (input : Query) (places : List ℕ) (label : Label) → is_plain (Base input places label) ≡ is_plain input
+is_plain-Base input places label = ap is_plain (Base-is input places label)
+
+pub is_plain-Filter : (input : Query) (condition : Expr) (subs : List Sublink) → is_plain (Filter input condition subs) ≡ (is_plain input && all_plain subs)
+is_plain-Filter input condition subs = ap is_plain (Filter-is input condition subs) ∙ ap (λ b. is_plain input && b) (subs_plain-row_of_subs subs)
+
+pub is_plain-Project : (input : Query) (items : List Item) (subs : List Sublink) → is_plain (Project input items subs) ≡ (is_plain input && all_plain subs)
+is_plain-Project input items subs = ap is_plain (Project_with-is input items subs) ∙ ap (λ b. is_plain input && b) (subs_plain-row_of_subs subs)
+
+pub is_plain-Join : (kind : JoinKind) (left right : Query) (condition : Expr) (subs : List Sublink) → is_plain (Join kind left right condition subs) ≡ (is_plain left && is_plain right && all_plain subs)
+is_plain-Join kind left right condition subs = ap is_plain (Join-is kind left right condition subs) ∙ ap (λ b. is_plain left && is_plain right && b) (subs_plain-row_of_subs subs)
+
+pub is_plain-Union : (all : Bool) (left right : Query) → is_plain (Union all left right) ≡ (is_plain left && is_plain right)
+is_plain-Union all left right = ap is_plain (Union-is all left right)
+
+pub is_plain-Intersect : (all : Bool) (left right : Query) → is_plain (Intersect all left right) ≡ (is_plain left && is_plain right)
+is_plain-Intersect all left right = ap is_plain (Intersect-is all left right)
+
+pub is_plain-Except : (all : Bool) (left right : Query) → is_plain (Except all left right) ≡ (is_plain left && is_plain right)
+is_plain-Except all left right = ap is_plain (Except-is all left right)
+
+pub is_plain-Distinct : (input : Query) → is_plain (Distinct input) ≡ is_plain input
+is_plain-Distinct input = ap is_plain (Distinct-is input)
+
+pub is_plain-Aggregate : (input : Query) (groups : List ℕ) (aggregates : List Aggr) → is_plain (Aggregate input groups aggregates) ≡ is_plain input
+is_plain-Aggregate input groups aggregates = ap is_plain (Aggregate-is input groups aggregates)
+
+pub is_plain-Limit : (input : Query) (keys : List Key) (count : ℕ) → is_plain (Limit input keys count) ≡ is_plain input
+is_plain-Limit input keys count = ap is_plain (Limit-is input keys count)
+
+pub is_plain-Prov : (input : Query) → is_plain (Prov input) ≡ false
+is_plain-Prov input = ap is_plain (Prov-is input)
+
+-- ---- sources over tables
+
+pub over_tables-Base : (input : Query) (places : List ℕ) (label : Label) → over_tables (Base input places label) ≡ is_table input
+over_tables-Base input places label = ap over_tables (Base-is input places label)
+
+pub over_tables-Filter : (input : Query) (condition : Expr) (subs : List Sublink) → over_tables (Filter input condition subs) ≡ (over_tables input && all_over_tables subs)
+over_tables-Filter input condition subs = ap over_tables (Filter-is input condition subs) ∙ ap (λ b. over_tables input && b) (subs_over_tables-row_of_subs subs)
+
+pub over_tables-Project : (input : Query) (items : List Item) (subs : List Sublink) → over_tables (Project input items subs) ≡ (over_tables input && all_over_tables subs)
+over_tables-Project input items subs = ap over_tables (Project_with-is input items subs) ∙ ap (λ b. over_tables input && b) (subs_over_tables-row_of_subs subs)
+
+pub over_tables-Join : (kind : JoinKind) (left right : Query) (condition : Expr) (subs : List Sublink) → over_tables (Join kind left right condition subs) ≡ ((over_tables left && over_tables right) && all_over_tables subs)
+over_tables-Join kind left right condition subs = ap over_tables (Join-is kind left right condition subs) ∙ ap (λ b. (over_tables left && over_tables right) && b) (subs_over_tables-row_of_subs subs)
+
+pub over_tables-Union : (all : Bool) (left right : Query) → over_tables (Union all left right) ≡ (over_tables left && over_tables right)
+over_tables-Union all left right = ap over_tables (Union-is all left right)
+
+pub over_tables-Intersect : (all : Bool) (left right : Query) → over_tables (Intersect all left right) ≡ (over_tables left && over_tables right)
+over_tables-Intersect all left right = ap over_tables (Intersect-is all left right)
+
+pub over_tables-Except : (all : Bool) (left right : Query) → over_tables (Except all left right) ≡ (over_tables left && over_tables right)
+over_tables-Except all left right = ap over_tables (Except-is all left right)
+
+pub over_tables-Distinct : (input : Query) → over_tables (Distinct input) ≡ over_tables input
+over_tables-Distinct input = ap over_tables (Distinct-is input)
+
+pub over_tables-Aggregate : (input : Query) (groups : List ℕ) (aggregates : List Aggr) → over_tables (Aggregate input groups aggregates) ≡ over_tables input
+over_tables-Aggregate input groups aggregates = ap over_tables (Aggregate-is input groups aggregates)
+
+pub over_tables-Limit : (input : Query) (keys : List Key) (count : ℕ) → over_tables (Limit input keys count) ≡ over_tables input
+over_tables-Limit input keys count = ap over_tables (Limit-is input keys count)
+
+pub over_tables-Prov : (input : Query) → over_tables (Prov input) ≡ true
+over_tables-Prov input = ap over_tables (Prov-is input)
+
+-- ---- what is reached without passing a source
+
+pub traceable-Base : (input : Query) (places : List ℕ) (label : Label) → traceable (Base input places label) ≡ true
+traceable-Base input places label = ap traceable (Base-is input places label)
+
+pub traceable-Filter : (input : Query) (condition : Expr) (subs : List Sublink) → traceable (Filter input condition subs) ≡ (traceable input && all_traceable subs)
+traceable-Filter input condition subs = ap traceable (Filter-is input condition subs) ∙ ap (λ b. traceable input && b) (subs_traceable-row_of_subs subs)
+
+pub traceable-Project : (input : Query) (items : List Item) (subs : List Sublink) → traceable (Project input items subs) ≡ (traceable input && all_traceable subs)
+traceable-Project input items subs = ap traceable (Project_with-is input items subs) ∙ ap (λ b. traceable input && b) (subs_traceable-row_of_subs subs)
+
+pub traceable-Join : (kind : JoinKind) (left right : Query) (condition : Expr) (subs : List Sublink) → traceable (Join kind left right condition subs) ≡ ((traceable left && traceable right) && all_traceable subs)
+traceable-Join kind left right condition subs = ap traceable (Join-is kind left right condition subs) ∙ ap (λ b. (traceable left && traceable right) && b) (subs_traceable-row_of_subs subs)
+
+pub traceable-Union : (all : Bool) (left right : Query) → traceable (Union all left right) ≡ (traceable left && traceable right)
+traceable-Union all left right = ap traceable (Union-is all left right)
+
+pub traceable-Intersect : (all : Bool) (left right : Query) → traceable (Intersect all left right) ≡ (traceable left && traceable right)
+traceable-Intersect all left right = ap traceable (Intersect-is all left right)
+
+pub traceable-Except : (all : Bool) (left right : Query) → traceable (Except all left right) ≡ (traceable left && traceable right)
+traceable-Except all left right = ap traceable (Except-is all left right)
+
+pub traceable-Distinct : (input : Query) → traceable (Distinct input) ≡ traceable input
+traceable-Distinct input = ap traceable (Distinct-is input)
+
+pub traceable-Aggregate : (input : Query) (groups : List ℕ) (aggregates : List Aggr) → traceable (Aggregate input groups aggregates) ≡ traceable input
+traceable-Aggregate input groups aggregates = ap traceable (Aggregate-is input groups aggregates)
+
+pub traceable-Limit : (input : Query) (keys : List Key) (count : ℕ) → traceable (Limit input keys count) ≡ traceable input
+traceable-Limit input keys count = ap traceable (Limit-is input keys count)
+
+pub traceable-Prov : (input : Query) → traceable (Prov input) ≡ traceable input
+traceable-Prov input = ap traceable (Prov-is input)
+
+-- ---- scoped queries
+
+pub is_scoped-Base : (input : Query) (places : List ℕ) (label : Label) → is_scoped (Base input places label) ≡ is_scoped input
+is_scoped-Base input places label = ap is_scoped (Base-is input places label)
+
+pub is_scoped-Filter : (input : Query) (condition : Expr) (subs : List Sublink) → is_scoped (Filter input condition subs) ≡ (is_scoped input && all_scoped subs)
+is_scoped-Filter input condition subs = ap is_scoped (Filter-is input condition subs) ∙ ap (λ b. is_scoped input && b) (subs_scoped-row_of_subs subs)
+
+pub is_scoped-Project : (input : Query) (items : List Item) (subs : List Sublink) → is_scoped (Project input items subs) ≡ (is_scoped input && all_scoped subs)
+is_scoped-Project input items subs = ap is_scoped (Project_with-is input items subs) ∙ ap (λ b. is_scoped input && b) (subs_scoped-row_of_subs subs)
+
+pub is_scoped-Join : (kind : JoinKind) (left right : Query) (condition : Expr) (subs : List Sublink) → is_scoped (Join kind left right condition subs) ≡ ((is_scoped left && is_scoped right) && all_scoped subs)
+is_scoped-Join kind left right condition subs = ap is_scoped (Join-is kind left right condition subs) ∙ ap (λ b. (is_scoped left && is_scoped right) && b) (subs_scoped-row_of_subs subs)
+
+pub is_scoped-Union : (all : Bool) (left right : Query) → is_scoped (Union all left right) ≡ (is_scoped left && is_scoped right)
+is_scoped-Union all left right = ap is_scoped (Union-is all left right)
+
+pub is_scoped-Intersect : (all : Bool) (left right : Query) → is_scoped (Intersect all left right) ≡ (is_scoped left && is_scoped right)
+is_scoped-Intersect all left right = ap is_scoped (Intersect-is all left right)
+
+pub is_scoped-Except : (all : Bool) (left right : Query) → is_scoped (Except all left right) ≡ (is_scoped left && is_scoped right)
+is_scoped-Except all left right = ap is_scoped (Except-is all left right)
+
+pub is_scoped-Distinct : (input : Query) → is_scoped (Distinct input) ≡ is_scoped input
+is_scoped-Distinct input = ap is_scoped (Distinct-is input)
+
+pub is_scoped-Aggregate : (input : Query) (groups : List ℕ) (aggregates : List Aggr) → is_scoped (Aggregate input groups aggregates) ≡ is_scoped input
+is_scoped-Aggregate input groups aggregates = ap is_scoped (Aggregate-is input groups aggregates)
+
+pub is_scoped-Limit : (input : Query) (keys : List Key) (count : ℕ) → is_scoped (Limit input keys count) ≡ is_scoped input
+is_scoped-Limit input keys count = ap is_scoped (Limit-is input keys count)
+
+pub is_scoped-Prov : (input : Query) → is_scoped (Prov input) ≡ (traceable input && is_scoped input)
+is_scoped-Prov input = ap is_scoped (Prov-is input)
+
+-- ---- tables
+
+pub is_table-Base : (input : Query) (places : List ℕ) (label : Label) → is_table (Base input places label) ≡ false
+is_table-Base input places label = ap is_table (Base-is input places label)
+
+pub is_table-Filter : (input : Query) (condition : Expr) (subs : List Sublink) → is_table (Filter input condition subs) ≡ false
+is_table-Filter input condition subs = ap is_table (Filter-is input condition subs)
+
+pub is_table-Project : (input : Query) (items : List Item) (subs : List Sublink) → is_table (Project input items subs) ≡ false
+is_table-Project input items subs = ap is_table (Project_with-is input items subs)
+
+pub is_table-Join : (kind : JoinKind) (left right : Query) (condition : Expr) (subs : List Sublink) → is_table (Join kind left right condition subs) ≡ false
+is_table-Join kind left right condition subs = ap is_table (Join-is kind left right condition subs)
+
+pub is_table-Union : (all : Bool) (left right : Query) → is_table (Union all left right) ≡ false
+is_table-Union all left right = ap is_table (Union-is all left right)
+
+pub is_table-Intersect : (all : Bool) (left right : Query) → is_table (Intersect all left right) ≡ false
+is_table-Intersect all left right = ap is_table (Intersect-is all left right)
+
+pub is_table-Except : (all : Bool) (left right : Query) → is_table (Except all left right) ≡ false
+is_table-Except all left right = ap is_table (Except-is all left right)
+
+pub is_table-Distinct : (input : Query) → is_table (Distinct input) ≡ false
+is_table-Distinct input = ap is_table (Distinct-is input)
+
+pub is_table-Aggregate : (input : Query) (groups : List ℕ) (aggregates : List Aggr) → is_table (Aggregate input groups aggregates) ≡ false
+is_table-Aggregate input groups aggregates = ap is_table (Aggregate-is input groups aggregates)
+
+pub is_table-Limit : (input : Query) (keys : List Key) (count : ℕ) → is_table (Limit input keys count) ≡ false
+is_table-Limit input keys count = ap is_table (Limit-is input keys count)
+
+pub is_table-Prov : (input : Query) → is_table (Prov input) ≡ false
+is_table-Prov input = ap is_table (Prov-is input)

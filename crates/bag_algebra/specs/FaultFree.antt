@@ -1,0 +1,99 @@
+-- Queries that hold nothing that may fault: no arithmetic, no negation of a number, no SUM and no scalar sublink.
+use Rattle.std.specs.Prelude.{Bool, true, false, ◌&&◌, List, Option, Some, None}
+use Rattle.std.specs.List.{list_all}
+use Rattle.null_logic.specs.declared.operator.Operator.{Operator}
+use Rattle.null_logic.specs.declared.operator.Operator.TheVariants as op
+use Rattle.bag_algebra.specs.Patterns.{OpOf, ChainOf, CaseOf, IsNullOf, IsTruthOf, SameOf, BaseOf, FilterOf, ProjectOf, JoinOf, UnionOf, IntersectOf, ExceptOf, DistinctOf, AggregateOf, LimitOf, ProvOf}
+use Rattle.bag_algebra.specs.declared.expr.Expr.{Expr, Row_of-Expr, Row_of-Arm, Row_of-ChainStep, more_of-Expr, end_of-Expr, more_of-Arm, end_of-Arm, more_of-ChainStep, end_of-ChainStep}
+use Rattle.bag_algebra.specs.declared.expr.Expr.TheVariants.{Col, Lit, Sub}
+use Rattle.bag_algebra.specs.declared.expr.Item.{Item}
+use Rattle.bag_algebra.specs.declared.query.AggFn.{AggFn}
+use Rattle.bag_algebra.specs.declared.query.AggFn.TheVariants.{CountRows, Count, CountDistinct, Sum, Min, Max}
+use Rattle.bag_algebra.specs.declared.query.Aggr.{Aggr}
+use Rattle.bag_algebra.specs.declared.query.Query.{Query, Row_of-Sublink, more_of-Sublink, end_of-Sublink}
+use Rattle.bag_algebra.specs.declared.query.Query.TheVariants.{Table, Single}
+use Rattle.bag_algebra.specs.declared.query.SubKind.{SubKind}
+use Rattle.bag_algebra.specs.declared.query.SubKind.TheVariants.{Exists, Any, All, Scalar}
+
+-- arithmetic stands in a chain alone, so a well formed query has no operator of arithmetic
+abbrev pub faultless_op : Operator → Bool
+faultless_op op.And = true
+faultless_op op.Or = true
+faultless_op op.Not = true
+faultless_op op.Negate = false
+faultless_op (op.Compare c) = true
+faultless_op (op.Arith c) = false
+faultless_op op.Like = true
+faultless_op op.Between = true
+faultless_op op.InList = true
+faultless_op op.Coalesce = true
+faultless_op op.NullIf = true
+
+-- no chain and no negation anywhere in the expression
+abbrev mutual
+  pub faultless : Expr → Bool
+  faultless (Col level place) = true
+  faultless (Lit v kind) = true
+  faultless (OpOf op _ parts) = faultless_op op && parts_faultless parts
+  faultless (ChainOf first _ steps) = false
+  faultless (CaseOf _ arms otherwise) = arms_faultless arms && faultless otherwise
+  faultless (Sub number) = true
+  faultless (IsNullOf part) = faultless part
+  faultless (IsTruthOf truth part) = faultless part
+  faultless (SameOf first second) = faultless first && faultless second
+
+  pub parts_faultless : {m : _} → Row_of-Expr m → Bool
+  parts_faultless end_of-Expr = true
+  parts_faultless (more_of-Expr part parts) = faultless part && parts_faultless parts
+
+  pub arms_faultless : {m : _} → Row_of-Arm m → Bool
+  arms_faultless end_of-Arm = true
+  arms_faultless (more_of-Arm condition arm arms) = (faultless condition && faultless arm) && arms_faultless arms
+
+abbrev pub option_faultless : Option Expr → Bool
+option_faultless None = true
+option_faultless (Some part) = faultless part
+
+abbrev pub items_faultless : List Item → Bool
+items_faultless items = list_all (λ (item : Item). faultless item.expr) items
+
+abbrev pub is_no_sum : AggFn → Bool
+is_no_sum CountRows = true
+is_no_sum Count = true
+is_no_sum CountDistinct = true
+is_no_sum Sum = false
+is_no_sum Min = true
+is_no_sum Max = true
+
+abbrev pub aggregates_faultless : List Aggr → Bool
+aggregates_faultless aggregates =
+    list_all (λ (aggregate : Aggr). is_no_sum aggregate.function && option_faultless aggregate.argument) aggregates
+
+abbrev pub is_no_scalar : SubKind → Bool
+is_no_scalar Exists = true
+is_no_scalar (Any c) = true
+is_no_scalar (All c) = true
+is_no_scalar Scalar = false
+
+-- no chain, no negation, no SUM and no scalar sublink anywhere in the query, sublinks included
+abbrev mutual
+  pub fault_free : Query → Bool
+  fault_free (Table id kinds) = true
+  fault_free Single = true
+  fault_free (BaseOf input places label) = fault_free input
+  fault_free (FilterOf input condition _ subs) = (fault_free input && faultless condition) && subs_fault_free subs
+  fault_free (ProjectOf input items _ subs) = (fault_free input && items_faultless items) && subs_fault_free subs
+  fault_free (JoinOf kind left right condition _ subs) =
+      ((fault_free left && fault_free right) && faultless condition) && subs_fault_free subs
+  fault_free (UnionOf all left right) = fault_free left && fault_free right
+  fault_free (IntersectOf all left right) = fault_free left && fault_free right
+  fault_free (ExceptOf all left right) = fault_free left && fault_free right
+  fault_free (DistinctOf input) = fault_free input
+  fault_free (AggregateOf input groups aggregates) = fault_free input && aggregates_faultless aggregates
+  fault_free (LimitOf input keys count) = fault_free input
+  fault_free (ProvOf input) = fault_free input
+
+  pub subs_fault_free : {m : _} → Row_of-Sublink m → Bool
+  subs_fault_free end_of-Sublink = true
+  subs_fault_free (more_of-Sublink kind tested query subs) =
+      ((is_no_scalar kind && option_faultless tested) && fault_free query) && subs_fault_free subs
