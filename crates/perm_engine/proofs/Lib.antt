@@ -1,9 +1,11 @@
 pub mod CopiedFile
 pub mod CopiedInto
+pub mod CopyAnswers
 mod CopySamples
 pub mod Ending
 pub mod Fitting
 pub mod Listing
 pub mod Misspelling
+pub mod Numbers
 pub mod Queries
 pub mod Running

@@ -1,6 +1,6 @@
 -- The statements of the forms that are run, as commands; a statement of any other form is none.
 use Rattle.perm_catalog.specs.declared.column.Column.{Column}
-use Rattle.perm_engine.specs.declared.command.Command.TheVariants.{CreateTable, Insert, Select}
+use Rattle.perm_engine.specs.declared.command.Command.TheVariants.{CreateTable, Insert, Select, Delete, DropTable}
 use Rattle.perm_engine.specs.declared.command.Command.{Command}
 use Rattle.perm_values.specs.declared.value.Value.TheVariants as value
 use Rattle.perm_values.specs.declared.value.Value.{Value}
@@ -131,8 +131,8 @@ body_command (st.CreateTableAs table query) = None
 body_command (st.CreateView view query) = None
 body_command (st.Copy table file header mark) = None
 body_command (st.Insert table rows) = option_map (λ values. Insert table.text values) (all_of row_of rows)
-body_command (st.Delete table condition) = None
-body_command (st.DropTable table) = None
+body_command (st.Delete table condition) = cond (is_some condition) None (Some (Delete table.text))
+body_command (st.DropTable table) = Some (DropTable table.text table.at)
 body_command (st.DropView view) = None
 body_command (st.Select query) = query_command query
 body_command (st.Explain query) = None

@@ -1,4 +1,5 @@
 pub mod Answers
+pub mod Asking
 pub mod Commands
 pub mod Copying
 pub mod DataLines

@@ -44,6 +44,15 @@ abbrev pub run_from : Contents → List Statement → Ran
 run_from c [] = line_alone [] status.Done
 run_from c (statement ∷ statements) = go_on (turn c statement) (λ after. run_from after statements)
 
+-- the run of the statements stops at this break
+abbrev pub StopsBy : Turn → (Contents → Type 0) → Break → Type 0
+StopsBy (Refuses found) next b = found ≡ b
+StopsBy (Stands stepped) next b = next stepped.contents
+
+abbrev pub StopsAt : Contents → List Statement → Break → Type 0
+StopsAt c [] b = ⊥
+StopsAt c (statement ∷ statements) b = StopsBy (turn c statement) (λ after. StopsAt after statements b) b
+
 -- a script that is spelled runs from nothing; another one is refused as a whole
 abbrev pub RunsScript : List ℕ → Ran → Type 0
 RunsScript bytes ran =

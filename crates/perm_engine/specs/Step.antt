@@ -1,5 +1,5 @@
 -- What a statement does to what the catalog holds, and the text that it answers.
-use Rattle.std.specs.Prelude.{ℕ, zero, suc, ◌+◌, ◌-◌, ◌^◌, Bool, true, false, cond, not, ◌&&◌, nat_le, nat_eq, List, [], ◌∷◌, ◌++◌, map, length, Option, Some, None, codes}
+use Rattle.std.specs.Prelude.{ℕ, zero, suc, ◌+◌, ◌-◌, ◌^◌, Bool, true, false, cond, not, ◌&&◌, nat_le, nat_eq, List, [], ◌∷◌, ◌++◌, map, length, replicate, Option, Some, None, codes}
 use Rattle.std.specs.Cmp.Lexicographic.{pointwise}
 use Rattle.std.specs.Fmt.{decimal}
 use Rattle.std.specs.List.{list_any, list_all, range_with_len}
@@ -19,7 +19,8 @@ use Rattle.bag_algebra.specs.declared.query.Label.TheVariants.{Relation}
 use Rattle.bag_algebra.specs.declared.query.Query.{Query, end_of-Sublink}
 use Rattle.bag_algebra.specs.declared.query.Query.TheVariants.{Table}
 use Rattle.csv_tables.specs.AnswerText.{answer_bytes}
-use Rattle.perm_catalog.specs.Changes.{table_named, is_free, with_table, with_more_rows}
+use Rattle.perm_catalog.specs.Changes.{table_named, is_free, with_table, with_more_rows, with_fewer_rows, without_table}
+use Rattle.perm_catalog.specs.Lookups.{first_user}
 use Rattle.perm_catalog.specs.Contents.{Contents}
 use Rattle.perm_catalog.specs.declared.column.Column.{Column}
 use Rattle.perm_catalog.specs.declared.entries.TableEntry.{TableEntry}
@@ -27,7 +28,7 @@ use Rattle.sql_tree.specs.declared.statement.Statement.{Statement}
 use Rattle.perm_engine.specs.Commands.{command_of}
 use Rattle.perm_engine.specs.Lists.{all_of}
 use Rattle.perm_engine.specs.declared.command.Command.{Command}
-use Rattle.perm_engine.specs.declared.command.Command.TheVariants.{CreateTable, Insert, Select}
+use Rattle.perm_engine.specs.declared.command.Command.TheVariants.{CreateTable, Insert, Select, Delete, DropTable}
 use Rattle.perm_engine.specs.declared.refusal.Break.{Break}
 
 -- what a statement that stands answers: its text, and what the catalog holds then
@@ -79,6 +80,19 @@ all_fit columns rows = list_all (λ row. row_fits row (kinds_in_order columns)) 
 abbrev pub insert_into : Contents → List ℕ → TableEntry → Bag → ℕ → Turn
 insert_into c table entry rows at = cond (all_fit entry.columns rows)
     (drawing c at (record { text = codes "INSERT " ++ decimal (length rows) ++ codes "\n"; contents = with_more_rows c table entry.id rows })) unfit
+
+-- ---- DELETE: all rows of the table
+
+abbrev pub delete_from : Contents → List ℕ → TableEntry → ℕ → Turn
+delete_from c table entry at =
+    let count = length (rows_in c.rows entry.id) in
+    drawing c at (record { text = codes "DELETE " ++ decimal count ++ codes "\n"; contents = with_fewer_rows c table entry.id (replicate count true) })
+
+-- ---- DROP TABLE, whose name stands at an offset: no view names the table
+
+abbrev pub drop_unused : Contents → List ℕ → TableEntry → ℕ → Option (List ℕ) → Turn
+drop_unused c table entry at None = Stands (record { text = codes "DROP TABLE\n"; contents = without_table c table entry.id })
+drop_unused c table entry at (Some view) = Refuses (record { code = 16; at = at })
 
 -- ---- SELECT: the columns by their places, and the query that they make
 
@@ -138,6 +152,8 @@ step c (CreateTable table columns) at = create c table columns at
 step c (Insert table rows) at = with_entry (table_named c table) (λ entry. insert_into c table entry rows at)
 step c (Select provenance columns table) at = with_entry (table_named c table)
     (λ entry. select_places c provenance table entry columns (all_of (place_from 0 (names_of entry.columns)) columns))
+step c (Delete table) at = with_entry (table_named c table) (λ entry. delete_from c table entry at)
+step c (DropTable table place) at = with_entry (table_named c table) (λ entry. drop_unused c table entry place (first_user c table))
 
 -- a form that isn't run is refused before all else
 abbrev pub step_of : Contents → Option Command → ℕ → Turn

@@ -19,5 +19,13 @@ pub enum Command {
         provenance: bool,
         columns: List<Chars>,
         table: Chars,
+    },    /// `DELETE FROM t`
+    Delete {
+        table: Chars,
+    },
+    /// `DROP TABLE t`, with the offset of the name.
+    DropTable {
+        table: Chars,
+        at: usize,
     },
 }

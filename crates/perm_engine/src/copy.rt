@@ -7,7 +7,7 @@ ghost use Rattle.perm_engine.specs.declared.copying.CopyRefusal.TheVariants as o
 
 use crate::copying::{CopyRefusal, file_rows};
 use crate::query::kinds_of;
-use crate::text::text_of;
+use crate::text::counted;
 use perm_catalog::{Catalog, CatalogRefusal};
 use perm_io::Files;
 use perm_values::{Bytes, Chars, NoMemory, Rows};
@@ -109,18 +109,7 @@ fn add_rows(
     ensures drawn { IsOk result → catalog.old.next ≢ 2 ^ 64 - 1 }
     ensures err { OnErr result (catalog.new ≡ catalog.old) }
 {
-    let text = copy_text(alloc, rows.len())?;
+    let text = counted(alloc, b"COPY ", rows.len())?;
     catalog.insert_rows(table, rows)?;
-    Ok(text)
-}
-
-/// The text of a COPY of so many rows.
-fn copy_text(alloc: Global, count: usize) -> Result<Bytes, NoMemory>
-    ensures { IfOk result (λ text. text ≡ copy_text count) }
-{
-    let number = count.to_string(alloc)?;
-    let mut text = text_of(alloc, b"COPY ")?;
-    text.add(number.as_bytes())?;
-    text.add(b"\n")?;
     Ok(text)
 }

@@ -1,8 +1,8 @@
-ghost use Rattle.std.specs.Prelude.{◌≡◌, ◌∷◌, [], IfOk, map, Some, option_map};
+ghost use Rattle.std.specs.Prelude.{◌≡◌, ◌∷◌, [], IfOk, map, cond, Some, None, option_map};
 ghost use Rattle.std.specs.Option.{option_copied};
 ghost use Rattle.perm_engine.specs.Commands as spec;
 ghost use Rattle.perm_engine.specs.Lists.{is_empty, all_of};
-ghost use Rattle.perm_engine.specs.declared.command.Command.TheVariants.{CreateTable, Insert};
+ghost use Rattle.perm_engine.specs.declared.command.Command.TheVariants.{CreateTable, Insert, Delete, DropTable};
 
 use crate::command::Command;
 use perm_catalog::Column;
@@ -24,11 +24,11 @@ pub(crate) fn command_of(
         StatementBody::CreateTable { table, columns } => creation(alloc, table, columns.as_slice()),
         StatementBody::Insert { table, rows } => insertion(alloc, table, rows.as_slice()),
         StatementBody::Select { query } => selection(alloc, query),
+        StatementBody::Delete { table, condition } => deletion(alloc, table, condition.is_some()),
+        StatementBody::DropTable { table } => dropping(alloc, table),
         StatementBody::CreateTableAs { .. }
         | StatementBody::CreateView { .. }
         | StatementBody::Copy { .. }
-        | StatementBody::Delete { .. }
-        | StatementBody::DropTable { .. }
         | StatementBody::DropView { .. }
         | StatementBody::Explain { .. }
         | StatementBody::ShowFresh { .. } => Ok(None),
@@ -257,4 +257,23 @@ fn name_read(source: &FromSource) -> Option<&Chars>
         FromSource::Named(name) => Some(&name.text),
         FromSource::Inner(_) => None,
     }
+}
+
+/// DELETE without a condition.
+fn deletion(alloc: Global, table: &Name, conditional: bool) -> Result<Option<Command>, NoMemory>
+    ensures { IfOk result (λ command. command ≡ cond conditional None (Some (Delete table.now.text))) }
+{
+    if conditional {
+        return Ok(None);
+    }
+    let table = table.text.copy(alloc)?;
+    Ok(Some(Command::Delete { table }))
+}
+
+fn dropping(alloc: Global, table: &Name) -> Result<Option<Command>, NoMemory>
+    ensures { IfOk result (λ command. command ≡ Some (DropTable table.now.text table.now.at)) }
+{
+    let at = table.at;
+    let table = table.text.copy(alloc)?;
+    Ok(Some(Command::DropTable { table, at }))
 }

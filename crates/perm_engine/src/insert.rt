@@ -5,7 +5,7 @@ ghost use Rattle.perm_engine.specs.Answers.{IsTurn};
 ghost use Rattle.perm_engine.specs.Step.{kinds_in_order, all_fit, with_entry, insert_into};
 
 use crate::refusal::StepRefusal;
-use crate::text::inserted;
+use crate::text::counted;
 use perm_catalog::{Catalog, CatalogRefusal, Column};
 use perm_values::{Bytes, Chars, Copyable, Row, Rows, Value};
 use std::alloc::Global;
@@ -26,7 +26,7 @@ pub(crate) fn insert(
     if !all_fit(entry.columns.as_slice(), rows.as_slice()) {
         return Err(StepRefusal::new(10, 0));
     }
-    let text = inserted(alloc, rows.len())?;
+    let text = counted(alloc, b"INSERT ", rows.len())?;
     let added = rows.copy(alloc)?;
     match catalog.insert_rows(table, added) {
         Ok(()) => Ok(text),

@@ -4,6 +4,8 @@ ghost use Rattle.perm_engine.specs.Step.{step};
 
 use crate::command::Command;
 use crate::create::create_table;
+use crate::delete::delete;
+use crate::drop_table::drop_table;
 use crate::insert::insert;
 use crate::refusal::StepRefusal;
 use crate::select::select;
@@ -29,5 +31,7 @@ pub(crate) fn step(
             columns,
             table,
         } => select(alloc, catalog, *provenance, columns, table),
+        Command::Delete { table } => delete(alloc, catalog, table, at),
+        Command::DropTable { table, at } => drop_table(alloc, catalog, table, *at),
     }
 }
