@@ -1,14 +1,13 @@
 -- How the end of what is left of a run is the end of the whole run.
-use Rattle.std.proofs.Common.{◌≡◌, ◌∙◌, ℕ, ◌+◌, ◌≤◌, Bool, List, [], ◌∷◌, ◌++◌, length, take, Option, refl, sym, ap, append_assoc, arith, length-append, append-nil, zero-add, suc, drop, slice_get, ◌<◌, Some, None, Err, subst, get_or}
+use Rattle.std.proofs.Common.{◌≡◌, ◌∙◌, ℕ, ◌+◌, ◌≤◌, Bool, List, [], ◌∷◌, ◌++◌, length, take, Option, refl, sym, ap, append_assoc, arith, length-append, append-nil, zero-add, suc, drop, slice_get, ◌<◌, Some, Err, subst}
 use Rattle.std.proofs.Math.Seq.{drop-cons}
 use Rattle.std.proofs.lemmas.List.{take-append-le, drop_all}
 use Rattle.std.proofs.lemmas.Option.{get_or_from_slice_get, slice_get_within}
 use Rattle.std.specs.Io.KnownBytes.{append_known}
-use Rattle.std.specs.List.{flat_map}
 use Rattle.perm_io.proofs.Known.{append_known-append_known, append_known-nil}
-use Rattle.perm_io.specs.Counts.{HasRisen, CountsFault}
+use Rattle.perm_io.specs.Counts.{HasRisen}
 use Rattle.perm_catalog.specs.Contents.{Contents}
-use Rattle.perm_engine.specs.Ends.{Written, IsSaid, IsCut, IsShort, Ends, EndsRefused, joined}
+use Rattle.perm_engine.specs.Ends.{Written, IsSaid, Ends, EndsRefused, joined}
 use Rattle.perm_engine.specs.Run.{Ran, text_of, line_alone, go_on, run_from, after_text}
 use Rattle.sql_tree.specs.declared.statement.Statement.{Statement}
 use Rattle.perm_engine.specs.Lines.{error_line}

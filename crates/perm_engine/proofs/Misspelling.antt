@@ -1,5 +1,5 @@
 -- Bytes without tokens are misspelled, and bytes that are misspelled are no script.
-use Rattle.std.proofs.Common.{◌≡◌, ◌∙◌, ℕ, List, length, Option, Some, None, Err, sym, ap, subst}
+use Rattle.std.proofs.Common.{◌≡◌, ◌∙◌, ℕ, List, length, Some, None, Err, sym, ap, subst}
 use Rattle.sql_lexer.specs.Lexes.{Lexes, Refuses, MayRefuse}
 use Rattle.sql_lexer.specs.declared.token.Token.{Token}
 use Rattle.sql_lexer.specs.declared.lex_error.LexError.{LexError}

@@ -1,5 +1,5 @@
 -- A statement draws one number at most, and wants the last one only where it is the next.
-use Rattle.std.proofs.Common.{◌≡◌, ℕ, ◌+◌, ◌-◌, ◌^◌, ◌≤◌, ◌<◌, Bool, true, false, cond, nat_eq, List, [], ◌∷◌, length, Option, Some, None, refl, arith}
+use Rattle.std.proofs.Common.{◌≡◌, ℕ, ◌+◌, ◌≤◌, Bool, true, false, cond, nat_eq, List, [], ◌∷◌, length, Option, Some, None, refl, arith}
 use Rattle.std.proofs.lemmas.Bool.Decides.{nat_tests}
 use Rattle.perm_catalog.specs.Changes.{table_named}
 use Rattle.perm_catalog.specs.Contents.{Contents}
@@ -9,14 +9,14 @@ use Rattle.sql_tree.specs.declared.statement.Statement.{Statement}
 use Rattle.perm_engine.specs.Commands.{command_of}
 use Rattle.perm_engine.specs.Lists.{all_of}
 use Rattle.perm_engine.specs.Run.{StopsBy, StopsAt}
-use Rattle.perm_engine.specs.Step.{Stepped, Turn, Stands, Refuses, unfit, last_number, drawing, with_entry, can_create, create, all_fit, insert_into, delete_from, drop_unused, select_places, answer, answer_names, place_from, names_of, step, step_of, turn}
+use Rattle.perm_engine.specs.Step.{Stepped, Turn, Stands, Refuses, unfit, last_number, drawing, with_entry, can_create, all_fit, insert_into, delete_from, drop_unused, select_places, place_from, names_of, step, step_of, turn}
 use Rattle.perm_engine.specs.declared.command.Command.{Command}
 use Rattle.perm_engine.specs.declared.command.Command.TheVariants.{CreateTable, Insert, Select, Delete, DropTable}
 use Rattle.perm_engine.specs.declared.refusal.Break.{Break}
 
-abbrev pub IsFrugal : Contents → Turn → Type 0
-IsFrugal c (Stands stepped) = stepped.contents.next ≤ c.next + 1
-IsFrugal c (Refuses b) = b.code ≡ 17 → c.next ≡ last_number
+data IsFrugal (c : Contents) : Turn → Type 0 where
+  stands : {stepped : Stepped} → stepped.contents.next ≤ c.next + 1 → IsFrugal c (Stands stepped)
+  refuses : {b : Break} → (b.code ≡ 17 → c.next ≡ last_number) → IsFrugal c (Refuses b)
 
 same_number : (a b : ℕ) → nat_eq a b ≡ true → a ≡ b
 same_number a b h = grind (arith, nat_tests)
@@ -27,12 +27,12 @@ module _ (c : Contents) where
   either false t u h k = k
 
   frugal-unfit : IsFrugal c unfit
-  frugal-unfit e = absurd (omega (arith, e))
+  frugal-unfit = refuses (λ e. absurd (omega (arith, e)))
 
   frugal-drawing_by : (at : ℕ) (stepped : Stepped) → stepped.contents.next ≡ c.next + 1 → (spent : Bool) → nat_eq c.next last_number ≡ spent →
       IsFrugal c (cond spent (Refuses (record { code = 17; at = at })) (Stands stepped))
-  frugal-drawing_by at stepped h true e = λ _. same_number c.next last_number e
-  frugal-drawing_by at stepped h false e = omega (arith, h)
+  frugal-drawing_by at stepped h true e = refuses (λ _. same_number c.next last_number e)
+  frugal-drawing_by at stepped h false e = stands (omega (arith, h))
 
   frugal-drawing : (at : ℕ) (stepped : Stepped) → stepped.contents.next ≡ c.next + 1 → IsFrugal c (drawing c at stepped)
   frugal-drawing at stepped h = frugal-drawing_by at stepped h (nat_eq c.next last_number) refl
@@ -42,15 +42,12 @@ module _ (c : Contents) where
   frugal-with_entry (Some entry) f h = h entry
 
   frugal-drop : (table : List ℕ) (entry : TableEntry) (at : ℕ) (user : Option (List ℕ)) → IsFrugal c (drop_unused c table entry at user)
-  frugal-drop table entry at None = omega arith
-  frugal-drop table entry at (Some view) = λ e. absurd (omega (arith, e))
-
-  frugal-unchanged : c.next ≤ c.next + 1
-  frugal-unchanged = omega arith
+  frugal-drop table entry at None = stands (omega arith)
+  frugal-drop table entry at (Some view) = refuses (λ e. absurd (omega (arith, e)))
 
   frugal-select : (provenance : Bool) (table : List ℕ) (entry : TableEntry) (names : List (List ℕ)) (places : Option (List ℕ)) → IsFrugal c (select_places c provenance table entry names places)
   frugal-select provenance table entry names None = frugal-unfit
-  frugal-select provenance table entry names (Some places) = either _ _ unfit frugal-unchanged frugal-unfit
+  frugal-select provenance table entry names (Some places) = either _ _ unfit (stands (omega arith)) frugal-unfit
 
   frugal-step : (command : Command) (at : ℕ) → IsFrugal c (step c command at)
   frugal-step (CreateTable table columns) at = either (can_create c table columns) _ unfit (frugal-drawing at _ refl) frugal-unfit
@@ -67,14 +64,14 @@ module _ (c : Contents) where
       (λ entry. frugal-drop table entry place (first_user c table))
 
   frugal-step_of : (o : Option Command) (at : ℕ) → IsFrugal c (step_of c o at)
-  frugal-step_of None at = λ e. absurd (omega (arith, e))
+  frugal-step_of None at = refuses (λ e. absurd (omega (arith, e)))
   frugal-step_of (Some command) at = frugal-step command at
 
   -- what is left of a run wants the last number only where it has that many statements
   stops-turn : (t : Turn) (statements : List Statement) (b : Break) → IsFrugal c t → b.code ≡ 17 → StopsBy t (λ after. StopsAt after statements b) b →
       ((after : Contents) → StopsAt after statements b → last_number ≤ after.next + length statements) → last_number ≤ c.next + (length statements + 1)
-  stops-turn (Stands stepped) statements b h e stops later = let l = later stepped.contents stops in omega (arith, h, l)
-  stops-turn (Refuses found) statements b h e stops later = let l = h (rw stops e) in omega (arith, l)
+  stops-turn (Stands stepped) statements b (stands h) e stops later = let l = later stepped.contents stops in omega (arith, h, l)
+  stops-turn (Refuses found) statements b (refuses h) e stops later = let l = h (rw stops e) in omega (arith, l)
 
 pub stops-late : (c : Contents) (statements : List Statement) (b : Break) → b.code ≡ 17 → StopsAt c statements b → last_number ≤ c.next + length statements
 stops-late c [] b e stops = absurd stops

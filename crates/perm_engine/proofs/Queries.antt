@@ -8,13 +8,12 @@ use Rattle.null_logic.specs.declared.run_fault.RunFault.{RunFault}
 use Rattle.perm_values.specs.Rows.{row_cmp, picked}
 use Rattle.bag_algebra.proofs.Columns.{source_columns-meaning, distinct_columns-meaning, source_columns-provenance}
 use Rattle.bag_algebra.proofs.SortedBags.{printed_unique}
-use Rattle.bag_algebra.specs.Bags.{Bag, Row, SameBag, once, sorted}
+use Rattle.bag_algebra.specs.Bags.{Bag, once, sorted}
 use Rattle.bag_algebra.specs.ColumnItems.{column_items}
 use Rattle.bag_algebra.specs.Meaning.{Database, meaning}
 use Rattle.bag_algebra.specs.Means.{good_rows}
-use Rattle.bag_algebra.specs.Outcome.{Outcome, Good, Bad, mapped}
+use Rattle.bag_algebra.specs.Outcome.{Outcome, Good, mapped}
 use Rattle.bag_algebra.specs.Patterns.{ProjectOf, DistinctOf}
-use Rattle.bag_algebra.specs.TableRows.{rows_in}
 use Rattle.bag_algebra.specs.declared.query.Query.{Query, end_of-Sublink}
 use Rattle.bag_algebra.specs.declared.query.Query.TheVariants.{Table}
 use Rattle.bag_algebra.specs.declared.query.Label.TheVariants.{Relation}

@@ -1,8 +1,8 @@
 -- Which run a command line and its script's file stand for.
-use Rattle.std.proofs.Common.{◌≡◌, ◌⊎◌, ℕ, ◌≤◌, ◌<◌, Bool, false, List, [], ◌∷◌, length, Option, Some, Err, get_or, refl, sym, ap, inl, inr, subst, arith, IsSome}
+use Rattle.std.proofs.Common.{◌≡◌, ◌⊎◌, ℕ, false, List, [], ◌∷◌, length, Option, Err, get_or, refl, sym, ap, inl, inr, subst, arith}
 use Rattle.perm_io.specs.declared.named_file.NamedFile.{NamedFile}
-use Rattle.perm_engine.specs.Ends.{Written, Ends, EndsOne, EndsRefused}
-use Rattle.perm_engine.specs.Run.{Ran, Found, Runs, RunsScript, RunsFile, CanBe, Read, is_one, usage, IsOfScript, line_alone}
+use Rattle.perm_engine.specs.Ends.{Written, EndsOne, EndsRefused}
+use Rattle.perm_engine.specs.Run.{Found, Runs, RunsScript, RunsFile, CanBe, is_one, usage, IsOfScript, line_alone}
 use Rattle.perm_engine.specs.Lines.{error_line}
 use Rattle.perm_engine.specs.Scripts.{IsReading}
 use Rattle.perm_engine.specs.declared.refusal.StepRefusal.{StepRefusal}

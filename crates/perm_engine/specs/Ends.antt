@@ -1,10 +1,9 @@
 -- How a run ends: what stands in the output then, beside the status.
-use Rattle.std.specs.Prelude.{◌≡◌, ◌⊎◌, ℕ, ◌≤◌, Bool, true, false, List, ◌++◌, length, take, Option}
+use Rattle.std.specs.Prelude.{◌≡◌, ◌⊎◌, ℕ, ◌≤◌, Bool, false, List, length, take, Option}
 use Rattle.std.specs.Io.KnownBytes.{append_known}
 use Rattle.std.specs.List.{flat_map}
 use Rattle.perm_io.specs.Counts.{HasRisen}
-use Rattle.perm_io.specs.declared.named_file.NamedFile.{NamedFile}
-use Rattle.perm_engine.specs.Run.{Ran, Runs, text_of, line_alone}
+use Rattle.perm_engine.specs.Run.{Ran, text_of, line_alone}
 use Rattle.perm_engine.specs.Lines.{error_line}
 use Rattle.perm_engine.specs.declared.refusal.StepRefusal.{StepRefusal}
 use Rattle.perm_engine.specs.declared.refusal.StepRefusal.TheVariants.{Break, NoMemory}

@@ -1,5 +1,5 @@
 -- What a run over a command line and files writes, and the status that it answers.
-use Rattle.std.specs.Prelude.{◌≡◌, ◌⊎◌, ℕ, ◌≤◌, ◌<◌, ◌^◌, Bool, true, false, List, [], ◌∷◌, ◌++◌, length, take, Option, Some, None, IfSome, IsSomeAnd, codes}
+use Rattle.std.specs.Prelude.{◌≡◌, ◌⊎◌, ℕ, ◌≤◌, ◌<◌, Bool, true, false, List, [], ◌∷◌, ◌++◌, length, Option, Some, None, IfSome, IsSomeAnd, codes}
 use Rattle.std.specs.List.{flat_map}
 use Rattle.perm_io.specs.Named.{file_named}
 use Rattle.perm_io.specs.declared.named_file.NamedFile.{NamedFile}

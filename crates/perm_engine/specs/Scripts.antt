@@ -1,5 +1,5 @@
 -- Which script the bytes of a file are, or why they are none.
-use Rattle.std.specs.Prelude.{◌≡◌, ℕ, List, length, Option, Some, None, Result, Ok, Err}
+use Rattle.std.specs.Prelude.{◌≡◌, ℕ, List, length, Some, None, Result, Ok, Err}
 use Rattle.sql_lexer.specs.Lexes.{Lexes, Refuses}
 use Rattle.sql_lexer.specs.declared.lex_error.LexError.{LexError}
 use Rattle.sql_lexer.specs.declared.lex_error.LexError.TheVariants as lexing

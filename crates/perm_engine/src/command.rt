@@ -19,7 +19,7 @@ pub enum Command {
         provenance: bool,
         columns: List<Chars>,
         table: Chars,
-    },    /// `DELETE FROM t`
+    }, /// `DELETE FROM t`
     Delete {
         table: Chars,
     },

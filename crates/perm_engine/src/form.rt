@@ -8,16 +8,13 @@ use crate::command::Command;
 use perm_catalog::Column;
 use perm_values::{Chars, Copyable, List, NoMemory, Row, Rows, Value};
 use sql_tree::{
-    ColRef, ColumnDef, Core, ExprBody, ExprTree, FromItem, FromSource, FromTree, Name, QueryTree, ScopeMark,
-    SelectItem, SetTree, Statement, StatementBody, ValuesRow,
+    ColRef, ColumnDef, Core, ExprBody, ExprTree, FromItem, FromSource, FromTree, Name, QueryTree,
+    ScopeMark, SelectItem, SetTree, Statement, StatementBody, ValuesRow,
 };
 use std::alloc::Global;
 
 /// The statement as a command; `None` where it is of a form that isn't run.
-pub(crate) fn command_of(
-    alloc: Global,
-    statement: &Statement,
-) -> Result<Option<Command>, NoMemory>
+pub(crate) fn command_of(alloc: Global, statement: &Statement) -> Result<Option<Command>, NoMemory>
     ensures { IfOk result (λ command. command ≡ spec.command_of statement.now) }
 {
     match &statement.body {
@@ -35,11 +32,7 @@ pub(crate) fn command_of(
     }
 }
 
-fn creation(
-    alloc: Global,
-    table: &Name,
-    columns: &[ColumnDef],
-) -> Result<Option<Command>, NoMemory>
+fn creation(alloc: Global, table: &Name, columns: &[ColumnDef]) -> Result<Option<Command>, NoMemory>
     ensures { IfOk result (λ command. command ≡ Some (CreateTable table.now.text (map spec.column_of columns.now))) }
 {
     let columns = columns_of(alloc, columns)?;
@@ -60,11 +53,7 @@ fn columns_of(alloc: Global, definitions: &[ColumnDef]) -> Result<List<Column>, 
     Ok(columns)
 }
 
-fn insertion(
-    alloc: Global,
-    table: &Name,
-    rows: &[ValuesRow],
-) -> Result<Option<Command>, NoMemory>
+fn insertion(alloc: Global, table: &Name, rows: &[ValuesRow]) -> Result<Option<Command>, NoMemory>
     ensures { IfOk result (λ command. command ≡ option_map (λ values. Insert table.now.text values) (all_of spec.row_of rows.now)) }
 {
     let Some(rows) = rows_of(alloc, rows)? else {
@@ -140,7 +129,12 @@ fn core_selection(alloc: Global, core: &Core) -> Result<Option<Command>, NoMemor
     let Some(table) = table_read(core.sources.as_slice()) else {
         return Ok(None);
     };
-    columns_selected(alloc, core.provenance.is_some(), core.items.as_slice(), table)
+    columns_selected(
+        alloc,
+        core.provenance.is_some(),
+        core.items.as_slice(),
+        table,
+    )
 }
 
 /// The columns of a table, where each item is one.

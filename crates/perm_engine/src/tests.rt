@@ -53,7 +53,11 @@ const SCRIPTS: [(&[u8], &str, Status); 12] = [
         Status::Syntax,
     ),
     (b"SELECT FROM r;", "error E05 at 7\n", Status::Syntax),
-    (b"SELECT a FROM r; SELECT", "error E05 at 23\n", Status::Syntax),
+    (
+        b"SELECT a FROM r; SELECT",
+        "error E05 at 23\n",
+        Status::Syntax,
+    ),
     (b"SELECT a FROM t", "error E10 at 0\n", Status::Refused),
     (
         b"CREATE TABLE r (a INTEGER, b TEXT); DROP VIEW r;",

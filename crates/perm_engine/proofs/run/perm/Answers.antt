@@ -1,4 +1,4 @@
-use Rattle.std.proofs.Common.{◌≡◌, List, ℕ, Err, ap, refl, inl, sym, subst, arith}
+use Rattle.std.proofs.Common.{List, ℕ, Err, ap, refl, inl, subst}
 use Rattle.perm_io.specs.Answers.{is_fault}
 use Rattle.perm_io.specs.Counts.{CountsFault}
 use Rattle.perm_engine.proofs.Running.{Runs-misused, Runs-found, one_word, none_or_more}

@@ -1,7 +1,5 @@
-use Rattle.std.proofs.Common.{◌≡◌, length, sym, ap, ◌∙◌, arith, Some, None, slice_get, subst, Err}
+use Rattle.std.proofs.Common.{length, ap, arith}
 use Rattle.perm_catalog.specs.Changes.{nothing_held}
-use Rattle.perm_engine.specs.Answers.{IsTurn}
-use Rattle.perm_engine.specs.Step.{turn}
 use Rattle.perm_engine.proofs.Ending.{HasRun-more, HasRun-cut, HasRun-stopped, HasRun-done}
 use Rattle.perm_engine.proofs.Running.{of_script}
 use Rattle.perm_engine.specs.declared.status.Status.TheVariants as status

@@ -1,4 +1,4 @@
-use Rattle.std.proofs.Common.{◌≡◌, length, Err, sym, subst}
+use Rattle.std.proofs.Common.{length, Err, sym, subst}
 use Rattle.sql_parser.specs.Spells.{Parses}
 use Rattle.perm_engine.specs.Scripts.{IsReading, unexpected, too_deep}
 use Rattle.perm_engine.proofs.script.tree_of.Goals as goal
