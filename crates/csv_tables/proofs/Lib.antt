@@ -5,3 +5,4 @@ pub mod Rules
 pub mod InLoop
 pub mod ReadBack
 pub mod Fitting
+mod Samples

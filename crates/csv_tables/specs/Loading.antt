@@ -1,6 +1,6 @@
 -- The rows that a file of comma-separated values spells for columns of given kinds, and the rules that its records
 -- break. What a record is, is the csv crate's own definition, with its defaults: commas, double quotes, any line end.
-use Rattle.std.specs.Prelude.{◌≢◌, All, ◌≡◌, ℕ, ◌+◌, ◌^◌, ℤ, pos, negsuc, Bool, true, false, ◌==◌, ◌&&◌, nat_lt, if◌then◌else◌, List, [], ◌∷◌, ◌++◌, map, drop, length, Option, Some, None, ⊤}
+use Rattle.std.specs.Prelude.{◌≡◌, ℕ, ◌+◌, ◌^◌, ℤ, pos, negsuc, Bool, true, false, ◌==◌, ◌&&◌, nat_lt, if◌then◌else◌, List, [], ◌∷◌, ◌++◌, map, drop, length, Option, Some, None, ⊤}
 use Rattle.std.specs.List.{list_all}
 use Rattle.std.specs.Str.{all_ascii_digits, bytes_eq, is_utf8}
 use Rattle.std.specs.Str.Parse.{signed_digits_value, without_leading_sign}
@@ -12,10 +12,6 @@ use Rattle.perm_values.specs.declared.value.Value.{Value}
 use Rattle.perm_values.specs.declared.value.Value.TheVariants.{Null, Integer, Text}
 use Rattle.csv_tables.specs.declared.data_error.DataError.{DataError}
 use Rattle.csv_tables.specs.declared.data_error.DataError.TheVariants.{Width, NotInteger, NotText, NoMemory}
-
--- no column is of booleans, which no field spells
-abbrev pub NoBoolean : List Kind → Type 0
-NoBoolean kinds = All (λ column. column ≢ kind.Boolean) kinds
 
 -- one digit or more, and nothing else
 abbrev pub is_numeral : List ℕ → Bool
@@ -33,7 +29,7 @@ is_integer field = is_numeral (without_leading_sign field) && fits_64_bits (sign
 abbrev pub integer_of : List ℕ → Option ℤ
 integer_of field = if is_integer field then Some (signed_digits_value 10 field) else None
 
--- what a field that isn't the mark stands for; there are no columns of booleans
+-- what a field that isn't the mark stands for; no field spells a boolean, and no table has a column of them
 abbrev pub spelled : Kind → List ℕ → Value
 spelled kind.Integer field = Integer (signed_digits_value 10 field)
 spelled kind.Text field = Text field

@@ -1,6 +1,6 @@
-ghost use Rattle.std.specs.Prelude.{◌≡◌, ◌≢◌, [], IfOk, IfErr, IsTrue};
+ghost use Rattle.std.specs.Prelude.{◌≡◌, [], IfOk, IfErr, IsTrue};
 ghost use Rattle.csv.specs.Records.{fields_of};
-ghost use Rattle.csv_tables.specs.Loading.{all_fit, broken_rules, field_breaks, field_value, integer_of, IsFirstBroken, NoBoolean, record_breaks, row_values, spelled_rows};
+ghost use Rattle.csv_tables.specs.Loading.{all_fit, broken_rules, field_breaks, field_value, integer_of, IsFirstBroken, record_breaks, row_values, spelled_rows};
 
 use crate::DataError;
 use csv::{ByteRecord, ReaderBuilder};
@@ -28,7 +28,6 @@ fn integer(field: &[u8]) -> Option<i64>
 impl Columns<'_> {
     /// The value that a field spells, or the rule that it breaks.
     fn value(&self, kind: Kind, field: &[u8], row: u64, place: u64) -> Result<Value, DataError>
-        requires { kind ≢ Kind.Boolean }
         ensures ok { IfOk result (λ value. (field_breaks self.now.mark.now row place kind field.now ≡ [])
             × (value ≡ field_value self.now.mark.now kind field.now)) }
         ensures err { IfErr result (IsFirstBroken (field_breaks self.now.mark.now row place kind field.now)) }
@@ -45,13 +44,12 @@ impl Columns<'_> {
                 Some(text) => Ok(Value::Text(text)),
                 None => Err(DataError::NotText { row, field: place }),
             },
-            Kind::Boolean => unreachable!(),
+            Kind::Boolean => Ok(Value::Null),
         }
     }
 
     /// The row that a record spells, or the first rule that it breaks.
     fn row(&self, fields: &ByteRecord, number: u64) -> Result<Row, DataError>
-        requires { NoBoolean self.now.kinds.now }
         ensures ok { IfOk result (λ row. (record_breaks self.now.mark.now self.now.kinds.now number (fields_of fields.now) ≡ [])
             × (row ≡ row_values self.now.mark.now self.now.kinds.now (fields_of fields.now))) }
         ensures err { IfErr result
@@ -76,7 +74,8 @@ impl Columns<'_> {
 /// Records and fields are those that the `csv` crate reads by default (RFC 4180, with any line end, and without blank
 /// lines and a byte order mark). With `header` the first record is left out, whatever it holds, and still counts. A
 /// field whose bytes equal `mark` is NULL in every column; quotes around it are no part of it. Any other field is an
-/// optional sign and digits that fit 64 bits in a column of integers, and UTF-8 in one of texts.
+/// optional sign and digits that fit 64 bits in a column of integers, and UTF-8 in one of texts. No field spells a
+/// boolean: in a column of booleans, which no table has, each reads as NULL.
 ///
 /// A file that breaks a rule is refused with the first: in the order of records, which count from 1, and in a record
 /// its width before its fields from left to right. `NoMemory` may come at any time.
@@ -87,7 +86,6 @@ pub fn load(
     mark: &[u8],
     header: bool,
 ) -> Result<Rows, DataError>
-    requires { NoBoolean kinds.now }
     ensures ok { IfOk result (λ rows. (broken_rules mark.now kinds.now header bytes.now ≡ [])
         × (rows ≡ spelled_rows mark.now kinds.now header bytes.now)) }
     ensures fit { IfOk result (λ rows. IsTrue (all_fit kinds.now rows)) }

@@ -1,3 +1,7 @@
+pub mod CopiedFile
+pub mod CopiedInto
+pub mod CopyAnswers
+mod CopySamples
 pub mod Ending
 pub mod Fitting
 pub mod Misspelling

@@ -1,5 +1,9 @@
 pub mod Answers
+pub mod Asking
+pub mod Copying
+pub mod DataLines
 pub mod Ends
+pub mod Found
 pub mod Lines
 pub mod Run
 pub mod Scripts

@@ -1,7 +1,10 @@
 //! Runs scripts of SQL with provenance: from a command line and files to what is written and a status.
 #![tactic(auto)]
 
+mod copy;
+mod copying;
 mod create;
+mod data_line;
 mod delete;
 mod drop_table;
 mod insert;
@@ -13,6 +16,7 @@ mod run;
 mod script;
 mod select;
 mod session;
+mod session_refusal;
 mod status;
 mod step;
 #[cfg(test)]
@@ -23,4 +27,5 @@ pub use laws::{a_run_has_numbers_left, bytes_are_one_script};
 pub use refusal::{Break, StepRefusal};
 pub use run::perm;
 pub use session::Session;
+pub use session_refusal::SessionRefusal;
 pub use status::Status;

@@ -1,0 +1,5 @@
+use Rattle.bag_algebra.specs.Built.{meaning-Base}
+use Rattle.query_laws.proofs.laws.base_has_its_inputs_rows.Goals as goal
+
+pub returns : goal.returns
+returns c input places label db env = meaning-Base db env input places label

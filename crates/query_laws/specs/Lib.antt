@@ -1,0 +1,7 @@
+pub mod Aggregated
+pub mod Choice
+pub mod Evaluated
+pub mod Faults
+pub mod Holding
+pub mod Nodes
+pub mod WorkedCounts
