@@ -10,10 +10,10 @@ use Rattle.perm_engine.specs.Step.{Stepped}
 use Rattle.perm_engine.specs.declared.copy.CopyBreak.{CopyBreak}
 use Rattle.perm_engine.specs.declared.copy.CopyBreak.TheVariants.{UnknownTable, VersionsSpent, File}
 use Rattle.perm_engine.specs.declared.copying.CopyRefusal.TheVariants as refusal
-use Rattle.perm_engine.specs.declared.session_refusal.SessionRefusal.{SessionRefusal}
+use Rattle.perm_engine.specs.declared.step_refusal.StepRefusal.{StepRefusal}
 
 -- the answer of a COPY at an offset
-abbrev pub answer_at : ℕ → Result (List ℕ) CopyBreak → Result (List ℕ) SessionRefusal
+abbrev pub answer_at : ℕ → Result (List ℕ) CopyBreak → Result (List ℕ) StepRefusal
 answer_at at (Ok text) = Ok text
 answer_at at (Err b) = Err (copy_refusal at b)
 

@@ -8,3 +8,4 @@ pub mod Misspelling
 pub mod Numbers
 pub mod Queries
 pub mod Running
+pub mod Turns

@@ -12,12 +12,12 @@ use Rattle.perm_engine.specs.Step.{Stepped, Turn, Stands, Refuses, turn}
 use Rattle.perm_engine.specs.declared.copy.CopyBreak.{CopyBreak}
 use Rattle.perm_engine.specs.declared.copy.CopyBreak.TheVariants.{UnknownTable, VersionsSpent, File}
 use Rattle.perm_engine.specs.declared.copying.CopyRefusal.TheVariants as file
-use Rattle.perm_engine.specs.declared.session_refusal.SessionRefusal.{SessionRefusal}
-use Rattle.perm_engine.specs.declared.session_refusal.SessionRefusal.TheVariants.{Break, Missing, TooLarge, Unfit, ReadFault, NoMemory}
+use Rattle.perm_engine.specs.declared.step_refusal.StepRefusal.{StepRefusal}
+use Rattle.perm_engine.specs.declared.step_refusal.StepRefusal.TheVariants.{Break, Missing, TooLarge, Unfit, ReadFault, NoMemory}
 
 -- what becomes of a statement: its text with what the catalog holds then, or a refusal
 abbrev pub Outcome : Type 0
-Outcome = Result Stepped SessionRefusal
+Outcome = Result Stepped StepRefusal
 
 -- it is settled at once, or it begins a file and goes on by what became of that
 pub data Asked : Type 0 where
@@ -29,7 +29,7 @@ settled (Stands stepped) = Ok stepped
 settled (Refuses b) = Err (Break b)
 
 -- the refusal of a COPY that stands at an offset
-abbrev pub copy_refusal : ℕ → CopyBreak → SessionRefusal
+abbrev pub copy_refusal : ℕ → CopyBreak → StepRefusal
 copy_refusal at UnknownTable = Break (record { code = 10; at = 0 })
 copy_refusal at VersionsSpent = Break (record { code = 17; at = at })
 copy_refusal at (File file.Missing) = Missing at
@@ -67,7 +67,7 @@ asked c statement = asks c statement statement.body
 -- ---- what a call answers that runs a statement
 
 -- the text with what the catalog holds then, or a refusal, after which it holds what it held
-abbrev pub IsOutcome : Outcome → Contents → Contents → Result (List ℕ) SessionRefusal → Type 0
+abbrev pub IsOutcome : Outcome → Contents → Contents → Result (List ℕ) StepRefusal → Type 0
 IsOutcome outcome old new (Ok text) = outcome ≡ Ok (record { text = text; contents = new })
 IsOutcome outcome old new (Err (Break b)) = (outcome ≡ Err (Break b)) × (new ≡ old)
 IsOutcome outcome old new (Err (Missing at)) = (outcome ≡ Err (Missing at)) × (new ≡ old)
@@ -77,7 +77,7 @@ IsOutcome outcome old new (Err ReadFault) = (outcome ≡ Err ReadFault) × (new 
 IsOutcome outcome old new (Err NoMemory) = new ≡ old
 
 -- the same where a file was begun, which was found to be what it can be
-abbrev pub IsAnswered : (List ℕ → Found → Type 0) → Asked → Contents → Contents → Result (List ℕ) SessionRefusal → Type 0
+abbrev pub IsAnswered : (List ℕ → Found → Type 0) → Asked → Contents → Contents → Result (List ℕ) StepRefusal → Type 0
 IsAnswered Can (Settled outcome) old new result = IsOutcome outcome old new result
 IsAnswered Can (Begins name after) old new result = (found : Found) × Can name found × IsOutcome (after found) old new result
 
@@ -85,7 +85,7 @@ abbrev pub begins : Asked → Bool
 begins (Settled outcome) = false
 begins (Begins name after) = true
 
-abbrev pub is_missing : {T : Type 0} → Result T SessionRefusal → Bool
+abbrev pub is_missing : {T : Type 0} → Result T StepRefusal → Bool
 is_missing (Ok text) = false
 is_missing (Err (Break b)) = false
 is_missing (Err (Missing at)) = true
@@ -94,7 +94,7 @@ is_missing (Err (Unfit rule)) = false
 is_missing (Err ReadFault) = false
 is_missing (Err NoMemory) = false
 
-abbrev pub is_too_large : {T : Type 0} → Result T SessionRefusal → Bool
+abbrev pub is_too_large : {T : Type 0} → Result T StepRefusal → Bool
 is_too_large (Ok text) = false
 is_too_large (Err (Break b)) = false
 is_too_large (Err (Missing at)) = false
@@ -103,7 +103,7 @@ is_too_large (Err (Unfit rule)) = false
 is_too_large (Err ReadFault) = false
 is_too_large (Err NoMemory) = false
 
-abbrev pub has_failed : {T : Type 0} → Result T SessionRefusal → Bool
+abbrev pub has_failed : {T : Type 0} → Result T StepRefusal → Bool
 has_failed (Ok text) = false
 has_failed (Err (Break b)) = false
 has_failed (Err (Missing at)) = false
@@ -112,7 +112,7 @@ has_failed (Err (Unfit rule)) = false
 has_failed (Err ReadFault) = true
 has_failed (Err NoMemory) = false
 
-abbrev pub is_short : {T : Type 0} → Result T SessionRefusal → Bool
+abbrev pub is_short : {T : Type 0} → Result T StepRefusal → Bool
 is_short (Ok text) = false
 is_short (Err (Break b)) = false
 is_short (Err (Missing at)) = false

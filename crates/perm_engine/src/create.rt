@@ -5,7 +5,7 @@ ghost use Rattle.perm_catalog.specs.Changes.{is_free};
 ghost use Rattle.perm_engine.specs.Answers.{IsTurn};
 ghost use Rattle.perm_engine.specs.Step.{names_of, all_differ, can_create, create};
 
-use crate::refusal::StepRefusal;
+use crate::refusal::CommandRefusal;
 use crate::text::text_of;
 use perm_catalog::{Catalog, CatalogRefusal, Column};
 use perm_values::{Bytes, Chars, Copyable, List};
@@ -21,18 +21,18 @@ pub(crate) fn create_table(
     table: &Chars,
     columns: &List<Column>,
     at: usize,
-) -> Result<Bytes, StepRefusal>
+) -> Result<Bytes, CommandRefusal>
     ensures { IsTurn (create catalog.old table.now columns.now at) catalog.old catalog.new result }
 {
     if !can_create(catalog, table, columns.as_slice()) {
-        return Err(StepRefusal::new(10, 0));
+        return Err(CommandRefusal::new(10, 0));
     }
     let text = text_of(alloc, b"CREATE TABLE\n")?;
     let made = columns.copy(alloc)?;
     match catalog.create(alloc, table, made, List::new(alloc), None) {
         Ok(()) => Ok(text),
-        Err(CatalogRefusal::VersionsSpent) => Err(StepRefusal::new(17, at)),
-        Err(CatalogRefusal::NoMemory) => Err(StepRefusal::NoMemory),
+        Err(CatalogRefusal::VersionsSpent) => Err(CommandRefusal::new(17, at)),
+        Err(CatalogRefusal::NoMemory) => Err(CommandRefusal::NoMemory),
     }
 }
 

@@ -4,7 +4,7 @@ ghost use Rattle.perm_catalog.specs.Changes.{table_named};
 ghost use Rattle.perm_engine.specs.Answers.{IsTurn};
 ghost use Rattle.perm_engine.specs.Step.{with_entry, delete_from};
 
-use crate::refusal::StepRefusal;
+use crate::refusal::CommandRefusal;
 use crate::text::counted;
 use bag_algebra::Tables;
 use perm_catalog::{Catalog, CatalogRefusal};
@@ -17,19 +17,19 @@ pub(crate) fn delete(
     catalog: &mut Catalog,
     table: &Chars,
     at: usize,
-) -> Result<Bytes, StepRefusal>
+) -> Result<Bytes, CommandRefusal>
     ensures { IsTurn (with_entry (table_named catalog.old table.now) (λ entry. delete_from catalog.old table.now entry at)) catalog.old catalog.new result }
 {
     let Some(entry) = catalog.table(table) else {
-        return Err(StepRefusal::new(10, 0));
+        return Err(CommandRefusal::new(10, 0));
     };
     let count = row_count(catalog.tables(), entry.id);
     let text = counted(alloc, b"DELETE ", count)?;
     let doomed = flags(alloc, count)?;
     match catalog.delete_rows(table, doomed.as_slice()) {
         Ok(_) => Ok(text),
-        Err(CatalogRefusal::VersionsSpent) => Err(StepRefusal::new(17, at)),
-        Err(CatalogRefusal::NoMemory) => Err(StepRefusal::NoMemory),
+        Err(CatalogRefusal::VersionsSpent) => Err(CommandRefusal::new(17, at)),
+        Err(CatalogRefusal::NoMemory) => Err(CommandRefusal::NoMemory),
     }
 }
 

@@ -4,7 +4,7 @@ ghost use Rattle.perm_catalog.specs.Lookups.{first_user};
 ghost use Rattle.perm_engine.specs.Answers.{IsTurn};
 ghost use Rattle.perm_engine.specs.Step.{with_entry, drop_unused};
 
-use crate::refusal::StepRefusal;
+use crate::refusal::CommandRefusal;
 use crate::text::text_of;
 use perm_catalog::Catalog;
 use perm_values::{Bytes, Chars};
@@ -16,14 +16,14 @@ pub(crate) fn drop_table(
     catalog: &mut Catalog,
     table: &Chars,
     at: usize,
-) -> Result<Bytes, StepRefusal>
+) -> Result<Bytes, CommandRefusal>
     ensures { IsTurn (with_entry (table_named catalog.old table.now) (λ entry. drop_unused catalog.old table.now entry at (first_user catalog.old table.now))) catalog.old catalog.new result }
 {
     if catalog.table(table).is_none() {
-        return Err(StepRefusal::new(10, 0));
+        return Err(CommandRefusal::new(10, 0));
     }
     if catalog.user_of(table).is_some() {
-        return Err(StepRefusal::new(16, at));
+        return Err(CommandRefusal::new(16, at));
     }
     let text = text_of(alloc, b"DROP TABLE\n")?;
     catalog.drop_table(table);

@@ -4,7 +4,7 @@ ghost use Rattle.perm_catalog.specs.Changes.{table_named};
 ghost use Rattle.perm_engine.specs.Answers.{IsTurn};
 ghost use Rattle.perm_engine.specs.Step.{kinds_in_order, all_fit, with_entry, insert_into};
 
-use crate::refusal::StepRefusal;
+use crate::refusal::CommandRefusal;
 use crate::text::counted;
 use perm_catalog::{Catalog, CatalogRefusal, Column};
 use perm_values::{Bytes, Chars, Copyable, Row, Rows, Value};
@@ -17,21 +17,21 @@ pub(crate) fn insert(
     table: &Chars,
     rows: &Rows,
     at: usize,
-) -> Result<Bytes, StepRefusal>
+) -> Result<Bytes, CommandRefusal>
     ensures { IsTurn (with_entry (table_named catalog.old table.now) (λ entry. insert_into catalog.old table.now entry rows.now at)) catalog.old catalog.new result }
 {
     let Some(entry) = catalog.table(table) else {
-        return Err(StepRefusal::new(10, 0));
+        return Err(CommandRefusal::new(10, 0));
     };
     if !all_fit(entry.columns.as_slice(), rows.as_slice()) {
-        return Err(StepRefusal::new(10, 0));
+        return Err(CommandRefusal::new(10, 0));
     }
     let text = counted(alloc, b"INSERT ", rows.len())?;
     let added = rows.copy(alloc)?;
     match catalog.insert_rows(table, added) {
         Ok(()) => Ok(text),
-        Err(CatalogRefusal::VersionsSpent) => Err(StepRefusal::new(17, at)),
-        Err(CatalogRefusal::NoMemory) => Err(StepRefusal::NoMemory),
+        Err(CatalogRefusal::VersionsSpent) => Err(CommandRefusal::new(17, at)),
+        Err(CatalogRefusal::NoMemory) => Err(CommandRefusal::NoMemory),
     }
 }
 

@@ -16,7 +16,7 @@ mod run;
 mod script;
 mod select;
 mod session;
-mod session_refusal;
+mod step_refusal;
 mod status;
 mod step;
 #[cfg(test)]
@@ -24,8 +24,8 @@ mod tests;
 mod text;
 
 pub use laws::{a_run_has_numbers_left, bytes_are_one_script};
-pub use refusal::{Break, StepRefusal};
+pub use refusal::{Break, CommandRefusal};
 pub use run::perm;
 pub use session::Session;
-pub use session_refusal::SessionRefusal;
+pub use step_refusal::StepRefusal;
 pub use status::Status;

@@ -1,5 +1,5 @@
 ghost use Rattle.std.specs.Prelude.{◌≡◌};
-ghost use Rattle.perm_engine.specs.declared.refusal.StepRefusal.TheVariants.{Break as Broken, NoMemory as OutOfMemory};
+ghost use Rattle.perm_engine.specs.declared.refusal.CommandRefusal.TheVariants.{Break as Broken, NoMemory as OutOfMemory};
 
 use perm_values::NoMemory;
 use std::alloc::AllocError;
@@ -13,31 +13,31 @@ pub struct Break {
 
 /// Why a statement isn't run: it can't stand, or memory is wanting.
 #[derive(Clone, Copy, Debug, PartialEq, Eq)]
-pub enum StepRefusal {
+pub enum CommandRefusal {
     Break(Break),
     NoMemory,
 }
 
-impl StepRefusal {
-    pub(crate) fn new(code: u8, at: usize) -> StepRefusal
+impl CommandRefusal {
+    pub(crate) fn new(code: u8, at: usize) -> CommandRefusal
         ensures { result ≡ Broken (record { code = code; at = at }) }
     {
-        StepRefusal::Break(Break { code, at })
+        CommandRefusal::Break(Break { code, at })
     }
 }
 
-impl From<NoMemory> for StepRefusal {
+impl From<NoMemory> for CommandRefusal {
     ghost from_gives = { λ _ refusal. refusal ≡ OutOfMemory };
 
-    fn from(_error: NoMemory) -> StepRefusal {
-        StepRefusal::NoMemory
+    fn from(_error: NoMemory) -> CommandRefusal {
+        CommandRefusal::NoMemory
     }
 }
 
-impl From<AllocError> for StepRefusal {
+impl From<AllocError> for CommandRefusal {
     ghost from_gives = { λ _ refusal. refusal ≡ OutOfMemory };
 
-    fn from(_error: AllocError) -> StepRefusal {
-        StepRefusal::NoMemory
+    fn from(_error: AllocError) -> CommandRefusal {
+        CommandRefusal::NoMemory
     }
 }

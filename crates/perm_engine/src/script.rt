@@ -2,7 +2,7 @@ ghost use Rattle.std.specs.Prelude.{◌≡◌};
 ghost use Rattle.sql_lexer.specs.Lexes.{Lexes};
 ghost use Rattle.perm_engine.specs.Scripts.{IsReading, no_tokens};
 
-use crate::refusal::StepRefusal;
+use crate::refusal::CommandRefusal;
 use perm_values::List;
 use sql_lexer::{LexError, Token, tokens};
 use sql_parser::{SyntaxError, script};
@@ -10,7 +10,7 @@ use sql_tree::Script;
 use std::alloc::Global;
 
 /// The script that the bytes spell; a break says why they spell none.
-pub(crate) fn script_of(alloc: Global, bytes: &[u8]) -> Result<Script, StepRefusal>
+pub(crate) fn script_of(alloc: Global, bytes: &[u8]) -> Result<Script, CommandRefusal>
     ensures { IsReading bytes.now result }
 {
     match tokens(alloc, bytes) {
@@ -20,27 +20,27 @@ pub(crate) fn script_of(alloc: Global, bytes: &[u8]) -> Result<Script, StepRefus
 }
 
 /// The refusal of bytes that have no tokens.
-fn no_tokens(error: LexError) -> StepRefusal
+fn no_tokens(error: LexError) -> CommandRefusal
     ensures { result ≡ no_tokens error }
 {
     match error {
-        LexError::NotUtf8(at) => StepRefusal::new(1, at),
-        LexError::BadCharacter(at) => StepRefusal::new(2, at),
-        LexError::Unterminated(at) => StepRefusal::new(3, at),
-        LexError::NumberRange(at) => StepRefusal::new(4, at),
-        LexError::NoMemory => StepRefusal::NoMemory,
+        LexError::NotUtf8(at) => CommandRefusal::new(1, at),
+        LexError::BadCharacter(at) => CommandRefusal::new(2, at),
+        LexError::Unterminated(at) => CommandRefusal::new(3, at),
+        LexError::NumberRange(at) => CommandRefusal::new(4, at),
+        LexError::NoMemory => CommandRefusal::NoMemory,
     }
 }
 
 /// The script that these tokens of the bytes spell.
-fn tree_of(alloc: Global, found: &List<Token>, bytes: &[u8]) -> Result<Script, StepRefusal>
+fn tree_of(alloc: Global, found: &List<Token>, bytes: &[u8]) -> Result<Script, CommandRefusal>
     requires { Lexes bytes.now found.now }
     ensures { IsReading bytes.now result }
 {
     match script(alloc, found, bytes.len()) {
         Ok(tree) => Ok(tree),
-        Err(SyntaxError::Unexpected(at)) => Err(StepRefusal::new(5, at)),
-        Err(SyntaxError::TooDeep(at)) => Err(StepRefusal::new(6, at)),
-        Err(SyntaxError::NoMemory) => Err(StepRefusal::NoMemory),
+        Err(SyntaxError::Unexpected(at)) => Err(CommandRefusal::new(5, at)),
+        Err(SyntaxError::TooDeep(at)) => Err(CommandRefusal::new(6, at)),
+        Err(SyntaxError::NoMemory) => Err(CommandRefusal::NoMemory),
     }
 }

@@ -8,8 +8,8 @@ ghost use Rattle.perm_engine.specs.Found.{CanBe};
 ghost use Rattle.perm_engine.specs.Step.{turn};
 
 use crate::copy::copy_into;
-use crate::refusal::StepRefusal;
-use crate::session_refusal::SessionRefusal;
+use crate::refusal::CommandRefusal;
+use crate::step_refusal::StepRefusal;
 use crate::step::step;
 use perm_catalog::Catalog;
 use perm_io::Files;
@@ -68,7 +68,7 @@ impl Session {
         &mut self,
         statement: &Statement,
         files: &mut F,
-    ) -> Result<Bytes, SessionRefusal>
+    ) -> Result<Bytes, StepRefusal>
         ensures answer { IsAnswered (CanBe file_limit (F.held files.old) (HasRisen (F.faults files.old) (F.faults files.new)))
             (asked self.old statement.now) self.old self.new result }
 
@@ -112,7 +112,7 @@ impl Session {
         mark: &Chars,
         header: bool,
         at: usize,
-    ) -> Result<Bytes, SessionRefusal>
+    ) -> Result<Bytes, StepRefusal>
         ensures answer { IsAnswered (CanBe file_limit (F.held files.old) (HasRisen (F.faults files.old) (F.faults files.new)))
             (copy_asks self.old table.now file.now mark.now header at (table_named self.old table.now)) self.old self.new result }
         ensures missing { IsTrue (is_missing result) → IsTrue (F.absent files.new) }
@@ -126,12 +126,12 @@ impl Session {
     {
         match copy_into(self.alloc, &mut self.catalog, files, table, file, mark, header) {
             Ok(text) => Ok(text),
-            Err(refusal) => Err(SessionRefusal::of_copy(refusal, at)),
+            Err(refusal) => Err(StepRefusal::of_copy(refusal, at)),
         }
     }
 
     /// Runs a statement that begins no file.
-    fn settle(&mut self, statement: &Statement) -> Result<Bytes, SessionRefusal>
+    fn settle(&mut self, statement: &Statement) -> Result<Bytes, StepRefusal>
         ensures answer { IsOutcome (settled (turn self.old statement.now)) self.old self.new result }
         ensures missing { is_missing result ≡ false }
         ensures too_large { is_too_large result ≡ false }
@@ -139,17 +139,17 @@ impl Session {
     {
         match self.answer(statement) {
             Ok(text) => Ok(text),
-            Err(StepRefusal::Break(found)) => Err(SessionRefusal::Break(found)),
-            Err(StepRefusal::NoMemory) => Err(SessionRefusal::NoMemory),
+            Err(CommandRefusal::Break(found)) => Err(StepRefusal::Break(found)),
+            Err(CommandRefusal::NoMemory) => Err(StepRefusal::NoMemory),
         }
     }
 
     /// Runs a statement that begins no file.
-    pub(crate) fn answer(&mut self, statement: &Statement) -> Result<Bytes, StepRefusal>
+    pub(crate) fn answer(&mut self, statement: &Statement) -> Result<Bytes, CommandRefusal>
         ensures { IsTurn (turn self.old statement.now) self.old self.new result }
     {
         let Some(command) = command_of(self.alloc, statement)? else {
-            return Err(StepRefusal::new(29, statement.at));
+            return Err(CommandRefusal::new(29, statement.at));
         };
         step(self.alloc, &mut self.catalog, &command, statement.at)
     }

@@ -6,7 +6,7 @@ use crate::create::create_table;
 use crate::delete::delete;
 use crate::drop_table::drop_table;
 use crate::insert::insert;
-use crate::refusal::StepRefusal;
+use crate::refusal::CommandRefusal;
 use crate::select::select;
 use perm_catalog::Catalog;
 use perm_values::Bytes;
@@ -20,7 +20,7 @@ pub(crate) fn step(
     catalog: &mut Catalog,
     command: &Command,
     at: usize,
-) -> Result<Bytes, StepRefusal>
+) -> Result<Bytes, CommandRefusal>
     ensures { IsTurn (step catalog.old command.now at) catalog.old catalog.new result }
 {
     match command {

@@ -3,12 +3,12 @@ ghost use Rattle.perm_engine.specs.Asking.{copy_refusal};
 
 use crate::copy::CopyBreak;
 use crate::copying::CopyRefusal;
-use crate::refusal::{Break, StepRefusal};
+use crate::refusal::{Break, CommandRefusal};
 use csv_tables::DataError;
 
 /// Why a session doesn't run a statement. Offsets are the statement's.
 #[derive(Clone, Copy, Debug, PartialEq, Eq)]
-pub enum SessionRefusal {
+pub enum StepRefusal {
     /// It can't stand.
     Break(Break),
     /// Its file isn't there.
@@ -22,19 +22,19 @@ pub enum SessionRefusal {
     NoMemory,
 }
 
-impl SessionRefusal {
+impl StepRefusal {
     /// The refusal of a COPY that stands at an offset.
-    pub(crate) fn of_copy(refusal: CopyBreak, at: usize) -> SessionRefusal
+    pub(crate) fn of_copy(refusal: CopyBreak, at: usize) -> StepRefusal
         ensures { result ≡ copy_refusal at refusal }
     {
         match refusal {
-            CopyBreak::UnknownTable => SessionRefusal::Break(Break { code: 10, at: 0 }),
-            CopyBreak::VersionsSpent => SessionRefusal::Break(Break { code: 17, at }),
-            CopyBreak::File(CopyRefusal::Missing) => SessionRefusal::Missing { at },
-            CopyBreak::File(CopyRefusal::TooLarge) => SessionRefusal::TooLarge { at },
-            CopyBreak::File(CopyRefusal::Unfit(rule)) => SessionRefusal::Unfit(rule),
-            CopyBreak::File(CopyRefusal::ReadFault) => SessionRefusal::ReadFault,
-            CopyBreak::File(CopyRefusal::NoMemory) => SessionRefusal::NoMemory,
+            CopyBreak::UnknownTable => StepRefusal::Break(Break { code: 10, at: 0 }),
+            CopyBreak::VersionsSpent => StepRefusal::Break(Break { code: 17, at }),
+            CopyBreak::File(CopyRefusal::Missing) => StepRefusal::Missing { at },
+            CopyBreak::File(CopyRefusal::TooLarge) => StepRefusal::TooLarge { at },
+            CopyBreak::File(CopyRefusal::Unfit(rule)) => StepRefusal::Unfit(rule),
+            CopyBreak::File(CopyRefusal::ReadFault) => StepRefusal::ReadFault,
+            CopyBreak::File(CopyRefusal::NoMemory) => StepRefusal::NoMemory,
         }
     }
 }
