@@ -20,8 +20,8 @@ returns-in-Ok-clause-run g c =
     let new = g.F.Files.faults c.run_script.new.files in
     Runs-found c.args.words.now c.index-words-0.result (g.F.Files.held c.args.files.now) _ (Read c.in-Ok.bytes) _ _ _ _ _
     (one_word c.args.words.now c.index-words-0.result c.if-words-ne1.false c.index-words-0.is) c.in-Ok.ensures.begun (c.in-Ok.ensures.whole, c.in-Ok.ensures.within)
-    (subst (λ (p : Option (List NamedFile) × ℕ). EndsOne 0 (RunsScript (CanBe file_limit p.0 (HasRisen p.1 new)) c.in-Ok.bytes) _ _ _ c.run_script.result)
-    (λ i. (c.in-Ok.ensures.held i, c.in-Ok.ensures.faults i)) (rw (← c.as_slice.ensures) c.run_script.ensures.ends))
+    (subst (λ (p : Option (List NamedFile) × ℕ × List ℕ). EndsOne 0 (RunsScript (CanBe file_limit p.0 (HasRisen p.1 new)) p.2) _ _ _ c.run_script.result)
+    (λ i. (c.in-Ok.ensures.held i, c.in-Ok.ensures.faults i, c.as_slice.ensures i)) c.run_script.ensures.ends)
 
 pub returns-in-Err-Missing-clause-run : goal.returns-in-Err-Missing-clause-run
 returns-in-Err-Missing-clause-run g c =
