@@ -21,6 +21,7 @@ some_found limit (Some files) fault name = by_bytes (file_named files name) refl
   by_length : (bytes : List ℕ) → file_named files name ≡ Some bytes → (limit < length bytes) ⊎ (length bytes ≤ limit) → (found : Found) × CanBe limit (Some files) fault name found
   by_length bytes e (inl longer) = (TooLong, subst (λ found. IsSomeAnd found (λ b. limit < length b)) (sym e) longer)
   by_length bytes e (inr within) = (Read bytes, (e, within))
+
   by_bytes : (found : Option (List ℕ)) → file_named files name ≡ found → (found : Found) × CanBe limit (Some files) fault name found
   by_bytes None e = (Missing, e)
   by_bytes (Some bytes) e = by_length bytes e (cases_lt limit (length bytes))

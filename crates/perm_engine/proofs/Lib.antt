@@ -2,6 +2,7 @@ pub mod CopiedFile
 pub mod CopiedInto
 pub mod CopyAnswers
 mod CopySamples
+pub mod Damaged
 pub mod Ending
 pub mod Fitting
 pub mod Misspelling

@@ -1,6 +1,6 @@
 -- Which run a command line and its script's file stand for.
 use Rattle.std.proofs.Common.{◌≡◌, ◌∙◌, ◌⊎◌, ℕ, ◌+◌, ◌≤◌, ◌<◌, Bool, false, List, [], ◌∷◌, length, Option, Some, Err, get_or, refl, sym, ap, inl, inr, subst, arith}
-use Rattle.perm_io.specs.Counts.{next_count}
+use Rattle.perm_io.specs.Counts.{HasRisen, next_count}
 use Rattle.perm_io.specs.declared.named_file.NamedFile.{NamedFile}
 use Rattle.perm_catalog.specs.Changes.{nothing_held}
 use Rattle.sql_tree.specs.declared.statement.Script.{Script}
@@ -43,13 +43,17 @@ one_word (first ∷ other ∷ words) name one h = absurd (omega (arith, one))
 pub Runs-found : (words : List (List ℕ)) (name : List ℕ) (held : Option (List NamedFile)) (fault : Type 0) (found : Found) (w : Written) (before mid after : ℕ) (s : Status) →
     words ≡ name ∷ [] → mid ≡ next_count before → CanBe script_limit held fault name found → EndsOne 0 (RunsFile (CanBe file_limit held fault) found) w mid after s → EndsOne 1 (Runs words held fault) w before after s
 Runs-found words name held fault found w before mid after s one begun can (inl (ran, runs, ends, o)) =
-    inl (after_files 1 ran, subst (λ ws. Runs ws held fault (after_files 1 ran)) (sym one) (found, ran, can, runs, refl), Ends-files 1 ran w s ends,
-    record {
-      files = o.files + 1;
-      within = omega (arith, o.within);
-      whole = λ i. ap (λ n. n + 1) (o.whole i);
-      counted = o.counted ∙ ap (opened o.files) begun ∙ sym (opened-more 1 o.files before);
-    })
+    inl (
+      after_files 1 ran,
+      subst (λ ws. Runs ws held fault (after_files 1 ran)) (sym one) (found, ran, can, runs, refl),
+      Ends-files 1 ran w s ends,
+      record {
+        files = o.files + 1;
+        within = omega (arith, o.within);
+        whole = λ i. ap (λ n. n + 1) (o.whole i);
+        counted = o.counted ∙ ap (opened o.files) begun ∙ sym (opened-more 1 o.files before);
+      },
+    )
 Runs-found words name held fault found w before mid after s one begun can (inr (silent, none)) = inr (silent, none ∙ begun)
 
 -- a run that begins no file
@@ -70,3 +74,13 @@ EndsOne-refused Can bytes NoMemory w count s misspelled e = inr (e, refl)
 pub not_failed : (s given : Status) → (given ≡ status.ReadFault → ⊥) → (s ≡ given) ⊎ (s ≡ status.WriteFault) → s ≡ status.ReadFault → ⊥
 not_failed s given other (inl same) e = other (sym same ∙ e)
 not_failed s given other (inr cut) e = absurd cc
+
+-- the same files, counts and bytes under other names
+pub EndsOne-moved : (held held' : Option (List NamedFile)) (faults faults' new : ℕ) (bytes bytes' : List ℕ) (w : Written) (before after : ℕ) (s : Status) → held ≡ held' → faults ≡ faults' → bytes ≡ bytes' →
+    EndsOne 0 (RunsScript (CanBe file_limit held (HasRisen faults new)) bytes) w before after s → EndsOne 0 (RunsScript (CanBe file_limit held' (HasRisen faults' new)) bytes') w before after s
+EndsOne-moved held held' faults faults' new bytes bytes' w before after s e f g h =
+    subst (λ (p : Option (List NamedFile) × ℕ × List ℕ). EndsOne 0 (RunsScript (CanBe file_limit p.0 (HasRisen p.1 new)) p.2) w before after s) (λ i. (e i, f i, g i)) h
+
+pub not_damaged : (s : Status) → (s ≡ status.Done) ⊎ (s ≡ status.WriteFault) → s ≡ status.BadData → ⊥
+not_damaged s (inl done) e = absurd cc
+not_damaged s (inr cut) e = absurd cc

@@ -53,9 +53,13 @@ module _ (Can : List ℕ → Found → Type 0) (CanStep : List ℕ → Found →
   asks-ends (Settled outcome) now next refusal Next t h =
       subst (λ o. GoesOn o Next (after_files 0 (line_alone (refusal_line refusal) (refusal_status refusal)))) (sym (told outcome now next refusal t h))
       (after_none (line_alone (refusal_line refusal) (refusal_status refusal)))
-  asks-ends (Begins name after) now next refusal Next t (found, can, h) =
-      (found, line_alone (refusal_line refusal) (refusal_status refusal), widen name found can,
-      subst (λ o. GoesOn o Next (line_alone (refusal_line refusal) (refusal_status refusal))) (sym (told (after found) now next refusal t h)) refl, refl)
+  asks-ends (Begins name after) now next refusal Next t (found, can, h) = (
+    found,
+    line_alone (refusal_line refusal) (refusal_status refusal),
+    widen name found can,
+    subst (λ o. GoesOn o Next (line_alone (refusal_line refusal) (refusal_status refusal))) (sym (told (after found) now next refusal t h)) refl,
+    refl,
+  )
 
 -- ---- every start has some run
 

@@ -1,9 +1,11 @@
 -- How a run ends: what stands in the output then, beside the status.
-use Rattle.std.specs.Prelude.{◌≡◌, ◌⊎◌, ℕ, zero, suc, ◌≤◌, Bool, false, List, length, take, Option}
+use Rattle.std.specs.Prelude.{◌≡◌, ◌⊎◌, ℕ, zero, suc, ◌≤◌, Bool, false, List, ◌++◌, length, take, Option}
 use Rattle.std.specs.Io.KnownBytes.{append_known}
 use Rattle.std.specs.List.{flat_map}
 use Rattle.perm_io.specs.Counts.{HasRisen, next_count}
 use Rattle.perm_engine.specs.Run.{Ran, text_of, line_alone, refusal_line, IsWhole}
+use Rattle.csv_tables.specs.declared.data_error.DataError.{DataError}
+use Rattle.perm_engine.specs.DataLines.{data_line}
 use Rattle.perm_engine.specs.Lines.{error_line}
 use Rattle.perm_engine.specs.declared.refusal.CommandRefusal.{CommandRefusal}
 use Rattle.perm_engine.specs.declared.refusal.CommandRefusal.TheVariants.{Break, NoMemory}
@@ -95,3 +97,7 @@ EndsSome IsRun w before after s = (ran : Ran) × IsRun ran × Ends ran w s × Op
 -- that, or memory was wanting before anything was written, when some files were begun
 abbrev pub EndsOne : ℕ → (Ran → Type 0) → Written → ℕ → ℕ → Status → Type 0
 EndsOne files IsRun w before after s = EndsSome IsRun w before after s ⊎ (IsSilent w s × (after ≡ opened files before))
+
+-- the line written last names a rule that a record of a file breaks
+abbrev pub EndsUnfit : Option (List ℕ) → Option (List ℕ) → Type 0
+EndsUnfit before after = (rule : DataError) × (text : List ℕ) × (after ≡ append_known before (text ++ data_line rule))

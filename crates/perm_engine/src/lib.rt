@@ -16,9 +16,9 @@ mod run;
 mod script;
 mod select;
 mod session;
-mod step_refusal;
 mod status;
 mod step;
+mod step_refusal;
 #[cfg(test)]
 mod tests;
 mod text;
@@ -27,5 +27,5 @@ pub use laws::{a_run_has_numbers_left, bytes_are_one_script};
 pub use refusal::{Break, CommandRefusal};
 pub use run::perm;
 pub use session::Session;
-pub use step_refusal::StepRefusal;
 pub use status::Status;
+pub use step_refusal::StepRefusal;

@@ -1,12 +1,12 @@
-ghost use Rattle.std.specs.Prelude.{◌≡◌, ◌⊎◌, true, false};
+ghost use Rattle.std.specs.Prelude.{◌≡◌, ◌⊎◌, ◌<◌, IsTrue, true, false};
 ghost use Rattle.perm_io.specs.Counts.{HasRisen};
 ghost use Rattle.perm_catalog.specs.Changes.{nothing_held};
 ghost use Rattle.perm_engine.specs.Copying.{file_limit};
 ghost use Rattle.perm_engine.specs.DataLines.{data_line};
-ghost use Rattle.perm_engine.specs.Ends.{Ends, EndsOne, EndsSome, EndsRefused, EndsStopped};
+ghost use Rattle.perm_engine.specs.Ends.{Ends, EndsOne, EndsSome, EndsRefused, EndsStopped, EndsUnfit};
 ghost use Rattle.perm_engine.specs.Found.{CanBe};
 ghost use Rattle.perm_engine.specs.Lines.{error_line};
-ghost use Rattle.perm_engine.specs.Run.{Runs, RunsFrom, RunsScript, line_alone, is_failed, is_one, IsWhole, IsSteady, IsOfScript};
+ghost use Rattle.perm_engine.specs.Run.{Runs, RunsFrom, RunsScript, line_alone, is_failed, is_one, IsWhole, IsSteady, IsOfScript, script_limit};
 
 use crate::data_line::data_line;
 use crate::line::error_line;
@@ -60,6 +60,7 @@ fn end_broken<K: Sink>(alloc: Global, found: Break, status: Status, out: &mut K)
     }) result }
     ensures status { IsOfScript result }
     ensures data { result ≡ Status.ReadFault → ⊥ }
+    ensures given { (result ≡ status) ⊎ ((result ≡ Status.WriteFault) ⊎ (result ≡ Status.NoMemory)) }
 {
     match error_line(alloc, found) {
         Ok(line) => finish(out, line.as_slice(), status),
@@ -95,7 +96,7 @@ fn refuse<K: Sink>(alloc: Global, refusal: CommandRefusal, out: &mut K) -> Statu
       unflushed = K.unflushed out.new;
     }) result }
     ensures status { IsOfScript result }
-    ensures data { result ≡ Status.ReadFault → ⊥ }
+    ensures data { (result ≡ Status.ReadFault → ⊥) × (result ≡ Status.BadData → ⊥) }
 {
     match refusal {
         CommandRefusal::Break(found) => end_broken(alloc, found, Status::Syntax, out),
@@ -139,13 +140,14 @@ fn run_statements<F: Files, K: Sink>(
 ) -> Status
     ensures ends { EndsSome (RunsFrom (CanBe file_limit (F.held files.old) (HasRisen (F.faults files.old) (F.faults files.new))) (nothing_held 1) statements.now)
         (record {
-      before = K.written out.old;
-      after = K.written out.new;
-      faults_before = K.faults out.old;
-      faults_after = K.faults out.new;
-      unflushed = K.unflushed out.new;
-    }) (F.begun files.old) (F.begun files.new) result }
+          before = K.written out.old;
+          after = K.written out.new;
+          faults_before = K.faults out.old;
+          faults_after = K.faults out.new;
+          unflushed = K.unflushed out.new;
+        }) (F.begun files.old) (F.begun files.new) result }
     ensures status { IsOfScript result }
+    ensures bad_data { result ≡ Status.BadData → IsTrue (F.absent files.new) ⊎ ((file_limit < F.taken files.new) ⊎ EndsUnfit (K.written out.old) (K.written out.new)) }
     ensures read_fault { result ≡ Status.ReadFault → HasRisen (F.faults files.old) (F.faults files.new) }
     ensures steady { IsSteady result → F.faults files.new ≡ F.faults files.old }
     ensures held { F.held files.new ≡ F.held files.old }
@@ -164,21 +166,17 @@ fn run_statements<F: Files, K: Sink>(
 }
 
 /// Runs the script that the bytes spell, or refuses it as a whole.
-fn run_script<F: Files, K: Sink>(
-    alloc: Global,
-    bytes: &[u8],
-    files: &mut F,
-    out: &mut K,
-) -> Status
+fn run_script<F: Files, K: Sink>(alloc: Global, bytes: &[u8], files: &mut F, out: &mut K) -> Status
     ensures ends { EndsOne 0 (RunsScript (CanBe file_limit (F.held files.old) (HasRisen (F.faults files.old) (F.faults files.new))) bytes.now)
         (record {
-      before = K.written out.old;
-      after = K.written out.new;
-      faults_before = K.faults out.old;
-      faults_after = K.faults out.new;
-      unflushed = K.unflushed out.new;
-    }) (F.begun files.old) (F.begun files.new) result }
+          before = K.written out.old;
+          after = K.written out.new;
+          faults_before = K.faults out.old;
+          faults_after = K.faults out.new;
+          unflushed = K.unflushed out.new;
+        }) (F.begun files.old) (F.begun files.new) result }
     ensures status { IsOfScript result }
+    ensures bad_data { result ≡ Status.BadData → IsTrue (F.absent files.new) ⊎ ((file_limit < F.taken files.new) ⊎ EndsUnfit (K.written out.old) (K.written out.new)) }
     ensures read_fault { result ≡ Status.ReadFault → HasRisen (F.faults files.old) (F.faults files.new) }
     ensures steady { IsSteady result → F.faults files.new ≡ F.faults files.old }
     ensures held { F.held files.new ≡ F.held files.old }
@@ -204,6 +202,7 @@ pub fn perm<F: Files, K: Sink>(alloc: Global, words: &[Chars], files: &mut F, ou
     // When each status comes.
     ensures usage { result ≡ Status.Usage → is_one words.now ≡ false }
     ensures misused { is_one words.now ≡ false → (result ≡ Status.Usage) ⊎ (result ≡ Status.WriteFault) }
+    ensures bad_data { result ≡ Status.BadData → IsTrue (F.absent files.new) ⊎ ((script_limit < F.taken files.new) ⊎ EndsUnfit (K.written out.old) (K.written out.new)) }
     ensures read_fault { result ≡ Status.ReadFault → HasRisen (F.faults files.old) (F.faults files.new) }
     ensures write_fault { result ≡ Status.WriteFault → HasRisen (K.faults out.old) (K.faults out.new) }
     ensures steady { IsSteady result → (F.faults files.new ≡ F.faults files.old) × (K.faults out.new ≡ K.faults out.old) }

@@ -9,8 +9,8 @@ ghost use Rattle.perm_engine.specs.Step.{turn};
 
 use crate::copy::copy_into;
 use crate::refusal::CommandRefusal;
-use crate::step_refusal::StepRefusal;
 use crate::step::step;
+use crate::step_refusal::StepRefusal;
 use perm_catalog::Catalog;
 use perm_io::Files;
 use perm_values::{Bytes, Chars};
@@ -124,7 +124,15 @@ impl Session {
             files.new ≡ files.old }
         ensures held { F.held files.new ≡ F.held files.old }
     {
-        match copy_into(self.alloc, &mut self.catalog, files, table, file, mark, header) {
+        match copy_into(
+            self.alloc,
+            &mut self.catalog,
+            files,
+            table,
+            file,
+            mark,
+            header,
+        ) {
             Ok(text) => Ok(text),
             Err(refusal) => Err(StepRefusal::of_copy(refusal, at)),
         }

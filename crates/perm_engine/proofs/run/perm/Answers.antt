@@ -1,27 +1,31 @@
 use Rattle.std.proofs.Common.{◌≡◌, ◌∙◌, List, ℕ, Option, Err, ap, refl, inl, sym, subst}
 use Rattle.perm_io.specs.Answers.{is_fault}
-use Rattle.perm_io.specs.Counts.{HasRisen, CountsFault}
-use Rattle.perm_io.specs.declared.named_file.NamedFile.{NamedFile}
-use Rattle.perm_engine.proofs.Running.{Runs-misused, Runs-found, Opens-none, one_word, none_or_more}
-use Rattle.perm_engine.specs.Copying.{file_limit}
-use Rattle.perm_engine.specs.Ends.{EndsOne}
-use Rattle.perm_engine.specs.Found.{CanBe, Read, Missing, TooLong, Failed}
-use Rattle.perm_engine.specs.Run.{RunsScript, usage}
+use Rattle.perm_io.specs.Counts.{CountsFault}
+use Rattle.perm_engine.proofs.Damaged.{past_script}
+use Rattle.perm_engine.proofs.Running.{Runs-misused, Runs-found, EndsOne-moved, Opens-none, one_word, none_or_more}
+use Rattle.perm_engine.specs.Found.{Read, Missing, TooLong, Failed}
+use Rattle.perm_engine.specs.Run.{usage}
 use Rattle.perm_engine.specs.declared.status.Status.TheVariants as status
 use Rattle.perm_engine.proofs.run.perm.Goals as goal
 
 pub returns-then-words-ne1-clause-run : goal.returns-then-words-ne1-clause-run
 returns-then-words-ne1-clause-run g c =
-    inl (usage, Runs-misused c.args.words.now (g.F.Files.held c.args.files.now) _ (none_or_more c.args.words.now c.if-words-ne1.true), c.finish.ensures.ends,
-    Opens-none usage.line status.Usage (g.F.Files.begun c.args.files.now) c.finish.result)
+    inl (
+      usage,
+      Runs-misused c.args.words.now (g.F.Files.held c.args.files.now) _ (none_or_more c.args.words.now c.if-words-ne1.true),
+      c.finish.ensures.ends,
+      Opens-none usage.line status.Usage (g.F.Files.begun c.args.files.now) c.finish.result,
+    )
 
 pub returns-in-Ok-clause-run : goal.returns-in-Ok-clause-run
 returns-in-Ok-clause-run g c =
     let new = g.F.Files.faults c.run_script.new.files in
     Runs-found c.args.words.now c.index-words-0.result (g.F.Files.held c.args.files.now) _ (Read c.in-Ok.bytes) _ _ _ _ _
     (one_word c.args.words.now c.index-words-0.result c.if-words-ne1.false c.index-words-0.is) c.in-Ok.ensures.begun (c.in-Ok.ensures.whole, c.in-Ok.ensures.within)
-    (subst (λ (p : Option (List NamedFile) × ℕ × List ℕ). EndsOne 0 (RunsScript (CanBe file_limit p.0 (HasRisen p.1 new)) p.2) _ _ _ c.run_script.result)
-    (λ i. (c.in-Ok.ensures.held i, c.in-Ok.ensures.faults i, c.as_slice.ensures i)) c.run_script.ensures.ends)
+    (EndsOne-moved _ _ _ _ new _ _ _ _ _ c.run_script.result c.in-Ok.ensures.held c.in-Ok.ensures.faults c.as_slice.ensures c.run_script.ensures.ends)
+
+pub returns-in-Ok-clause-bad_data : goal.returns-in-Ok-clause-bad_data
+returns-in-Ok-clause-bad_data g c = λ e. past_script _ _ _ (c.run_script.ensures.bad_data e)
 
 pub returns-in-Err-Missing-clause-run : goal.returns-in-Err-Missing-clause-run
 returns-in-Err-Missing-clause-run g c =
