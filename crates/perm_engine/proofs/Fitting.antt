@@ -1,7 +1,6 @@
 -- Values against the kinds of columns, one place after another.
-use Rattle.std.proofs.Common.{◌≡◌, ℕ, ◌<◌, ◌+◌, Bool, true, false, ◌&&◌, List, [], ◌∷◌, length, drop, get_or, refl, sym, ap, ◌∙◌, arith, add-one}
+use Rattle.std.proofs.Common.{◌≡◌, Bool, true, false, ◌&&◌, List, [], ◌∷◌, length, refl, arith}
 use Rattle.perm_values.specs.Rows.{row_fits}
-use Rattle.perm_values.specs.Values.{fits}
 use Rattle.perm_values.specs.declared.value.Value.{Value}
 use Rattle.perm_catalog.specs.declared.column.Column.{Column}
 use Rattle.perm_engine.specs.Step.{kinds_in_order}

@@ -1,10 +1,12 @@
+pub mod CopiedFile
+pub mod CopiedInto
+pub mod CopyAnswers
+mod CopySamples
+pub mod Damaged
 pub mod Ending
 pub mod Fitting
-pub mod Places
+pub mod Misspelling
+pub mod Numbers
 pub mod Queries
-pub mod ReadingLaws
-pub mod ReadingLoops
-pub mod ReadingNames
-pub mod ReadingScripts
-pub mod ReadingStatements
 pub mod Running
+pub mod Turns

@@ -1,6 +1,6 @@
 -- The queries over one table, and what the executor's rows are of them.
 use mathlib.Core.Bool.{true≢false}
-use Rattle.std.proofs.Common.{◌≡◌, ℕ, ◌+◌, ◌<◌, ◌≤◌, Bool, true, false, cond, nat_le, List, [], ◌∷◌, ◌++◌, length, Option, Some, None, refl, sym, ap, ◌∙◌, subst, arith, map}
+use Rattle.std.proofs.Common.{◌≡◌, ℕ, ◌+◌, ◌<◌, ◌≤◌, Bool, true, false, cond, nat_le, List, [], ◌∷◌, ◌++◌, length, refl, sym, ap, ◌∙◌, subst, arith, map}
 use Rattle.std.proofs.lemmas.Bool.Decides.{nat_tests}
 use Rattle.std.proofs.lemmas.List.FromFn.{map-range_with_len_more}
 use Rattle.std.specs.List.{range_with_len}
@@ -8,13 +8,12 @@ use Rattle.null_logic.specs.declared.run_fault.RunFault.{RunFault}
 use Rattle.perm_values.specs.Rows.{row_cmp, picked}
 use Rattle.bag_algebra.proofs.Columns.{source_columns-meaning, distinct_columns-meaning, source_columns-provenance}
 use Rattle.bag_algebra.proofs.SortedBags.{printed_unique}
-use Rattle.bag_algebra.specs.Bags.{Bag, Row, SameBag, once, sorted}
+use Rattle.bag_algebra.specs.Bags.{Bag, once, sorted}
 use Rattle.bag_algebra.specs.ColumnItems.{column_items}
 use Rattle.bag_algebra.specs.Meaning.{Database, meaning}
 use Rattle.bag_algebra.specs.Means.{good_rows}
-use Rattle.bag_algebra.specs.Outcome.{Outcome, Good, Bad, mapped}
+use Rattle.bag_algebra.specs.Outcome.{Outcome, Good, mapped}
 use Rattle.bag_algebra.specs.Patterns.{ProjectOf, DistinctOf}
-use Rattle.bag_algebra.specs.TableRows.{rows_in}
 use Rattle.bag_algebra.specs.declared.query.Query.{Query, end_of-Sublink}
 use Rattle.bag_algebra.specs.declared.query.Query.TheVariants.{Table}
 use Rattle.bag_algebra.specs.declared.query.Label.TheVariants.{Relation}
@@ -22,7 +21,7 @@ use Rattle.csv_tables.specs.AnswerText.{answer_bytes}
 use Rattle.perm_catalog.specs.Contents.{Contents}
 use Rattle.perm_catalog.specs.declared.entries.TableEntry.{TableEntry}
 use Rattle.row_executor.specs.Answers.{meets}
-use Rattle.perm_engine.specs.Step.{Stepped, kinds_in_order, names_of, all_places, plain_query, query_of, answer, answer_names, answer_rows}
+use Rattle.perm_engine.specs.Step.{Stands, unfit, kinds_in_order, names_of, all_places, plain_query, query_of, answer, answer_names, answer_rows}
 
 -- a good outcome meets no fault
 pub no_fault : {X : Type 0} (o : Outcome X) (x : X) (fault : RunFault) → o ≡ Good x → meets o fault ≡ true → ⊥
@@ -67,19 +66,19 @@ above : (a b : ℕ) → b < a → nat_le a b ≡ false
 above a b h = grind (arith, nat_tests)
 
 pub answer-too_wide : (c : Contents) (provenance : Bool) (table : List ℕ) (entry : TableEntry) (columns : List (List ℕ)) (places : List ℕ) (names : List (List ℕ)) →
-    names ≡ answer_names provenance table entry columns places → 1024 < length names → answer c provenance table entry columns places ≡ None
+    names ≡ answer_names provenance table entry columns places → 1024 < length names → answer c provenance table entry columns places ≡ unfit
 answer-too_wide c provenance table entry columns places names e h =
-    ap (λ t. cond t (Some (record { text = answer_bytes (answer_names provenance table entry columns places) (answer_rows c (query_of provenance table entry places)); contents = c })) None)
+    ap (λ t. cond t (Stands (record { text = answer_bytes (answer_names provenance table entry columns places) (answer_rows c (query_of provenance table entry places)); contents = c })) unfit)
     (above (length (answer_names provenance table entry columns places)) 1024 (subst (λ n. 1024 < length n) e h))
 
 pub answer-given : (c : Contents) (provenance : Bool) (table : List ℕ) (entry : TableEntry) (columns : List (List ℕ)) (places : List ℕ) (names : List (List ℕ)) (rows : Bag) (text : List ℕ) →
     names ≡ answer_names provenance table entry columns places → length names ≤ 1024 → rows ≡ answer_rows c (query_of provenance table entry places) →
-    text ≡ answer_bytes names rows → answer c provenance table entry columns places ≡ Some (record { text = text; contents = c })
+    text ≡ answer_bytes names rows → answer c provenance table entry columns places ≡ Stands (record { text = text; contents = c })
 answer-given c provenance table entry columns places names rows text e h f g =
-    ap (λ t. cond t (Some (record { text = answer_bytes (answer_names provenance table entry columns places) (answer_rows c (query_of provenance table entry places)); contents = c })) None)
+    ap (λ t. cond t (Stands (record { text = answer_bytes (answer_names provenance table entry columns places) (answer_rows c (query_of provenance table entry places)); contents = c })) unfit)
     (at_most (length (answer_names provenance table entry columns places)) 1024 (subst (λ n. length n ≤ 1024) e h))
-    ∙ (λ i. Some (record { text = answer_bytes (sym e i) (sym f i); contents = c }))
-    ∙ ap (λ t. Some (record { text = t; contents = c })) (sym g)
+    ∙ (λ i. Stands (record { text = answer_bytes (sym e i) (sym f i); contents = c }))
+    ∙ ap (λ t. Stands (record { text = t; contents = c })) (sym g)
 
 map_same : (xs : List ℕ) → map (λ x. x) xs ≡ xs
 map_same [] = refl

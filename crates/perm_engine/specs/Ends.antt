@@ -1,10 +1,16 @@
 -- How a run ends: what stands in the output then, beside the status.
-use Rattle.std.specs.Prelude.{◌≡◌, ◌⊎◌, ℕ, ◌≤◌, Bool, true, false, List, ◌++◌, length, take, Option}
+use Rattle.std.specs.Prelude.{◌≡◌, ◌⊎◌, ℕ, zero, suc, ◌≤◌, Bool, false, List, ◌++◌, length, take, Option}
 use Rattle.std.specs.Io.KnownBytes.{append_known}
 use Rattle.std.specs.List.{flat_map}
-use Rattle.perm_io.specs.Counts.{HasRisen}
-use Rattle.perm_io.specs.declared.named_file.NamedFile.{NamedFile}
-use Rattle.perm_engine.specs.Run.{Ran, Runs, text_of}
+use Rattle.perm_io.specs.Counts.{HasRisen, next_count}
+use Rattle.perm_engine.specs.Run.{Ran, text_of, line_alone, refusal_line, IsWhole}
+use Rattle.csv_tables.specs.declared.data_error.DataError.{DataError}
+use Rattle.perm_engine.specs.DataLines.{data_line}
+use Rattle.perm_engine.specs.Lines.{error_line}
+use Rattle.perm_engine.specs.declared.refusal.CommandRefusal.{CommandRefusal}
+use Rattle.perm_engine.specs.declared.refusal.CommandRefusal.TheVariants.{Break, NoMemory}
+use Rattle.perm_engine.specs.declared.step_refusal.StepRefusal.{StepRefusal}
+use Rattle.perm_engine.specs.declared.step_refusal.StepRefusal.TheVariants as step
 use Rattle.perm_engine.specs.declared.status.Status.{Status}
 use Rattle.perm_engine.specs.declared.status.Status.TheVariants as status
 
@@ -52,12 +58,46 @@ Ends ran w status.ReadFault = IsSaid ran w status.ReadFault
 Ends ran w status.WriteFault = IsCut ran w
 Ends ran w status.NoMemory = IsShort ran w
 
+-- a counter after so many files were begun
+abbrev pub opened : ℕ → ℕ → ℕ
+opened zero count = count
+opened (suc files) count = next_count (opened files count)
+
+-- the files begun are those of the run, or of its front where the output or memory cut it short
+pub record Opens (ran : Ran) (before after : ℕ) (s : Status) : Type 0 where
+  pub files : ℕ
+  pub within : files ≤ ran.begun
+  pub whole : IsWhole s → files ≡ ran.begun
+  pub counted : after ≡ opened files before
+
 -- memory was wanting before anything was written
 pub record IsSilent (w : Written) (s : Status) : Type 0 where
   pub said : s ≡ status.NoMemory
   pub text : w.after ≡ w.before
   pub steady : w.faults_after ≡ w.faults_before
 
--- one of the runs ends with this status, or memory was wanting before anything was written
-abbrev pub EndsOne : (Ran → Type 0) → Written → Status → Type 0
-EndsOne IsRun w s = ((ran : Ran) × IsRun ran × Ends ran w s) ⊎ IsSilent w s
+-- the line of a script's refusal ends the run, where memory suffices
+abbrev pub EndsRefused : CommandRefusal → Written → Status → Type 0
+EndsRefused (Break b) w s = Ends (line_alone (error_line b) status.Syntax) w s
+EndsRefused NoMemory w s = IsSilent w s
+
+-- the line of a statement's refusal ends the run, where memory suffices
+abbrev pub EndsStopped : StepRefusal → Written → Status → Type 0
+EndsStopped (step.Break b) w s = Ends (line_alone (error_line b) status.Refused) w s
+EndsStopped (step.Missing at) w s = Ends (line_alone (refusal_line (step.Missing at)) status.BadData) w s
+EndsStopped (step.TooLarge at) w s = Ends (line_alone (refusal_line (step.TooLarge at)) status.BadData) w s
+EndsStopped (step.Unfit rule) w s = Ends (line_alone (refusal_line (step.Unfit rule)) status.BadData) w s
+EndsStopped step.ReadFault w s = Ends (line_alone (refusal_line step.ReadFault) status.ReadFault) w s
+EndsStopped step.NoMemory w s = IsSilent w s
+
+-- one of the runs ends with this status, over a count of files begun before and after
+abbrev pub EndsSome : (Ran → Type 0) → Written → ℕ → ℕ → Status → Type 0
+EndsSome IsRun w before after s = (ran : Ran) × IsRun ran × Ends ran w s × Opens ran before after s
+
+-- that, or memory was wanting before anything was written, when some files were begun
+abbrev pub EndsOne : ℕ → (Ran → Type 0) → Written → ℕ → ℕ → Status → Type 0
+EndsOne files IsRun w before after s = EndsSome IsRun w before after s ⊎ (IsSilent w s × (after ≡ opened files before))
+
+-- the line written last names a rule that a record of a file breaks
+abbrev pub EndsUnfit : Option (List ℕ) → Option (List ℕ) → Type 0
+EndsUnfit before after = (rule : DataError) × (text : List ℕ) × (after ≡ append_known before (text ++ data_line rule))

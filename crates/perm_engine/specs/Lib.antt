@@ -1,7 +1,11 @@
 pub mod Answers
+pub mod Asking
+pub mod Copying
+pub mod DataLines
 pub mod Ends
-pub mod Reading
+pub mod Found
+pub mod Lines
 pub mod Run
-pub mod Spelling
+pub mod Scripts
 pub mod Statuses
 pub mod Step

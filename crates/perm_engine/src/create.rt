@@ -1,37 +1,39 @@
-ghost use Rattle.std.specs.Prelude.{◌≡◌, ◌<◌, ◌≤◌, ◌+◌, ◌-◌, ◌^◌, ◌&&◌, not, nat_eq, is_some};
+ghost use Rattle.std.specs.Prelude.{◌≡◌, ◌&&◌, not, nat_eq, is_some};
 ghost use Rattle.std.specs.Cmp.Lexicographic.{pointwise};
 ghost use Rattle.std.specs.List.{list_any};
 ghost use Rattle.perm_catalog.specs.Changes.{is_free};
-ghost use Rattle.perm_engine.specs.Answers.{IsStep};
+ghost use Rattle.perm_engine.specs.Answers.{IsTurn};
 ghost use Rattle.perm_engine.specs.Step.{names_of, all_differ, can_create, create};
 
-use crate::refusal::StepRefusal;
+use crate::refusal::CommandRefusal;
 use crate::text::text_of;
-use perm_catalog::{Catalog, Column};
+use perm_catalog::{Catalog, CatalogRefusal, Column};
 use perm_values::{Bytes, Chars, Copyable, List};
 use std::alloc::Global;
 
 /// How many columns a table may have.
 const MOST_COLUMNS: usize = 256;
 
-/// CREATE TABLE: the name is free, there are at most 256 columns, and their names differ.
+/// CREATE TABLE, which stands at an offset: the name is free, there are at most 256 columns, and their names differ.
 pub(crate) fn create_table(
     alloc: Global,
     catalog: &mut Catalog,
     table: &Chars,
     columns: &List<Column>,
-) -> Result<Bytes, StepRefusal>
-    requires { catalog.old.next < 2 ^ 64 - 1 }
-    ensures step { IsStep (create catalog.old table.now columns.now) catalog.old catalog.new result }
-    ensures next { catalog.new.next ≤ catalog.old.next + 1 }
+    at: usize,
+) -> Result<Bytes, CommandRefusal>
+    ensures { IsTurn (create catalog.old table.now columns.now at) catalog.old catalog.new result }
 {
     if !can_create(catalog, table, columns.as_slice()) {
-        return Err(StepRefusal::Refused);
+        return Err(CommandRefusal::new(10, 0));
     }
     let text = text_of(alloc, b"CREATE TABLE\n")?;
     let made = columns.copy(alloc)?;
-    catalog.create(alloc, table, made, List::new(alloc), None)?;
-    Ok(text)
+    match catalog.create(alloc, table, made, List::new(alloc), None) {
+        Ok(()) => Ok(text),
+        Err(CatalogRefusal::VersionsSpent) => Err(CommandRefusal::new(17, at)),
+        Err(CatalogRefusal::NoMemory) => Err(CommandRefusal::NoMemory),
+    }
 }
 
 fn can_create(catalog: &Catalog, table: &Chars, columns: &[Column]) -> bool

@@ -1,36 +1,38 @@
-ghost use Rattle.std.specs.Prelude.{◌≡◌, ◌<◌, ◌≤◌, ◌+◌, ◌-◌, ◌^◌, List};
+ghost use Rattle.std.specs.Prelude.{◌≡◌, List};
 ghost use Rattle.perm_values.specs.Rows.{row_fits};
 ghost use Rattle.perm_catalog.specs.Changes.{table_named};
-ghost use Rattle.perm_engine.specs.Answers.{IsStep};
+ghost use Rattle.perm_engine.specs.Answers.{IsTurn};
 ghost use Rattle.perm_engine.specs.Step.{kinds_in_order, all_fit, with_entry, insert_into};
 
-use crate::refusal::StepRefusal;
-use crate::text::inserted;
-use perm_catalog::{Catalog, Column};
+use crate::refusal::CommandRefusal;
+use crate::text::counted;
+use perm_catalog::{Catalog, CatalogRefusal, Column};
 use perm_values::{Bytes, Chars, Copyable, Row, Rows, Value};
 use std::alloc::Global;
 
-/// INSERT: the table is known, and each row has a value for each column, which fits its kind.
+/// INSERT, which stands at an offset: the table is known, and each row has a value for each column, which fits its kind.
 pub(crate) fn insert(
     alloc: Global,
     catalog: &mut Catalog,
     table: &Chars,
     rows: &Rows,
-) -> Result<Bytes, StepRefusal>
-    requires { catalog.old.next < 2 ^ 64 - 1 }
-    ensures step { IsStep (with_entry (table_named catalog.old table.now) (λ entry. insert_into catalog.old table.now entry rows.now)) catalog.old catalog.new result }
-    ensures next { catalog.new.next ≤ catalog.old.next + 1 }
+    at: usize,
+) -> Result<Bytes, CommandRefusal>
+    ensures { IsTurn (with_entry (table_named catalog.old table.now) (λ entry. insert_into catalog.old table.now entry rows.now at)) catalog.old catalog.new result }
 {
     let Some(entry) = catalog.table(table) else {
-        return Err(StepRefusal::Refused);
+        return Err(CommandRefusal::new(10, 0));
     };
     if !all_fit(entry.columns.as_slice(), rows.as_slice()) {
-        return Err(StepRefusal::Refused);
+        return Err(CommandRefusal::new(10, 0));
     }
-    let text = inserted(alloc, rows.len())?;
+    let text = counted(alloc, b"INSERT ", rows.len())?;
     let added = rows.copy(alloc)?;
-    catalog.insert_rows(table, added)?;
-    Ok(text)
+    match catalog.insert_rows(table, added) {
+        Ok(()) => Ok(text),
+        Err(CatalogRefusal::VersionsSpent) => Err(CommandRefusal::new(17, at)),
+        Err(CatalogRefusal::NoMemory) => Err(CommandRefusal::NoMemory),
+    }
 }
 
 fn all_fit(columns: &[Column], rows: &[Row]) -> bool

@@ -191,7 +191,7 @@ fn item_of(columns: &[Column], place: usize) -> Item
     }
 }
 
-fn kinds_of(alloc: Global, columns: &[Column]) -> Result<List<Kind>, NoMemory>
+pub(crate) fn kinds_of(alloc: Global, columns: &[Column]) -> Result<List<Kind>, NoMemory>
     ensures { IfOk result (λ kinds. kinds ≡ kinds_in_order columns.now) }
 {
     let mut kinds = List::new(alloc);

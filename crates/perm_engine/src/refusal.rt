@@ -1,38 +1,43 @@
 ghost use Rattle.std.specs.Prelude.{◌≡◌};
-ghost use Rattle.perm_engine.specs.declared.refusal.StepRefusal.TheVariants.{NoMemory as OutOfMemory};
+ghost use Rattle.perm_engine.specs.declared.refusal.CommandRefusal.TheVariants.{Break as Broken, NoMemory as OutOfMemory};
 
-use perm_catalog::CatalogRefusal;
 use perm_values::NoMemory;
 use std::alloc::AllocError;
 
+/// Why a script or a statement can't stand: the number of the cause, and the offset in the script where it shows.
+#[derive(Clone, Copy, Debug, PartialEq, Eq)]
+pub struct Break {
+    pub code: u8,
+    pub at: usize,
+}
+
 /// Why a statement isn't run: it can't stand, or memory is wanting.
 #[derive(Clone, Copy, Debug, PartialEq, Eq)]
-pub(crate) enum StepRefusal {
-    Refused,
+pub enum CommandRefusal {
+    Break(Break),
     NoMemory,
 }
 
-impl From<NoMemory> for StepRefusal {
-    ghost from_gives = { λ _ refusal. refusal ≡ OutOfMemory };
-
-    fn from(_error: NoMemory) -> StepRefusal {
-        StepRefusal::NoMemory
+impl CommandRefusal {
+    pub(crate) fn new(code: u8, at: usize) -> CommandRefusal
+        ensures { result ≡ Broken (record { code = code; at = at }) }
+    {
+        CommandRefusal::Break(Break { code, at })
     }
 }
 
-impl From<AllocError> for StepRefusal {
+impl From<NoMemory> for CommandRefusal {
     ghost from_gives = { λ _ refusal. refusal ≡ OutOfMemory };
 
-    fn from(_error: AllocError) -> StepRefusal {
-        StepRefusal::NoMemory
+    fn from(_error: NoMemory) -> CommandRefusal {
+        CommandRefusal::NoMemory
     }
 }
 
-/// Of a change that draws a number that isn't the last one, only want of memory is left as a refusal.
-impl From<CatalogRefusal> for StepRefusal {
+impl From<AllocError> for CommandRefusal {
     ghost from_gives = { λ _ refusal. refusal ≡ OutOfMemory };
 
-    fn from(_error: CatalogRefusal) -> StepRefusal {
-        StepRefusal::NoMemory
+    fn from(_error: AllocError) -> CommandRefusal {
+        CommandRefusal::NoMemory
     }
 }

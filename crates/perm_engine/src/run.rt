@@ -1,19 +1,24 @@
-ghost use Rattle.std.specs.Prelude.{◌≡◌, ◌<◌, ◌⊎◌, IsTrue, IfOk, IsErrOf, false, if◌then◌else◌, List as ItemsOf};
-ghost use Rattle.perm_io.specs.Counts.{next_count, HasRisen};
+ghost use Rattle.std.specs.Prelude.{◌≡◌, ◌⊎◌, ◌<◌, IsTrue, true, false};
+ghost use Rattle.perm_io.specs.Counts.{HasRisen};
 ghost use Rattle.perm_catalog.specs.Changes.{nothing_held};
-ghost use Rattle.perm_engine.specs.Ends.{Ends, EndsOne};
-ghost use Rattle.perm_engine.specs.Run.{Runs, RunsScript, IsScriptOf, run_from, line_alone, is_one, IsWhole, IsSteady, IsOfScript, script_limit};
-ghost use Rattle.perm_engine.specs.declared.command.Command.{Command};
+ghost use Rattle.perm_engine.specs.Copying.{file_limit};
+ghost use Rattle.perm_engine.specs.DataLines.{data_line};
+ghost use Rattle.perm_engine.specs.Ends.{Ends, EndsOne, EndsSome, EndsRefused, EndsStopped, EndsUnfit};
+ghost use Rattle.perm_engine.specs.Found.{CanBe};
+ghost use Rattle.perm_engine.specs.Lines.{error_line};
+ghost use Rattle.perm_engine.specs.Run.{Runs, RunsFrom, RunsScript, line_alone, is_failed, is_one, IsWhole, IsSteady, IsOfScript, script_limit};
 
-use crate::command::Command;
-use crate::reader::{ReadRefusal, read_script};
-use crate::refusal::StepRefusal;
+use crate::data_line::data_line;
+use crate::line::error_line;
+use crate::refusal::{Break, CommandRefusal};
+use crate::script::script_of;
+use crate::session::Session;
 use crate::status::Status;
-use crate::step::step;
-use perm_catalog::Catalog;
+use crate::step_refusal::StepRefusal;
+use csv_tables::DataError;
 use perm_io::{Files, ReadError, Sink, read_all, write_all};
 use perm_values::{Chars, List};
-use sql_lexer::{LexError, tokens};
+use sql_tree::Statement;
 use std::alloc::Global;
 
 /// The greatest length of a script, in bytes.
@@ -40,9 +45,13 @@ fn finish<K: Sink>(out: &mut K, line: &[u8], status: Status) -> Status
     }
 }
 
-/// Runs the statements in order from an empty catalog, and writes their texts; the first that can't stand ends the run.
-fn run_commands<K: Sink>(alloc: Global, commands: &List<Command>, out: &mut K) -> Status
-    ensures ends { Ends (run_from (nothing_held 1) commands.now) (record {
+/// Writes the line of a break and flushes the output; the status is the one given, unless the output fails or memory is
+/// wanting for the line.
+fn end_broken<K: Sink>(alloc: Global, found: Break, status: Status, out: &mut K) -> Status
+    requires whole { IsWhole status }
+    requires script { IsOfScript status }
+    requires data { status ≡ Status.ReadFault → ⊥ }
+    ensures ends { Ends (line_alone (error_line found) status) (record {
       before = K.written out.old;
       after = K.written out.new;
       faults_before = K.faults out.old;
@@ -50,81 +59,164 @@ fn run_commands<K: Sink>(alloc: Global, commands: &List<Command>, out: &mut K) -
       unflushed = K.unflushed out.new;
     }) result }
     ensures status { IsOfScript result }
+    ensures data { result ≡ Status.ReadFault → ⊥ }
+    ensures given { (result ≡ status) ⊎ ((result ≡ Status.WriteFault) ⊎ (result ≡ Status.NoMemory)) }
 {
-    let mut catalog = Catalog::new(alloc, 1);
-    for i in 0..commands.len() {
-        match step(alloc, &mut catalog, commands.get(i)) {
-            Ok(text) => match write_all(out, text.as_slice()) {
-                Ok(()) => {}
-                Err(_) => return Status::WriteFault,
-            },
-            Err(StepRefusal::Refused) => return finish(out, b"error E10 at 0\n", Status::Refused),
-            Err(StepRefusal::NoMemory) => return Status::NoMemory,
+    match error_line(alloc, found) {
+        Ok(line) => finish(out, line.as_slice(), status),
+        Err(_) => Status::NoMemory,
+    }
+}
+
+/// Ends the output with the line of a rule that a file's record breaks.
+fn end_unfit<K: Sink>(alloc: Global, rule: DataError, out: &mut K) -> Status
+    ensures ends { Ends (line_alone (data_line rule) Status.BadData) (record {
+      before = K.written out.old;
+      after = K.written out.new;
+      faults_before = K.faults out.old;
+      faults_after = K.faults out.new;
+      unflushed = K.unflushed out.new;
+    }) result }
+    ensures status { IsOfScript result }
+    ensures data { result ≡ Status.ReadFault → ⊥ }
+{
+    match data_line(alloc, rule) {
+        Ok(line) => finish(out, line.as_slice(), Status::BadData),
+        Err(_) => Status::NoMemory,
+    }
+}
+
+/// Ends the output with what the refusal of a script says.
+fn refuse<K: Sink>(alloc: Global, refusal: CommandRefusal, out: &mut K) -> Status
+    ensures ends { EndsRefused refusal (record {
+      before = K.written out.old;
+      after = K.written out.new;
+      faults_before = K.faults out.old;
+      faults_after = K.faults out.new;
+      unflushed = K.unflushed out.new;
+    }) result }
+    ensures status { IsOfScript result }
+    ensures data { (result ≡ Status.ReadFault → ⊥) × (result ≡ Status.BadData → ⊥) }
+{
+    match refusal {
+        CommandRefusal::Break(found) => end_broken(alloc, found, Status::Syntax, out),
+        CommandRefusal::NoMemory => Status::NoMemory,
+    }
+}
+
+/// Ends the output with what the refusal of a statement says.
+fn stop<K: Sink>(alloc: Global, refusal: StepRefusal, out: &mut K) -> Status
+    ensures ends { EndsStopped refusal (record {
+      before = K.written out.old;
+      after = K.written out.new;
+      faults_before = K.faults out.old;
+      faults_after = K.faults out.new;
+      unflushed = K.unflushed out.new;
+    }) result }
+    ensures status { IsOfScript result }
+    ensures failed { result ≡ Status.ReadFault → is_failed refusal ≡ true }
+    ensures steady { IsSteady result → is_failed refusal ≡ false }
+{
+    match refusal {
+        StepRefusal::Break(found) => end_broken(alloc, found, Status::Refused, out),
+        StepRefusal::Missing { at } => {
+            end_broken(alloc, Break { code: 40, at }, Status::BadData, out)
         }
-    }
-    finish(out, b"", Status::Done)
-}
-
-/// Runs the script that the bytes spell, or refuses it as a whole.
-fn run_script<K: Sink>(alloc: Global, bytes: &[u8], out: &mut K) -> Status
-    ensures ends { EndsOne (RunsScript bytes.now) (record {
-      before = K.written out.old;
-      after = K.written out.new;
-      faults_before = K.faults out.old;
-      faults_after = K.faults out.new;
-      unflushed = K.unflushed out.new;
-    }) result }
-    ensures status { IsOfScript result }
-{
-    match commands_of(alloc, bytes) {
-        Ok(commands) => run_commands(alloc, &commands, out),
-        Err(ReadRefusal::Unspelled) => finish(out, b"error E05 at 0\n", Status::Syntax),
-        Err(ReadRefusal::NoMemory) => Status::NoMemory,
+        StepRefusal::TooLarge { at } => {
+            end_broken(alloc, Break { code: 41, at }, Status::BadData, out)
+        }
+        StepRefusal::Unfit(rule) => end_unfit(alloc, rule, out),
+        StepRefusal::ReadFault => finish(out, b"error E50\n", Status::ReadFault),
+        StepRefusal::NoMemory => Status::NoMemory,
     }
 }
 
-/// The statements that the bytes spell.
-fn commands_of(alloc: Global, bytes: &[u8]) -> Result<List<Command>, ReadRefusal>
-    ensures ok { IfOk result (IsScriptOf bytes.now) }
-    ensures unspelled { IsErrOf result ReadRefusal.Unspelled → (commands : ItemsOf Command) → IsScriptOf bytes.now commands → ⊥ }
-{
-    match tokens(alloc, bytes) {
-        Ok(found) => read_script(alloc, found.as_slice()),
-        Err(LexError::NoMemory) => Err(ReadRefusal::NoMemory),
-        Err(_) => Err(ReadRefusal::Unspelled),
-    }
-}
-
-/// Runs `perm SCRIPT`: reads the script's file, runs it, and writes what its statements answer.
-pub fn perm<F: Files, K: Sink>(alloc: Global, words: &[Chars], files: &mut F, out: &mut K) -> Status
-    // The run that the words and files stand for is what is written, and its status is answered.
-    ensures run { EndsOne (Runs words.now (F.held files.old) (HasRisen (F.faults files.old) (F.faults files.new)))
+/// Runs the statements in order from an empty catalog, and writes their texts; the first that is refused ends the run.
+fn run_statements<F: Files, K: Sink>(
+    alloc: Global,
+    statements: &List<Statement>,
+    files: &mut F,
+    out: &mut K,
+) -> Status
+    ensures ends { EndsSome (RunsFrom (CanBe file_limit (F.held files.old) (HasRisen (F.faults files.old) (F.faults files.new))) (nothing_held 1) statements.now)
         (record {
           before = K.written out.old;
           after = K.written out.new;
           faults_before = K.faults out.old;
           faults_after = K.faults out.new;
           unflushed = K.unflushed out.new;
-        }) result }
+        }) (F.begun files.old) (F.begun files.new) result }
+    ensures status { IsOfScript result }
+    ensures bad_data { result ≡ Status.BadData → IsTrue (F.absent files.new) ⊎ ((file_limit < F.taken files.new) ⊎ EndsUnfit (K.written out.old) (K.written out.new)) }
+    ensures read_fault { result ≡ Status.ReadFault → HasRisen (F.faults files.old) (F.faults files.new) }
+    ensures steady { IsSteady result → F.faults files.new ≡ F.faults files.old }
+    ensures held { F.held files.new ≡ F.held files.old }
+{
+    let mut session = Session::new(alloc);
+    for i in 0..statements.len() {
+        match session.step(statements.get(i), files) {
+            Ok(text) => match write_all(out, text.as_slice()) {
+                Ok(()) => {}
+                Err(_) => return Status::WriteFault,
+            },
+            Err(refusal) => return stop(alloc, refusal, out),
+        }
+    }
+    finish(out, b"", Status::Done)
+}
+
+/// Runs the script that the bytes spell, or refuses it as a whole.
+fn run_script<F: Files, K: Sink>(alloc: Global, bytes: &[u8], files: &mut F, out: &mut K) -> Status
+    ensures ends { EndsOne 0 (RunsScript (CanBe file_limit (F.held files.old) (HasRisen (F.faults files.old) (F.faults files.new))) bytes.now)
+        (record {
+          before = K.written out.old;
+          after = K.written out.new;
+          faults_before = K.faults out.old;
+          faults_after = K.faults out.new;
+          unflushed = K.unflushed out.new;
+        }) (F.begun files.old) (F.begun files.new) result }
+    ensures status { IsOfScript result }
+    ensures bad_data { result ≡ Status.BadData → IsTrue (F.absent files.new) ⊎ ((file_limit < F.taken files.new) ⊎ EndsUnfit (K.written out.old) (K.written out.new)) }
+    ensures read_fault { result ≡ Status.ReadFault → HasRisen (F.faults files.old) (F.faults files.new) }
+    ensures steady { IsSteady result → F.faults files.new ≡ F.faults files.old }
+    ensures held { F.held files.new ≡ F.held files.old }
+{
+    match script_of(alloc, bytes) {
+        Ok(script) => run_statements(alloc, &script.statements, files, out),
+        Err(refusal) => refuse(alloc, refusal, out),
+    }
+}
+
+/// Runs `perm SCRIPT`: reads the script's file, runs it, and writes what its statements answer.
+pub fn perm<F: Files, K: Sink>(alloc: Global, words: &[Chars], files: &mut F, out: &mut K) -> Status
+    // The run that the words and files stand for is what is written, and its status is answered.
+    ensures run { EndsOne 1 (Runs words.now (F.held files.old) (HasRisen (F.faults files.old) (F.faults files.new)))
+        (record {
+          before = K.written out.old;
+          after = K.written out.new;
+          faults_before = K.faults out.old;
+          faults_after = K.faults out.new;
+          unflushed = K.unflushed out.new;
+        }) (F.begun files.old) (F.begun files.new) result }
 
     // When each status comes.
     ensures usage { result ≡ Status.Usage → is_one words.now ≡ false }
     ensures misused { is_one words.now ≡ false → (result ≡ Status.Usage) ⊎ (result ≡ Status.WriteFault) }
-    ensures bad_data { result ≡ Status.BadData → IsTrue (F.absent files.new) ⊎ (script_limit < F.taken files.new) }
+    ensures bad_data { result ≡ Status.BadData → IsTrue (F.absent files.new) ⊎ ((script_limit < F.taken files.new) ⊎ EndsUnfit (K.written out.old) (K.written out.new)) }
     ensures read_fault { result ≡ Status.ReadFault → HasRisen (F.faults files.old) (F.faults files.new) }
     ensures write_fault { result ≡ Status.WriteFault → HasRisen (K.faults out.old) (K.faults out.new) }
     ensures steady { IsSteady result → (F.faults files.new ≡ F.faults files.old) × (K.faults out.new ≡ K.faults out.old) }
     ensures flushed { IsWhole result → K.unflushed out.new ≡ false }
 
-    // Which files are begun.
-    ensures begun { F.begun files.new ≡ (if is_one words.now then next_count (F.begun files.old) else F.begun files.old) }
+    // No file is begun without a script's name, and no file is changed.
+    ensures begun { is_one words.now ≡ false → F.begun files.new ≡ F.begun files.old }
     ensures held { F.held files.new ≡ F.held files.old }
 {
     if words.len() != 1 {
         return finish(out, b"usage: perm SCRIPT\n", Status::Usage);
     }
     match read_all(alloc, files, &words[0], SCRIPT_LIMIT) {
-        Ok(bytes) => run_script(alloc, bytes.as_slice(), out),
+        Ok(bytes) => run_script(alloc, bytes.as_slice(), files, out),
         Err(ReadError::Missing) => finish(out, b"error E40 script\n", Status::BadData),
         Err(ReadError::TooLarge) => finish(out, b"error E41 script\n", Status::BadData),
         Err(ReadError::Fault) => finish(out, b"error E50\n", Status::ReadFault),

@@ -1,10 +1,11 @@
 ghost use Rattle.std.specs.Prelude.{◌≡◌, ◌++◌, ◌∷◌, [], IfOk, codes, nat_eq};
 ghost use Rattle.perm_catalog.specs.Changes.{table_named};
 ghost use Rattle.perm_engine.specs.Answers.{IsAnswer};
-ghost use Rattle.perm_engine.specs.Step.{names_of, with_entry, select_places, answer, answer_names, place_from, places_of, source_names};
+ghost use Rattle.perm_engine.specs.Step.{names_of, with_entry, select_places, answer, answer_names, place_from, source_names};
+ghost use Rattle.sql_commands.specs.Lists.{all_of};
 
 use crate::query::query_rows;
-use crate::refusal::StepRefusal;
+use crate::refusal::CommandRefusal;
 use csv_tables::answer_text;
 use perm_catalog::{Catalog, Column, TableEntry};
 use perm_values::{Bytes, Chars, Copyable, List, NoMemory};
@@ -20,15 +21,15 @@ pub(crate) fn select(
     provenance: bool,
     columns: &List<Chars>,
     table: &Chars,
-) -> Result<Bytes, StepRefusal>
+) -> Result<Bytes, CommandRefusal>
     ensures { IsAnswer (with_entry (table_named catalog.now table.now)
-        (λ entry. select_places catalog.now provenance table.now entry columns.now (places_of (names_of entry.columns) columns.now))) catalog.now result }
+        (λ entry. select_places catalog.now provenance table.now entry columns.now (all_of (place_from 0 (names_of entry.columns)) columns.now))) catalog.now result }
 {
     let Some(entry) = catalog.table(table) else {
-        return Err(StepRefusal::Refused);
+        return Err(CommandRefusal::new(10, 0));
     };
     let Some(places) = places_of(alloc, entry.columns.as_slice(), columns.as_slice())? else {
-        return Err(StepRefusal::Refused);
+        return Err(CommandRefusal::new(10, 0));
     };
     answer(
         alloc,
@@ -51,12 +52,12 @@ fn answer(
     entry: &TableEntry,
     columns: &List<Chars>,
     places: &[usize],
-) -> Result<Bytes, StepRefusal>
+) -> Result<Bytes, CommandRefusal>
     ensures { IsAnswer (answer catalog.now provenance table.now entry.now columns.now places.now) catalog.now result }
 {
     let names = header(alloc, provenance, table, entry, columns)?;
     if names.len() > MOST_ANSWERED {
-        return Err(StepRefusal::Refused);
+        return Err(CommandRefusal::new(10, 0));
     }
     let rows = query_rows(alloc, catalog, provenance, table, entry, places)?;
     Ok(answer_text(alloc, names.as_slice(), &rows)?)
@@ -111,7 +112,7 @@ fn places_of(
     columns: &[Column],
     names: &[Chars],
 ) -> Result<Option<List<usize>>, NoMemory>
-    ensures { IfOk result (λ places. places ≡ places_of (names_of columns.now) names.now) }
+    ensures { IfOk result (λ places. places ≡ all_of (place_from 0 (names_of columns.now)) names.now) }
 {
     let mut places = List::new(alloc);
     for name in names {

@@ -1,33 +1,37 @@
-ghost use Rattle.std.specs.Prelude.{◌≡◌, ◌<◌, ◌≤◌, ◌+◌, ◌-◌, ◌^◌};
-ghost use Rattle.perm_engine.specs.Answers.{IsStep};
+ghost use Rattle.std.specs.Prelude.{◌≡◌};
+ghost use Rattle.perm_engine.specs.Answers.{IsTurn};
 ghost use Rattle.perm_engine.specs.Step.{step};
 
-use crate::command::Command;
 use crate::create::create_table;
+use crate::delete::delete;
+use crate::drop_table::drop_table;
 use crate::insert::insert;
-use crate::refusal::StepRefusal;
+use crate::refusal::CommandRefusal;
 use crate::select::select;
 use perm_catalog::Catalog;
 use perm_values::Bytes;
+use sql_commands::Command;
 use std::alloc::Global;
 
-/// Runs a statement: its text is made before the catalog is changed, so that a refused one leaves it as it was.
+/// Runs the command that stands at an offset: its text is made before the catalog is changed, so that a refused one
+/// leaves it as it was.
 pub(crate) fn step(
     alloc: Global,
     catalog: &mut Catalog,
     command: &Command,
-) -> Result<Bytes, StepRefusal>
-    requires { catalog.old.next < 2 ^ 64 - 1 }
-    ensures step { IsStep (step catalog.old command.now) catalog.old catalog.new result }
-    ensures next { catalog.new.next ≤ catalog.old.next + 1 }
+    at: usize,
+) -> Result<Bytes, CommandRefusal>
+    ensures { IsTurn (step catalog.old command.now at) catalog.old catalog.new result }
 {
     match command {
-        Command::CreateTable { table, columns } => create_table(alloc, catalog, table, columns),
-        Command::Insert { table, rows } => insert(alloc, catalog, table, rows),
+        Command::CreateTable { table, columns } => create_table(alloc, catalog, table, columns, at),
+        Command::Insert { table, rows } => insert(alloc, catalog, table, rows, at),
         Command::Select {
             provenance,
             columns,
             table,
         } => select(alloc, catalog, *provenance, columns, table),
+        Command::Delete { table } => delete(alloc, catalog, table, at),
+        Command::DropTable { table, at } => drop_table(alloc, catalog, table, *at),
     }
 }

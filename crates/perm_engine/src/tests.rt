@@ -1,11 +1,13 @@
 use super::*;
-use perm_io::{MemoryFiles, MemorySink, NamedFile};
+use perm_catalog::Catalog;
+use perm_io::{MemoryFiles, MemorySink, NamedFile, NeverFiles};
 use perm_values::{Bytes, Chars, List, NoMemory};
+use sql_lexer::tokens;
 use std::alloc::Global;
 use std::test::*;
 
-const SCRIPT: &str =
-    "CREATE TABLE r (a INTEGER, b TEXT); INSERT INTO r VALUES (1,'x'), (2,'x'); SELECT PROVENANCE b FROM r;";
+const SCRIPT: &[u8] =
+    b"CREATE TABLE r (a INTEGER, b TEXT); INSERT INTO r VALUES (1,'x'), (2,'x'); SELECT PROVENANCE b FROM r;";
 
 const ANSWER: &str =
     "CREATE TABLE\nINSERT 2\n\"b\",\"prov_r_a\",\"prov_r_b\"\n\"x\",1,\"x\"\n\"x\",2,\"x\"\n(2 rows)\n";
@@ -21,12 +23,12 @@ struct Ended {
 fn run(
     alloc: Global,
     words: &[&str],
-    script: &str,
+    script: &[u8],
     failing: &[u64],
     mut out: MemorySink,
 ) -> Result<Ended, NoMemory> {
     let mut bytes = Bytes::new(alloc);
-    bytes.add(script.as_bytes())?;
+    bytes.add(script)?;
     let name = Chars::from_text(alloc, "s")?;
     let mut held = List::new(alloc);
     held.push(NamedFile { name, bytes })?;
@@ -39,31 +41,46 @@ fn run(
     Ok(Ended { status, out })
 }
 
+/// Scripts with what they write and how they end: first those that are none, then statements that can't stand.
+const SCRIPTS: [(&[u8], &str, Status); 12] = [
+    (b"", "", Status::Done),
+    (b"SELECT \xff", "error E01 at 7\n", Status::Syntax),
+    (b"SELECT ?", "error E02 at 7\n", Status::Syntax),
+    (b"SELECT 'abc", "error E03 at 7\n", Status::Syntax),
+    (
+        b"SELECT 9223372036854775808;",
+        "error E04 at 7\n",
+        Status::Syntax,
+    ),
+    (b"SELECT FROM r;", "error E05 at 7\n", Status::Syntax),
+    (
+        b"SELECT a FROM r; SELECT",
+        "error E05 at 23\n",
+        Status::Syntax,
+    ),
+    (b"SELECT a FROM t", "error E10 at 0\n", Status::Refused),
+    (
+        b"CREATE TABLE r (a INTEGER, b TEXT); DROP VIEW r;",
+        "CREATE TABLE\nerror E29 at 36\n",
+        Status::Refused,
+    ),
+    (b"; SELECT (a) FROM t", "error E29 at 2\n", Status::Refused),
+    (
+        b"CREATE TABLE t (a TEXT); INSERT INTO t VALUES (1)",
+        "CREATE TABLE\nerror E10 at 0\n",
+        Status::Refused,
+    ),
+    (
+        b"CREATE TABLE \"T\" (a INT, b BIGINT); INSERT INTO \"T\" VALUES (1, NULL); SELECT b, a FROM \"T\"; DELETE FROM \"T\"; DROP TABLE \"T\"; SELECT a FROM \"T\"",
+        "CREATE TABLE\nINSERT 1\n\"b\",\"a\"\n,1\n(1 rows)\nDELETE 1\nDROP TABLE\nerror E10 at 0\n",
+        Status::Refused,
+    ),
+];
+
 #[test]
 fn scripts_and_their_answers(rt: HostRuntime) -> Result<(), Fail> {
     let alloc = rt.alloc();
-    let cases = [
-        (SCRIPT, ANSWER, Status::Done),
-        ("", "", Status::Done),
-        ("SELECT", "error E05 at 0\n", Status::Syntax),
-        ("SELECT a FROM t", "error E10 at 0\n", Status::Refused),
-        (
-            "CREATE TABLE t (a TEXT); INSERT INTO t VALUES (1)",
-            "CREATE TABLE\nerror E10 at 0\n",
-            Status::Refused,
-        ),
-        (
-            "CREATE TABLE t (a TEXT); SELECT b FROM t",
-            "CREATE TABLE\nerror E10 at 0\n",
-            Status::Refused,
-        ),
-        (
-            "CREATE TABLE t (a TEXT); SELECT a, a FROM t",
-            "CREATE TABLE\n\"a\",\"a\"\n(0 rows)\n",
-            Status::Done,
-        ),
-    ];
-    for (script, text, status) in cases {
+    for (script, text, status) in SCRIPTS {
         let ended = run(
             alloc,
             &["s"],
@@ -71,9 +88,32 @@ fn scripts_and_their_answers(rt: HostRuntime) -> Result<(), Fail> {
             &[],
             MemorySink::new(alloc, 200, &[])?,
         )?;
-        assert_eq!(rt; ended.status, status, "{script}");
-        assert_eq!(rt; ended.out.written(), text.as_bytes(), "{script}");
+        assert_eq!(rt; ended.status, status, "{text}");
+        assert_eq!(rt; ended.out.written(), text.as_bytes(), "{text}");
     }
+    Ok(())
+}
+
+/// What a session that can draw no number answers to a statement.
+fn answer_spent(alloc: Global, script: &[u8]) -> Result<String, Fail> {
+    let tokens = tokens(alloc, script)?;
+    let script = sql_parser::script(alloc, &tokens, script.len())?;
+    let mut files = NeverFiles::new(List::new(alloc));
+    let mut session = Session::with(alloc, Catalog::new(alloc, u64::MAX));
+    let mut text = String::new(alloc);
+    for statement in script.statements.as_slice() {
+        match session.step(statement, &mut files) {
+            Ok(_) => text.push_str("stands")?,
+            Err(refusal) => write!(text, "{refusal:?}")?,
+        }
+    }
+    Ok(text)
+}
+
+#[test]
+fn no_number_is_left(rt: HostRuntime) -> Result<(), Fail> {
+    let text = answer_spent(rt.alloc(), b"; CREATE TABLE r (a INTEGER)")?;
+    assert_eq!(rt; text.as_str(), "Break(Break { code: 17, at: 2 })");
     Ok(())
 }
 

@@ -13,12 +13,12 @@ pub(crate) fn text_of(alloc: Global, bytes: &[u8]) -> Result<Bytes, NoMemory>
     Ok(text)
 }
 
-/// The text of an INSERT of so many rows.
-pub(crate) fn inserted(alloc: Global, count: usize) -> Result<Bytes, NoMemory>
-    ensures { IfOk result (λ text. text ≡ codes "INSERT " ++ decimal count ++ codes "\n") }
+/// A word, how many rows it met, and the end of the line.
+pub(crate) fn counted(alloc: Global, word: &[u8], count: usize) -> Result<Bytes, NoMemory>
+    ensures { IfOk result (λ text. text ≡ word.now ++ decimal count ++ codes "\n") }
 {
     let number = count.to_string(alloc)?;
-    let mut text = text_of(alloc, b"INSERT ")?;
+    let mut text = text_of(alloc, word)?;
     text.add(number.as_bytes())?;
     text.add(b"\n")?;
     Ok(text)

@@ -1,13 +1,17 @@
-use Rattle.std.proofs.Common.{◌∙◌, ◌<◌, ◌≤◌, length, ap, arith}
+use Rattle.std.proofs.Common.{◌∙◌, ◌<◌, ◌≤◌, length, Err, ap, sym, subst, arith}
 use Rattle.csv_tables.specs.AnswerText.{answer_bytes}
+use Rattle.perm_engine.specs.Answers.{IsAnswer}
+use Rattle.perm_engine.specs.Step as spec
 use Rattle.perm_engine.proofs.Queries.{answer-too_wide, answer-given}
 use Rattle.perm_engine.proofs.select.answer.Goals as goal
 
 pub returns-then-len-gt-MOST_ANSWERED : goal.returns-then-len-gt-MOST_ANSWERED
 returns-then-len-gt-MOST_ANSWERED c =
     let wide : 1024 < length c.in_ok-names.names = omega (arith, c.len.ensures.value, c.if-len-gt-MOST_ANSWERED.true) in
-    answer-too_wide c.args.catalog.now c.args.provenance c.args.table.now c.args.entry.now c.args.columns.now c.args.places.now c.in_ok-names.names
-    (c.in_ok-names.ensures c.args.places.now) wide
+    subst (λ r. IsAnswer (spec.answer c.args.catalog.now c.args.provenance c.args.table.now c.args.entry.now c.args.columns.now c.args.places.now) c.args.catalog.now (Err r))
+    (sym c.new.ensures)
+    (answer-too_wide c.args.catalog.now c.args.provenance c.args.table.now c.args.entry.now c.args.columns.now c.args.places.now c.in_ok-names.names
+    (c.in_ok-names.ensures c.args.places.now) wide)
 
 pub returns : goal.returns
 returns c =

@@ -1,0 +1,27 @@
+ghost use Rattle.std.specs.Prelude.{◌≡◌, ◌<◌, ◌-◌, ◌^◌, ℕ, List, length};
+ghost use Rattle.perm_catalog.specs.Changes.{nothing_held};
+ghost use Rattle.sql_tree.specs.declared.statement.Script.{Script};
+ghost use Rattle.sql_tree.specs.declared.statement.Statement.{Statement};
+ghost use Rattle.perm_engine.specs.Run.{StopsAt};
+ghost use Rattle.perm_engine.specs.Scripts.{IsScriptOf, IsMisspelled};
+ghost use Rattle.perm_engine.specs.declared.refusal.Break.{Break};
+
+use sql_lexer::lexing_is_unique;
+use sql_parser::{a_script_has_one_tree, an_unexpected_token_has_no_tree};
+
+/// Bytes are one script, and a script isn't misspelled.
+pub fn bytes_are_one_script()
+    ensures one_script { (bytes : List ℕ) (a b : Script) → IsScriptOf bytes a → IsScriptOf bytes b → a ≡ b }
+    ensures not_both { (bytes : List ℕ) (script : Script) (b : Break) → IsScriptOf bytes script → IsMisspelled bytes b → ⊥ }
+{
+    lexing_is_unique();
+    a_script_has_one_tree();
+    an_unexpected_token_has_no_tree();
+}
+
+/// A run of fewer than 2^64 - 2 statements never wants the last number, since it draws 1 first and no more than one a
+/// statement.
+pub fn a_run_has_numbers_left()
+    ensures { (statements : List Statement) (b : Break) → length statements < 2 ^ 64 - 2
+        → StopsAt (nothing_held 1) statements b → b.code ≡ 17 → ⊥ }
+{}

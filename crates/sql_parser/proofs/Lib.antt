@@ -1,0 +1,15 @@
+pub mod Begins
+pub mod Complete
+pub mod Decided
+pub mod Depth
+pub mod Exact
+pub mod Fine
+pub mod Listing
+pub mod Local
+pub mod Samples
+pub mod Shut
+pub mod Sound
+pub mod Steps
+pub mod Swapped
+pub mod TablesHold
+pub mod Viable

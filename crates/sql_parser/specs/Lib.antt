@@ -1,0 +1,13 @@
+pub mod Building
+pub mod Cursors
+pub mod Descent
+pub mod FirstWrong
+pub mod Grammar
+pub mod Lists
+pub mod Nesting
+pub mod Readers
+pub mod Rules
+pub mod Sorts
+pub mod Spells
+pub mod Symbols
+pub mod Tables

@@ -1,0 +1,75 @@
+ghost use Rattle.std.specs.Prelude.{◌≡◌};
+ghost use Rattle.sql_parser.specs.Building as b;
+ghost use Rattle.sql_parser.specs.Cursors as spec;
+ghost use Rattle.sql_parser.specs.Symbols as n;
+
+use crate::cursor::Cursor;
+use crate::fault::Fault;
+use crate::listed::listed;
+use crate::sort::{NAMES, Sort};
+use perm_values::{Copyable, List};
+use sql_tree::{ColRef, Name};
+
+impl<'a> Cursor<'a> {
+    #[tactic(auto, using(crate::proofs::Steps::name_is))]
+    pub(crate) fn name(&mut self) -> Result<Name, Fault>
+        ensures { spec.Reads result (spec.reading n.NameOf self.old) self.new }
+    {
+        let token = self.one(&NAMES)?;
+        Ok(Name {
+            text: token.spelled.copy(self.alloc())?,
+            at: token.start,
+        })
+    }
+
+    /// The name behind a dot, if there is one.
+    #[tactic(auto, using(crate::proofs::Steps::qualified_is))]
+    pub(crate) fn qualified(&mut self) -> Result<Option<Name>, Fault>
+        ensures { spec.Reads result (spec.reading n.Qualified self.old) self.new }
+    {
+        if self.sees(Sort::Dot) {
+            self.past(Sort::Dot)?;
+            Ok(Some(self.name()?))
+        } else {
+            Ok(None)
+        }
+    }
+
+    #[tactic(auto, using(crate::proofs::Steps::column_is))]
+    pub(crate) fn column(&mut self) -> Result<ColRef, Fault>
+        ensures { spec.Reads result (spec.reading n.ColumnOf self.old) self.new }
+    {
+        let first = self.name()?;
+        let second = self.qualified()?;
+        Ok(reference(first, second))
+    }
+}
+
+/// The column of an item, or the column alone.
+pub(crate) fn reference(first: Name, second: Option<Name>) -> ColRef
+    ensures { result ≡ b.reference first second }
+{
+    let at = first.at;
+    match second {
+        Some(name) => ColRef {
+            at,
+            table: Some(first),
+            name,
+        },
+        None => ColRef {
+            at,
+            table: None,
+            name: first,
+        },
+    }
+}
+
+impl<'a> Cursor<'a> {
+    /// Names with commas between them.
+    #[tactic(auto, using(crate::proofs::Steps::names_is))]
+    pub(crate) fn names(&mut self) -> Result<List<Name>, Fault>
+        ensures { spec.Reads result (spec.reading n.Names self.old) self.new }
+    {
+        listed(self, Sort::Comma, |cursor: &mut Cursor<'_>| cursor.name())
+    }
+}

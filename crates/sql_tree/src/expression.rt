@@ -1,0 +1,138 @@
+use crate::name::ColRef;
+use crate::query::QueryTree;
+use null_logic::{Arith, Compare, Operator, Truth};
+use perm_values::{Boxed, Chars, Kind, List};
+
+/// An aggregate function as it is written; COUNT has three forms.
+#[derive(Clone, Copy, Debug, PartialEq, Eq)]
+pub enum AggWord {
+    CountRows,
+    Count,
+    CountDistinct,
+    Sum,
+    Min,
+    Max,
+}
+
+/// An expression, with the offset of its first token.
+#[derive(Debug, Drop)]
+#[cycle(tree)]
+pub struct ExprTree {
+    pub at: usize,
+    pub body: ExprBody,
+}
+
+/// What an expression is made of.
+#[derive(Debug, Drop)]
+#[cycle(tree)]
+pub enum ExprBody {
+    Null,
+    /// `CAST(NULL AS ..)`.
+    NullOf(Kind),
+    Integer(i64),
+    Text(Chars),
+    Truth(bool),
+    Column(ColRef),
+    /// An expression in parentheses.
+    Paren(Boxed<ExprTree>),
+    /// As many NOTs before one part.
+    Nots {
+        count: u64,
+        part: Boxed<ExprTree>,
+    },
+    /// As many minus signs before one part.
+    Signs {
+        count: u64,
+        part: Boxed<ExprTree>,
+    },
+    /// Parts with AND or with OR between them.
+    Logic {
+        op: Operator,
+        parts: List<ExprTree>,
+    },
+    /// Arithmetic of one level, from the left.
+    Chain {
+        first: Boxed<ExprTree>,
+        steps: List<ExprStep>,
+    },
+    Compared {
+        op: Compare,
+        first: Boxed<ExprTree>,
+        second: Boxed<ExprTree>,
+    },
+    Like {
+        negated: bool,
+        text: Boxed<ExprTree>,
+        pattern: Boxed<ExprTree>,
+    },
+    Between {
+        negated: bool,
+        part: Boxed<ExprTree>,
+        low: Boxed<ExprTree>,
+        high: Boxed<ExprTree>,
+    },
+    InList {
+        negated: bool,
+        part: Boxed<ExprTree>,
+        list: List<ExprTree>,
+    },
+    InQuery {
+        negated: bool,
+        part: Boxed<ExprTree>,
+        query: Boxed<QueryTree>,
+    },
+    /// A comparison with the rows of a query: ALL where `every` is set, else ANY or SOME.
+    Quantified {
+        every: bool,
+        op: Compare,
+        part: Boxed<ExprTree>,
+        query: Boxed<QueryTree>,
+    },
+    IsNull {
+        negated: bool,
+        part: Boxed<ExprTree>,
+    },
+    IsTruth {
+        negated: bool,
+        truth: Truth,
+        part: Boxed<ExprTree>,
+    },
+    /// `IS DISTINCT FROM`; where `negated` is set, `IS NOT DISTINCT FROM`.
+    IsDistinct {
+        negated: bool,
+        first: Boxed<ExprTree>,
+        second: Boxed<ExprTree>,
+    },
+    Case {
+        arms: List<ArmTree>,
+        otherwise: Option<Boxed<ExprTree>>,
+    },
+    Coalesce(List<ExprTree>),
+    NullIf {
+        first: Boxed<ExprTree>,
+        second: Boxed<ExprTree>,
+    },
+    Aggregate {
+        function: AggWord,
+        argument: Option<Boxed<ExprTree>>,
+    },
+    Exists(Boxed<QueryTree>),
+    /// A query in parentheses as a value.
+    Scalar(Boxed<QueryTree>),
+}
+
+/// One step of a chain: the operation and its right operand.
+#[derive(Debug, Drop)]
+#[cycle(tree)]
+pub struct ExprStep {
+    pub op: Arith,
+    pub part: ExprTree,
+}
+
+/// One arm of a CASE: `WHEN condition THEN value`.
+#[derive(Debug, Drop)]
+#[cycle(tree)]
+pub struct ArmTree {
+    pub condition: ExprTree,
+    pub value: ExprTree,
+}

@@ -1,0 +1,78 @@
+use crate::expression::ExprTree;
+use crate::name::Name;
+use crate::query::QueryTree;
+use perm_values::{Chars, Kind, List};
+
+/// The statements of a script; those without a token are left out.
+#[derive(Debug, Drop)]
+pub struct Script {
+    pub statements: List<Statement>,
+}
+
+/// A statement, with the offset of its first token.
+#[derive(Debug, Drop)]
+pub struct Statement {
+    pub at: usize,
+    pub body: StatementBody,
+}
+
+/// What a statement asks for.
+#[derive(Debug, Drop)]
+pub enum StatementBody {
+    CreateTable {
+        table: Name,
+        columns: List<ColumnDef>,
+    },
+    CreateTableAs {
+        table: Name,
+        query: QueryTree,
+    },
+    CreateView {
+        view: Name,
+        query: QueryTree,
+    },
+    /// `header`: whether the first record is none of the rows; `mark`: the field that stands for NULL.
+    Copy {
+        table: Name,
+        file: Chars,
+        header: bool,
+        mark: Chars,
+    },
+    Insert {
+        table: Name,
+        rows: List<ValuesRow>,
+    },
+    Delete {
+        table: Name,
+        condition: Option<ExprTree>,
+    },
+    DropTable {
+        table: Name,
+    },
+    DropView {
+        view: Name,
+    },
+    Select {
+        query: QueryTree,
+    },
+    Explain {
+        query: QueryTree,
+    },
+    ShowFresh {
+        table: Name,
+    },
+}
+
+/// A column of CREATE TABLE.
+#[derive(Debug, Drop)]
+pub struct ColumnDef {
+    pub name: Name,
+    pub kind: Kind,
+}
+
+/// A row of VALUES.
+#[derive(Debug, Drop)]
+pub struct ValuesRow {
+    pub at: usize,
+    pub values: List<ExprTree>,
+}
