@@ -5,6 +5,7 @@ pub mod Depth
 pub mod Exact
 pub mod Fine
 pub mod Local
+pub mod Nested
 pub mod Samples
 pub mod Shut
 pub mod Sound

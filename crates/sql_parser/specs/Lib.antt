@@ -4,6 +4,7 @@ pub mod Descent
 pub mod FirstWrong
 pub mod Grammar
 pub mod Nesting
+pub mod Nests
 pub mod Rules
 pub mod Sorts
 pub mod Symbols

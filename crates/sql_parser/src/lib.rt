@@ -3,6 +3,7 @@
 
 mod cursor;
 mod fault;
+mod grammar;
 mod names;
 mod nesting;
 mod sort;
