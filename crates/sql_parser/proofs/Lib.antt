@@ -4,6 +4,7 @@ pub mod Decided
 pub mod Depth
 pub mod Exact
 pub mod Fine
+pub mod Listing
 pub mod Local
 pub mod Nested
 pub mod Samples

@@ -3,8 +3,10 @@ pub mod Cursors
 pub mod Descent
 pub mod FirstWrong
 pub mod Grammar
+pub mod Lists
 pub mod Nesting
 pub mod Nests
+pub mod Readers
 pub mod Rules
 pub mod Sorts
 pub mod Symbols

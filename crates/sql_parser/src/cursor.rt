@@ -1,4 +1,4 @@
-ghost use Rattle.std.specs.Prelude.{◌≡◌, [], ◌∷◌};
+ghost use Rattle.std.specs.Prelude.{◌≡◌, ◌<◌, ◌≤◌, [], ◌∷◌, length, IfOk};
 ghost use Rattle.sql_parser.specs.Cursors as spec;
 
 use crate::fault::Fault;
@@ -84,7 +84,8 @@ impl<'a> Cursor<'a> {
 
     /// Takes the next token, if there is one.
     fn take(&mut self) -> Result<&'a Token, Fault>
-        ensures { spec.Sees (λ token. token.now) result (spec.next self.old) self.new }
+        ensures given { spec.Sees (λ token. token.now) result (spec.next self.old) self.new }
+        ensures fewer { IfOk result (λ _. length self.new < length self.old) }
     {
         match self.tokens.split_first() {
             Some((token, rest)) => {
@@ -98,7 +99,8 @@ impl<'a> Cursor<'a> {
 
     /// Takes the next token, which has to be of one of these sorts.
     pub(crate) fn one(&mut self, sorts: &[Sort]) -> Result<&'a Token, Fault>
-        ensures { spec.Sees (λ token. token.now) result (spec.one sorts.now self.old) self.new }
+        ensures given { spec.Sees (λ token. token.now) result (spec.one sorts.now self.old) self.new }
+        ensures fewer { IfOk result (λ _. length self.new < length self.old) }
     {
         if self.sees_any(sorts) {
             self.take()
@@ -109,7 +111,8 @@ impl<'a> Cursor<'a> {
 
     /// Goes past the next token, which has to be of this sort.
     pub(crate) fn past(&mut self, sort: Sort) -> Result<(), Fault>
-        ensures { spec.Reads result (spec.past sort self.old) self.new }
+        ensures given { spec.Reads result (spec.past sort self.old) self.new }
+        ensures fewer { IfOk result (λ _. length self.new < length self.old) }
     {
         if self.sees(sort) {
             self.take()?;
@@ -121,7 +124,8 @@ impl<'a> Cursor<'a> {
 
     /// Goes past the next token where it is of this sort, and says whether it is.
     pub(crate) fn passes(&mut self, sort: Sort) -> Result<bool, Fault>
-        ensures { spec.Reads result (spec.passing sort self.old) self.new }
+        ensures given { spec.Reads result (spec.passing sort self.old) self.new }
+        ensures fewer { IfOk result (λ _. length self.new ≤ length self.old) }
     {
         let found = self.sees(sort);
         if found {

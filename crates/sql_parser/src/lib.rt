@@ -4,6 +4,7 @@
 mod cursor;
 mod fault;
 mod grammar;
+mod listed;
 mod names;
 mod nesting;
 mod sort;

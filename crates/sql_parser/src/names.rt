@@ -6,7 +6,8 @@ ghost use Rattle.sql_parser.specs.Symbols as n;
 use crate::cursor::Cursor;
 use crate::fault::Fault;
 use crate::sort::{NAMES, Sort};
-use perm_values::Copyable;
+use crate::listed::listed;
+use perm_values::{Copyable, List};
 use sql_tree::{ColRef, Name};
 
 impl<'a> Cursor<'a> {
@@ -60,5 +61,15 @@ pub(crate) fn reference(first: Name, second: Option<Name>) -> ColRef
             table: None,
             name: first,
         },
+    }
+}
+
+impl<'a> Cursor<'a> {
+    /// Names with commas between them.
+    #[tactic(auto, using(crate::proofs::Steps::names_is))]
+    pub(crate) fn names(&mut self) -> Result<List<Name>, Fault>
+        ensures { spec.Reads result (spec.reading n.Names self.old) self.new }
+    {
+        listed(self, Sort::Comma, |cursor: &mut Cursor<'_>| cursor.name())
     }
 }
