@@ -7,6 +7,7 @@ mod grammar;
 mod listed;
 mod names;
 mod nesting;
+mod repeated;
 mod sort;
 
 pub use nesting::too_deep;
