@@ -9,5 +9,6 @@ pub mod Nests
 pub mod Readers
 pub mod Rules
 pub mod Sorts
+pub mod Spells
 pub mod Symbols
 pub mod Tables

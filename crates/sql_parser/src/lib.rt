@@ -1,13 +1,19 @@
-//! Reads the syntax tree of a script from its tokens.
+//! Reads the syntax tree of a script from its tokens (ISO/IEC 9075-2, cut to the grammar in `specs/Grammar.antt`).
 #![tactic(auto)]
 
 mod cursor;
 mod fault;
 mod grammar;
+mod laws;
 mod listed;
 mod names;
 mod nesting;
 mod repeated;
+mod script;
 mod sort;
+mod syntax_error;
 
+pub use laws::{a_script_has_one_tree, an_unexpected_token_has_no_tree};
 pub use nesting::too_deep;
+pub use script::script;
+pub use syntax_error::SyntaxError;

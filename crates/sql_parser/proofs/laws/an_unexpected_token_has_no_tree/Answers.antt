@@ -1,0 +1,18 @@
+use Rattle.std.proofs.Common.{◌≡◌, List, [], ◌∷◌, ◌++◌, subst, append-nil, ◌∙◌}
+use Rattle.sql_lexer.specs.declared.token.Token.{Token}
+use Rattle.sql_parser.specs.FirstWrong.{IsFirstWrong, IsWrongAt}
+use Rattle.sql_parser.specs.Grammar.{sql}
+use Rattle.sql_parser.specs.Rules.{symbol}
+use Rattle.sql_parser.specs.Spells.{Spells}
+use Rattle.sql_parser.specs.Symbols.{ScriptOf}
+use Rattle.sql_tree.specs.declared.statement.Script.{Script}
+use Rattle.sql_parser.proofs.laws.an_unexpected_token_has_no_tree.Goals as goal
+
+none : (before wrong : List Token) (script : Script) → IsWrongAt sql (symbol ScriptOf) before wrong → Spells (before ++ wrong) script → ⊥
+none before [] script no spelled = no script (subst (λ l. Spells l script) (append-nil before) spelled)
+none before (t ∷ rest) script no spelled = no (rest, script, subst (λ l. Spells l script) ? spelled)
+
+pub returns : goal.returns
+returns c = λ tokens length at script unexpected spelled.
+    none unexpected.first.before unexpected.wrong script unexpected.first.wrong
+    (subst (λ l. Spells l script) unexpected.first.splits spelled)
