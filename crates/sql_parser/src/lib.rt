@@ -8,6 +8,7 @@ mod laws;
 mod listed;
 mod names;
 mod nesting;
+mod query;
 mod repeated;
 mod script;
 mod sort;
