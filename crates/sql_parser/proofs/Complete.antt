@@ -1,13 +1,11 @@
 -- What a rule spells is read, where the tokens behind it don't go on with it; so it has one value.
-use Rattle.std.proofs.Common.{◌≡◌, ℕ, zero, suc, ◌+◌, ◌≤◌, ◌<◌, Bool, true, false, not, ◌&&◌, ◌||◌, cond, List, [], ◌∷◌, ◌++◌, length, Option, Some, None, inl, inr, refl, sym, ap, subst, ◌∙◌, append_assoc, append-nil, length-append, arith}
-use Rattle.std.specs.Prelude.{Contains}
-use Rattle.std.specs.List.{list_any, list_all}
+use Rattle.std.proofs.Common.{◌≡◌, ℕ, zero, suc, ◌≤◌, Bool, true, false, cond, List, [], ◌∷◌, ◌++◌, length, refl, sym, ap, subst, ◌∙◌, append_assoc, append-nil, arith}
 use Rattle.std.proofs.lemmas.Map.Views.{list_any-from_Contains}
-use Rattle.sql_parser.specs.Rules.{Rule, word, token, ◌then◌, ◌or◌, front, optional, many, placed, symbol, Grammar, RuleOf, ValueOf, StartsAt, Spelled, a_word, a_token, both, first, second, front_first, front_second, absent, present, no_more, one_more, at_place, as_symbol}
-use Rattle.sql_parser.specs.Descent.{Outcome, Taken, Stopped, and_then, mapped, Tables, nullable, starts, next_is, begins_with, start_of, singles, place_of, take_word, take_token, repeated, step, read}
-use Rattle.sql_parser.proofs.Sound.{IsTold, Claims, Spells, step-claims}
-use Rattle.sql_parser.proofs.Begins.{both_true, or_left, or_right, none-left, none-right, has, HasBegins, Begins, begins}
-use Rattle.sql_parser.proofs.Depth.{Falls, no_longer, shorter, and_then-alike, read-is, read-claims}
+use Rattle.sql_parser.specs.Rules.{word, token, ◌then◌, ◌or◌, front, optional, many, placed, symbol, Grammar, RuleOf, ValueOf, StartsAt, Spelled, a_word, a_token, both, first, second, front_first, front_second, absent, present, no_more, one_more, at_place, as_symbol}
+use Rattle.sql_parser.specs.Descent.{Outcome, Taken, Stopped, and_then, mapped, Tables, nullable, next_is, begins_with, start_of, singles, repeated, step, read}
+use Rattle.sql_parser.proofs.Sound.{IsTold, Claims, step-claims}
+use Rattle.sql_parser.proofs.Begins.{both_true, none-left, none-right, has, HasBegins, Begins, begins}
+use Rattle.sql_parser.proofs.Depth.{Falls, shorter, and_then-alike, read-is, read-claims}
 use Rattle.sql_parser.proofs.Fine.{extends, extends_of, is_flat, apart, apart-law, IsFine, IsShut}
 
 -- what holds of a grammar and its tables that the next token decides
@@ -55,8 +53,8 @@ module _ (g : Grammar) (tables : Tables g) (goes_on : g.Symbol → List g.Sort) 
       ap (λ o. cond (next_is g tables (start_of g tables r) ts) o (Taken [] ts))
       (and_then-alike g tables r ts (by r ts) _ _ (by-claims r ts)
       (λ x mid spells.
-          let less = shorter g tables decided.has_begins r ts mid x full spells in
-          ap (mapped (λ xs. x ∷ xs)) (repeated-enough r full c d mid (omega arith) (omega arith))))
+      let less = shorter g tables decided.has_begins r ts mid x full spells in
+      ap (mapped (λ xs. x ∷ xs)) (repeated-enough r full c d mid (omega arith) (omega arith))))
 
   -- a repetition reads one, where the next token begins one, and goes on
   pub many-is : (r : RuleOf g) → nullable tables.empty r ≡ false → (ts : List g.Token)
@@ -67,9 +65,8 @@ module _ (g : Grammar) (tables : Tables g) (goes_on : g.Symbol → List g.Sort) 
       ap (λ o. cond (next_is g tables (start_of g tables r) (t ∷ ts)) o (Taken [] (t ∷ ts)))
       (and_then-alike g tables r (t ∷ ts) (by r (t ∷ ts)) _ _ (by-claims r (t ∷ ts))
       (λ x mid spells.
-          let less = shorter g tables decided.has_begins r (t ∷ ts) mid x full spells in
-          ap (mapped (λ xs. x ∷ xs)) (repeated-enough r full (length ts) (length mid) mid (omega arith) (omega arith))))
-
+      let less = shorter g tables decided.has_begins r (t ∷ ts) mid x full spells in
+      ap (mapped (λ xs. x ∷ xs)) (repeated-enough r full (length ts) (length mid) mid (omega arith) (omega arith))))
 
   -- what follows a word of the rest either begins it or ends what stood before
   ends_before : (r s : RuleOf g) (vs rest : List g.Token) → apart g.same (extends_of g tables goes_on r) (start_of g tables s) ≡ true

@@ -1,10 +1,7 @@
 -- The next token decides each choice of the grammar of the SQL.
-use Rattle.std.proofs.Common.{◌≡◌, ◌||◌, Bool, true, false, ◌&&◌, List, [], ◌∷◌, ◌++◌, refl, sym, subst, ◌∙◌, arith}
-use denote.Enum.Bare.{sameb}
-use Rattle.std.specs.List.{list_any, list_all}
+use Rattle.std.proofs.Common.{◌≡◌, true, false, ◌&&◌, List, [], ◌∷◌, ◌++◌, refl, arith}
 use Rattle.sql_lexer.specs.declared.token.Token.{Token}
 use Rattle.sql_parser.specs.Rules.{token, ◌then◌, word, symbol}
-use Rattle.sql_parser.specs.Descent.{begins_with}
 use Rattle.sql_parser.specs.Grammar.{sql, body}
 use Rattle.sql_parser.specs.Sorts.{names, same_sort}
 use Rattle.sql_parser.specs.Symbols as n
@@ -14,7 +11,7 @@ use Rattle.sql_parser.specs.declared.sort.Sort.{Sort}
 use Rattle.sql_parser.specs.declared.sort.Sort.TheVariants as s
 use Rattle.sql_parser.proofs.Begins.{both_true, has}
 use Rattle.sql_parser.proofs.Complete.{IsDecided}
-use Rattle.sql_parser.proofs.Fine.{extends, is_fine, fine, IsFine, IsShut, within, within-law}
+use Rattle.sql_parser.proofs.Fine.{extends, fine, IsFine, IsShut, within, within-law}
 use Rattle.sql_parser.proofs.Shut.{value-stops}
 use Rattle.sql_parser.proofs.TablesHold.{told, has_begins, has_falls}
 

@@ -1,7 +1,7 @@
 -- Reading a symbol goes as deep as it needs: what is read doesn't hang on the number of calls.
-use Rattle.std.proofs.Common.{◌≡◌, ℕ, zero, suc, ◌+◌, ◌*◌, ◌≤◌, ◌<◌, Bool, true, false, ◌&&◌, cond, List, [], ◌∷◌, ◌++◌, length, Option, Some, None, inl, inr, refl, sym, ap, subst, ◌∙◌, length-append, mul-le-mul_right, ltb, lt-ltb, ltb-true, arith}
-use Rattle.sql_parser.specs.Rules.{Rule, word, token, ◌then◌, ◌or◌, front, optional, many, placed, symbol, Grammar, RuleOf, ValueOf, Spelled}
-use Rattle.sql_parser.specs.Descent.{Outcome, Taken, Stopped, and_then, mapped, Tables, nullable, next_is, begins_with, start_of, singles, place_of, repeated, step, reading_to, read}
+use Rattle.std.proofs.Common.{◌≡◌, ℕ, zero, suc, ◌+◌, ◌*◌, ◌≤◌, ◌<◌, Bool, true, false, ◌&&◌, cond, List, [], ◌∷◌, ◌++◌, length, refl, sym, ap, ◌∙◌, length-append, mul-le-mul_right, ltb, lt-ltb, ltb-true, arith}
+use Rattle.sql_parser.specs.Rules.{Rule, word, token, ◌then◌, ◌or◌, front, optional, many, placed, symbol, Grammar, RuleOf, ValueOf}
+use Rattle.sql_parser.specs.Descent.{Outcome, Taken, Stopped, and_then, mapped, Tables, nullable, next_is, start_of, repeated, step, reading_to, read}
 use Rattle.sql_parser.proofs.Sound.{IsTold, Claims, Spells, step-claims, reading-claims}
 use Rattle.sql_parser.proofs.Begins.{both_true, HasBegins, Begins, begins}
 
@@ -70,10 +70,10 @@ module _ (g : Grammar) (tables : Tables g) where
     repeated-alike r k sorts same zero ts small = refl
     repeated-alike r k sorts same (suc count) ts small =
         ap (λ o. cond (next_is g tables sorts ts) o (Taken [] ts))
-        (and_then-alike r ts (step g tables c r ts) _ _ (step-claims g tables told c claims r ts) 
+        (and_then-alike r ts (step g tables c r ts) _ _ (step-claims g tables told c claims r ts)
         (λ x mid spells.
-            let less = mul-le-mul_right tables.ranks (no_longer r ts mid x spells) in
-            ap (mapped (λ xs. x ∷ xs)) (repeated-alike r k sorts same count mid (omega (arith, less))))
+        let less = mul-le-mul_right tables.ranks (no_longer r ts mid x spells) in
+        ap (mapped (λ xs. x ∷ xs)) (repeated-alike r k sorts same count mid (omega (arith, less))))
         ∙ ap (λ o. and_then o (λ x mid. mapped (λ xs. x ∷ xs) (repeated g tables sorts (step g tables d r) count mid))) (same ts small))
 
     then-alike : (r s : RuleOf g) (k : ℕ) (ts : List g.Token) → length ts * tables.ranks + k ≤ most → k ≤ tables.ranks

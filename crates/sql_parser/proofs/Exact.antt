@@ -1,8 +1,8 @@
 -- All tokens are read as the one value that they spell, and otherwise reading ends at the first that is wrong.
 use Rattle.std.proofs.Common.{◌≡◌, List, [], ◌∷◌, ◌++◌, refl, sym, ap, subst, ◌∙◌, append_assoc, append-nil}
-use Rattle.sql_parser.specs.Rules.{symbol, Grammar, ValueOf, Spelled}
-use Rattle.sql_parser.specs.Descent.{Outcome, Taken, Stopped, Tables, read}
-use Rattle.sql_parser.specs.FirstWrong.{IsBegun, IsWrongAt, IsFirstWrong}
+use Rattle.sql_parser.specs.Rules.{symbol, Grammar, Spelled}
+use Rattle.sql_parser.specs.Descent.{Taken, Stopped, Tables, read}
+use Rattle.sql_parser.specs.FirstWrong.{IsWrongAt, IsFirstWrong}
 use Rattle.sql_parser.proofs.Sound.{Claims}
 use Rattle.sql_parser.proofs.Depth.{read-claims}
 use Rattle.sql_parser.proofs.Complete.{IsDecided, complete}

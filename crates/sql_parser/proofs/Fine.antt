@@ -1,10 +1,10 @@
 -- Grammars that the next token decides.
-use Rattle.std.proofs.Common.{◌≡◌, ℕ, zero, suc, ◌+◌, ◌≤◌, ◌<◌, Bool, true, false, not, ◌&&◌, ◌||◌, cond, List, [], ◌∷◌, ◌++◌, length, refl, sym, ap, subst, ◌∙◌, arith}
+use Rattle.std.proofs.Common.{◌≡◌, suc, ◌+◌, Bool, true, false, not, ◌&&◌, ◌||◌, cond, List, [], ◌∷◌, ◌++◌, length, refl, sym, subst, ◌∙◌}
 use Rattle.std.specs.List.{list_any, list_all}
-use Rattle.sql_parser.specs.Rules.{Rule, word, token, ◌then◌, ◌or◌, front, optional, many, placed, symbol, Grammar, RuleOf, ValueOf}
-use Rattle.sql_parser.specs.Descent.{Outcome, Taken, Stopped, Tables, nullable, starts, next_is, begins_with, start_of, singles, step, read}
+use Rattle.sql_parser.specs.Rules.{Rule, word, token, ◌then◌, ◌or◌, front, optional, many, placed, symbol, Grammar, RuleOf}
+use Rattle.sql_parser.specs.Descent.{Stopped, Tables, nullable, starts, begins_with, start_of, singles, step, read}
 use Rattle.sql_parser.proofs.Sound.{IsTold}
-use Rattle.sql_parser.proofs.Begins.{both_true, or_left, or_right, has}
+use Rattle.sql_parser.proofs.Begins.{both_true, has}
 
 -- the sorts with which what a rule spelled may go on
 abbrev pub extends : {Sort Symbol : Type 0} → (Symbol → Bool) → (Symbol → List Sort) → (Symbol → List Sort) → Rule Sort Symbol → List Sort

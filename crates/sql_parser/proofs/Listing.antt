@@ -1,8 +1,8 @@
 -- A list as a loop reads it, item by item.
-use Rattle.std.proofs.Common.{◌≡◌, ℕ, zero, suc, ◌+◌, ◌≤◌, ◌<◌, Bool, true, false, cond, List, [], ◌∷◌, ◌++◌, length, map, refl, sym, ap, ◌∙◌, append_assoc, append-nil, arith}
+use Rattle.std.proofs.Common.{◌≡◌, ℕ, zero, suc, ◌≤◌, ◌<◌, Bool, true, false, cond, List, [], ◌∷◌, ◌++◌, length, map, refl, sym, ap, ◌∙◌, append_assoc, append-nil, arith}
 use Rattle.sql_lexer.specs.declared.token.Token.{Token}
 use Rattle.sql_parser.specs.Building.{Word, items}
-use Rattle.std.proofs.Common.{Result, Ok, Err}
+use Rattle.std.proofs.Common.{Err}
 use Rattle.sql_parser.specs.Cursors.{sees, past, Reads}
 use Rattle.sql_parser.specs.Descent.{Outcome, Taken, Stopped, and_then, mapped, repeated}
 use Rattle.sql_parser.specs.Grammar.{sql}
@@ -58,12 +58,12 @@ module _ {X : Type 0} (sorts : List Sort) (one : List Token → Outcome Token X)
   all_of-step takes [] e = absurd cc
   all_of-step takes (t ∷ ts) e =
       rw e (by_outcome (one (t ∷ ts)) refl) where
-    by_outcome : (o : Outcome Token X) → one (t ∷ ts) ≡ o
-        → and_then o (λ x rest. mapped (λ xs. x ∷ xs) (repeats (length ts) rest)) ≡ and_then o (λ x rest. mapped (λ xs. x ∷ xs) (all_of sorts one rest))
-    by_outcome (Stopped rest) e = refl
-    by_outcome (Taken x rest) e =
-        let h = takes.fewer (t ∷ ts) x rest e in
-        ap (mapped (λ xs. x ∷ xs)) (enough takes (length ts) (length rest) rest (omega arith) (omega arith))
+        by_outcome : (o : Outcome Token X) → one (t ∷ ts) ≡ o
+            → and_then o (λ x rest. mapped (λ xs. x ∷ xs) (repeats (length ts) rest)) ≡ and_then o (λ x rest. mapped (λ xs. x ∷ xs) (all_of sorts one rest))
+        by_outcome (Stopped rest) e = refl
+        by_outcome (Taken x rest) e =
+            let h = takes.fewer (t ∷ ts) x rest e in
+            ap (mapped (λ xs. x ∷ xs)) (enough takes (length ts) (length rest) rest (omega arith) (omega arith))
 
   pub all_of-done : (ts : List Token) → sees sorts ts ≡ false → all_of sorts one ts ≡ Taken [] ts
   unfolding repeated
@@ -76,10 +76,12 @@ module _ {X : Type 0} (separator : Sort) (one : List Token → Outcome Token X) 
     by_one : (ts mid : List Token) (y : Word × X) (new : List Token) (o : Outcome Token X) → one mid ≡ o → mapped (λ x. (tt, x)) o ≡ Taken y new → length new ≤ length mid
     by_one ts mid y new (Taken x rest) e f = let g : rest ≡ new = cc in omega (arith, keeps.fewer mid x rest e, ap length g)
     by_one ts mid y new (Stopped rest) e f = absurd cc
+
     by_sort : (t : Token) (ts : List Token) (y : Word × X) (new : List Token) (b : Bool) → same_sort (sort_of t) separator ≡ b
         → and_then (cond b (Taken tt ts) (Stopped (t ∷ ts))) (λ word rest. mapped (λ x. (word, x)) (one rest)) ≡ Taken y new → length new < suc (length ts)
     by_sort t ts y new true e f = omega (arith, by_one (t ∷ ts) ts y new (one ts) refl f)
     by_sort t ts y new false e f = absurd cc
+
     go : (old : List Token) (y : Word × X) (new : List Token) → behind separator one old ≡ Taken y new → length new < length old
     go [] y new e = absurd cc
     go (t ∷ ts) y new e = by_sort t ts y new (same_sort (sort_of t) separator) refl e

@@ -1,11 +1,11 @@
 -- Where and how reading ends depends on the tokens up to the one at which it ends.
-use Rattle.std.proofs.Common.{◌≡◌, ◌⊎◌, ℕ, zero, suc, ◌+◌, ◌*◌, ◌≤◌, ◌<◌, Bool, true, false, ◌&&◌, ◌||◌, cond, List, [], ◌∷◌, ◌++◌, length, Option, Some, None, inl, inr, refl, sym, ap, subst, ◌∙◌, append_assoc, append-nil, length-append, mul-le-mul_right, ltb, ltb-true, arith}
-use Rattle.sql_parser.specs.Rules.{Rule, word, token, ◌then◌, ◌or◌, front, optional, many, placed, symbol, Grammar, RuleOf, ValueOf, Spelled}
-use Rattle.sql_parser.specs.Descent.{Outcome, Taken, Stopped, and_then, mapped, Tables, nullable, next_is, begins_with, start_of, singles, place_of, take_word, take_token, step, read}
+use Rattle.std.proofs.Common.{◌≡◌, ℕ, zero, suc, ◌+◌, ◌*◌, ◌≤◌, ◌<◌, Bool, true, false, ◌||◌, cond, List, [], ◌∷◌, ◌++◌, length, Some, inl, inr, refl, sym, ap, subst, ◌∙◌, append_assoc, append-nil, length-append, mul-le-mul_right, ltb-true, arith}
+use Rattle.sql_parser.specs.Rules.{word, token, ◌then◌, ◌or◌, front, optional, many, placed, symbol, Grammar, RuleOf, ValueOf}
+use Rattle.sql_parser.specs.Descent.{Outcome, Taken, Stopped, and_then, mapped, Tables, nullable, next_is, begins_with, start_of, singles, place_of, take_word, take_token, read}
 use Rattle.sql_parser.proofs.Sound.{Claims, Spells}
 use Rattle.sql_parser.proofs.Begins.{both_true, has}
 use Rattle.sql_parser.proofs.Depth.{below, Below, all_below, no_longer, shorter, read-is}
-use Rattle.sql_parser.proofs.Fine.{is_flat, IsFine, IsShut}
+use Rattle.sql_parser.proofs.Fine.{is_flat, IsFine}
 use Rattle.sql_parser.proofs.Complete.{IsDecided, by, by-claims, many-is, flat-fine}
 use Rattle.sql_parser.proofs.Swapped.{Swapped, here, there, swapped-longer, swapped-lengths, swapped-longer', swapped, swapped-end, left_of, with_left, Kept, mapped-kept, next_is-swapped, begins_with-swapped}
 
@@ -171,8 +171,8 @@ module _ (g : Grammar) (tables : Tables g) (goes_on : g.Symbol → List g.Sort) 
           (next_is-swapped g tables t rest ws (start_of g tables r) swap)
           (joined-kept r (many r) ts (reads r ts) (reads r us) (λ x xs. x ∷ xs) (by-claims g tables goes_on decided r ts) (a k ts us swap lower fits)
           (λ x m n spells swap'.
-              let less = shorter g tables decided.has_begins r ts m x full spells in
-              many-kept r full a count k m n (omega arith) swap' lower (fits-shorter most k ts m (omega arith) fits)))
+          let less = shorter g tables decided.has_begins r ts m x full spells in
+          many-kept r full a count k m n (omega arith) swap' lower (fits-shorter most k ts m (omega arith) fits)))
           (inl (us, swap, refl)))
 
       or-kept : (r s : RuleOf g) → RuleKept r → RuleKept s → RuleKept (r or s)
@@ -216,6 +216,6 @@ module _ (g : Grammar) (tables : Tables g) (goes_on : g.Symbol → List g.Sort) 
       → read g tables n (us ++ t ∷ ws) ≡ with_left (t ∷ ws) (read g tables n (us ++ t ∷ rest))
   local n us t rest ws e =
       by_case (kept_below t rest ws (suc (length (us ++ t ∷ rest) * tables.ranks + tables.rank n)) n (us ++ t ∷ rest) (us ++ t ∷ ws) (swapped t rest ws us) (omega arith)) where
-    by_case : Kept t rest ws (read g tables n (us ++ t ∷ rest)) (read g tables n (us ++ t ∷ ws)) → read g tables n (us ++ t ∷ ws) ≡ with_left (t ∷ ws) (read g tables n (us ++ t ∷ rest))
-    by_case (inl k) = k.2 ∙ ap (λ l. with_left l (read g tables n (us ++ t ∷ rest))) (swapped-end t rest ws k.1 (omega (arith, ap length e)))
-    by_case (inr k) = absurd (omega (arith, k, ap length e))
+        by_case : Kept t rest ws (read g tables n (us ++ t ∷ rest)) (read g tables n (us ++ t ∷ ws)) → read g tables n (us ++ t ∷ ws) ≡ with_left (t ∷ ws) (read g tables n (us ++ t ∷ rest))
+        by_case (inl k) = k.2 ∙ ap (λ l. with_left l (read g tables n (us ++ t ∷ rest))) (swapped-end t rest ws k.1 (omega (arith, ap length e)))
+        by_case (inr k) = absurd (omega (arith, k, ap length e))

@@ -1,16 +1,15 @@
 -- A token of each sort, and something that each symbol spells.
-use Rattle.std.proofs.Common.{◌≡◌, ℕ, zero, suc, pos, Bool, true, false, ◌&&◌, List, [], ◌∷◌, ◌++◌, Option, Some, None, is_some, codes, inl, inr, refl, sym, lit<, arith}
+use Rattle.std.proofs.Common.{◌≡◌, ℕ, pos, true, List, [], is_some, codes, refl}
 use Rattle.sql_lexer.specs.declared.token.Token.{Token}
 use Rattle.sql_lexer.specs.declared.token.TokenKind.{TokenKind}
 use Rattle.sql_lexer.specs.declared.token.TokenKind.TheVariants.{Word, Quoted, Number, Text, Symbol as Sign}
-use Rattle.sql_parser.specs.Rules.{Rule, word, token, ◌then◌, ◌or◌, front, optional, many, placed, symbol, Grammar, RuleOf, ValueOf, Spelled, a_word, a_token, both, first, second, front_first, front_second, absent, present, no_more, one_more, at_place, as_symbol}
 use Rattle.sql_parser.specs.Grammar.{sql, body}
 use Rattle.sql_parser.specs.Sorts.{sort_of, word_sort, symbol_sort}
 use Rattle.sql_parser.specs.Symbols as n
 use Rattle.sql_parser.specs.Symbols.{Symbol}
 use Rattle.sql_parser.specs.declared.sort.Sort.{Sort}
 use Rattle.sql_parser.specs.declared.sort.Sort.TheVariants as s
-use Rattle.sql_parser.proofs.Viable.{filled, IsSampled, HasSamples, sampler, from_some}
+use Rattle.sql_parser.proofs.Viable.{filled, HasSamples, sampler, from_some}
 
 abbrev spelled_so : TokenKind → List ℕ → Token
 spelled_so kind spelled = record { kind = kind; start = 0; end = 0; spelled = spelled; number = pos 0 }

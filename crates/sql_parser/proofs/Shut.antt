@@ -1,9 +1,9 @@
 -- An item that begins with a name, a dot and a star is no value.
-use Rattle.std.proofs.Common.{◌≡◌, ℕ, suc, ◌+◌, ◌&&◌, ◌||◌, Bool, true, false, cond, List, [], ◌∷◌, ◌++◌, length, inl, inr, refl, sym, ap, subst, ◌∙◌, arith}
+use Rattle.std.proofs.Common.{◌≡◌, ◌||◌, Bool, true, false, cond, List, [], ◌∷◌, ◌++◌, inl, inr, refl, sym, ap, ◌∙◌}
 use Rattle.std.specs.List.{list_any}
 use Rattle.sql_lexer.specs.declared.token.Token.{Token}
-use Rattle.sql_parser.specs.Rules.{Rule, word, token, ◌then◌, ◌or◌, front, optional, many, placed, symbol}
-use Rattle.sql_parser.specs.Descent.{Outcome, Taken, Stopped, and_then, mapped, begins_with, next_is, start_of, singles, repeated, step, read}
+use Rattle.sql_parser.specs.Rules.{word, token, ◌then◌, ◌or◌, optional, many, placed, symbol}
+use Rattle.sql_parser.specs.Descent.{Outcome, Stopped, and_then, mapped, start_of, repeated, step, read}
 use Rattle.sql_parser.specs.Grammar.{SqlRule, Given, sql, body, build, in_parentheses, plain_names, functions}
 use Rattle.sql_parser.specs.Sorts.{names, same_sort, sort_of}
 use Rattle.sql_parser.specs.Symbols as n
@@ -11,7 +11,7 @@ use Rattle.sql_parser.specs.Symbols.{Symbol}
 use Rattle.sql_parser.specs.Tables.{begins, sql_tables}
 use Rattle.sql_parser.specs.declared.sort.Sort.{Sort}
 use Rattle.sql_parser.specs.declared.sort.Sort.TheVariants as s
-use Rattle.sql_parser.proofs.Begins.{both_true, has}
+use Rattle.sql_parser.proofs.Begins.{has}
 use Rattle.sql_parser.proofs.Depth.{read-is}
 use Rattle.sql_parser.proofs.Fine.{apart, apart-law}
 use Rattle.sql_parser.proofs.Local.{or_false}

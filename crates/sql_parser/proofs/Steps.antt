@@ -2,8 +2,8 @@
 use Rattle.std.proofs.Common.{◌≡◌, ◌≤◌, ◌<◌, false, List, length, subst}
 use Rattle.sql_lexer.specs.declared.token.Token.{Token}
 use Rattle.sql_parser.specs.Building as b
-use Rattle.sql_parser.specs.Cursors.{reading, one, past, sees}
-use Rattle.sql_parser.specs.Descent.{Outcome, Taken, Stopped, and_then, mapped, step}
+use Rattle.sql_parser.specs.Cursors.{reading, one}
+use Rattle.sql_parser.specs.Descent.{Taken, mapped, step}
 use Rattle.sql_parser.specs.Grammar.{sql, body, build}
 use Rattle.sql_parser.specs.Lists.{listed}
 use Rattle.sql_parser.specs.Rules.{symbol}

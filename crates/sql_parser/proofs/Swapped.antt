@@ -1,8 +1,7 @@
 -- Two lists of tokens that are alike up to some token.
-use Rattle.std.proofs.Common.{◌≡◌, ◌⊎◌, ℕ, zero, suc, ◌+◌, ◌≤◌, ◌<◌, Bool, true, false, ◌&&◌, ◌||◌, cond, List, [], ◌∷◌, ◌++◌, length, Option, Some, None, inl, inr, refl, sym, ap, subst, ◌∙◌, append_assoc, append-nil, length-append, arith}
-use Rattle.std.specs.List.{list_any}
-use Rattle.sql_parser.specs.Rules.{Rule, word, token, ◌then◌, ◌or◌, front, optional, many, placed, symbol, Grammar, RuleOf, ValueOf}
-use Rattle.sql_parser.specs.Descent.{Outcome, Taken, Stopped, and_then, mapped, Tables, next_is, begins_with}
+use Rattle.std.proofs.Common.{◌≡◌, ◌⊎◌, suc, ◌+◌, ◌≤◌, ◌<◌, ◌&&◌, List, [], ◌∷◌, ◌++◌, length, inl, inr, refl, ap, arith}
+use Rattle.sql_parser.specs.Rules.{Grammar}
+use Rattle.sql_parser.specs.Descent.{Outcome, Taken, Stopped, mapped, Tables, next_is, begins_with}
 use Rattle.sql_parser.proofs.Begins.{has}
 
 -- the second list has other tokens behind one token

@@ -4,7 +4,7 @@ use Rattle.std.specs.Cmp.{IsEquivalence, on_equiv, nat_eq_equiv}
 use denote.Enum.Bare.{same_true, true_same}
 use denote.Enum.Declared.{tag_of}
 use Rattle.sql_parser.specs.contracts.sort.Sort.{the_type}
-use Rattle.sql_parser.specs.Descent.{Tables, nullable, starts}
+use Rattle.sql_parser.specs.Descent.{nullable, starts}
 use Rattle.sql_parser.specs.Grammar.{sql, body}
 use Rattle.sql_parser.specs.Sorts.{same_sort}
 use Rattle.sql_parser.specs.Symbols as n

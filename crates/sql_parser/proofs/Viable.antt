@@ -1,6 +1,6 @@
 -- Where reading stops, the tokens before begin something that the rule spells.
-use Rattle.std.proofs.Common.{◌≡◌, ℕ, zero, suc, Bool, true, false, ◌&&◌, cond, List, [], ◌∷◌, ◌++◌, length, Option, Some, None, is_some, option_map, inl, inr, refl, sym, ap, subst, ◌∙◌, append_assoc, append-nil, lit<, arith}
-use Rattle.sql_parser.specs.Rules.{Rule, word, token, ◌then◌, ◌or◌, front, optional, many, placed, symbol, Grammar, RuleOf, ValueOf, StartsAt, Spelled, a_word, a_token, both, first, second, front_first, front_second, absent, present, no_more, one_more, at_place, as_symbol}
+use Rattle.std.proofs.Common.{◌≡◌, ℕ, zero, suc, Bool, true, false, ◌&&◌, cond, List, [], ◌∷◌, ◌++◌, length, Option, Some, None, is_some, option_map, inl, inr, refl, sym, ap, subst, ◌∙◌, append_assoc, arith}
+use Rattle.sql_parser.specs.Rules.{Rule, word, token, ◌then◌, ◌or◌, front, optional, many, placed, symbol, Grammar, RuleOf, ValueOf, Spelled, a_word, a_token, both, first, second, front_first, front_second, absent, present, no_more, one_more, at_place, as_symbol}
 use Rattle.sql_parser.specs.Descent.{Outcome, Taken, Stopped, and_then, mapped, Tables, next_is, begins_with, start_of, singles, place_of, take_word, take_token, repeated, step, reading_to, read}
 use Rattle.sql_parser.proofs.Sound.{IsTold, Claims, Spells, step-claims, reading-claims}
 use Rattle.sql_parser.proofs.Begins.{both_true}

@@ -1,5 +1,5 @@
 -- Lists as they are read.
-use Rattle.std.specs.Prelude.{ℕ, List, [], ◌∷◌, length}
+use Rattle.std.specs.Prelude.{List, [], ◌∷◌, length}
 use Rattle.sql_lexer.specs.declared.token.Token.{Token}
 use Rattle.sql_parser.specs.Building.{Word, items}
 use Rattle.sql_parser.specs.Cursors.{past}

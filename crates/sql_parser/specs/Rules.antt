@@ -4,7 +4,6 @@ use Rattle.std.proofs.Common.{inl, inr}
 
 infixr 40 ◌then◌
 infixr 30 ◌or◌
-
 -- the forms of BNF over sorts of tokens and symbols (nonterminals)
 pub data Rule (Sort Symbol : Type 0) : Type 0 where
   -- a token of this sort, which says no more

@@ -1,5 +1,5 @@
 -- What a reader of the grammar knows of each symbol: whether nothing spells it, and which sorts begin it.
-use Rattle.std.specs.Prelude.{ℕ, Bool, true, false, List, [], ◌∷◌, ◌++◌}
+use Rattle.std.specs.Prelude.{Bool, true, false, List, [], ◌∷◌, ◌++◌}
 use Rattle.sql_parser.specs.Descent.{Tables}
 use Rattle.sql_parser.specs.Grammar.{sql, kinds, plain_names}
 use Rattle.sql_parser.specs.Sorts.{names}

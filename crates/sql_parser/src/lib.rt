@@ -8,13 +8,13 @@ mod laws;
 mod listed;
 mod names;
 mod nesting;
+mod parser;
 mod query;
 mod repeated;
-mod script;
 mod sort;
 mod syntax_error;
 
 pub use laws::{a_script_has_one_tree, an_unexpected_token_has_no_tree};
 pub use nesting::too_deep;
-pub use script::script;
+pub use parser::script;
 pub use syntax_error::SyntaxError;

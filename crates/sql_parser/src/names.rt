@@ -5,8 +5,8 @@ ghost use Rattle.sql_parser.specs.Symbols as n;
 
 use crate::cursor::Cursor;
 use crate::fault::Fault;
-use crate::sort::{NAMES, Sort};
 use crate::listed::listed;
+use crate::sort::{NAMES, Sort};
 use perm_values::{Copyable, List};
 use sql_tree::{ColRef, Name};
 

@@ -1,6 +1,6 @@
-use Rattle.std.proofs.Common.{◌≡◌, List, [], ◌∷◌, ◌++◌, subst, append-nil, ◌∙◌}
+use Rattle.std.proofs.Common.{List, [], ◌∷◌, ◌++◌, subst, sym, append-nil, append_assoc}
 use Rattle.sql_lexer.specs.declared.token.Token.{Token}
-use Rattle.sql_parser.specs.FirstWrong.{IsFirstWrong, IsWrongAt}
+use Rattle.sql_parser.specs.FirstWrong.{IsWrongAt}
 use Rattle.sql_parser.specs.Grammar.{sql}
 use Rattle.sql_parser.specs.Rules.{symbol}
 use Rattle.sql_parser.specs.Spells.{Spells}
@@ -9,8 +9,8 @@ use Rattle.sql_tree.specs.declared.statement.Script.{Script}
 use Rattle.sql_parser.proofs.laws.an_unexpected_token_has_no_tree.Goals as goal
 
 none : (before wrong : List Token) (script : Script) → IsWrongAt sql (symbol ScriptOf) before wrong → Spells (before ++ wrong) script → ⊥
-none before [] script no spelled = no script (subst (λ l. Spells l script) (append-nil before) spelled)
-none before (t ∷ rest) script no spelled = no (rest, script, subst (λ l. Spells l script) ? spelled)
+none before [] script refuted spelled = refuted script (subst (λ l. Spells l script) (append-nil before) spelled)
+none before (t ∷ rest) script refuted spelled = refuted (rest, script, subst (λ l. Spells l script) (sym (append_assoc before (t ∷ []) rest)) spelled)
 
 pub returns : goal.returns
 returns c = λ tokens length at script unexpected spelled.

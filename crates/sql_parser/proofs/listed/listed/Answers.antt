@@ -1,11 +1,10 @@
-use Rattle.std.proofs.Common.{◌≡◌, ◌≤◌, true, false, List, [], ◌∷◌, length, Result, Ok, Err, arith, rules, sym, ◌∙◌}
+use Rattle.std.proofs.Common.{◌≡◌, ◌≤◌, true, List, [], ◌∷◌, length, Err, arith, rules, sym, ◌∙◌}
 use Rattle.std.proofs.lemmas.Result.{err_from_is_err_and}
 use Rattle.sql_lexer.specs.declared.token.Token.{Token}
 use Rattle.sql_parser.specs.Cursors.{Reads, sees, past}
 use Rattle.sql_parser.specs.Descent.{Outcome, Taken}
 use Rattle.sql_parser.specs.Lists.{listed}
-use Rattle.sql_parser.specs.Readers.{IsReader}
-use Rattle.sql_parser.proofs.Listing.{Keeps, Amid, Amid-next, Amid-stopped, Amid-done, fails-on}
+use Rattle.sql_parser.proofs.Listing.{Keeps, Amid-next, Amid-stopped, Amid-done, fails-on}
 use Rattle.sql_parser.proofs.listed.listed.Goals as goal
 
 keeps_of : {X : Type 0} (reading : List Token → Outcome Token X) →

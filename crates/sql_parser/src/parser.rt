@@ -1,7 +1,7 @@
 ghost use Rattle.sql_parser.specs.Spells as spec;
 
-use crate::nesting::too_deep;
 use crate::SyntaxError;
+use crate::nesting::too_deep;
 use perm_values::List;
 use sql_lexer::Token;
 use sql_tree::Script;
