@@ -6,6 +6,7 @@ pub mod Exact
 pub mod Fine
 pub mod Listing
 pub mod Local
+pub mod Nested
 pub mod Samples
 pub mod Shut
 pub mod Sound

@@ -5,6 +5,7 @@ pub mod FirstWrong
 pub mod Grammar
 pub mod Lists
 pub mod Nesting
+pub mod Nests
 pub mod Readers
 pub mod Rules
 pub mod Sorts

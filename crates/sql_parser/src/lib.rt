@@ -3,12 +3,15 @@
 
 mod cursor;
 mod fault;
+mod grammar;
 mod laws;
 mod listed;
 mod names;
 mod nesting;
 mod parser;
+mod repeated;
 mod sort;
+mod sums;
 mod syntax_error;
 
 pub use laws::{a_script_has_one_tree, an_unexpected_token_has_no_tree};
