@@ -43,3 +43,6 @@ pub reading-takes : (n : Symbol) → empty n ≡ false → (old : List Token) (x
 unfolding reading
 reading-takes n full old x new e =
     shorter sql sql_tables has_begins (symbol n) old new x full (subst (Claims sql (symbol n) old) e (read-claims sql sql_tables told n old))
+
+pub sum_step_is : (tokens : List Token) → reading n.SumStep tokens ≡ mapped (build n.SumStep) (step sql sql_tables reading (body n.SumStep) tokens)
+sum_step_is tokens = reading-is n.SumStep tokens

@@ -1,20 +1,41 @@
 //! The rules that hold expressions or queries get the functions that read these, so that each rule is proved by itself.
 
-ghost use Rattle.std.specs.Prelude.{◌≡◌};
+ghost use Rattle.std.specs.Prelude.{◌≡◌, ◌<◌, suc, length, IfOk};
 ghost use Rattle.sql_parser.specs.Cursors as spec;
 ghost use Rattle.sql_parser.specs.Nests.{Nests};
 ghost use Rattle.sql_parser.specs.Symbols as n;
 
 use crate::cursor::Cursor;
 use crate::fault::Fault;
-use crate::sort::Sort;
-use perm_values::List;
-use sql_tree::{ExprTree, QueryTree, ExprStep};
-use null_logic::Arith;
+use sql_tree::{ExprTree, QueryTree};
 
 /// What reads an expression, and what reads a query.
 #[derive(Clone, Copy)]
 pub(crate) struct Grammar<F, G> {
     pub expr: F,
     pub query: G,
+}
+
+impl<
+    F: Fn(&mut Cursor<'_>) -> Result<ExprTree, Fault>,
+    G: Fn(&mut Cursor<'_>) -> Result<QueryTree, Fault>,
+> Grammar<F, G>
+{
+    #[tactic(auto, using(crate::proofs::Nested::expr_takes))]
+    pub(crate) fn expression(&self, cursor: &mut Cursor<'_>) -> Result<ExprTree, Fault>
+        requires { Nests (suc (length cursor.old)) (F.pre self.now.expr) (G.pre self.now.query) (F.post self.now.expr) (G.post self.now.query) }
+        ensures given { spec.Reads result (spec.reading n.Expr cursor.old) cursor.new }
+        ensures fewer { IfOk result (λ _. length cursor.new < length cursor.old) }
+    {
+        (self.expr)(cursor)
+    }
+
+    #[tactic(auto, using(crate::proofs::Nested::query_takes))]
+    pub(crate) fn nested_query(&self, cursor: &mut Cursor<'_>) -> Result<QueryTree, Fault>
+        requires { Nests (suc (length cursor.old)) (F.pre self.now.expr) (G.pre self.now.query) (F.post self.now.expr) (G.post self.now.query) }
+        ensures given { spec.Reads result (spec.reading n.Query cursor.old) cursor.new }
+        ensures fewer { IfOk result (λ _. length cursor.new < length cursor.old) }
+    {
+        (self.query)(cursor)
+    }
 }

@@ -12,6 +12,7 @@ mod parser;
 mod query;
 mod repeated;
 mod sort;
+mod sums;
 mod syntax_error;
 
 pub use laws::{a_script_has_one_tree, an_unexpected_token_has_no_tree};
