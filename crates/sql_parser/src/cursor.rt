@@ -1,9 +1,9 @@
 ghost use Rattle.std.specs.Prelude.{◌≡◌, ◌<◌, ◌≤◌, [], ◌∷◌, length, IfOk};
 ghost use Rattle.sql_parser.specs.Cursors as spec;
-ghost use Rattle.sql_parser.specs.Pieces.{word_if, word_at};
+ghost use Rattle.sql_parser.specs.Pieces.{sees_table_star, word_if, word_at};
 
 use crate::fault::Fault;
-use crate::sort::{Sort, is_among, same_sort, sort_of};
+use crate::sort::{NAMES, Sort, is_among, same_sort, sort_of};
 use sql_lexer::Token;
 use std::alloc::Global;
 use std::marker::Model;
@@ -145,6 +145,20 @@ impl<'a> Cursor<'a> {
             Ok(true)
         } else {
             Ok(false)
+        }
+    }
+
+    /// Whether a name, a dot and a star stand next.
+    pub(crate) fn sees_table_star(&self) -> bool
+        ensures { result ≡ sees_table_star self.now }
+    {
+        match self.tokens {
+            [name, dot, star, ..] => {
+                is_among(sort_of(name), &NAMES)
+                    && is_among(sort_of(dot), &[Sort::Dot])
+                    && is_among(sort_of(star), &[Sort::Star])
+            }
+            [] | [_] | [_, _] => false,
         }
     }
 }

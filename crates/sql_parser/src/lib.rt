@@ -3,6 +3,7 @@
 
 mod cursor;
 mod fault;
+mod from;
 mod grammar;
 mod laws;
 mod listed;
@@ -11,6 +12,8 @@ mod nesting;
 mod parser;
 mod query;
 mod repeated;
+mod select;
+mod set_operations;
 mod sort;
 mod sums;
 mod syntax_error;

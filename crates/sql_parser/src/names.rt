@@ -1,4 +1,4 @@
-ghost use Rattle.std.specs.Prelude.{◌≡◌};
+ghost use Rattle.std.specs.Prelude.{◌≡◌, ◌<◌, ◌≤◌, length, IfOk};
 ghost use Rattle.sql_parser.specs.Building as b;
 ghost use Rattle.sql_parser.specs.Cursors as spec;
 ghost use Rattle.sql_parser.specs.Symbols as n;
@@ -13,7 +13,8 @@ use sql_tree::{ColRef, Name};
 impl<'a> Cursor<'a> {
     #[tactic(auto, using(crate::proofs::Steps::name_is))]
     pub(crate) fn name(&mut self) -> Result<Name, Fault>
-        ensures { spec.Reads result (spec.reading n.NameOf self.old) self.new }
+        ensures given { spec.Reads result (spec.reading n.NameOf self.old) self.new }
+        ensures fewer { IfOk result (λ _. length self.new < length self.old) }
     {
         let token = self.one(&NAMES)?;
         Ok(Name {
@@ -25,7 +26,8 @@ impl<'a> Cursor<'a> {
     /// The name behind a dot, if there is one.
     #[tactic(auto, using(crate::proofs::Steps::qualified_is))]
     pub(crate) fn qualified(&mut self) -> Result<Option<Name>, Fault>
-        ensures { spec.Reads result (spec.reading n.Qualified self.old) self.new }
+        ensures given { spec.Reads result (spec.reading n.Qualified self.old) self.new }
+        ensures fewer { IfOk result (λ _. length self.new ≤ length self.old) }
     {
         if self.sees(Sort::Dot) {
             self.past(Sort::Dot)?;
@@ -37,7 +39,8 @@ impl<'a> Cursor<'a> {
 
     #[tactic(auto, using(crate::proofs::Steps::column_is))]
     pub(crate) fn column(&mut self) -> Result<ColRef, Fault>
-        ensures { spec.Reads result (spec.reading n.ColumnOf self.old) self.new }
+        ensures given { spec.Reads result (spec.reading n.ColumnOf self.old) self.new }
+        ensures fewer { IfOk result (λ _. length self.new < length self.old) }
     {
         let first = self.name()?;
         let second = self.qualified()?;
@@ -68,7 +71,8 @@ impl<'a> Cursor<'a> {
     /// Names with commas between them.
     #[tactic(auto, using(crate::proofs::Steps::names_is))]
     pub(crate) fn names(&mut self) -> Result<List<Name>, Fault>
-        ensures { spec.Reads result (spec.reading n.Names self.old) self.new }
+        ensures given { spec.Reads result (spec.reading n.Names self.old) self.new }
+        ensures fewer { IfOk result (λ _. length self.new ≤ length self.old) }
     {
         listed(self, Sort::Comma, |cursor: &mut Cursor<'_>| cursor.name())
     }

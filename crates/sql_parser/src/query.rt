@@ -1,4 +1,4 @@
-ghost use Rattle.std.specs.Prelude.{◌≡◌};
+ghost use Rattle.std.specs.Prelude.{◌≡◌, ◌<◌, ◌≤◌, suc, length, IfOk};
 ghost use Rattle.sql_parser.specs.Cursors as spec;
 ghost use Rattle.sql_parser.specs.Pieces as piece;
 ghost use Rattle.sql_parser.specs.Symbols as n;
@@ -13,7 +13,8 @@ use sql_tree::{ColRef, Name, OrderKey, OrderTree};
 impl<'a> Cursor<'a> {
     /// Whether DESC stands next; it or ASC is passed.
     fn descending(&mut self) -> Result<bool, Fault>
-        ensures { spec.Reads result (piece.direction self.old) self.new }
+        ensures given { spec.Reads result (piece.direction self.old) self.new }
+        ensures fewer { IfOk result (λ _. length self.new ≤ length self.old) }
     {
         if self.sees_any(&[Sort::Asc, Sort::Desc]) {
             let token = self.one(&[Sort::Asc, Sort::Desc])?;
@@ -24,7 +25,8 @@ impl<'a> Cursor<'a> {
     }
 
     fn ordered(&mut self, at: usize, key: OrderKey) -> Result<OrderTree, Fault>
-        ensures { spec.Reads result (piece.ordered at key self.old) self.new }
+        ensures given { spec.Reads result (piece.ordered at key self.old) self.new }
+        ensures fewer { IfOk result (λ _. length self.new ≤ length self.old) }
     {
         let descending = self.descending()?;
         Ok(OrderTree {
@@ -35,7 +37,8 @@ impl<'a> Cursor<'a> {
     }
 
     fn named_key(&mut self) -> Result<OrderTree, Fault>
-        ensures { spec.Reads result (piece.named_key self.old) self.new }
+        ensures given { spec.Reads result (piece.named_key self.old) self.new }
+        ensures fewer { IfOk result (λ _. length self.new < length self.old) }
     {
         let token = self.one(&NAMES)?;
         let name = token.spelled.copy(self.alloc())?;
@@ -45,7 +48,8 @@ impl<'a> Cursor<'a> {
     /// A key of ORDER BY.
     #[tactic(auto, using(crate::proofs::Queries::key_is))]
     pub(crate) fn key(&mut self) -> Result<OrderTree, Fault>
-        ensures { spec.Reads result (spec.reading n.Key self.old) self.new }
+        ensures given { spec.Reads result (spec.reading n.Key self.old) self.new }
+        ensures fewer { IfOk result (λ _. length self.new < length self.old) }
     {
         if self.sees_any(&NAMES) {
             self.named_key()
@@ -58,7 +62,8 @@ impl<'a> Cursor<'a> {
     /// ORDER BY and its keys.
     #[tactic(auto, using(crate::proofs::Queries::order_is))]
     pub(crate) fn order(&mut self) -> Result<List<OrderTree>, Fault>
-        ensures { spec.Reads result (spec.reading n.Order self.old) self.new }
+        ensures given { spec.Reads result (spec.reading n.Order self.old) self.new }
+        ensures fewer { IfOk result (λ _. length self.new ≤ length self.old) }
     {
         if self.sees(Sort::Order) {
             self.past(Sort::Order)?;
@@ -70,14 +75,16 @@ impl<'a> Cursor<'a> {
     }
 
     fn keys(&mut self) -> Result<List<OrderTree>, Fault>
-        ensures { spec.Reads result (piece.keys self.old) self.new }
+        ensures given { spec.Reads result (piece.keys self.old) self.new }
+        ensures fewer { IfOk result (λ _. length self.new ≤ length self.old) }
     {
         listed(self, Sort::Comma, |cursor: &mut Cursor<'_>| cursor.key())
     }
 
     #[tactic(auto, using(crate::proofs::Queries::limit_is))]
     pub(crate) fn limit(&mut self) -> Result<Option<i64>, Fault>
-        ensures { spec.Reads result (spec.reading n.Limit self.old) self.new }
+        ensures given { spec.Reads result (spec.reading n.Limit self.old) self.new }
+        ensures fewer { IfOk result (λ _. length self.new ≤ length self.old) }
     {
         if self.sees(Sort::Limit) {
             self.past(Sort::Limit)?;
@@ -91,7 +98,8 @@ impl<'a> Cursor<'a> {
     /// A name behind AS or alone.
     #[tactic(auto, using(crate::proofs::Queries::alias_is))]
     pub(crate) fn alias(&mut self) -> Result<Option<Name>, Fault>
-        ensures { spec.Reads result (spec.reading n.Alias self.old) self.new }
+        ensures given { spec.Reads result (spec.reading n.Alias self.old) self.new }
+        ensures fewer { IfOk result (λ _. length self.new ≤ length self.old) }
     {
         if self.sees(Sort::As) {
             self.past(Sort::As)?;
@@ -105,7 +113,8 @@ impl<'a> Cursor<'a> {
 
     #[tactic(auto, using(crate::proofs::Queries::groups_is))]
     pub(crate) fn groups(&mut self) -> Result<List<ColRef>, Fault>
-        ensures { spec.Reads result (spec.reading n.Groups self.old) self.new }
+        ensures given { spec.Reads result (spec.reading n.Groups self.old) self.new }
+        ensures fewer { IfOk result (λ _. length self.new ≤ length self.old) }
     {
         if self.sees(Sort::Group) {
             self.past(Sort::Group)?;
@@ -117,7 +126,8 @@ impl<'a> Cursor<'a> {
     }
 
     fn columns(&mut self) -> Result<List<ColRef>, Fault>
-        ensures { spec.Reads result (piece.columns self.old) self.new }
+        ensures given { spec.Reads result (piece.columns self.old) self.new }
+        ensures fewer { IfOk result (λ _. length self.new ≤ length self.old) }
     {
         listed(self, Sort::Comma, |cursor: &mut Cursor<'_>| cursor.column())
     }

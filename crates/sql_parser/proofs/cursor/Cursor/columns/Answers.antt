@@ -7,5 +7,5 @@ use Rattle.sql_parser.proofs.cursor.Cursor.columns.Goals as goal
 pub listed-requires : goal.listed-requires
 listed-requires c = record { callable = λ old within. tt; fewer = λ old new x met. reading-keeps n.ColumnOf old.now x new.now (search rules) }
 
-pub returns : goal.returns
-returns c = c.listed.ensures.given (reading n.ColumnOf) (record { reads = λ old new r met. search rules; fewer = reading-keeps n.ColumnOf })
+pub returns-clause-given : goal.returns-clause-given
+returns-clause-given c = c.listed.ensures.given (reading n.ColumnOf) (record { reads = λ old new r met. search rules; fewer = reading-keeps n.ColumnOf })
