@@ -1,5 +1,6 @@
 pub mod Begins
 pub mod Complete
+pub mod Counts
 pub mod Decided
 pub mod Depth
 pub mod Exact
