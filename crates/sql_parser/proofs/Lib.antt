@@ -8,6 +8,7 @@ pub mod Fine
 pub mod Listing
 pub mod Local
 pub mod Nested
+pub mod Queries
 pub mod Samples
 pub mod Shut
 pub mod Sound

@@ -6,6 +6,7 @@ pub mod Grammar
 pub mod Lists
 pub mod Nesting
 pub mod Nests
+pub mod Pieces
 pub mod Readers
 pub mod Rules
 pub mod Sorts

@@ -1,5 +1,6 @@
 ghost use Rattle.std.specs.Prelude.{◌≡◌, ◌<◌, ◌≤◌, [], ◌∷◌, length, IfOk};
 ghost use Rattle.sql_parser.specs.Cursors as spec;
+ghost use Rattle.sql_parser.specs.Pieces.{word_if, word_at};
 
 use crate::fault::Fault;
 use crate::sort::{Sort, is_among, same_sort, sort_of};
@@ -132,5 +133,18 @@ impl<'a> Cursor<'a> {
             self.take()?;
         }
         Ok(found)
+    }
+
+    /// Goes past a word that may stand next, and says whether it does.
+    pub(crate) fn option(&mut self, sort: Sort) -> Result<bool, Fault>
+        ensures given { spec.Sees word_if result (word_at sort self.old) self.new }
+        ensures fewer { IfOk result (λ _. length self.new ≤ length self.old) }
+    {
+        if self.sees(sort) {
+            self.past(sort)?;
+            Ok(true)
+        } else {
+            Ok(false)
+        }
     }
 }

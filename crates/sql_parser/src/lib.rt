@@ -9,6 +9,7 @@ mod listed;
 mod names;
 mod nesting;
 mod parser;
+mod query;
 mod repeated;
 mod sort;
 mod sums;
