@@ -15,4 +15,5 @@ pub mod Sound
 pub mod Steps
 pub mod Swapped
 pub mod TablesHold
+pub mod Tails
 pub mod Viable
