@@ -1,5 +1,6 @@
 pub mod Begins
 pub mod Complete
+pub mod Counts
 pub mod Decided
 pub mod Depth
 pub mod Exact
@@ -14,4 +15,5 @@ pub mod Sound
 pub mod Steps
 pub mod Swapped
 pub mod TablesHold
+pub mod Tails
 pub mod Viable

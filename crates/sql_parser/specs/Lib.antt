@@ -13,3 +13,4 @@ pub mod Sorts
 pub mod Spells
 pub mod Symbols
 pub mod Tables
+pub mod Tails

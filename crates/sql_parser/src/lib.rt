@@ -10,6 +10,7 @@ mod listed;
 mod names;
 mod nesting;
 mod parser;
+mod predicates;
 mod query;
 mod repeated;
 mod select;
@@ -17,6 +18,7 @@ mod set_operations;
 mod sort;
 mod sums;
 mod syntax_error;
+mod tail;
 
 pub use laws::{a_script_has_one_tree, an_unexpected_token_has_no_tree};
 pub use nesting::too_deep;

@@ -11,7 +11,7 @@ use perm_values::{Copyable, List};
 use sql_tree::{ColRef, Name};
 
 impl<'a> Cursor<'a> {
-    #[tactic(auto, using(crate::proofs::Steps::name_is))]
+    #[tactic(auto, using(crate::proofs::Steps::name_of_is))]
     pub(crate) fn name(&mut self) -> Result<Name, Fault>
         ensures given { spec.Reads result (spec.reading n.NameOf self.old) self.new }
         ensures fewer { IfOk result (λ _. length self.new < length self.old) }
@@ -37,7 +37,7 @@ impl<'a> Cursor<'a> {
         }
     }
 
-    #[tactic(auto, using(crate::proofs::Steps::column_is))]
+    #[tactic(auto, using(crate::proofs::Steps::column_of_is))]
     pub(crate) fn column(&mut self) -> Result<ColRef, Fault>
         ensures given { spec.Reads result (spec.reading n.ColumnOf self.old) self.new }
         ensures fewer { IfOk result (λ _. length self.new < length self.old) }
