@@ -8,6 +8,8 @@ pub mod Fine
 pub mod Listing
 pub mod Local
 pub mod Nested
+pub mod Outcomes
+pub mod Primaries
 pub mod Queries
 pub mod Samples
 pub mod Shut

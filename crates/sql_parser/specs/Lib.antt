@@ -1,4 +1,5 @@
 pub mod Building
+pub mod Calls
 pub mod Cursors
 pub mod Descent
 pub mod FirstWrong

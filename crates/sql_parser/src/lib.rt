@@ -1,6 +1,7 @@
 //! Reads the syntax tree of a script from its tokens (ISO/IEC 9075-2, cut to the grammar in `specs/Grammar.antt`).
 #![tactic(auto)]
 
+mod calls;
 mod cursor;
 mod fault;
 mod from;
@@ -11,6 +12,7 @@ mod names;
 mod nesting;
 mod parser;
 mod predicates;
+mod primary;
 mod query;
 mod repeated;
 mod select;

@@ -7,8 +7,10 @@ use crate::cursor::Cursor;
 use crate::fault::Fault;
 use crate::listed::listed;
 use crate::sort::{NAMES, Sort};
-use perm_values::{Copyable, List};
+use perm_values::{Copyable, List, NoMemory};
+use sql_lexer::Token;
 use sql_tree::{ColRef, Name};
+use std::alloc::Global;
 
 impl<'a> Cursor<'a> {
     #[tactic(auto, using(crate::proofs::Steps::name_of_is))]
@@ -17,10 +19,7 @@ impl<'a> Cursor<'a> {
         ensures fewer { IfOk result (λ _. length self.new < length self.old) }
     {
         let token = self.one(&NAMES)?;
-        Ok(Name {
-            text: token.spelled.copy(self.alloc())?,
-            at: token.start,
-        })
+        Ok(name_of(self.alloc(), token)?)
     }
 
     /// The name behind a dot, if there is one.
@@ -46,6 +45,16 @@ impl<'a> Cursor<'a> {
         let second = self.qualified()?;
         Ok(reference(first, second))
     }
+}
+
+/// The name that a token is.
+pub(crate) fn name_of(alloc: Global, token: &Token) -> Result<Name, NoMemory>
+    ensures { IfOk result (λ name. name ≡ b.name_of token.now) }
+{
+    Ok(Name {
+        text: token.spelled.copy(alloc)?,
+        at: token.start,
+    })
 }
 
 /// The column of an item, or the column alone.

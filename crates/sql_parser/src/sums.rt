@@ -78,14 +78,6 @@ impl<
     G: Fn(&mut Cursor<'_>) -> Result<Boxed<QueryTree>, Fault>,
 > Grammar<F, G>
 {
-    pub(crate) fn primary(&self, cursor: &mut Cursor<'_>) -> Result<Boxed<ExprTree>, Fault>
-        requires { Nests (length cursor.old) (F.pre self.now.expr) (G.pre self.now.query) (F.post self.now.expr) (G.post self.now.query) }
-        ensures given { spec.Reads result (spec.reading n.Primary cursor.old) cursor.new }
-        ensures fewer { IfOk result (λ _. length cursor.new < length cursor.old) }
-    {
-        Err(Fault::NoMemory)
-    }
-
     #[tactic(auto, using(crate::proofs::Counts::sign_is, crate::proofs::Nested::nests_below))]
     fn sign(&self, cursor: &mut Cursor<'_>) -> Result<Boxed<ExprTree>, Fault>
         requires { Nests (length cursor.old) (F.pre self.now.expr) (G.pre self.now.query) (F.post self.now.expr) (G.post self.now.query) }
