@@ -23,3 +23,7 @@ placed-counted {Y = Y} at f (Taken x rest) next = by_next (next rest) where
 pub sign_is : (tokens : List Token) → reading n.Sign tokens
     ≡ and_then (all_of (s.Minus ∷ []) (past s.Minus) tokens) (λ minuses rest. mapped (λ part. b.signed (place tokens) (length minuses) part) (reading n.Primary rest))
 sign_is tokens = reading-is n.Sign tokens ∙ placed-counted (place tokens) b.signs (all_of (s.Minus ∷ []) (past s.Minus) tokens) (reading n.Primary)
+
+pub negated_is : (tokens : List Token) → reading n.Negated tokens
+    ≡ and_then (all_of (s.Not ∷ []) (past s.Not) tokens) (λ words rest. mapped (λ part. b.negated (place tokens) (length words) part) (reading n.Test rest))
+negated_is tokens = reading-is n.Negated tokens ∙ placed-counted (place tokens) b.nots (all_of (s.Not ∷ []) (past s.Not) tokens) (reading n.Test)

@@ -1,5 +1,6 @@
 pub mod Begins
 pub mod Complete
+pub mod Connecting
 pub mod Counts
 pub mod Decided
 pub mod Depth
@@ -14,6 +15,7 @@ pub mod Queries
 pub mod Samples
 pub mod Shut
 pub mod Sound
+pub mod Stating
 pub mod Steps
 pub mod Swapped
 pub mod TablesHold

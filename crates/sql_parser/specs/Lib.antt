@@ -12,6 +12,7 @@ pub mod Readers
 pub mod Rules
 pub mod Sorts
 pub mod Spells
+pub mod Statements
 pub mod Symbols
 pub mod Tables
 pub mod Tails

@@ -8,7 +8,7 @@ ghost use Rattle.sql_parser.specs.Symbols as n;
 
 use crate::cursor::Cursor;
 use crate::fault::Fault;
-use perm_values::{Boxed, List, NoMemory};
+use perm_values::{Boxed, NoMemory};
 use sql_tree::{ExprBody, ExprTree, QueryTree};
 use std::alloc::Global;
 
@@ -54,15 +54,6 @@ impl<
     pub(crate) fn in_parentheses(&self, cursor: &mut Cursor<'_>) -> Result<Boxed<QueryTree>, Fault>
         requires { Nests (length cursor.old) (F.pre self.now.expr) (G.pre self.now.query) (F.post self.now.expr) (G.post self.now.query) }
         ensures given { spec.Reads result (spec.reading n.InParentheses cursor.old) cursor.new }
-        ensures fewer { IfOk result (λ _. length cursor.new < length cursor.old) }
-    {
-        let _ = &self;
-        Err(Fault::NoMemory)
-    }
-
-    pub(crate) fn expressions(&self, cursor: &mut Cursor<'_>) -> Result<List<ExprTree>, Fault>
-        requires { Nests (suc (length cursor.old)) (F.pre self.now.expr) (G.pre self.now.query) (F.post self.now.expr) (G.post self.now.query) }
-        ensures given { spec.Reads result (spec.reading n.Exprs cursor.old) cursor.new }
         ensures fewer { IfOk result (λ _. length cursor.new < length cursor.old) }
     {
         let _ = &self;

@@ -2,6 +2,7 @@
 #![tactic(auto)]
 
 mod calls;
+mod connectives;
 mod cursor;
 mod fault;
 mod from;
@@ -18,6 +19,7 @@ mod repeated;
 mod select;
 mod set_operations;
 mod sort;
+mod statements;
 mod sums;
 mod syntax_error;
 mod tail;
