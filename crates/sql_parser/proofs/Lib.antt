@@ -21,3 +21,4 @@ pub mod Swapped
 pub mod TablesHold
 pub mod Tails
 pub mod Viable
+pub mod Whole

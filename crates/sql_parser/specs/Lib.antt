@@ -2,6 +2,7 @@ pub mod Building
 pub mod Calls
 pub mod Cursors
 pub mod Descent
+pub mod Ending
 pub mod FirstWrong
 pub mod Grammar
 pub mod Lists

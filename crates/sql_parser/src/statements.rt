@@ -87,7 +87,7 @@ fn present(alloc: Global, found: List<Option<Statement>>) -> Result<List<Stateme
 
 /// The mark that stands for NULL; none is the empty one.
 fn mark_of(alloc: Global, null: Option<&Token>) -> Result<Chars, NoMemory>
-    ensures { IfOk result (λ mark. mark ≡ spelled.mark_of null) }
+    ensures { IfOk result (λ mark. mark ≡ spelled.mark_of null.entry) }
 {
     match null {
         Some(token) => token.spelled.copy(alloc),
