@@ -14,3 +14,4 @@ pub mod Spells
 pub mod Symbols
 pub mod Tables
 pub mod Tails
+pub mod Toy
