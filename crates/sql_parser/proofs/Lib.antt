@@ -6,6 +6,7 @@ pub mod Decided
 pub mod Depth
 pub mod Exact
 pub mod Fine
+pub mod Inner
 pub mod Listing
 pub mod Local
 pub mod Nested

@@ -17,3 +17,4 @@ pub mod Statements
 pub mod Symbols
 pub mod Tables
 pub mod Tails
+pub mod Toy
