@@ -5,6 +5,7 @@ pub mod Counts
 pub mod Decided
 pub mod Depth
 pub mod Exact
+pub mod Fewer
 pub mod Fine
 pub mod Inner
 pub mod Listing
