@@ -141,3 +141,32 @@ pub fails-on : {X Y : Type 0} (fault : Fault) (o : Outcome Token X) (p : Outcome
     → (o ≡ Stopped rest → p ≡ Stopped rest) → Reads (Err fault) o rest → Reads (Err fault) p rest
 fails-on Unexpected o p rest onward e = onward e
 fails-on NoMemory o p rest onward e = tt
+
+module _ {X : Type 0} (sorts : List Sort) (one : List Token → Outcome Token X) where
+  -- the whole is what was found, and all that is still to be read
+  pub record Within (whole : Outcome Token (List X)) (found : List X) (ts : List Token) : Type 0 where
+    pub is : whole ≡ mapped (λ xs. found ++ xs) (all_of sorts one ts)
+
+  pub Within-first : (ts : List Token) → Within (all_of sorts one ts) [] ts
+  Within-first ts = record { is = sym (by_outcome (all_of sorts one ts)) } where
+    by_outcome : (o : Outcome Token (List X)) → mapped (λ xs. [] ++ xs) o ≡ o
+    by_outcome (Taken x rest) = refl
+    by_outcome (Stopped rest) = refl
+
+  pub Within-next : Takes one → (whole : Outcome Token (List X)) (found : List X) (ts rest : List Token) (x : X)
+      → sees sorts ts ≡ true → one ts ≡ Taken x rest → Within whole found ts → Within whole (found ++ x ∷ []) rest
+  Within-next takes whole found ts rest x seen e within = record {
+    is = within.is
+        ∙ ap (mapped (λ xs. found ++ xs)) (all_of-step sorts one takes ts seen ∙ ap (λ o. and_then o (λ x rest. mapped (λ xs. x ∷ xs) (all_of sorts one rest))) e)
+        ∙ mapped-mapped (λ xs. found ++ xs) (λ xs. x ∷ xs) (λ xs. (found ++ x ∷ []) ++ xs) (λ xs. sym (append_assoc found (x ∷ []) xs)) (all_of sorts one rest);
+  }
+
+  pub Within-stopped : Takes one → (whole : Outcome Token (List X)) (found : List X) (ts rest : List Token)
+      → sees sorts ts ≡ true → one ts ≡ Stopped rest → Within whole found ts → whole ≡ Stopped rest
+  Within-stopped takes whole found ts rest seen e within =
+      within.is
+      ∙ ap (mapped (λ xs. found ++ xs)) (all_of-step sorts one takes ts seen ∙ ap (λ o. and_then o (λ x rest. mapped (λ xs. x ∷ xs) (all_of sorts one rest))) e)
+
+  pub Within-done : (whole : Outcome Token (List X)) (found : List X) (ts : List Token) → sees sorts ts ≡ false → Within whole found ts → whole ≡ Taken found ts
+  Within-done whole found ts unseen within =
+      within.is ∙ ap (mapped (λ xs. found ++ xs)) (all_of-done sorts one ts unseen) ∙ ap (λ l. Taken l ts) (append-nil found)

@@ -1,5 +1,5 @@
 -- The nodes of the syntax tree, made of what the rules of the grammar give.
-use Rattle.std.specs.Prelude.{ℕ, ℤ, Bool, true, false, if◌then◌else◌, List, [], ◌∷◌, map, length, Option, Some, None, is_some, option_map, ◌⊎◌}
+use Rattle.std.specs.Prelude.{ℕ, ◌==◌, ℤ, Bool, true, false, if◌then◌else◌, List, [], ◌∷◌, map, length, Option, Some, None, is_some, option_map, ◌⊎◌}
 use Rattle.std.proofs.Common.{inl, inr}
 use Rattle.null_logic.specs.declared.arith.Arith.{Arith}
 use Rattle.null_logic.specs.declared.arith.Arith.TheVariants as arith
@@ -123,9 +123,13 @@ abbrev pub node : ℕ → ExprBody → ExprTree
 node at body = record { at = at; body = body }
 
 -- parts with an operator between them; one part is itself
+abbrev pub connected : Operator → List ExprTree → ExprTree
+connected op [] = node 0 (e.Logic op [])
+connected op (part ∷ []) = part
+connected op (part ∷ other ∷ more) = node part.at (e.Logic op (part ∷ other ∷ more))
+
 abbrev pub logic : Operator → ExprTree × List (Word × ExprTree) → ExprTree
-logic op (part, []) = part
-logic op (part, other ∷ more) = node part.at (e.Logic op (items (part, other ∷ more)))
+logic op parts = connected op (items parts)
 
 abbrev pub chain : ExprTree × List ExprStep → ExprTree
 chain (first, []) = first
@@ -134,13 +138,19 @@ chain (first, step ∷ steps) = node first.at (e.Chain first (step ∷ steps))
 abbrev pub step_of : Token × ExprTree → ExprStep
 step_of (op, part) = record { op = arith_of op; part = part }
 
+-- under as many NOTs; none leave the part as it is
+abbrev pub negated : ℕ → ℕ → ExprTree → ExprTree
+negated at count part = if count == 0 then part else node at (e.Nots count part)
+
 abbrev pub nots : ℕ × (List Word × ExprTree) → ExprTree
-nots (at, ([], part)) = part
-nots (at, (one ∷ more, part)) = node at (e.Nots (length (one ∷ more)) part)
+nots (at, (words, part)) = negated at (length words) part
+
+-- under as many signs; none leave the part as it is
+abbrev pub signed : ℕ → ℕ → ExprTree → ExprTree
+signed at count part = if count == 0 then part else node at (e.Signs count part)
 
 abbrev pub signs : ℕ × (List Word × ExprTree) → ExprTree
-signs (at, ([], part)) = part
-signs (at, (one ∷ more, part)) = node at (e.Signs (length (one ∷ more)) part)
+signs (at, (minuses, part)) = signed at (length minuses) part
 
 -- what stands behind a part, or nothing
 abbrev pub continued : {X : Type 0} → X × Option (X → X) → X

@@ -1,10 +1,10 @@
 -- Function values that read from a cursor.
-use Rattle.std.specs.Prelude.{◌≡◌, ◌≤◌, ℕ, List, Result, Ok, length}
+use Rattle.std.specs.Prelude.{◌≡◌, ◌<◌, ◌≤◌, ℕ, List, Result, Ok, length}
 use denote.MutBor.{MutBor}
 use Rattle.sql_lexer.specs.declared.token.Token.{Token}
 use Rattle.sql_parser.specs.Cursors.{Reads}
 use Rattle.sql_parser.specs.Descent.{Outcome, Taken}
-use Rattle.sql_parser.specs.Lists.{listed}
+use Rattle.sql_parser.specs.Lists.{all_of, listed}
 use Rattle.sql_parser.specs.declared.fault.Fault.{Fault}
 use Rattle.sql_parser.specs.declared.sort.Sort.{Sort}
 
@@ -25,3 +25,18 @@ pub record IsReader {X : Type 0} (post : Post X) (reading : List Token → Outco
 abbrev pub ReadsList : {X : Type 0} → Post X → Sort → List Token → Result (List X) Fault → List Token → Type 0
 ReadsList {X = X} post separator old result new =
     (reading : List Token → Outcome Token X) → IsReader post reading → Reads result (listed separator reading old) new
+
+-- it may be called where no more than a number of tokens is left, and takes one at least
+pub record TakesBelow {X : Type 0} (most : ℕ) (pre : MutBor (List Token) → Type 0) (post : Post X) : Type 0 where
+  pub callable : (old : MutBor (List Token)) → length old.now ≤ most → pre old
+  pub fewer : (old new : MutBor (List Token)) (x : X) → post old (Ok x) new → length new.now < length old.now
+
+-- it reads what the reading gives, which takes a token at least
+pub record IsTaker {X : Type 0} (post : Post X) (reading : List Token → Outcome Token X) : Type 0 where
+  pub reads : (old new : MutBor (List Token)) (r : Result X Fault) → post old r new → Reads r (reading old.now) new.now
+  pub fewer : (old : List Token) (x : X) (new : List Token) → reading old ≡ Taken x new → length new < length old
+
+-- all that stand there are read of what it reads
+abbrev pub ReadsAll : {X : Type 0} → Post X → List Sort → List Token → Result (List X) Fault → List Token → Type 0
+ReadsAll {X = X} post sorts old result new =
+    (reading : List Token → Outcome Token X) → IsTaker post reading → Reads result (all_of sorts reading old) new

@@ -1,8 +1,9 @@
 ghost use Rattle.std.specs.Prelude.{◌≡◌, ◌<◌, ◌≤◌, [], ◌∷◌, length, IfOk};
 ghost use Rattle.sql_parser.specs.Cursors as spec;
+ghost use Rattle.sql_parser.specs.Pieces.{sees_table_star, word_if, word_at};
 
 use crate::fault::Fault;
-use crate::sort::{Sort, is_among, same_sort, sort_of};
+use crate::sort::{NAMES, Sort, is_among, same_sort, sort_of};
 use sql_lexer::Token;
 use std::alloc::Global;
 use std::marker::Model;
@@ -59,6 +60,16 @@ impl<'a> Cursor<'a> {
         match self.tokens.first() {
             Some(token) => token.start,
             None => 0,
+        }
+    }
+
+    /// The offset of the next token, if there is one.
+    pub(crate) fn next_place(&self) -> Option<usize>
+        ensures { result ≡ spec.next_place self.now }
+    {
+        match self.tokens.first() {
+            Some(token) => Some(token.start),
+            None => None,
         }
     }
 
@@ -132,5 +143,32 @@ impl<'a> Cursor<'a> {
             self.take()?;
         }
         Ok(found)
+    }
+
+    /// Goes past a word that may stand next, and says whether it does.
+    pub(crate) fn option(&mut self, sort: Sort) -> Result<bool, Fault>
+        ensures given { spec.Sees word_if result (word_at sort self.old) self.new }
+        ensures fewer { IfOk result (λ _. length self.new ≤ length self.old) }
+    {
+        if self.sees(sort) {
+            self.past(sort)?;
+            Ok(true)
+        } else {
+            Ok(false)
+        }
+    }
+
+    /// Whether a name, a dot and a star stand next.
+    pub(crate) fn sees_table_star(&self) -> bool
+        ensures { result ≡ sees_table_star self.now }
+    {
+        match self.tokens {
+            [name, dot, star, ..] => {
+                is_among(sort_of(name), &NAMES)
+                    && is_among(sort_of(dot), &[Sort::Dot])
+                    && is_among(sort_of(star), &[Sort::Star])
+            }
+            [] | [_] | [_, _] => false,
+        }
     }
 }

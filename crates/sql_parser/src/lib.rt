@@ -1,15 +1,29 @@
 //! Reads the syntax tree of a script from its tokens (ISO/IEC 9075-2, cut to the grammar in `specs/Grammar.antt`).
 #![tactic(auto)]
 
+mod calls;
+mod connectives;
 mod cursor;
 mod fault;
+mod from;
+mod grammar;
 mod laws;
 mod listed;
 mod names;
 mod nesting;
 mod parser;
+mod predicates;
+mod primary;
+mod query;
+mod recursion;
+mod repeated;
+mod select;
+mod set_operations;
 mod sort;
+mod statements;
+mod sums;
 mod syntax_error;
+mod tail;
 
 pub use laws::{a_script_has_one_tree, an_unexpected_token_has_no_tree};
 pub use nesting::too_deep;

@@ -1,4 +1,4 @@
-ghost use Rattle.std.specs.Prelude.{◌≡◌};
+ghost use Rattle.std.specs.Prelude.{◌≡◌, ◌<◌, ◌≤◌, length, IfOk};
 ghost use Rattle.sql_parser.specs.Building as b;
 ghost use Rattle.sql_parser.specs.Cursors as spec;
 ghost use Rattle.sql_parser.specs.Symbols as n;
@@ -7,25 +7,26 @@ use crate::cursor::Cursor;
 use crate::fault::Fault;
 use crate::listed::listed;
 use crate::sort::{NAMES, Sort};
-use perm_values::{Copyable, List};
+use perm_values::{Copyable, List, NoMemory};
+use sql_lexer::Token;
 use sql_tree::{ColRef, Name};
+use std::alloc::Global;
 
 impl<'a> Cursor<'a> {
-    #[tactic(auto, using(crate::proofs::Steps::name_is))]
+    #[tactic(auto, using(crate::proofs::Steps::name_of_is))]
     pub(crate) fn name(&mut self) -> Result<Name, Fault>
-        ensures { spec.Reads result (spec.reading n.NameOf self.old) self.new }
+        ensures given { spec.Reads result (spec.reading n.NameOf self.old) self.new }
+        ensures fewer { IfOk result (λ _. length self.new < length self.old) }
     {
         let token = self.one(&NAMES)?;
-        Ok(Name {
-            text: token.spelled.copy(self.alloc())?,
-            at: token.start,
-        })
+        Ok(name_of(self.alloc(), token)?)
     }
 
     /// The name behind a dot, if there is one.
     #[tactic(auto, using(crate::proofs::Steps::qualified_is))]
     pub(crate) fn qualified(&mut self) -> Result<Option<Name>, Fault>
-        ensures { spec.Reads result (spec.reading n.Qualified self.old) self.new }
+        ensures given { spec.Reads result (spec.reading n.Qualified self.old) self.new }
+        ensures fewer { IfOk result (λ _. length self.new ≤ length self.old) }
     {
         if self.sees(Sort::Dot) {
             self.past(Sort::Dot)?;
@@ -35,14 +36,25 @@ impl<'a> Cursor<'a> {
         }
     }
 
-    #[tactic(auto, using(crate::proofs::Steps::column_is))]
+    #[tactic(auto, using(crate::proofs::Steps::column_of_is))]
     pub(crate) fn column(&mut self) -> Result<ColRef, Fault>
-        ensures { spec.Reads result (spec.reading n.ColumnOf self.old) self.new }
+        ensures given { spec.Reads result (spec.reading n.ColumnOf self.old) self.new }
+        ensures fewer { IfOk result (λ _. length self.new < length self.old) }
     {
         let first = self.name()?;
         let second = self.qualified()?;
         Ok(reference(first, second))
     }
+}
+
+/// The name that a token is.
+pub(crate) fn name_of(alloc: Global, token: &Token) -> Result<Name, NoMemory>
+    ensures { IfOk result (λ name. name ≡ b.name_of token.now) }
+{
+    Ok(Name {
+        text: token.spelled.copy(alloc)?,
+        at: token.start,
+    })
 }
 
 /// The column of an item, or the column alone.
@@ -68,7 +80,8 @@ impl<'a> Cursor<'a> {
     /// Names with commas between them.
     #[tactic(auto, using(crate::proofs::Steps::names_is))]
     pub(crate) fn names(&mut self) -> Result<List<Name>, Fault>
-        ensures { spec.Reads result (spec.reading n.Names self.old) self.new }
+        ensures given { spec.Reads result (spec.reading n.Names self.old) self.new }
+        ensures fewer { IfOk result (λ _. length self.new ≤ length self.old) }
     {
         listed(self, Sort::Comma, |cursor: &mut Cursor<'_>| cursor.name())
     }

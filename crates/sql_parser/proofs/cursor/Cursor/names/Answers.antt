@@ -7,6 +7,6 @@ use Rattle.sql_parser.proofs.cursor.Cursor.names.Goals as goal
 pub listed-requires : goal.listed-requires
 listed-requires c = record { callable = λ old within. tt; fewer = λ old new x met. reading-keeps n.NameOf old.now x new.now (search rules) }
 
-pub returns : goal.returns
-returns c = rw (names_is c.args.self.now)
+pub returns-clause-given : goal.returns-clause-given
+returns-clause-given c = rw (names_is c.args.self.now)
     (c.listed.ensures.given (reading n.NameOf) (record { reads = λ old new r met. search rules; fewer = reading-keeps n.NameOf }))

@@ -1,0 +1,65 @@
+-- Statements as their functions read them.
+use Rattle.std.proofs.Common.{◌≡◌, ◌≤◌, Bool, true, false, cond, List, [], ◌∷◌, ◌++◌, length, Option, Some, None, refl, sym, ap, ◌∙◌, arith}
+use Rattle.std.specs.Borrow.{Bor}
+use Rattle.sql_lexer.specs.declared.token.Token.{Token}
+use Rattle.sql_parser.specs.Building as b
+use Rattle.sql_parser.specs.Cursors.{reading, past, place, sees}
+use Rattle.sql_parser.specs.Descent.{Outcome, Taken, Stopped, and_then, mapped}
+use Rattle.sql_parser.specs.Grammar.{build}
+use Rattle.sql_parser.specs.Lists.{listed}
+use Rattle.sql_parser.specs.Statements.{mark_of, marked, statement_body, optional_statement}
+use Rattle.sql_parser.specs.Symbols as n
+use Rattle.sql_parser.specs.Tables.{begins}
+use Rattle.sql_parser.specs.declared.sort.Sort.TheVariants as s
+use Rattle.sql_tree.specs.declared.statement.Statement.{Statement}
+use Rattle.sql_tree.specs.declared.statement.StatementBody.TheVariants as st
+use Rattle.sql_parser.proofs.Outcomes.{fused, pushed, pulled, nested, chosen}
+use Rattle.sql_parser.proofs.Steps.{reading-is, reading-keeps}
+
+pub null_mark_is : (null : Option (Bor Token)) → b.null_mark (marked null) ≡ mark_of null
+null_mark_is None = refl
+null_mark_is (Some t) = refl
+
+pub columns_is : (tokens : List Token) → reading n.Columns tokens
+    ≡ and_then (past s.Opening tokens) (λ word first. and_then (listed s.Comma (reading n.Column) first) (λ list rest. mapped (λ end. list) (past s.Closing rest)))
+columns_is tokens = reading-is n.Columns tokens ∙ simp (fused, pushed, pulled, nested)
+
+pub insert_is : (tokens : List Token) → reading n.Insert tokens
+    ≡ and_then (past s.Insert tokens) (λ word first. and_then (past s.Into first) (λ into second. and_then (reading n.NameOf second) (λ table third.
+    and_then (past s.Values third) (λ values rest. mapped (λ list. st.Insert table list) (listed s.Comma (reading n.Row) rest)))))
+insert_is tokens = reading-is n.Insert tokens ∙ simp (fused, pushed, pulled, nested)
+
+pub statement_is : (tokens : List Token) → reading n.StatementOf tokens ≡ mapped (λ body. record { at = place tokens; body = body }) (statement_body tokens)
+statement_is tokens =
+    reading-is n.StatementOf tokens
+    ∙ fused (build n.StatementOf) (λ x. (place tokens, x)) _
+    ∙ sym (fused (λ body. b.statement (place tokens, body)) (b.one_of (b.one_of (b.one_of (b.one_of (b.one_of (b.one_of (b.one_of st.Select))))))) _)
+    ∙ ap (mapped (λ body. b.statement (place tokens, body)))
+    (chosen (sees (begins n.Create) tokens) _ _ _ _
+    (chosen (sees (begins n.Copy) tokens) _ _ _ _
+    (chosen (sees (begins n.Insert) tokens) _ _ _ _
+    (chosen (sees (begins n.Delete) tokens) _ _ _ _
+    (chosen (sees (begins n.Drop) tokens) _ _ _ _
+    (chosen (sees (begins n.Explain) tokens) _ _ _ _
+    (chosen (sees (begins n.Show) tokens) _ _ _ _ refl)))))))
+
+pub script_is : (tokens : List Token) → reading n.ScriptOf tokens
+    ≡ mapped (λ list. record { statements = b.present list }) (listed s.Semicolon optional_statement tokens)
+script_is tokens = reading-is n.ScriptOf tokens ∙ sym (fused (λ (list : List (Option Statement)). record { statements = b.present list }) b.items _)
+
+pub optional_statement-keeps : (old : List Token) (x : Option Statement) (new : List Token) → optional_statement old ≡ Taken x new → length new ≤ length old
+optional_statement-keeps old x new e = by_sort (sees (begins n.StatementOf) old) (reading n.StatementOf old) refl e where
+  by_sort : (q : Bool) (o : Outcome Token Statement) → reading n.StatementOf old ≡ o → cond q (mapped Some o) (Taken None old) ≡ Taken x new → length new ≤ length old
+  by_sort true (Taken y rest) e f = let g : rest ≡ new = cc in omega (arith, reading-keeps n.StatementOf old y rest e, ap length g)
+  by_sort true (Stopped rest) e f = absurd cc
+  by_sort false o e f = let g : old ≡ new = cc in omega (arith, ap length g)
+
+pub present_some : {X : Type 0} (xs : List (Option X)) (x : X) → b.present (xs ++ Some x ∷ []) ≡ b.present xs ++ x ∷ []
+present_some [] x = refl
+present_some (None ∷ xs) x = present_some xs x
+present_some (Some y ∷ xs) x = ap (λ ys. y ∷ ys) (present_some xs x)
+
+pub present_none : {X : Type 0} (xs : List (Option X)) → b.present (xs ++ None ∷ []) ≡ b.present xs
+present_none [] = refl
+present_none (None ∷ xs) = present_none xs
+present_none (Some y ∷ xs) = ap (λ ys. y ∷ ys) (present_none xs)

@@ -1,0 +1,9 @@
+use Rattle.std.proofs.Common.{rules}
+use Rattle.sql_parser.specs.Cursors.{reading}
+use Rattle.sql_parser.specs.Symbols as n
+use Rattle.sql_parser.proofs.Steps.{reading-keeps}
+use Rattle.sql_parser.proofs.statements.column_defs.Goals as goal
+
+pub returns-clause-given : goal.returns-clause-given
+returns-clause-given c =
+    c.listed.ensures.given (reading n.Column) (record { reads = λ old new r met. search rules; fewer = reading-keeps n.Column })

@@ -1,0 +1,144 @@
+//! AND, OR and NOT over predicates, and lists of expressions.
+
+ghost use Rattle.std.specs.Prelude.{◌≡◌, ◌<◌, ◌≤◌, suc, [], ◌∷◌, length, IfOk};
+ghost use Rattle.sql_parser.specs.Building as b;
+ghost use Rattle.sql_parser.specs.Cursors as spec;
+ghost use Rattle.sql_parser.specs.Lists.{all_of, listed as list_read};
+ghost use Rattle.sql_parser.specs.Nests.{Nests};
+ghost use Rattle.sql_parser.specs.Symbols as n;
+ghost use Rattle.sql_parser.specs.declared.sort.Sort.TheVariants as s;
+
+use crate::cursor::Cursor;
+use crate::fault::Fault;
+use crate::grammar::{Grammar, node};
+use crate::listed::listed;
+use crate::repeated::repeated;
+use crate::sort::Sort;
+use null_logic::Operator;
+use perm_values::{Boxed, List, NoMemory};
+use sql_tree::{ExprBody, ExprTree, QueryTree};
+use std::alloc::Global;
+
+/// The part under as many NOTs; none leave it as it is.
+fn negated(
+    alloc: Global,
+    at: usize,
+    count: u64,
+    part: Boxed<ExprTree>,
+) -> Result<Boxed<ExprTree>, NoMemory>
+    ensures { IfOk result (λ tree. tree ≡ b.negated at count part) }
+{
+    if count == 0 {
+        return Ok(part);
+    }
+    node(alloc, at, ExprBody::Nots { count, part })
+}
+
+/// The only part.
+fn only(alloc: Global, mut parts: List<ExprTree>) -> Result<Boxed<ExprTree>, NoMemory>
+    requires { length parts ≡ 1 }
+    ensures { IfOk result (λ part. parts ≡ part ∷ []) }
+{
+    match parts.pop() {
+        Some(part) => Boxed::new(alloc, part),
+        None => unreachable!(),
+    }
+}
+
+/// The parts with an operator between them; one part is itself.
+fn connected(
+    alloc: Global,
+    op: Operator,
+    parts: List<ExprTree>,
+) -> Result<Boxed<ExprTree>, NoMemory>
+    ensures { IfOk result (λ tree. tree ≡ b.connected op parts) }
+{
+    if parts.len() == 1 {
+        return only(alloc, parts);
+    }
+    let at = match parts.as_slice().first() {
+        Some(first) => first.at,
+        None => 0,
+    };
+    node(alloc, at, ExprBody::Logic { op, parts })
+}
+
+fn nots(cursor: &mut Cursor<'_>) -> Result<List<()>, Fault>
+    ensures given { spec.Reads result (all_of (s.Not ∷ []) (spec.past s.Not) cursor.old) cursor.new }
+    ensures fewer { IfOk result (λ _. length cursor.new ≤ length cursor.old) }
+{
+    repeated(cursor, &[Sort::Not], |cursor: &mut Cursor<'_>| cursor.past(Sort::Not))
+}
+
+impl<
+    F: Fn(&mut Cursor<'_>) -> Result<Boxed<ExprTree>, Fault>,
+    G: Fn(&mut Cursor<'_>) -> Result<Boxed<QueryTree>, Fault>,
+> Grammar<F, G>
+{
+    #[tactic(auto, using(crate::proofs::Counts::negated_is, crate::proofs::Nested::nests_below))]
+    fn negated(&self, cursor: &mut Cursor<'_>) -> Result<Boxed<ExprTree>, Fault>
+        requires { Nests (length cursor.old) (F.pre self.now.expr) (G.pre self.now.query) (F.post self.now.expr) (G.post self.now.query) }
+        ensures given { spec.Reads result (spec.reading n.Negated cursor.old) cursor.new }
+        ensures fewer { IfOk result (λ _. length cursor.new < length cursor.old) }
+    {
+        let at = cursor.place();
+        let nots = nots(cursor)?;
+        let part = self.test(cursor)?;
+        Ok(negated(cursor.alloc(), at, nots.len() as u64, part)?)
+    }
+
+    #[tactic(auto, using(crate::proofs::Nested::nests_below))]
+    fn conjuncts(&self, cursor: &mut Cursor<'_>) -> Result<List<ExprTree>, Fault>
+        requires { Nests (length cursor.old) (F.pre self.now.expr) (G.pre self.now.query) (F.post self.now.expr) (G.post self.now.query) }
+        ensures given { spec.Reads result (list_read s.And (spec.reading n.Negated) cursor.old) cursor.new }
+        ensures fewer { IfOk result (λ _. length cursor.new < length cursor.old) }
+    {
+        listed(cursor, Sort::And, |cursor: &mut Cursor<'_>| {
+            Ok(self.negated(cursor)?.into_inner())
+        })
+    }
+
+    #[tactic(auto, using(crate::proofs::Connecting::both_is, crate::proofs::Nested::nests_below))]
+    fn both(&self, cursor: &mut Cursor<'_>) -> Result<Boxed<ExprTree>, Fault>
+        requires { Nests (length cursor.old) (F.pre self.now.expr) (G.pre self.now.query) (F.post self.now.expr) (G.post self.now.query) }
+        ensures given { spec.Reads result (spec.reading n.Both cursor.old) cursor.new }
+        ensures fewer { IfOk result (λ _. length cursor.new < length cursor.old) }
+    {
+        let parts = self.conjuncts(cursor)?;
+        Ok(connected(cursor.alloc(), Operator::And, parts)?)
+    }
+
+    #[tactic(auto, using(crate::proofs::Nested::nests_below))]
+    fn disjuncts(&self, cursor: &mut Cursor<'_>) -> Result<List<ExprTree>, Fault>
+        requires { Nests (length cursor.old) (F.pre self.now.expr) (G.pre self.now.query) (F.post self.now.expr) (G.post self.now.query) }
+        ensures given { spec.Reads result (list_read s.Or (spec.reading n.Both) cursor.old) cursor.new }
+        ensures fewer { IfOk result (λ _. length cursor.new < length cursor.old) }
+    {
+        listed(cursor, Sort::Or, |cursor: &mut Cursor<'_>| {
+            Ok(self.both(cursor)?.into_inner())
+        })
+    }
+
+    /// An expression.
+    #[tactic(auto, using(crate::proofs::Connecting::expr_is, crate::proofs::Nested::nests_below))]
+    pub(crate) fn disjunction(&self, cursor: &mut Cursor<'_>) -> Result<Boxed<ExprTree>, Fault>
+        requires { Nests (length cursor.old) (F.pre self.now.expr) (G.pre self.now.query) (F.post self.now.expr) (G.post self.now.query) }
+        ensures given { spec.Reads result (spec.reading n.Expr cursor.old) cursor.new }
+        ensures fewer { IfOk result (λ _. length cursor.new < length cursor.old) }
+    {
+        let parts = self.disjuncts(cursor)?;
+        Ok(connected(cursor.alloc(), Operator::Or, parts)?)
+    }
+
+    /// Expressions with commas between them.
+    #[tactic(auto, using(crate::proofs::Nested::nests_below))]
+    pub(crate) fn expressions(&self, cursor: &mut Cursor<'_>) -> Result<List<ExprTree>, Fault>
+        requires { Nests (suc (length cursor.old)) (F.pre self.now.expr) (G.pre self.now.query) (F.post self.now.expr) (G.post self.now.query) }
+        ensures given { spec.Reads result (spec.reading n.Exprs cursor.old) cursor.new }
+        ensures fewer { IfOk result (λ _. length cursor.new < length cursor.old) }
+    {
+        listed(cursor, Sort::Comma, |cursor: &mut Cursor<'_>| {
+            Ok(self.expression(cursor)?.into_inner())
+        })
+    }
+}

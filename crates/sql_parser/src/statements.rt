@@ -1,0 +1,351 @@
+//! Statements.
+
+ghost use Rattle.std.specs.Prelude.{◌≡◌, ◌<◌, ◌≤◌, suc, [], ◌∷◌, length, IfOk};
+ghost use Rattle.sql_parser.specs.Building as b;
+ghost use Rattle.sql_parser.specs.Cursors as spec;
+ghost use Rattle.sql_parser.specs.Lists.{listed as list_read};
+ghost use Rattle.sql_parser.specs.Nests.{Nests};
+ghost use Rattle.sql_parser.specs.Statements as spelled;
+ghost use Rattle.sql_parser.specs.Symbols as n;
+ghost use Rattle.sql_parser.specs.declared.sort.Sort.TheVariants as s;
+
+use crate::cursor::Cursor;
+use crate::fault::Fault;
+use crate::grammar::Grammar;
+use crate::listed::listed;
+use crate::primary::kind_of;
+use crate::sort::Sort;
+use perm_values::{Boxed, Chars, Copyable, Kind, List, NoMemory};
+use sql_lexer::Token;
+use sql_tree::{ColumnDef, ExprTree, QueryTree, Script, Statement, StatementBody, ValuesRow};
+use std::alloc::Global;
+
+/// What begins a statement.
+const STATEMENTS: [Sort; 9] = [
+    Sort::Create,
+    Sort::Copy,
+    Sort::Insert,
+    Sort::Delete,
+    Sort::Drop,
+    Sort::Explain,
+    Sort::Show,
+    Sort::Select,
+    Sort::Opening,
+];
+
+const KINDS: [Sort; 4] = [Sort::Integer, Sort::Int, Sort::BigInt, Sort::Text];
+
+#[tactic(auto, using(crate::proofs::Steps::column_kind_is))]
+fn column_kind(cursor: &mut Cursor<'_>) -> Result<Kind, Fault>
+    ensures given { spec.Reads result (spec.reading n.ColumnKind cursor.old) cursor.new }
+    ensures fewer { IfOk result (λ _. length cursor.new < length cursor.old) }
+{
+    Ok(kind_of(cursor.one(&KINDS)?))
+}
+
+#[tactic(auto, using(crate::proofs::Steps::column_is))]
+fn column_def(cursor: &mut Cursor<'_>) -> Result<ColumnDef, Fault>
+    ensures given { spec.Reads result (spec.reading n.Column cursor.old) cursor.new }
+    ensures fewer { IfOk result (λ _. length cursor.new < length cursor.old) }
+{
+    let name = cursor.name()?;
+    let kind = column_kind(cursor)?;
+    Ok(ColumnDef { name, kind })
+}
+
+fn column_defs(cursor: &mut Cursor<'_>) -> Result<List<ColumnDef>, Fault>
+    ensures given { spec.Reads result (list_read s.Comma (spec.reading n.Column) cursor.old) cursor.new }
+    ensures fewer { IfOk result (λ _. length cursor.new ≤ length cursor.old) }
+{
+    listed(cursor, Sort::Comma, |cursor: &mut Cursor<'_>| column_def(cursor))
+}
+
+#[tactic(auto, using(crate::proofs::Stating::columns_is))]
+fn columns(cursor: &mut Cursor<'_>) -> Result<List<ColumnDef>, Fault>
+    ensures given { spec.Reads result (spec.reading n.Columns cursor.old) cursor.new }
+    ensures fewer { IfOk result (λ _. length cursor.new < length cursor.old) }
+{
+    cursor.past(Sort::Opening)?;
+    let columns = column_defs(cursor)?;
+    cursor.past(Sort::Closing)?;
+    Ok(columns)
+}
+
+/// The statements that are there.
+#[tactic(auto, using(crate::proofs::Stating::present_some, crate::proofs::Stating::present_none))]
+fn present(alloc: Global, found: List<Option<Statement>>) -> Result<List<Statement>, NoMemory>
+    ensures { IfOk result (λ kept. kept ≡ b.present found) }
+{
+    let mut kept = List::new(alloc);
+    for statement in found.into_vec() {
+        if let Some(statement) = statement {
+            kept.push(statement)?;
+        }
+    }
+    Ok(kept)
+}
+
+/// The mark that stands for NULL; none is the empty one.
+fn mark_of(alloc: Global, null: Option<&Token>) -> Result<Chars, NoMemory>
+    ensures { IfOk result (λ mark. mark ≡ spelled.mark_of null.entry) }
+{
+    match null {
+        Some(token) => token.spelled.copy(alloc),
+        None => Chars::from_text(alloc, ""),
+    }
+}
+
+#[tactic(auto)]
+fn null<'a>(cursor: &mut Cursor<'a>) -> Result<Option<&'a Token>, Fault>
+    ensures given { spec.Sees spelled.marked result (spelled.null cursor.old) cursor.new }
+    ensures fewer { IfOk result (λ _. length cursor.new ≤ length cursor.old) }
+{
+    if !cursor.sees(Sort::Null) {
+        return Ok(None);
+    }
+    cursor.past(Sort::Null)?;
+    Ok(Some(cursor.one(&[Sort::Literal])?))
+}
+
+#[tactic(auto, using(crate::proofs::Steps::copy_is, crate::proofs::Tails::is_some_word_if, crate::proofs::Stating::null_mark_is))]
+fn copy(cursor: &mut Cursor<'_>) -> Result<StatementBody, Fault>
+    ensures given { spec.Reads result (spec.reading n.Copy cursor.old) cursor.new }
+    ensures fewer { IfOk result (λ _. length cursor.new < length cursor.old) }
+{
+    cursor.past(Sort::Copy)?;
+    let table = cursor.name()?;
+    cursor.past(Sort::From)?;
+    let file = cursor.one(&[Sort::Literal])?;
+    let header = cursor.option(Sort::Header)?;
+    let null = null(cursor)?;
+    let mark = mark_of(cursor.alloc(), null)?;
+    let file = file.spelled.copy(cursor.alloc())?;
+    Ok(StatementBody::Copy {
+        table,
+        file,
+        header,
+        mark,
+    })
+}
+
+#[tactic(auto, using(crate::proofs::Steps::drop_is))]
+fn drop_what(cursor: &mut Cursor<'_>) -> Result<StatementBody, Fault>
+    ensures given { spec.Reads result (spec.reading n.Drop cursor.old) cursor.new }
+    ensures fewer { IfOk result (λ _. length cursor.new < length cursor.old) }
+{
+    cursor.past(Sort::Drop)?;
+    if cursor.sees(Sort::Table) {
+        cursor.past(Sort::Table)?;
+        Ok(StatementBody::DropTable {
+            table: cursor.name()?,
+        })
+    } else {
+        cursor.past(Sort::View)?;
+        Ok(StatementBody::DropView {
+            view: cursor.name()?,
+        })
+    }
+}
+
+#[tactic(auto, using(crate::proofs::Steps::show_is))]
+fn show(cursor: &mut Cursor<'_>) -> Result<StatementBody, Fault>
+    ensures given { spec.Reads result (spec.reading n.Show cursor.old) cursor.new }
+    ensures fewer { IfOk result (λ _. length cursor.new < length cursor.old) }
+{
+    cursor.past(Sort::Show)?;
+    cursor.past(Sort::Fresh)?;
+    Ok(StatementBody::ShowFresh {
+        table: cursor.name()?,
+    })
+}
+
+impl<
+    F: Fn(&mut Cursor<'_>) -> Result<Boxed<ExprTree>, Fault>,
+    G: Fn(&mut Cursor<'_>) -> Result<Boxed<QueryTree>, Fault>,
+> Grammar<F, G>
+{
+    #[tactic(auto, using(crate::proofs::Steps::create_table_is, crate::proofs::Nested::nests_below))]
+    fn create_table(&self, cursor: &mut Cursor<'_>) -> Result<StatementBody, Fault>
+        requires { Nests (length cursor.old) (F.pre self.now.expr) (G.pre self.now.query) (F.post self.now.expr) (G.post self.now.query) }
+        ensures given { spec.Reads result (spec.reading n.CreateTable cursor.old) cursor.new }
+        ensures fewer { IfOk result (λ _. length cursor.new < length cursor.old) }
+    {
+        cursor.past(Sort::Table)?;
+        let table = cursor.name()?;
+        if cursor.sees(Sort::Opening) {
+            let columns = columns(cursor)?;
+            return Ok(StatementBody::CreateTable { table, columns });
+        }
+        cursor.past(Sort::As)?;
+        let query = self.nested_query(cursor)?.into_inner();
+        Ok(StatementBody::CreateTableAs { table, query })
+    }
+
+    #[tactic(auto, using(crate::proofs::Steps::create_view_is, crate::proofs::Nested::nests_below))]
+    fn create_view(&self, cursor: &mut Cursor<'_>) -> Result<StatementBody, Fault>
+        requires { Nests (length cursor.old) (F.pre self.now.expr) (G.pre self.now.query) (F.post self.now.expr) (G.post self.now.query) }
+        ensures given { spec.Reads result (spec.reading n.CreateView cursor.old) cursor.new }
+        ensures fewer { IfOk result (λ _. length cursor.new < length cursor.old) }
+    {
+        cursor.past(Sort::View)?;
+        let view = cursor.name()?;
+        cursor.past(Sort::As)?;
+        let query = self.nested_query(cursor)?.into_inner();
+        Ok(StatementBody::CreateView { view, query })
+    }
+
+    #[tactic(auto, using(crate::proofs::Steps::create_is, crate::proofs::Nested::nests_below))]
+    fn create(&self, cursor: &mut Cursor<'_>) -> Result<StatementBody, Fault>
+        requires { Nests (length cursor.old) (F.pre self.now.expr) (G.pre self.now.query) (F.post self.now.expr) (G.post self.now.query) }
+        ensures given { spec.Reads result (spec.reading n.Create cursor.old) cursor.new }
+        ensures fewer { IfOk result (λ _. length cursor.new < length cursor.old) }
+    {
+        cursor.past(Sort::Create)?;
+        if cursor.sees(Sort::Table) {
+            self.create_table(cursor)
+        } else {
+            self.create_view(cursor)
+        }
+    }
+
+    #[tactic(auto, using(crate::proofs::Steps::row_is, crate::proofs::Nested::nests_below))]
+    fn row(&self, cursor: &mut Cursor<'_>) -> Result<ValuesRow, Fault>
+        requires { Nests (length cursor.old) (F.pre self.now.expr) (G.pre self.now.query) (F.post self.now.expr) (G.post self.now.query) }
+        ensures given { spec.Reads result (spec.reading n.Row cursor.old) cursor.new }
+        ensures fewer { IfOk result (λ _. length cursor.new < length cursor.old) }
+    {
+        let at = cursor.place();
+        cursor.past(Sort::Opening)?;
+        let values = self.expressions(cursor)?;
+        cursor.past(Sort::Closing)?;
+        Ok(ValuesRow { at, values })
+    }
+
+    #[tactic(auto, using(crate::proofs::Nested::nests_below))]
+    fn rows(&self, cursor: &mut Cursor<'_>) -> Result<List<ValuesRow>, Fault>
+        requires { Nests (length cursor.old) (F.pre self.now.expr) (G.pre self.now.query) (F.post self.now.expr) (G.post self.now.query) }
+        ensures given { spec.Reads result (list_read s.Comma (spec.reading n.Row) cursor.old) cursor.new }
+        ensures fewer { IfOk result (λ _. length cursor.new ≤ length cursor.old) }
+    {
+        listed(cursor, Sort::Comma, |cursor: &mut Cursor<'_>| self.row(cursor))
+    }
+
+    #[tactic(auto, using(crate::proofs::Stating::insert_is, crate::proofs::Nested::nests_below))]
+    fn insert(&self, cursor: &mut Cursor<'_>) -> Result<StatementBody, Fault>
+        requires { Nests (length cursor.old) (F.pre self.now.expr) (G.pre self.now.query) (F.post self.now.expr) (G.post self.now.query) }
+        ensures given { spec.Reads result (spec.reading n.Insert cursor.old) cursor.new }
+        ensures fewer { IfOk result (λ _. length cursor.new < length cursor.old) }
+    {
+        cursor.past(Sort::Insert)?;
+        cursor.past(Sort::Into)?;
+        let table = cursor.name()?;
+        cursor.past(Sort::Values)?;
+        let rows = self.rows(cursor)?;
+        Ok(StatementBody::Insert { table, rows })
+    }
+
+    #[tactic(auto, using(crate::proofs::Steps::explain_is, crate::proofs::Nested::nests_below))]
+    fn explain(&self, cursor: &mut Cursor<'_>) -> Result<StatementBody, Fault>
+        requires { Nests (length cursor.old) (F.pre self.now.expr) (G.pre self.now.query) (F.post self.now.expr) (G.post self.now.query) }
+        ensures given { spec.Reads result (spec.reading n.Explain cursor.old) cursor.new }
+        ensures fewer { IfOk result (λ _. length cursor.new < length cursor.old) }
+    {
+        cursor.past(Sort::Explain)?;
+        cursor.past(Sort::Rewrite)?;
+        let query = self.nested_query(cursor)?.into_inner();
+        Ok(StatementBody::Explain { query })
+    }
+
+    #[tactic(auto, using(crate::proofs::Steps::delete_is, crate::proofs::Nested::nests_below))]
+    fn delete(&self, cursor: &mut Cursor<'_>) -> Result<StatementBody, Fault>
+        requires { Nests (length cursor.old) (F.pre self.now.expr) (G.pre self.now.query) (F.post self.now.expr) (G.post self.now.query) }
+        ensures given { spec.Reads result (spec.reading n.Delete cursor.old) cursor.new }
+        ensures fewer { IfOk result (λ _. length cursor.new < length cursor.old) }
+    {
+        cursor.past(Sort::Delete)?;
+        cursor.past(Sort::From)?;
+        let table = cursor.name()?;
+        let condition = self.condition(cursor)?.map(Boxed::into_inner);
+        Ok(StatementBody::Delete { table, condition })
+    }
+
+    #[tactic(auto, using(crate::proofs::Nested::nests_below))]
+    fn statement_body(&self, cursor: &mut Cursor<'_>) -> Result<StatementBody, Fault>
+        requires { Nests (suc (length cursor.old)) (F.pre self.now.expr) (G.pre self.now.query) (F.post self.now.expr) (G.post self.now.query) }
+        ensures given { spec.Reads result (spelled.statement_body cursor.old) cursor.new }
+        ensures fewer { IfOk result (λ _. length cursor.new < length cursor.old) }
+    {
+        if cursor.sees(Sort::Create) {
+            self.create(cursor)
+        } else if cursor.sees(Sort::Copy) {
+            copy(cursor)
+        } else if cursor.sees(Sort::Insert) {
+            self.insert(cursor)
+        } else if cursor.sees(Sort::Delete) {
+            self.delete(cursor)
+        } else if cursor.sees(Sort::Drop) {
+            drop_what(cursor)
+        } else if cursor.sees(Sort::Explain) {
+            self.explain(cursor)
+        } else if cursor.sees(Sort::Show) {
+            show(cursor)
+        } else {
+            let query = self.nested_query(cursor)?.into_inner();
+            Ok(StatementBody::Select { query })
+        }
+    }
+
+    #[tactic(auto, using(crate::proofs::Stating::statement_is, crate::proofs::Nested::nests_below))]
+    fn statement(&self, cursor: &mut Cursor<'_>) -> Result<Statement, Fault>
+        requires { Nests (suc (length cursor.old)) (F.pre self.now.expr) (G.pre self.now.query) (F.post self.now.expr) (G.post self.now.query) }
+        ensures given { spec.Reads result (spec.reading n.StatementOf cursor.old) cursor.new }
+        ensures fewer { IfOk result (λ _. length cursor.new < length cursor.old) }
+    {
+        let at = cursor.place();
+        let body = self.statement_body(cursor)?;
+        Ok(Statement { at, body })
+    }
+
+    #[tactic(auto, using(crate::proofs::Nested::nests_below))]
+    fn optional_statement(
+        &self,
+        cursor: &mut Cursor<'_>,
+    ) -> Result<Option<Statement>, Fault>
+        requires { Nests (suc (length cursor.old)) (F.pre self.now.expr) (G.pre self.now.query) (F.post self.now.expr) (G.post self.now.query) }
+        ensures given { spec.Reads result (spelled.optional_statement cursor.old) cursor.new }
+        ensures fewer { IfOk result (λ _. length cursor.new ≤ length cursor.old) }
+    {
+        if cursor.sees_any(&STATEMENTS) {
+            Ok(Some(self.statement(cursor)?))
+        } else {
+            Ok(None)
+        }
+    }
+
+    #[tactic(auto, using(crate::proofs::Nested::nests_below))]
+    fn optional_statements(
+        &self,
+        cursor: &mut Cursor<'_>,
+    ) -> Result<List<Option<Statement>>, Fault>
+        requires { Nests (suc (length cursor.old)) (F.pre self.now.expr) (G.pre self.now.query) (F.post self.now.expr) (G.post self.now.query) }
+        ensures given { spec.Reads result (list_read s.Semicolon spelled.optional_statement cursor.old) cursor.new }
+        ensures fewer { IfOk result (λ _. length cursor.new ≤ length cursor.old) }
+    {
+        listed(cursor, Sort::Semicolon, |cursor: &mut Cursor<'_>| {
+            self.optional_statement(cursor)
+        })
+    }
+
+    /// A whole script.
+    #[tactic(auto, using(crate::proofs::Stating::script_is, crate::proofs::Nested::nests_below))]
+    pub(crate) fn script(&self, cursor: &mut Cursor<'_>) -> Result<Script, Fault>
+        requires { Nests (suc (length cursor.old)) (F.pre self.now.expr) (G.pre self.now.query) (F.post self.now.expr) (G.post self.now.query) }
+        ensures given { spec.Reads result (spec.reading n.ScriptOf cursor.old) cursor.new }
+        ensures fewer { IfOk result (λ _. length cursor.new ≤ length cursor.old) }
+    {
+        let found = self.optional_statements(cursor)?;
+        Ok(Script {
+            statements: present(cursor.alloc(), found)?,
+        })
+    }
+}
