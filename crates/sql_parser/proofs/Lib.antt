@@ -6,12 +6,18 @@ pub mod Decided
 pub mod Depth
 pub mod Exact
 pub mod Fine
+pub mod Holding
 pub mod Listing
 pub mod Local
 pub mod Nested
 pub mod Outcomes
 pub mod Primaries
 pub mod Queries
+pub mod RegularExpressions
+pub mod RegularQueries
+pub mod RegularStatements
+pub mod RegularTrees
+pub mod Regularity
 pub mod Samples
 pub mod Shut
 pub mod Sound
@@ -20,4 +26,5 @@ pub mod Steps
 pub mod Swapped
 pub mod TablesHold
 pub mod Tails
+pub mod TokenNumbers
 pub mod Viable

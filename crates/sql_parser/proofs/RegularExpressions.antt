@@ -1,0 +1,203 @@
+-- What the rules of expressions build of regular parts is regular.
+use Rattle.std.proofs.Common.{◌≡◌, ◌⊎◌, inl, inr, ℕ, zero, suc, ℤ, Bool, true, false, List, [], ◌∷◌, length, Option, Some, None, refl, arith}
+use Rattle.std.specs.Prelude.{if◌then◌else◌, ◌==◌, ◌≤◌, is_some}
+use Rattle.std.specs.Int.{IsNonNegative}
+use Rattle.null_logic.specs.declared.arith.Arith.TheVariants as a
+use Rattle.null_logic.specs.declared.operator.Operator.{Operator}
+use Rattle.null_logic.specs.declared.operator.Operator.TheVariants.{And, Or}
+use Rattle.sql_parser.specs.Building as b
+use Rattle.sql_parser.specs.Building.{Word}
+use Rattle.sql_parser.specs.Sorts.{same_sort, sort_of}
+use Rattle.sql_parser.specs.Symbols as n
+use Rattle.sql_parser.specs.declared.sort.Sort.{Sort}
+use Rattle.sql_parser.specs.declared.sort.Sort.TheVariants as s
+use Rattle.sql_parser.proofs.Holding.{none-each, cons-each, none-there, some-there}
+use Rattle.sql_parser.proofs.RegularTrees.{Builds, behind-each, items-each}
+use Rattle.sql_tree.specs.Regular.{IsFilled, Each, IfThere, IsConnective, has_argument, level_of, RegularExpr, RegularBody, RegularStep, RegularArm, regular_expr, regular_null, regular_null_of, regular_integer, regular_text, regular_truth, regular_column, regular_paren, regular_nots, regular_signs, regular_logic, regular_chain, regular_compared, regular_like, regular_between, regular_in_list, regular_in_query, regular_quantified, regular_is_null, regular_is_truth, regular_is_distinct, regular_case, regular_coalesce, regular_null_if, regular_aggregate, regular_exists, regular_scalar, regular_step, regular_arm}
+use Rattle.sql_tree.specs.declared.expression.AggWord.TheVariants.{Sum, Min, Max}
+use Rattle.sql_tree.specs.declared.expression.ExprBody.TheVariants as e
+use Rattle.sql_tree.specs.declared.expression.ExprStep.{ExprStep}
+use Rattle.sql_tree.specs.declared.expression.ExprTree.{ExprTree}
+
+-- ---- connectives
+
+logic-regular : (op : Operator) → IsConnective op → (part : ExprTree) (more : List (Word × ExprTree))
+    → RegularExpr part → Each (λ m. Unit {0} × RegularExpr m.1) more → RegularExpr (b.logic op (part, more))
+logic-regular op connective part [] p each = p
+logic-regular op connective part (m ∷ more) p each =
+    regular_expr (regular_logic (b.items (part, m ∷ more)) connective tt (items-each RegularExpr part (m ∷ more) p each))
+
+pub expr-builds : Builds n.Expr
+expr-builds (part, more) (p, each) = logic-regular Or (inr refl) part more p each
+
+pub exprs-builds : Builds n.Exprs
+exprs-builds (part, more) (p, each) = (tt, items-each RegularExpr part more p each)
+
+pub both-builds : Builds n.Both
+both-builds (part, more) (p, each) = logic-regular And (inl refl) part more p each
+
+positive : (count : ℕ) → (count == 0) ≡ false → 1 ≤ count
+positive zero e = absurd cc
+positive (suc count) e = omega arith
+
+negated-regular : (at count : ℕ) (part : ExprTree) (none : Bool) → (count == 0) ≡ none → RegularExpr part
+    → RegularExpr (if none then part else b.node at (e.Nots count part))
+negated-regular at count part true e p = p
+negated-regular at count part false e p = regular_expr (regular_nots (positive count e) p)
+
+pub negated-builds : Builds n.Negated
+negated-builds (at, (words, part)) (w, p) = negated-regular at (length words) part (length words == 0) refl p
+
+-- ---- predicates
+
+pub test-builds : Builds n.Test
+test-builds (part, None) (p, t) = p
+test-builds (part, Some behind) (p, behind-regular) = behind-regular part p
+
+pub is_test-builds : Builds n.IsTest
+is_test-builds (is_word, (negated, inl null)) h = λ part p. regular_expr (regular_is_null p)
+is_test-builds (is_word, (negated, inr (inl t))) h = λ part p. regular_expr (regular_is_truth p)
+is_test-builds (is_word, (negated, inr (inr (distinct, (from, second))))) h = λ part p. regular_expr (regular_is_distinct p h.1.1.1.1)
+
+pub compared-builds : Builds n.Compared
+compared-builds (part, None) (p, t) = p
+compared-builds (part, Some behind) (p, behind-regular) = behind-regular part p
+
+pub comparison-builds : Builds n.Comparison
+comparison-builds (op, inl (quantifier, query)) h = λ part p. regular_expr (regular_quantified p h.1.1)
+comparison-builds (op, inr second) h = λ part p. regular_expr (regular_compared p h.1)
+
+pub ranged-builds : Builds n.Ranged
+ranged-builds (part, None) (p, t) = p
+ranged-builds (part, Some (negated, range)) (p, (t, range-regular)) = range-regular (is_some negated) part p
+
+pub range-builds : Builds n.Range
+range-builds (inl (like, pattern)) h = λ negated part p. regular_expr (regular_like p h.1)
+range-builds (inr (inl (between, (low, (and, high))))) h = λ negated part p. regular_expr (regular_between p h.1.0 h.1.1.1)
+range-builds (inr (inr (in_word, members))) h = h.1
+
+pub members-builds : Builds n.Members
+members-builds (opening, (inl query, closing)) h = λ negated part p. regular_expr (regular_in_query p h.1.0)
+members-builds (opening, (inr list, closing)) h = λ negated part p. regular_expr (regular_in_list list p h.1.0.0 h.1.0.1)
+
+-- ---- sums
+
+chain-regular : (level : ℕ) (first : ExprTree) (steps : List ExprStep) → RegularExpr first → Each (RegularStep level) steps
+    → RegularExpr (b.chain (first, steps))
+chain-regular level first [] p each = p
+chain-regular level first (step ∷ steps) p each = regular_expr (regular_chain level (step ∷ steps) p tt each)
+
+pub sum-builds : Builds n.Sum
+sum-builds (first, steps) (p, each) = chain-regular 7 first steps p each
+
+pub product-builds : Builds n.Product
+product-builds (first, steps) (p, each) = chain-regular 8 first steps p each
+
+-- a sign of this sort has the level
+abbrev HasLevel : ℕ → Sort → Type 0
+HasLevel level sort =
+    level_of (if same_sort sort s.Plus then a.Add
+    else (if same_sort sort s.Minus then a.Subtract
+    else (if same_sort sort s.Star then a.Multiply
+    else (if same_sort sort s.Slash then a.Divide else a.Remainder)))) ≡ Some level
+
+sums-level : Each (HasLevel 7) (s.Plus ∷ s.Minus ∷ [])
+unfolding same_sort
+sums-level = cons-each (HasLevel 7) s.Plus (s.Minus ∷ []) refl (cons-each (HasLevel 7) s.Minus [] refl (none-each (HasLevel 7)))
+
+products-level : Each (HasLevel 8) (s.Star ∷ s.Slash ∷ s.Percent ∷ [])
+unfolding same_sort
+products-level =
+    cons-each (HasLevel 8) s.Star (s.Slash ∷ s.Percent ∷ []) refl
+    (cons-each (HasLevel 8) s.Slash (s.Percent ∷ []) refl (cons-each (HasLevel 8) s.Percent [] refl (none-each (HasLevel 8))))
+
+pub sum_step-builds : Builds n.SumStep
+sum_step-builds (op, part) ((among, number), p) = regular_step (sums-level (sort_of op) among) p
+
+pub product_step-builds : Builds n.ProductStep
+product_step-builds (op, part) ((among, number), p) = regular_step (products-level (sort_of op) among) p
+
+signed-regular : (at count : ℕ) (part : ExprTree) (none : Bool) → (count == 0) ≡ none → RegularExpr part
+    → RegularExpr (if none then part else b.node at (e.Signs count part))
+signed-regular at count part true e p = p
+signed-regular at count part false e p = regular_expr (regular_signs (positive count e) p)
+
+pub sign-builds : Builds n.Sign
+sign-builds (at, (minuses, part)) (w, p) = signed-regular at (length minuses) part (length minuses == 0) refl p
+
+-- ---- primaries
+
+pub primary-builds : Builds n.Primary
+primary-builds (at, inl x) h = regular_expr h
+primary-builds (at, inr (inl x)) h = regular_expr h
+primary-builds (at, inr (inr (inl x))) h = regular_expr h
+primary-builds (at, inr (inr (inr (inl x)))) h = regular_expr h
+primary-builds (at, inr (inr (inr (inr (inl x))))) h = regular_expr h
+primary-builds (at, inr (inr (inr (inr (inr (inl x)))))) h = regular_expr h
+primary-builds (at, inr (inr (inr (inr (inr (inr (inl x))))))) h = regular_expr h
+primary-builds (at, inr (inr (inr (inr (inr (inr (inr (inl x)))))))) h = regular_expr h
+primary-builds (at, inr (inr (inr (inr (inr (inr (inr (inr (inl x))))))))) h = regular_expr h
+primary-builds (at, inr (inr (inr (inr (inr (inr (inr (inr (inr x))))))))) h = regular_expr h
+
+literal-regular : (digits text affirmed denied : Bool) (number : ℤ) (spelled : List ℕ) → IsNonNegative number
+    → RegularBody (if digits then e.Integer number else (if text then e.Text spelled else (if affirmed then e.Truth true else (if denied then e.Truth false else e.Null))))
+literal-regular true text affirmed denied number spelled p = regular_integer p
+literal-regular false true affirmed denied number spelled p = regular_text
+literal-regular false false true denied number spelled p = regular_truth
+literal-regular false false false true number spelled p = regular_truth
+literal-regular false false false false number spelled p = regular_null
+
+pub literal-builds : Builds n.Literal
+literal-builds t (among, number) = literal-regular (b.is t s.Digits) (b.is t s.Literal) (b.is t s.True) (b.is t s.False) t.number t.spelled number
+
+pub cast-builds : Builds n.Cast
+cast-builds v h = regular_null_of
+
+pub case-builds : Builds n.Case
+case-builds (case_word, (arm, (arms, (otherwise, end)))) h = regular_case (arm ∷ arms) otherwise tt (cons-each RegularArm arm arms h.1.0 h.1.1.0) h.1.1.1.0
+
+pub arm-builds : Builds n.Arm
+arm-builds (when, (condition, (then_word, value))) h = regular_arm h.1.0 h.1.1.1
+
+pub otherwise-builds : Builds n.Otherwise
+otherwise-builds None h = none-there RegularExpr
+otherwise-builds (Some (else_word, part)) h = some-there RegularExpr part h.1
+
+pub exists-builds : Builds n.Exists
+exists-builds v h = regular_exists h.1
+
+pub parentheses-builds : Builds n.Parentheses
+parentheses-builds (opening, (inl query, closing)) h = regular_scalar h.1.0
+parentheses-builds (opening, (inr part, closing)) h = regular_paren h.1.0
+
+-- ---- functions
+
+pub count-builds : Builds n.Count
+count-builds (t, inl (opening, (arguments, closing))) h = h.1.1.0
+count-builds (t, inr name) h = regular_column
+
+pub counted-builds : Builds n.Counted
+counted-builds (inl star) h = regular_aggregate None refl (none-there RegularExpr)
+counted-builds (inr (None, part)) h = regular_aggregate (Some part) refl (some-there RegularExpr part h.1)
+counted-builds (inr (Some distinct, part)) h = regular_aggregate (Some part) refl (some-there RegularExpr part h.1)
+
+aggregate-argument : (sum least : Bool) → true ≡ has_argument (if sum then Sum else (if least then Min else Max))
+aggregate-argument true least = refl
+aggregate-argument false true = refl
+aggregate-argument false false = refl
+
+pub aggregate-builds : Builds n.Aggregate
+aggregate-builds (t, inl (opening, (part, closing))) h =
+    regular_aggregate (Some part) (aggregate-argument (b.is t s.Sum) (b.is t s.Min)) (some-there RegularExpr part h.1.1.0)
+aggregate-builds (t, inr name) h = regular_column
+
+pub coalesce-builds : Builds n.Coalesce
+coalesce-builds (t, inl (opening, (list, closing))) h = regular_coalesce list h.1.1.0.0 h.1.1.0.1
+coalesce-builds (t, inr name) h = regular_column
+
+pub null_if-builds : Builds n.NullIf
+null_if-builds (t, inl (opening, ((part, (comma, second)), closing))) h = regular_null_if h.1.1.0.0 h.1.1.0.1.1
+null_if-builds (t, inr name) h = regular_column
+
+pub reference-builds : Builds n.Reference
+reference-builds (t, name) h = regular_column
