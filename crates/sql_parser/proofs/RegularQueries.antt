@@ -7,8 +7,8 @@ use Rattle.sql_parser.specs.Symbols as n
 use Rattle.sql_parser.specs.declared.sort.Sort.TheVariants as s
 use Rattle.sql_parser.proofs.Holding.{none-each, none-there, some-there}
 use Rattle.sql_parser.proofs.RegularTrees.{Builds, items-each}
-use Rattle.sql_tree.proofs.Rolled.{core-regular, from-regular, join-regular}
-use Rattle.sql_tree.specs.Regular.{Each, RegularOrder, RegularExpr, RegularSet, RegularSetStep, RegularFrom, RegularItem, has_condition, regular_query, regular_set_core, regular_set_paren, regular_set_chain, regular_set_step, regular_star, regular_table_star, regular_value, regular_from_item, regular_named, regular_inner}
+use Rattle.sql_tree.proofs.Made as made
+use Rattle.sql_tree.specs.Regular.{Each, RegularOrder, RegularExpr, RegularSet, RegularSetStep, RegularFrom, RegularItem, has_condition, regular_query, regular_set_step, regular_from_item}
 use Rattle.sql_tree.specs.declared.query.SetStep.{SetStep}
 use Rattle.sql_tree.specs.declared.query.SetTree.{SetTree}
 use Rattle.sql_tree.specs.declared.source.JoinWord.TheVariants.{Left, Right, Full, Cross}
@@ -19,18 +19,18 @@ pub query-builds : Builds n.Query
 query-builds v h = h.1 v.0 v.1.0 h.0
 
 pub inner-builds : Builds n.Inner
-inner-builds v h = h.1 v.0 (b.core_operand v.1.0) (regular_set_core h.0)
+inner-builds v h = h.1 v.0 (b.core_operand v.1.0) (made.set_core-regular v.1.0 h.0)
 
 pub in_parentheses-builds : Builds n.InParentheses
 in_parentheses-builds v h = h.1.0
 
 pub operand-builds : Builds n.Operand
-operand-builds (inl core) h = regular_set_core h
-operand-builds (inr (opening, (query, closing))) h = regular_set_paren h.1.0
+operand-builds (inl core) h = made.set_core-regular core h
+operand-builds (inr (opening, (query, closing))) h = made.set_paren-regular query h.1.0
 
 chain-regular : (first : SetTree) (steps : List SetStep) → RegularSet first → Each RegularSetStep steps → RegularSet (b.set_chain (first, steps))
 chain-regular first [] p each = p
-chain-regular first (step ∷ steps) p each = regular_set_chain (step ∷ steps) p tt each
+chain-regular first (step ∷ steps) p each = made.set_chain-regular first (step ∷ steps) p tt each
 
 pub query_rest-builds : Builds n.QueryRest
 query_rest-builds (intersections, (unions, (order, limit))) h = λ at first p.
@@ -63,19 +63,19 @@ limit-builds (Some (limit, t)) h = some-there IsNonNegative t.number h.1.1
 
 pub core-builds : Builds n.CoreOf
 core-builds (at, (select, (provenance, (distinct, (list, (sources, (condition, (groups, having)))))))) h =
-    core-regular at (option_map (λ p. p.0) provenance) (is_some distinct) list sources condition groups having
+    made.core-regular at (option_map (λ p. p.0) provenance) (is_some distinct) list sources condition groups having
     h.1.1.1.0.0 h.1.1.1.0.1 h.1.1.1.1.0 h.1.1.1.1.1.0 h.1.1.1.1.1.1.1
 
 pub items-builds : Builds n.Items
 items-builds (item, more) (p, each) = (tt, items-each RegularItem item more p each)
 
 pub item-builds : Builds n.Item
-item-builds (inl star) h = regular_star
-item-builds (inr (inl (table, (dot, star)))) h = regular_table_star
+item-builds (inl star) h = made.star-regular star.start
+item-builds (inr (inl (table, (dot, star)))) h = made.table_star-regular (b.name_of table)
 item-builds (inr (inr value)) h = h
 
 pub item_value-builds : Builds n.ItemValue
-item_value-builds (expr, name) h = regular_value h.0
+item_value-builds (expr, name) h = made.value-regular expr name h.0
 
 pub sources-builds : Builds n.Sources
 sources-builds None h = none-each RegularFrom
@@ -92,11 +92,11 @@ having-builds (Some (having, part)) h = some-there RegularExpr part h.1
 -- ---- FROM
 
 pub from-builds : Builds n.From
-from-builds (first, joins) h = from-regular first joins h.0 h.1
+from-builds (first, joins) h = made.from-regular first joins h.0 h.1
 
 pub join-builds : Builds n.Join
-join-builds (inl (operation, (item, (on, condition)))) h = join-regular operation item (Some condition) h.0 h.1.0 (some-there RegularExpr condition h.1.1.1)
-join-builds (inr (cross, (join_word, item))) h = join-regular Cross item None refl h.1.1 (none-there RegularExpr)
+join-builds (inl (operation, (item, (on, condition)))) h = made.join-regular operation item (Some condition) h.0 h.1.0 (some-there RegularExpr condition h.1.1.1)
+join-builds (inr (cross, (join_word, item))) h = made.join-regular Cross item None refl h.1.1 (none-there RegularExpr)
 
 outer-conditional : (left right : Bool) → true ≡ has_condition (if left then Left else (if right then Right else Full))
 outer-conditional true right = refl
@@ -111,8 +111,8 @@ pub source-builds : Builds n.Source
 source-builds ((at, (read, name)), scope) h = regular_from_item h.0 h.1
 
 pub aliased-builds : Builds n.Aliased
-aliased-builds (inl (table, name)) h = regular_named
-aliased-builds (inr (opening, (query, (closing, (as_word, name))))) h = regular_inner h.1.0
+aliased-builds (inl (table, name)) h = made.named-regular table name
+aliased-builds (inr (opening, (query, (closing, (as_word, name))))) h = made.inner-regular query name h.1.0
 
 pub mark-builds : Builds n.Mark
 mark-builds None h = tt

@@ -1,1 +1,1 @@
-pub mod Rolled
+pub mod Made

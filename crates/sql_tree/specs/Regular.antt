@@ -13,8 +13,8 @@ use Rattle.perm_values.specs.declared.kind.Kind.TheVariants as kind
 use Rattle.sql_tree.specs.declared.expression.AggWord.{AggWord}
 use Rattle.sql_tree.specs.declared.expression.AggWord.TheVariants as word
 use Rattle.sql_tree.specs.declared.expression.ArmTree.{ArmTree}
-use Rattle.sql_tree.specs.declared.expression.ExprBody.{ExprBody}
-use Rattle.sql_tree.specs.declared.expression.ExprBody.TheVariants as e
+use Rattle.sql_tree.specs.declared.expression.ExprBody.{ExprBody, out-ExprBody}
+use Rattle.sql_tree.specs.declared.expression.ExprBody.TheOpen.{ExprBody-F, SetTree-F, SelectItem-F, FromSource-F}
 use Rattle.sql_tree.specs.declared.expression.ExprStep.{ExprStep}
 use Rattle.sql_tree.specs.declared.expression.ExprTree.{ExprTree}
 use Rattle.sql_tree.specs.declared.name.ColRef.{ColRef}
@@ -24,14 +24,11 @@ use Rattle.sql_tree.specs.declared.query.OrderKey.{OrderKey}
 use Rattle.sql_tree.specs.declared.query.OrderKey.TheVariants.{Named as named_key, Position}
 use Rattle.sql_tree.specs.declared.query.OrderTree.{OrderTree}
 use Rattle.sql_tree.specs.declared.query.QueryTree.{QueryTree}
-use Rattle.sql_tree.specs.declared.query.SelectItem.{SelectItem}
-use Rattle.sql_tree.specs.declared.query.SelectItem.TheVariants.{Star, TableStar, Value}
+use Rattle.sql_tree.specs.declared.query.SelectItem.{SelectItem, out-SelectItem}
 use Rattle.sql_tree.specs.declared.query.SetStep.{SetStep}
-use Rattle.sql_tree.specs.declared.query.SetTree.{SetTree}
-use Rattle.sql_tree.specs.declared.query.SetTree.TheVariants as set
+use Rattle.sql_tree.specs.declared.query.SetTree.{SetTree, out-SetTree}
 use Rattle.sql_tree.specs.declared.source.FromItem.{FromItem}
-use Rattle.sql_tree.specs.declared.source.FromSource.{FromSource}
-use Rattle.sql_tree.specs.declared.source.FromSource.TheVariants as source
+use Rattle.sql_tree.specs.declared.source.FromSource.{FromSource, out-FromSource}
 use Rattle.sql_tree.specs.declared.source.FromTree.{FromTree, out-FromTree}
 use Rattle.sql_tree.specs.declared.source.JoinStep.{JoinStep, out-JoinStep}
 use Rattle.sql_tree.specs.declared.source.JoinWord.{JoinWord}
@@ -103,59 +100,73 @@ RegularKey (Position number) = IsNonNegative number
 abbrev pub RegularOrder : OrderTree → Type 0
 RegularOrder tree = RegularKey tree.key
 
+-- ---- one level of each of the types with variants
+
+abbrev pub BodyLayer : Type 0
+BodyLayer = ExprBody-F ExprBody SelectItem SetTree FromSource ArmTree ExprStep ExprTree Core QueryTree SetStep FromItem FromTree JoinStep
+
+abbrev pub SetLayer : Type 0
+SetLayer = SetTree-F ExprBody SelectItem SetTree FromSource ArmTree ExprStep ExprTree Core QueryTree SetStep FromItem FromTree JoinStep
+
+abbrev pub ItemLayer : Type 0
+ItemLayer = SelectItem-F ExprBody SelectItem SetTree FromSource ArmTree ExprStep ExprTree Core QueryTree SetStep FromItem FromTree JoinStep
+
+abbrev pub SourceLayer : Type 0
+SourceLayer = FromSource-F ExprBody SelectItem SetTree FromSource ArmTree ExprStep ExprTree Core QueryTree SetStep FromItem FromTree JoinStep
+
 -- ---- expressions and queries
 
 mutual
   pub data RegularExpr : ExprTree → Type 0 where
-    regular_expr : {tree : ExprTree} → RegularBody tree.body → RegularExpr tree
+    regular_expr : {tree : ExprTree} → RegularBodyLayer (out-ExprBody tree.body) → RegularExpr tree
 
-  pub data RegularBody : ExprBody → Type 0 where
-    regular_null : RegularBody e.Null
-    regular_null_of : {kind : Kind} → RegularBody (e.NullOf kind)
-    regular_integer : {number : ℤ} → IsNonNegative number → RegularBody (e.Integer number)
-    regular_text : {text : List ℕ} → RegularBody (e.Text text)
-    regular_truth : {truth : Bool} → RegularBody (e.Truth truth)
-    regular_column : {reference : ColRef} → RegularBody (e.Column reference)
-    regular_paren : {part : ExprTree} → RegularExpr part → RegularBody (e.Paren part)
-    regular_nots : {count : ℕ} {part : ExprTree} → 1 ≤ count → RegularExpr part → RegularBody (e.Nots count part)
-    regular_signs : {count : ℕ} {part : ExprTree} → 1 ≤ count → RegularExpr part → RegularBody (e.Signs count part)
-    regular_logic : {op : Operator} (parts : List ExprTree) → IsConnective op → IsSeveral parts
+  pub data RegularBodyLayer : BodyLayer → Type 0 where
+    regular_null : RegularBodyLayer ExprBody-F.Null
+    regular_null_of : {kind : Kind} → RegularBodyLayer (ExprBody-F.NullOf kind)
+    regular_integer : {number : ℤ} → IsNonNegative number → RegularBodyLayer (ExprBody-F.Integer number)
+    regular_text : {text : List ℕ} → RegularBodyLayer (ExprBody-F.Text text)
+    regular_truth : {truth : Bool} → RegularBodyLayer (ExprBody-F.Truth truth)
+    regular_column : {reference : ColRef} → RegularBodyLayer (ExprBody-F.Column reference)
+    regular_paren : {part : ExprTree} → RegularExpr part → RegularBodyLayer (ExprBody-F.«ExprBody::Paren» part)
+    regular_nots : {count : ℕ} {part : ExprTree} → 1 ≤ count → RegularExpr part → RegularBodyLayer (ExprBody-F.Nots count part)
+    regular_signs : {count : ℕ} {part : ExprTree} → 1 ≤ count → RegularExpr part → RegularBodyLayer (ExprBody-F.Signs count part)
+    regular_logic : {op : Operator} {parts : List ExprTree} → IsConnective op → IsSeveral parts
         → ((part : ExprTree) → Contains parts part → RegularExpr part)
-        → RegularBody (e.Logic op parts)
+        → RegularBodyLayer (ExprBody-F.Logic op parts)
     -- all steps of a chain are of one level
-    regular_chain : (level : ℕ) {first : ExprTree} (steps : List ExprStep) → RegularExpr first → IsFilled steps
+    regular_chain : (level : ℕ) {first : ExprTree} {steps : List ExprStep} → RegularExpr first → IsFilled steps
         → ((step : ExprStep) → Contains steps step → RegularStep level step)
-        → RegularBody (e.Chain first steps)
+        → RegularBodyLayer (ExprBody-F.«ExprBody::Chain» first steps)
     regular_compared : {op : Compare} {first second : ExprTree} → RegularExpr first → RegularExpr second
-        → RegularBody (e.Compared op first second)
+        → RegularBodyLayer (ExprBody-F.Compared op first second)
     regular_like : {negated : Bool} {part pattern : ExprTree} → RegularExpr part → RegularExpr pattern
-        → RegularBody (e.Like negated part pattern)
+        → RegularBodyLayer (ExprBody-F.Like negated part pattern)
     regular_between : {negated : Bool} {part low high : ExprTree} → RegularExpr part → RegularExpr low → RegularExpr high
-        → RegularBody (e.Between negated part low high)
-    regular_in_list : {negated : Bool} {part : ExprTree} (list : List ExprTree) → RegularExpr part → IsFilled list
+        → RegularBodyLayer (ExprBody-F.Between negated part low high)
+    regular_in_list : {negated : Bool} {part : ExprTree} {list : List ExprTree} → RegularExpr part → IsFilled list
         → ((part : ExprTree) → Contains list part → RegularExpr part)
-        → RegularBody (e.InList negated part list)
+        → RegularBodyLayer (ExprBody-F.InList negated part list)
     regular_in_query : {negated : Bool} {part : ExprTree} {query : QueryTree} → RegularExpr part → RegularQuery query
-        → RegularBody (e.InQuery negated part query)
+        → RegularBodyLayer (ExprBody-F.InQuery negated part query)
     regular_quantified : {every : Bool} {op : Compare} {part : ExprTree} {query : QueryTree} → RegularExpr part
         → RegularQuery query
-        → RegularBody (e.Quantified every op part query)
-    regular_is_null : {negated : Bool} {part : ExprTree} → RegularExpr part → RegularBody (e.IsNull negated part)
+        → RegularBodyLayer (ExprBody-F.Quantified every op part query)
+    regular_is_null : {negated : Bool} {part : ExprTree} → RegularExpr part → RegularBodyLayer (ExprBody-F.IsNull negated part)
     regular_is_truth : {negated : Bool} {truth : Truth} {part : ExprTree} → RegularExpr part
-        → RegularBody (e.IsTruth negated truth part)
+        → RegularBodyLayer (ExprBody-F.IsTruth negated truth part)
     regular_is_distinct : {negated : Bool} {first second : ExprTree} → RegularExpr first → RegularExpr second
-        → RegularBody (e.IsDistinct negated first second)
-    regular_case : (arms : List ArmTree) (otherwise : Option ExprTree) → IsFilled arms
+        → RegularBodyLayer (ExprBody-F.IsDistinct negated first second)
+    regular_case : {arms : List ArmTree} {otherwise : Option ExprTree} → IsFilled arms
         → ((arm : ArmTree) → Contains arms arm → RegularArm arm) → ((part : ExprTree) → otherwise ≡ Some part → RegularExpr part)
-        → RegularBody (e.Case arms otherwise)
-    regular_coalesce : (list : List ExprTree) → IsFilled list → ((part : ExprTree) → Contains list part → RegularExpr part)
-        → RegularBody (e.Coalesce list)
-    regular_null_if : {first second : ExprTree} → RegularExpr first → RegularExpr second → RegularBody (e.NullIf first second)
-    regular_aggregate : {function : AggWord} (argument : Option ExprTree) → is_some argument ≡ has_argument function
+        → RegularBodyLayer (ExprBody-F.Case arms otherwise)
+    regular_coalesce : {list : List ExprTree} → IsFilled list → ((part : ExprTree) → Contains list part → RegularExpr part)
+        → RegularBodyLayer (ExprBody-F.Coalesce list)
+    regular_null_if : {first second : ExprTree} → RegularExpr first → RegularExpr second → RegularBodyLayer (ExprBody-F.NullIf first second)
+    regular_aggregate : {function : AggWord} {argument : Option ExprTree} → is_some argument ≡ has_argument function
         → ((part : ExprTree) → argument ≡ Some part → RegularExpr part)
-        → RegularBody (e.Aggregate function argument)
-    regular_exists : {query : QueryTree} → RegularQuery query → RegularBody (e.Exists query)
-    regular_scalar : {query : QueryTree} → RegularQuery query → RegularBody (e.Scalar query)
+        → RegularBodyLayer (ExprBody-F.Aggregate function argument)
+    regular_exists : {query : QueryTree} → RegularQuery query → RegularBodyLayer (ExprBody-F.Exists query)
+    regular_scalar : {query : QueryTree} → RegularQuery query → RegularBodyLayer (ExprBody-F.Scalar query)
 
   -- a step whose operator is of the level
   pub data RegularStep : ℕ → ExprStep → Type 0 where
@@ -165,30 +176,30 @@ mutual
     regular_arm : {tree : ArmTree} → RegularExpr tree.condition → RegularExpr tree.value → RegularArm tree
 
   pub data RegularQuery : QueryTree → Type 0 where
-    regular_query : {tree : QueryTree} → RegularSet tree.body → Each RegularOrder tree.order
+    regular_query : {tree : QueryTree} → RegularSetLayer (out-SetTree tree.body) → Each RegularOrder tree.order
         → IfThere IsNonNegative tree.limit → RegularQuery tree
 
-  pub data RegularSet : SetTree → Type 0 where
-    regular_set_core : {core : Core} → RegularCore core → RegularSet (set.Core core)
-    regular_set_paren : {query : QueryTree} → RegularQuery query → RegularSet (set.Paren query)
-    regular_set_chain : {first : SetTree} (steps : List SetStep) → RegularSet first → IsFilled steps
+  pub data RegularSetLayer : SetLayer → Type 0 where
+    regular_set_core : {core : Core} → RegularCore core → RegularSetLayer (SetTree-F.Core core)
+    regular_set_paren : {query : QueryTree} → RegularQuery query → RegularSetLayer (SetTree-F.«SetTree::Paren» query)
+    regular_set_chain : {first : SetTree} {steps : List SetStep} → RegularSetLayer (out-SetTree first) → IsFilled steps
         → ((step : SetStep) → Contains steps step → RegularSetStep step)
-        → RegularSet (set.Chain first steps)
+        → RegularSetLayer (SetTree-F.«SetTree::Chain» first steps)
 
   pub data RegularSetStep : SetStep → Type 0 where
-    regular_set_step : {step : SetStep} → RegularSet step.operand → RegularSetStep step
+    regular_set_step : {step : SetStep} → RegularSetLayer (out-SetTree step.operand) → RegularSetStep step
 
   pub data RegularCore : Core → Type 0 where
     regular_core : {core : Core} → IsFilled (out-Core core).items
-        → ((item : SelectItem) → Contains (out-Core core).items item → RegularItem item)
+        → ((item : SelectItem) → Contains (out-Core core).items item → RegularItemLayer (out-SelectItem item))
         → ((tree : FromTree) → Contains (out-Core core).sources tree → RegularFrom tree)
         → ((part : ExprTree) → (out-Core core).condition ≡ Some part → RegularExpr part)
         → ((part : ExprTree) → (out-Core core).having ≡ Some part → RegularExpr part) → RegularCore core
 
-  pub data RegularItem : SelectItem → Type 0 where
-    regular_star : {at : ℕ} → RegularItem (Star at)
-    regular_table_star : {table : Name} → RegularItem (TableStar table)
-    regular_value : {expr : ExprTree} {name : Option Name} → RegularExpr expr → RegularItem (Value expr name)
+  pub data RegularItemLayer : ItemLayer → Type 0 where
+    regular_star : {at : ℕ} → RegularItemLayer (SelectItem-F.Star at)
+    regular_table_star : {table : Name} → RegularItemLayer (SelectItem-F.TableStar table)
+    regular_value : {expr : ExprTree} {name : Option Name} → RegularExpr expr → RegularItemLayer (SelectItem-F.Value expr name)
 
   pub data RegularFrom : FromTree → Type 0 where
     regular_from : {tree : FromTree} → RegularFromItem (out-FromTree tree).first
@@ -200,12 +211,24 @@ mutual
         → ((part : ExprTree) → (out-JoinStep step).condition ≡ Some part → RegularExpr part) → RegularJoin step
 
   pub data RegularFromItem : FromItem → Type 0 where
-    regular_from_item : {item : FromItem} → RegularSource item.source item.alias → RegularMark item.mark → RegularFromItem item
+    regular_from_item : {item : FromItem} → RegularSourceLayer (out-FromSource item.source) item.alias → RegularMark item.mark → RegularFromItem item
 
   -- what an item reads, and its alias: a query has one
-  pub data RegularSource : FromSource → Option Name → Type 0 where
-    regular_named : {name : Name} {alias : Option Name} → RegularSource (source.Named name) alias
-    regular_inner : {query : QueryTree} {alias : Name} → RegularQuery query → RegularSource (source.Inner query) (Some alias)
+  pub data RegularSourceLayer : SourceLayer → Option Name → Type 0 where
+    regular_named : {name : Name} {alias : Option Name} → RegularSourceLayer (FromSource-F.Named name) alias
+    regular_inner : {query : QueryTree} {alias : Name} → RegularQuery query → RegularSourceLayer (FromSource-F.Inner query) (Some alias)
+
+abbrev pub RegularBody : ExprBody → Type 0
+RegularBody body = RegularBodyLayer (out-ExprBody body)
+
+abbrev pub RegularSet : SetTree → Type 0
+RegularSet tree = RegularSetLayer (out-SetTree tree)
+
+abbrev pub RegularItem : SelectItem → Type 0
+RegularItem item = RegularItemLayer (out-SelectItem item)
+
+abbrev pub RegularSource : FromSource → Option Name → Type 0
+RegularSource source alias = RegularSourceLayer (out-FromSource source) alias
 
 -- ---- statements
 
