@@ -1,5 +1,5 @@
 -- What the rules of expressions build of regular parts is regular.
-use Rattle.std.proofs.Common.{◌≡◌, ◌⊎◌, inl, inr, ℕ, zero, suc, ℤ, Bool, true, false, List, [], ◌∷◌, length, Option, Some, None, refl, arith}
+use Rattle.std.proofs.Common.{◌≡◌, inl, inr, ℕ, zero, suc, ℤ, Bool, true, false, List, [], ◌∷◌, length, Some, None, refl, arith}
 use Rattle.std.specs.Prelude.{if◌then◌else◌, ◌==◌, ◌≤◌, is_some}
 use Rattle.std.specs.Int.{IsNonNegative}
 use Rattle.null_logic.specs.declared.arith.Arith.TheVariants as a
@@ -12,7 +12,7 @@ use Rattle.sql_parser.specs.Symbols as n
 use Rattle.sql_parser.specs.declared.sort.Sort.{Sort}
 use Rattle.sql_parser.specs.declared.sort.Sort.TheVariants as s
 use Rattle.sql_parser.proofs.Holding.{none-each, cons-each, none-there, some-there}
-use Rattle.sql_parser.proofs.RegularTrees.{Builds, behind-each, items-each}
+use Rattle.sql_parser.proofs.RegularTrees.{Builds, items-each}
 use Rattle.sql_tree.proofs.Made as made
 use Rattle.sql_tree.specs.Regular.{Each, IsConnective, has_argument, level_of, RegularExpr, RegularBody, RegularStep, RegularArm, regular_expr, regular_step, regular_arm}
 use Rattle.sql_tree.specs.declared.expression.AggWord.TheVariants.{CountRows, Count, CountDistinct, Sum, Min, Max}

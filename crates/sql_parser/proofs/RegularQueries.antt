@@ -1,5 +1,5 @@
 -- What the rules of queries build of regular parts is regular.
-use Rattle.std.proofs.Common.{◌≡◌, ◌⊎◌, inl, inr, ℕ, Bool, true, false, List, [], ◌∷◌, Option, Some, None, refl}
+use Rattle.std.proofs.Common.{◌≡◌, inl, inr, Bool, true, false, List, [], ◌∷◌, Some, None, refl}
 use Rattle.std.specs.Prelude.{if◌then◌else◌, option_map, is_some}
 use Rattle.std.specs.Int.{IsNonNegative}
 use Rattle.sql_parser.specs.Building as b
@@ -35,8 +35,8 @@ chain-regular first (step ∷ steps) p each = made.set_chain-regular first (step
 pub query_rest-builds : Builds n.QueryRest
 query_rest-builds (intersections, (unions, (order, limit))) h = λ at first p.
     regular_query
-        (chain-regular (b.set_chain (first, intersections)) unions (chain-regular first intersections p h.0) h.1.0)
-        h.1.1.0 h.1.1.1
+    (chain-regular (b.set_chain (first, intersections)) unions (chain-regular first intersections p h.0) h.1.0)
+    h.1.1.0 h.1.1.1
 
 pub term-builds : Builds n.Term
 term-builds (first, steps) (p, each) = chain-regular first steps p each

@@ -1,5 +1,5 @@
 -- What the rules of statements build of regular parts is regular.
-use Rattle.std.proofs.Common.{◌≡◌, ◌⊎◌, inl, inr, List, [], ◌∷◌, map, Option, Some, None, refl}
+use Rattle.std.proofs.Common.{◌≡◌, inl, inr, List, [], ◌∷◌, Option, Some, None}
 use Rattle.std.specs.Prelude.{if◌then◌else◌}
 use Rattle.perm_values.specs.declared.kind.Kind.TheVariants.{Integer, Text, Boolean}
 use Rattle.sql_parser.specs.Building as b
@@ -23,7 +23,7 @@ Optional statement = Holds sql HasNumber RegularOf (optional (symbol n.Statement
 present-each : (list : List (Option Statement)) → Each Optional list → Each RegularStatement (present list)
 present-each [] each = none-each RegularStatement
 present-each (None ∷ list) each = present-each list (tail-of Optional None list each)
-present-each (Some statement ∷ list) each = 
+present-each (Some statement ∷ list) each =
     cons-each RegularStatement statement (present list) (head-of Optional (Some statement) list each)
     (present-each list (tail-of Optional (Some statement) list each))
 

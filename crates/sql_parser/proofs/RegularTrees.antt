@@ -1,5 +1,5 @@
 -- When the tree of each symbol is regular. A function is where it makes a regular tree of regular parts.
-use Rattle.std.proofs.Common.{◌≡◌, ◌⊎◌, ℕ, ℤ, Bool, true, List, [], ◌∷◌, map, Option, Some, None}
+use Rattle.std.proofs.Common.{◌≡◌, ℕ, Bool, true, List, [], ◌∷◌, map}
 use Rattle.std.specs.Int.{IsNonNegative}
 use Rattle.perm_values.specs.declared.kind.Kind.TheVariants.{Boolean}
 use Rattle.sql_parser.specs.Building.{Word, items}

@@ -15,7 +15,7 @@ use Rattle.sql_tree.specs.declared.expression.ExprStep.{ExprStep}
 use Rattle.sql_tree.specs.declared.expression.ExprTree.{ExprTree}
 use Rattle.sql_tree.specs.declared.name.ColRef.{ColRef}
 use Rattle.sql_tree.specs.declared.name.Name.{Name}
-use Rattle.sql_tree.specs.declared.query.Core.{Core, out-Core, roll-Core}
+use Rattle.sql_tree.specs.declared.query.Core.{Core, roll-Core}
 use Rattle.sql_tree.specs.declared.query.QueryTree.{QueryTree}
 use Rattle.sql_tree.specs.declared.query.SelectItem.TheVariants as i
 use Rattle.sql_tree.specs.declared.query.SelectItem.{SelectItem}
@@ -24,8 +24,8 @@ use Rattle.sql_tree.specs.declared.query.SetTree.TheVariants as set
 use Rattle.sql_tree.specs.declared.query.SetTree.{SetTree}
 use Rattle.sql_tree.specs.declared.source.FromItem.{FromItem}
 use Rattle.sql_tree.specs.declared.source.FromSource.TheVariants as source
-use Rattle.sql_tree.specs.declared.source.FromTree.{FromTree, out-FromTree, roll-FromTree}
-use Rattle.sql_tree.specs.declared.source.JoinStep.{JoinStep, out-JoinStep, roll-JoinStep}
+use Rattle.sql_tree.specs.declared.source.FromTree.{FromTree, roll-FromTree}
+use Rattle.sql_tree.specs.declared.source.JoinStep.{JoinStep, roll-JoinStep}
 use Rattle.sql_tree.specs.declared.source.JoinWord.{JoinWord}
 
 -- ---- expressions
@@ -143,9 +143,9 @@ pub core-regular : (at : ℕ) (provenance : Option ℕ) (distinct : Bool) (items
 core-regular at provenance distinct items sources condition groups having filled i s c h =
     let rolled = sym (out-roll-Core (record { at = at; provenance = provenance; distinct = distinct; items = items; sources = sources; condition = condition; groups = groups; having = having })) in
     regular_core
-        (subst (λ f. IsFilled f.items) rolled filled) (subst (λ f. Each RegularItem f.items) rolled i)
-        (subst (λ f. Each RegularFrom f.sources) rolled s) (subst (λ f. IfThere RegularExpr f.condition) rolled c)
-        (subst (λ f. IfThere RegularExpr f.having) rolled h)
+    (subst (λ f. IsFilled f.items) rolled filled) (subst (λ f. Each RegularItem f.items) rolled i)
+    (subst (λ f. Each RegularFrom f.sources) rolled s) (subst (λ f. IfThere RegularExpr f.condition) rolled c)
+    (subst (λ f. IfThere RegularExpr f.having) rolled h)
 
 pub from-regular : (first : FromItem) (joins : List JoinStep) → RegularFromItem first → Each RegularJoin joins
     → RegularFrom (roll-FromTree (record { first = first; joins = joins }))
@@ -159,5 +159,5 @@ pub join-regular : (operation : JoinWord) (item : FromItem) (condition : Option 
 join-regular operation item condition same i c =
     let rolled = sym (out-roll-JoinStep (record { word = operation; item = item; condition = condition })) in
     regular_join_step
-        (subst (λ v. is_some v.condition ≡ has_condition v.word) rolled same) (subst (λ v. RegularFromItem v.item) rolled i)
-        (subst (λ v. IfThere RegularExpr v.condition) rolled c)
+    (subst (λ v. is_some v.condition ≡ has_condition v.word) rolled same) (subst (λ v. RegularFromItem v.item) rolled i)
+    (subst (λ v. IfThere RegularExpr v.condition) rolled c)

@@ -1,5 +1,5 @@
 -- Which syntax trees are regular: what the tree of every script keeps, and the types of the tree don't say.
-use Rattle.std.specs.Prelude.{◌≡◌, ℕ, ◌≤◌, ℤ, Bool, true, false, not, ◌&&◌, List, [], ◌∷◌, find, Option, Some, None, is_some, option_map, Contains, ◌⊎◌}
+use Rattle.std.specs.Prelude.{◌≡◌, ℕ, ◌≤◌, ℤ, Bool, true, false, not, ◌&&◌, List, [], ◌∷◌, find, Option, Some, is_some, option_map, Contains, ◌⊎◌}
 use Rattle.std.specs.Int.{IsNonNegative}
 use Rattle.std.specs.Str.{bytes_eq}
 use Rattle.null_logic.specs.Operators.{operator_table, arith_spelling}
@@ -49,11 +49,12 @@ abbrev pub IsFilled : {X : Type 0} → List X → Type 0
 IsFilled [] = ⊥
 IsFilled (x ∷ xs) = Unit {0}
 
--- at least two do
+-- at least two stand in the list
 abbrev pub IsSeveral : {X : Type 0} → List X → Type 0
 IsSeveral [] = ⊥
 IsSeveral (x ∷ xs) = IsFilled xs
 
+-- so is it for each element
 abbrev pub Each : {X : Type 0} → (X → Type 0) → List X → Type 0
 Each {X = X} P xs = (x : X) → Contains xs x → P x
 
@@ -100,7 +101,7 @@ RegularKey (Position number) = IsNonNegative number
 abbrev pub RegularOrder : OrderTree → Type 0
 RegularOrder tree = RegularKey tree.key
 
--- ---- one level of each of the types with variants
+-- ---- one level of each of the types with variants: what a tree is made of can be read off it, and so can its regularity
 
 abbrev pub BodyLayer : Type 0
 BodyLayer = ExprBody-F ExprBody SelectItem SetTree FromSource ArmTree ExprStep ExprTree Core QueryTree SetStep FromItem FromTree JoinStep
@@ -211,7 +212,8 @@ mutual
         → ((part : ExprTree) → (out-JoinStep step).condition ≡ Some part → RegularExpr part) → RegularJoin step
 
   pub data RegularFromItem : FromItem → Type 0 where
-    regular_from_item : {item : FromItem} → RegularSourceLayer (out-FromSource item.source) item.alias → RegularMark item.mark → RegularFromItem item
+    regular_from_item : {item : FromItem} → RegularSourceLayer (out-FromSource item.source) item.alias → RegularMark item.mark
+        → RegularFromItem item
 
   -- what an item reads, and its alias: a query has one
   pub data RegularSourceLayer : SourceLayer → Option Name → Type 0 where
@@ -232,6 +234,7 @@ RegularSource source alias = RegularSourceLayer (out-FromSource source) alias
 
 -- ---- statements
 
+-- a column holds no Booleans
 abbrev pub RegularColumn : ColumnDef → Type 0
 RegularColumn column = column.kind ≡ kind.Boolean → ⊥
 
@@ -254,5 +257,6 @@ RegularStatementBody (st.ShowFresh table) = Unit {0}
 abbrev pub RegularStatement : Statement → Type 0
 RegularStatement statement = RegularStatementBody statement.body
 
+-- every statement of the script is regular
 abbrev pub Regular : Script → Type 0
 Regular script = Each RegularStatement script.statements
