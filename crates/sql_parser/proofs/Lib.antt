@@ -5,8 +5,10 @@ pub mod Counts
 pub mod Decided
 pub mod Depth
 pub mod Exact
+pub mod Fewer
 pub mod Fine
 pub mod Holding
+pub mod Inner
 pub mod Listing
 pub mod Local
 pub mod Nested
@@ -28,3 +30,4 @@ pub mod TablesHold
 pub mod Tails
 pub mod TokenNumbers
 pub mod Viable
+pub mod Whole

@@ -22,6 +22,10 @@ reading = read sql sql_tables
 abbrev pub place : List Token → ℕ
 place tokens = place_of sql sql_tables tokens
 
+abbrev pub next_place : List Token → Option ℕ
+next_place [] = None
+next_place (t ∷ rest) = Some t.start
+
 abbrev pub sees : List Sort → List Token → Bool
 sees sorts tokens = next_is sql sql_tables sorts tokens
 

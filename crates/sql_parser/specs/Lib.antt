@@ -2,6 +2,7 @@ pub mod Building
 pub mod Calls
 pub mod Cursors
 pub mod Descent
+pub mod Ending
 pub mod FirstWrong
 pub mod Grammar
 pub mod Lists
@@ -16,3 +17,4 @@ pub mod Statements
 pub mod Symbols
 pub mod Tables
 pub mod Tails
+pub mod Toy

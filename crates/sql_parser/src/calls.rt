@@ -1,6 +1,6 @@
 //! Functions: aggregates, COALESCE and NULLIF, and the names that are none.
 
-ghost use Rattle.std.specs.Prelude.{◌≡◌, ◌<◌, length, IfOk};
+ghost use Rattle.std.specs.Prelude.{◌≡◌, ◌<◌, suc, length, IfOk};
 ghost use Rattle.sql_parser.specs.Building as b;
 ghost use Rattle.sql_parser.specs.Calls as spelled;
 ghost use Rattle.sql_parser.specs.Cursors as spec;

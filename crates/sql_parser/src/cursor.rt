@@ -63,6 +63,16 @@ impl<'a> Cursor<'a> {
         }
     }
 
+    /// The offset of the next token, if there is one.
+    pub(crate) fn next_place(&self) -> Option<usize>
+        ensures { result ≡ spec.next_place self.now }
+    {
+        match self.tokens.first() {
+            Some(token) => Some(token.start),
+            None => None,
+        }
+    }
+
     /// Whether the next token is of this sort.
     pub(crate) fn sees(&self, sort: Sort) -> bool
         ensures { result ≡ spec.sees (sort ∷ []) self.now }

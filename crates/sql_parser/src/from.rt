@@ -87,8 +87,8 @@ impl<'a> Cursor<'a> {
 }
 
 impl<
-    F: Fn(&mut Cursor<'_>) -> Result<ExprTree, Fault>,
-    G: Fn(&mut Cursor<'_>) -> Result<QueryTree, Fault>,
+    F: Fn(&mut Cursor<'_>) -> Result<Boxed<ExprTree>, Fault>,
+    G: Fn(&mut Cursor<'_>) -> Result<Boxed<QueryTree>, Fault>,
 > Grammar<F, G>
 {
     #[tactic(auto, using(crate::proofs::Nested::nests_below))]
@@ -99,11 +99,10 @@ impl<
     {
         cursor.past(Sort::Opening)?;
         let query = self.nested_query(cursor)?;
-        let inner = Boxed::new(cursor.alloc(), query)?;
         cursor.past(Sort::Closing)?;
         cursor.option(Sort::As)?;
         let name = cursor.name()?;
-        Ok((FromSource::Inner(inner), Some(name)))
+        Ok((FromSource::Inner(query), Some(name)))
     }
 
     #[tactic(auto, using(crate::proofs::Queries::aliased_is))]
@@ -120,7 +119,7 @@ impl<
     }
 
     #[tactic(auto, using(crate::proofs::Nested::reading_is, crate::proofs::Nested::nests_below))]
-    fn from_item(&self, cursor: &mut Cursor<'_>) -> Result<FromItem, Fault>
+    fn from_item(&self, cursor: &mut Cursor<'_>) -> Result<Boxed<FromItem>, Fault>
         requires { Nests (length cursor.old) (F.pre self.now.expr) (G.pre self.now.query) (F.post self.now.expr) (G.post self.now.query) }
         ensures given { spec.Reads result (spec.reading n.Source cursor.old) cursor.new }
         ensures fewer { IfOk result (λ _. length cursor.new < length cursor.old) }
@@ -128,12 +127,13 @@ impl<
         let at = cursor.place();
         let (source, alias) = self.aliased(cursor)?;
         let mark = cursor.mark()?;
-        Ok(FromItem {
+        let item = FromItem {
             at,
             source,
             alias,
             mark,
-        })
+        };
+        Ok(Boxed::new(cursor.alloc(), item)?)
     }
 
     #[tactic(auto, using(crate::proofs::Nested::nests_below))]
@@ -148,8 +148,8 @@ impl<
         let condition = self.expression(cursor)?;
         Ok(JoinStep {
             word,
-            item,
-            condition: Some(condition),
+            item: item.into_inner(),
+            condition: Some(condition.into_inner()),
         })
     }
 
@@ -164,7 +164,7 @@ impl<
         let item = self.from_item(cursor)?;
         Ok(JoinStep {
             word: JoinWord::Cross,
-            item,
+            item: item.into_inner(),
             condition: None,
         })
     }
@@ -210,7 +210,10 @@ impl<
     {
         let first = self.from_item(cursor)?;
         let joins = self.joins(cursor)?;
-        Ok(FromTree { first, joins })
+        Ok(FromTree {
+            first: first.into_inner(),
+            joins,
+        })
     }
 
     #[tactic(auto, using(crate::proofs::Nested::nests_below))]

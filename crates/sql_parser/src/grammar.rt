@@ -41,24 +41,6 @@ impl<
     {
         (self.query)(cursor)
     }
-
-    pub(crate) fn inner(&self, cursor: &mut Cursor<'_>) -> Result<Boxed<QueryTree>, Fault>
-        requires { Nests (length cursor.old) (F.pre self.now.expr) (G.pre self.now.query) (F.post self.now.expr) (G.post self.now.query) }
-        ensures given { spec.Reads result (spec.reading n.Inner cursor.old) cursor.new }
-        ensures fewer { IfOk result (λ _. length cursor.new < length cursor.old) }
-    {
-        let _ = &self;
-        Err(Fault::NoMemory)
-    }
-
-    pub(crate) fn in_parentheses(&self, cursor: &mut Cursor<'_>) -> Result<Boxed<QueryTree>, Fault>
-        requires { Nests (length cursor.old) (F.pre self.now.expr) (G.pre self.now.query) (F.post self.now.expr) (G.post self.now.query) }
-        ensures given { spec.Reads result (spec.reading n.InParentheses cursor.old) cursor.new }
-        ensures fewer { IfOk result (λ _. length cursor.new < length cursor.old) }
-    {
-        let _ = &self;
-        Err(Fault::NoMemory)
-    }
 }
 
 /// A node in a box.

@@ -15,6 +15,7 @@ mod parser;
 mod predicates;
 mod primary;
 mod query;
+mod recursion;
 mod repeated;
 mod select;
 mod set_operations;

@@ -1,11 +1,37 @@
+ghost use Rattle.std.specs.Prelude.{◌≡◌};
+ghost use Rattle.sql_parser.specs.Ending as ending;
 ghost use Rattle.sql_parser.specs.Spells as spec;
 
 use crate::SyntaxError;
+use crate::cursor::Cursor;
+use crate::fault::Fault;
+use crate::grammar::Grammar;
 use crate::nesting::too_deep;
+use crate::recursion::{expr, query};
 use perm_values::List;
 use sql_lexer::Token;
 use sql_tree::Script;
 use std::alloc::Global;
+
+/// The script that was read, if it reaches the end of the tokens.
+fn ended(
+    read: Result<Script, Fault>,
+    cursor: &Cursor<'_>,
+    length: usize,
+) -> Result<Script, SyntaxError>
+    ensures { result ≡ ending.ended read cursor.now length }
+{
+    match read {
+        Ok(script) => match cursor.next_place() {
+            None => Ok(script),
+            Some(at) => Err(SyntaxError::Unexpected(at)),
+        },
+        Err(Fault::Unexpected) => Err(SyntaxError::Unexpected(
+            cursor.next_place().unwrap_or(length),
+        )),
+        Err(Fault::NoMemory) => Err(SyntaxError::NoMemory),
+    }
+}
 
 /// The tree of a script that is `length` bytes long. `TooDeep` comes exactly where `too_deep` has an offset, otherwise
 /// `Unexpected` exactly where the tokens spell no script, at the first token with which they begin none, or at `length`
@@ -16,6 +42,7 @@ pub fn script(alloc: Global, tokens: &List<Token>, length: usize) -> Result<Scri
     if let Some(at) = too_deep(tokens) {
         return Err(SyntaxError::TooDeep(at));
     }
-    let _ = alloc;
-    Err(SyntaxError::NoMemory)
+    let mut cursor = Cursor::new(alloc, tokens.as_slice());
+    let read = Grammar { expr, query }.script(&mut cursor);
+    ended(read, &cursor, length)
 }

@@ -12,7 +12,7 @@ use crate::fault::Fault;
 use crate::grammar::Grammar;
 use crate::listed::listed;
 use crate::sort::{NAMES, Sort};
-use perm_values::{Copyable, List, NoMemory};
+use perm_values::{Boxed, Copyable, List, NoMemory};
 use sql_lexer::Token;
 use sql_tree::{ColRef, Core, ExprTree, FromTree, Name, QueryTree, SelectItem};
 use std::alloc::Global;
@@ -26,10 +26,19 @@ fn named(alloc: Global, token: &Token) -> Result<Name, NoMemory>
     })
 }
 
+fn unboxed(part: Option<Boxed<ExprTree>>) -> Option<ExprTree>
+    ensures { result ≡ part }
+{
+    match part {
+        Some(expr) => Some(expr.into_inner()),
+        None => None,
+    }
+}
+
 impl<'a> Cursor<'a> {
     /// Whether a word that may stand next does; it is passed.
     #[tactic(auto, using(crate::proofs::Queries::is_some_word_if))]
-    fn has(&mut self, sort: Sort) -> Result<bool, Fault>
+    pub(crate) fn has(&mut self, sort: Sort) -> Result<bool, Fault>
         ensures given { spec.Reads result (piece.has sort self.old) self.new }
         ensures fewer { IfOk result (λ _. length self.new ≤ length self.old) }
     {
@@ -64,8 +73,8 @@ impl<'a> Cursor<'a> {
 }
 
 impl<
-    F: Fn(&mut Cursor<'_>) -> Result<ExprTree, Fault>,
-    G: Fn(&mut Cursor<'_>) -> Result<QueryTree, Fault>,
+    F: Fn(&mut Cursor<'_>) -> Result<Boxed<ExprTree>, Fault>,
+    G: Fn(&mut Cursor<'_>) -> Result<Boxed<QueryTree>, Fault>,
 > Grammar<F, G>
 {
     #[tactic(auto, using(crate::proofs::Queries::item_value_is, crate::proofs::Nested::nests_below))]
@@ -76,7 +85,10 @@ impl<
     {
         let expr = self.expression(cursor)?;
         let name = cursor.alias()?;
-        Ok(SelectItem::Value { expr, name })
+        Ok(SelectItem::Value {
+            expr: expr.into_inner(),
+            name,
+        })
     }
 
     #[tactic(auto, using(crate::proofs::Queries::item_is, crate::proofs::Nested::nests_below))]
@@ -105,7 +117,7 @@ impl<
     }
 
     #[tactic(auto, using(crate::proofs::Queries::condition_is, crate::proofs::Nested::nests_below))]
-    pub(crate) fn condition(&self, cursor: &mut Cursor<'_>) -> Result<Option<ExprTree>, Fault>
+    pub(crate) fn condition(&self, cursor: &mut Cursor<'_>) -> Result<Option<Boxed<ExprTree>>, Fault>
         requires { Nests (length cursor.old) (F.pre self.now.expr) (G.pre self.now.query) (F.post self.now.expr) (G.post self.now.query) }
         ensures given { spec.Reads result (spec.reading n.Condition cursor.old) cursor.new }
         ensures fewer { IfOk result (λ _. length cursor.new ≤ length cursor.old) }
@@ -120,7 +132,7 @@ impl<
     }
 
     #[tactic(auto, using(crate::proofs::Queries::having_is, crate::proofs::Nested::nests_below))]
-    fn having(&self, cursor: &mut Cursor<'_>) -> Result<Option<ExprTree>, Fault>
+    fn having(&self, cursor: &mut Cursor<'_>) -> Result<Option<Boxed<ExprTree>>, Fault>
         requires { Nests (length cursor.old) (F.pre self.now.expr) (G.pre self.now.query) (F.post self.now.expr) (G.post self.now.query) }
         ensures given { spec.Reads result (spec.reading n.Having cursor.old) cursor.new }
         ensures fewer { IfOk result (λ _. length cursor.new ≤ length cursor.old) }
@@ -135,7 +147,7 @@ impl<
     }
 
     #[tactic(auto, using(crate::proofs::Nested::nests_below))]
-    fn groups_on(&self, cursor: &mut Cursor<'_>) -> Result<(List<ColRef>, Option<ExprTree>), Fault>
+    fn groups_on(&self, cursor: &mut Cursor<'_>) -> Result<(List<ColRef>, Option<Boxed<ExprTree>>), Fault>
         requires { Nests (length cursor.old) (F.pre self.now.expr) (G.pre self.now.query) (F.post self.now.expr) (G.post self.now.query) }
         ensures given { spec.Reads result (piece.groups_on cursor.old) cursor.new }
         ensures fewer { IfOk result (λ _. length cursor.new ≤ length cursor.old) }
@@ -146,7 +158,7 @@ impl<
     }
 
     #[tactic(auto, using(crate::proofs::Nested::nests_below))]
-    fn condition_on(&self, cursor: &mut Cursor<'_>) -> Result<(Option<ExprTree>, (List<ColRef>, Option<ExprTree>)), Fault>
+    fn condition_on(&self, cursor: &mut Cursor<'_>) -> Result<(Option<Boxed<ExprTree>>, (List<ColRef>, Option<Boxed<ExprTree>>)), Fault>
         requires { Nests (length cursor.old) (F.pre self.now.expr) (G.pre self.now.query) (F.post self.now.expr) (G.post self.now.query) }
         ensures given { spec.Reads result (piece.condition_on cursor.old) cursor.new }
         ensures fewer { IfOk result (λ _. length cursor.new ≤ length cursor.old) }
@@ -157,7 +169,7 @@ impl<
     }
 
     #[tactic(auto, using(crate::proofs::Nested::nests_below))]
-    fn sources_on(&self, cursor: &mut Cursor<'_>) -> Result<(List<FromTree>, (Option<ExprTree>, (List<ColRef>, Option<ExprTree>))), Fault>
+    fn sources_on(&self, cursor: &mut Cursor<'_>) -> Result<(List<FromTree>, (Option<Boxed<ExprTree>>, (List<ColRef>, Option<Boxed<ExprTree>>))), Fault>
         requires { Nests (length cursor.old) (F.pre self.now.expr) (G.pre self.now.query) (F.post self.now.expr) (G.post self.now.query) }
         ensures given { spec.Reads result (piece.sources_on cursor.old) cursor.new }
         ensures fewer { IfOk result (λ _. length cursor.new ≤ length cursor.old) }
@@ -168,7 +180,7 @@ impl<
     }
 
     #[tactic(auto, using(crate::proofs::Queries::items_is, crate::proofs::Nested::nests_below))]
-    fn items_on(&self, cursor: &mut Cursor<'_>) -> Result<(List<SelectItem>, (List<FromTree>, (Option<ExprTree>, (List<ColRef>, Option<ExprTree>)))), Fault>
+    fn items_on(&self, cursor: &mut Cursor<'_>) -> Result<(List<SelectItem>, (List<FromTree>, (Option<Boxed<ExprTree>>, (List<ColRef>, Option<Boxed<ExprTree>>)))), Fault>
         requires { Nests (suc (length cursor.old)) (F.pre self.now.expr) (G.pre self.now.query) (F.post self.now.expr) (G.post self.now.query) }
         ensures given { spec.Reads result (piece.items_on cursor.old) cursor.new }
         ensures fewer { IfOk result (λ _. length cursor.new ≤ length cursor.old) }
@@ -179,7 +191,7 @@ impl<
     }
 
     #[tactic(auto, using(crate::proofs::Queries::core_is, crate::proofs::Nested::nests_below))]
-    fn core(&self, cursor: &mut Cursor<'_>) -> Result<Core, Fault>
+    pub(crate) fn core(&self, cursor: &mut Cursor<'_>) -> Result<Boxed<Core>, Fault>
         requires { Nests (length cursor.old) (F.pre self.now.expr) (G.pre self.now.query) (F.post self.now.expr) (G.post self.now.query) }
         ensures given { spec.Reads result (spec.reading n.CoreOf cursor.old) cursor.new }
         ensures fewer { IfOk result (λ _. length cursor.new < length cursor.old) }
@@ -189,15 +201,16 @@ impl<
         let provenance = cursor.provenance()?;
         let distinct = cursor.has(Sort::Distinct)?;
         let (items, (sources, (condition, (groups, having)))) = self.items_on(cursor)?;
-        Ok(Core {
+        let core = Core {
             at,
             provenance,
             distinct,
             items,
             sources,
-            condition,
+            condition: unboxed(condition),
             groups,
-            having,
-        })
+            having: unboxed(having),
+        };
+        Ok(Boxed::new(cursor.alloc(), core)?)
     }
 }

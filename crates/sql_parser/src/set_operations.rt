@@ -29,35 +29,37 @@ fn set_word(token: &Token) -> SetWord
 
 /// The chain of the steps behind the first operand; without steps the operand itself.
 #[tactic(auto, using(crate::proofs::Queries::set_chain_of))]
-fn set_chain(alloc: Global, first: SetTree, steps: List<SetStep>) -> Result<SetTree, NoMemory>
+fn set_chain(
+    alloc: Global,
+    first: Boxed<SetTree>,
+    steps: List<SetStep>,
+) -> Result<Boxed<SetTree>, NoMemory>
     ensures { IfOk result (λ tree. tree ≡ b.set_chain (first, steps)) }
 {
     if steps.is_empty() {
         return Ok(first);
     }
-    Ok(SetTree::Chain {
-        first: Boxed::new(alloc, first)?,
-        steps,
-    })
+    Boxed::new(alloc, SetTree::Chain { first, steps })
 }
 
 fn query_tree(
     alloc: Global,
     at: usize,
-    first: SetTree,
+    first: Boxed<SetTree>,
     rest: (List<SetStep>, (List<SetStep>, (List<OrderTree>, Option<i64>))),
-) -> Result<QueryTree, NoMemory>
+) -> Result<Boxed<QueryTree>, NoMemory>
     ensures { IfOk result (λ tree. tree ≡ b.query_rest rest at first) }
 {
     let (intersections, (unions, (order, limit))) = rest;
     let term = set_chain(alloc, first, intersections)?;
     let body = set_chain(alloc, term, unions)?;
-    Ok(QueryTree {
+    let query = QueryTree {
         at,
-        body,
+        body: body.into_inner(),
         order,
         limit,
-    })
+    };
+    Boxed::new(alloc, query)
 }
 
 impl<'a> Cursor<'a> {
@@ -72,32 +74,31 @@ impl<'a> Cursor<'a> {
 }
 
 impl<
-    F: Fn(&mut Cursor<'_>) -> Result<ExprTree, Fault>,
-    G: Fn(&mut Cursor<'_>) -> Result<QueryTree, Fault>,
+    F: Fn(&mut Cursor<'_>) -> Result<Boxed<ExprTree>, Fault>,
+    G: Fn(&mut Cursor<'_>) -> Result<Boxed<QueryTree>, Fault>,
 > Grammar<F, G>
 {
     #[tactic(auto, using(crate::proofs::Nested::nests_below))]
-    fn parenthesised(&self, cursor: &mut Cursor<'_>) -> Result<SetTree, Fault>
+    fn parenthesised(&self, cursor: &mut Cursor<'_>) -> Result<Boxed<SetTree>, Fault>
         requires { Nests (length cursor.old) (F.pre self.now.expr) (G.pre self.now.query) (F.post self.now.expr) (G.post self.now.query) }
         ensures given { spec.Reads result (piece.parenthesised cursor.old) cursor.new }
         ensures fewer { IfOk result (λ _. length cursor.new < length cursor.old) }
     {
         cursor.past(Sort::Opening)?;
         let query = self.nested_query(cursor)?;
-        let inner = Boxed::new(cursor.alloc(), query)?;
         cursor.past(Sort::Closing)?;
-        Ok(SetTree::Paren(inner))
+        Ok(Boxed::new(cursor.alloc(), SetTree::Paren(query))?)
     }
 
     #[tactic(auto, using(crate::proofs::Queries::operand_is))]
-    fn operand(&self, cursor: &mut Cursor<'_>) -> Result<SetTree, Fault>
+    fn operand(&self, cursor: &mut Cursor<'_>) -> Result<Boxed<SetTree>, Fault>
         requires { Nests (length cursor.old) (F.pre self.now.expr) (G.pre self.now.query) (F.post self.now.expr) (G.post self.now.query) }
         ensures given { spec.Reads result (spec.reading n.Operand cursor.old) cursor.new }
         ensures fewer { IfOk result (λ _. length cursor.new < length cursor.old) }
     {
         if cursor.sees(Sort::Select) {
             let core = self.core(cursor)?;
-            Ok(SetTree::Core(Boxed::new(cursor.alloc(), core)?))
+            Ok(Boxed::new(cursor.alloc(), SetTree::Core(core))?)
         } else {
             self.parenthesised(cursor)
         }
@@ -117,7 +118,7 @@ impl<
             word: SetWord::Intersect,
             all,
             at,
-            operand,
+            operand: operand.into_inner(),
         })
     }
 
@@ -131,7 +132,7 @@ impl<
     }
 
     #[tactic(auto, using(crate::proofs::Queries::term_is, crate::proofs::Nested::nests_below))]
-    fn term(&self, cursor: &mut Cursor<'_>) -> Result<SetTree, Fault>
+    fn term(&self, cursor: &mut Cursor<'_>) -> Result<Boxed<SetTree>, Fault>
         requires { Nests (length cursor.old) (F.pre self.now.expr) (G.pre self.now.query) (F.post self.now.expr) (G.post self.now.query) }
         ensures given { spec.Reads result (spec.reading n.Term cursor.old) cursor.new }
         ensures fewer { IfOk result (λ _. length cursor.new < length cursor.old) }
@@ -156,7 +157,7 @@ impl<
             word,
             all,
             at,
-            operand,
+            operand: operand.into_inner(),
         })
     }
 
@@ -193,7 +194,7 @@ impl<
 
     /// A query, whose inner queries are read by another function.
     #[tactic(auto, using(crate::proofs::Queries::query_is, crate::proofs::Nested::nests_below))]
-    pub(crate) fn query_body(&self, cursor: &mut Cursor<'_>) -> Result<QueryTree, Fault>
+    pub(crate) fn query_body(&self, cursor: &mut Cursor<'_>) -> Result<Boxed<QueryTree>, Fault>
         requires { Nests (length cursor.old) (F.pre self.now.expr) (G.pre self.now.query) (F.post self.now.expr) (G.post self.now.query) }
         ensures given { spec.Reads result (spec.reading n.Query cursor.old) cursor.new }
         ensures fewer { IfOk result (λ _. length cursor.new < length cursor.old) }
@@ -206,15 +207,27 @@ impl<
 
     /// A query that begins with the word SELECT.
     #[tactic(auto, using(crate::proofs::Queries::inner_is, crate::proofs::Nested::nests_below))]
-    pub(crate) fn inner_query(&self, cursor: &mut Cursor<'_>) -> Result<QueryTree, Fault>
+    pub(crate) fn inner(&self, cursor: &mut Cursor<'_>) -> Result<Boxed<QueryTree>, Fault>
         requires { Nests (length cursor.old) (F.pre self.now.expr) (G.pre self.now.query) (F.post self.now.expr) (G.post self.now.query) }
         ensures given { spec.Reads result (spec.reading n.Inner cursor.old) cursor.new }
         ensures fewer { IfOk result (λ _. length cursor.new < length cursor.old) }
     {
         let at = cursor.place();
         let core = self.core(cursor)?;
-        let first = SetTree::Core(Boxed::new(cursor.alloc(), core)?);
+        let first = Boxed::new(cursor.alloc(), SetTree::Core(core))?;
         let rest = self.query_rest(cursor)?;
         Ok(query_tree(cursor.alloc(), at, first, rest)?)
+    }
+
+    #[tactic(auto, using(crate::proofs::Nested::reading_is, crate::proofs::Nested::nests_below))]
+    pub(crate) fn in_parentheses(&self, cursor: &mut Cursor<'_>) -> Result<Boxed<QueryTree>, Fault>
+        requires { Nests (length cursor.old) (F.pre self.now.expr) (G.pre self.now.query) (F.post self.now.expr) (G.post self.now.query) }
+        ensures given { spec.Reads result (spec.reading n.InParentheses cursor.old) cursor.new }
+        ensures fewer { IfOk result (λ _. length cursor.new < length cursor.old) }
+    {
+        cursor.past(Sort::Opening)?;
+        let query = self.inner(cursor)?;
+        cursor.past(Sort::Closing)?;
+        Ok(query)
     }
 }

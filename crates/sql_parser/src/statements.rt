@@ -55,7 +55,7 @@ fn column_def(cursor: &mut Cursor<'_>) -> Result<ColumnDef, Fault>
 
 fn column_defs(cursor: &mut Cursor<'_>) -> Result<List<ColumnDef>, Fault>
     ensures given { spec.Reads result (list_read s.Comma (spec.reading n.Column) cursor.old) cursor.new }
-    ensures fewer { IfOk result (λ _. length cursor.new < length cursor.old) }
+    ensures fewer { IfOk result (λ _. length cursor.new ≤ length cursor.old) }
 {
     listed(cursor, Sort::Comma, |cursor: &mut Cursor<'_>| column_def(cursor))
 }
@@ -87,7 +87,7 @@ fn present(alloc: Global, found: List<Option<Statement>>) -> Result<List<Stateme
 
 /// The mark that stands for NULL; none is the empty one.
 fn mark_of(alloc: Global, null: Option<&Token>) -> Result<Chars, NoMemory>
-    ensures { IfOk result (λ mark. mark ≡ spelled.mark_of null) }
+    ensures { IfOk result (λ mark. mark ≡ spelled.mark_of null.entry) }
 {
     match null {
         Some(token) => token.spelled.copy(alloc),
@@ -225,7 +225,7 @@ impl<
     fn rows(&self, cursor: &mut Cursor<'_>) -> Result<List<ValuesRow>, Fault>
         requires { Nests (length cursor.old) (F.pre self.now.expr) (G.pre self.now.query) (F.post self.now.expr) (G.post self.now.query) }
         ensures given { spec.Reads result (list_read s.Comma (spec.reading n.Row) cursor.old) cursor.new }
-        ensures fewer { IfOk result (λ _. length cursor.new < length cursor.old) }
+        ensures fewer { IfOk result (λ _. length cursor.new ≤ length cursor.old) }
     {
         listed(cursor, Sort::Comma, |cursor: &mut Cursor<'_>| self.row(cursor))
     }
