@@ -7,6 +7,7 @@ pub mod Depth
 pub mod Exact
 pub mod Fewer
 pub mod Fine
+pub mod Holding
 pub mod Inner
 pub mod Listing
 pub mod Local
@@ -14,6 +15,11 @@ pub mod Nested
 pub mod Outcomes
 pub mod Primaries
 pub mod Queries
+pub mod RegularExpressions
+pub mod RegularQueries
+pub mod RegularStatements
+pub mod RegularTrees
+pub mod Regularity
 pub mod Samples
 pub mod Shut
 pub mod Sound
@@ -22,5 +28,6 @@ pub mod Steps
 pub mod Swapped
 pub mod TablesHold
 pub mod Tails
+pub mod TokenNumbers
 pub mod Viable
 pub mod Whole
