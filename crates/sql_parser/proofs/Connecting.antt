@@ -2,14 +2,14 @@
 use Rattle.std.proofs.Common.{◌≡◌, List, sym, ◌∙◌}
 use Rattle.null_logic.specs.declared.operator.Operator.TheVariants.{And, Or}
 use Rattle.sql_lexer.specs.declared.token.Token.{Token}
-use Rattle.sql_parser.specs.Building as b
-use Rattle.sql_parser.specs.Cursors.{reading}
-use Rattle.sql_parser.specs.Descent.{mapped}
-use Rattle.sql_parser.specs.Lists.{listed}
-use Rattle.sql_parser.specs.Symbols as n
-use Rattle.sql_parser.specs.declared.sort.Sort.TheVariants as s
-use Rattle.sql_parser.proofs.Outcomes.{fused}
-use Rattle.sql_parser.proofs.Steps.{reading-is}
+use Rattle.sql_grammar.specs.Building as b
+use Rattle.sql_grammar.specs.Cursors.{reading}
+use Rattle.sql_grammar.specs.Descent.{mapped}
+use Rattle.sql_grammar.specs.Lists.{listed}
+use Rattle.sql_grammar.specs.Symbols as n
+use Rattle.sql_grammar.specs.declared.sort.Sort.TheVariants as s
+use Rattle.sql_grammar.proofs.Outcomes.{fused}
+use Rattle.sql_grammar.proofs.Steps.{reading-is}
 
 pub both_is : (tokens : List Token) → reading n.Both tokens ≡ mapped (b.connected And) (listed s.And (reading n.Negated) tokens)
 both_is tokens = reading-is n.Both tokens ∙ sym (fused (b.connected And) b.items _)

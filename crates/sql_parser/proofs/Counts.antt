@@ -1,15 +1,15 @@
 -- Words that stand before a part are counted.
 use Rattle.std.proofs.Common.{◌≡◌, ℕ, List, [], ◌∷◌, length, refl, ◌∙◌}
 use Rattle.sql_lexer.specs.declared.token.Token.{Token}
-use Rattle.sql_parser.specs.Building as b
-use Rattle.sql_parser.specs.Building.{Word}
-use Rattle.sql_parser.specs.Cursors.{reading, past, place}
-use Rattle.sql_parser.specs.Descent.{Outcome, Taken, Stopped, and_then, mapped}
-use Rattle.sql_parser.specs.Lists.{all_of}
-use Rattle.sql_parser.specs.Symbols as n
-use Rattle.sql_parser.specs.declared.sort.Sort.TheVariants as s
-use Rattle.sql_parser.proofs.Listing.{mapped-mapped}
-use Rattle.sql_parser.proofs.Steps.{reading-is}
+use Rattle.sql_grammar.specs.Building as b
+use Rattle.sql_grammar.specs.Building.{Word}
+use Rattle.sql_grammar.specs.Cursors.{reading, past, place}
+use Rattle.sql_grammar.specs.Descent.{Outcome, Taken, Stopped, and_then, mapped}
+use Rattle.sql_grammar.specs.Lists.{all_of}
+use Rattle.sql_grammar.specs.Symbols as n
+use Rattle.sql_grammar.specs.declared.sort.Sort.TheVariants as s
+use Rattle.sql_grammar.proofs.Listing.{mapped-mapped}
+use Rattle.sql_grammar.proofs.Steps.{reading-is}
 
 placed-counted : {X Y Z : Type 0} (at : ℕ) (f : ℕ × (X × Y) → Z) (o : Outcome Token X) (next : List Token → Outcome Token Y)
     → mapped f (mapped (λ x. (at, x)) (and_then o (λ x rest. mapped (λ y. (x, y)) (next rest))))

@@ -1,16 +1,16 @@
 -- Primaries as their functions read them.
 use Rattle.std.proofs.Common.{◌≡◌, List, ap, sym, ◌∙◌}
 use Rattle.sql_lexer.specs.declared.token.Token.{Token}
-use Rattle.sql_parser.specs.Building as b
+use Rattle.sql_grammar.specs.Building as b
 use Rattle.sql_parser.specs.Calls.{arms, primary_body}
-use Rattle.sql_parser.specs.Cursors.{reading, past, place, sees}
-use Rattle.sql_parser.specs.Descent.{Outcome, and_then, mapped}
-use Rattle.sql_parser.specs.Symbols as n
-use Rattle.sql_parser.specs.Tables.{begins}
-use Rattle.sql_parser.specs.declared.sort.Sort.TheVariants as s
+use Rattle.sql_grammar.specs.Cursors.{reading, past, place, sees}
+use Rattle.sql_grammar.specs.Descent.{Outcome, and_then, mapped}
+use Rattle.sql_grammar.specs.Symbols as n
+use Rattle.sql_grammar.specs.Tables.{begins}
+use Rattle.sql_grammar.specs.declared.sort.Sort.TheVariants as s
 use Rattle.sql_tree.specs.declared.expression.ExprBody.TheVariants as e
-use Rattle.sql_parser.proofs.Outcomes.{fused, pushed, pulled, nested, itself, chosen}
-use Rattle.sql_parser.proofs.Steps.{reading-is}
+use Rattle.sql_grammar.proofs.Outcomes.{fused, pushed, pulled, nested, itself, chosen}
+use Rattle.sql_grammar.proofs.Steps.{reading-is}
 
 pub case_is : (tokens : List Token) → reading n.Case tokens
     ≡ and_then (past s.Case tokens) (λ word first. and_then (arms first) (λ list rest.

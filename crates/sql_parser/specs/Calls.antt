@@ -1,12 +1,12 @@
 -- What stands in a primary.
 use Rattle.std.specs.Prelude.{Option, List, [], ◌∷◌, cond}
 use Rattle.sql_lexer.specs.declared.token.Token.{Token}
-use Rattle.sql_parser.specs.Cursors.{reading, sees}
-use Rattle.sql_parser.specs.Descent.{Outcome, and_then, mapped}
-use Rattle.sql_parser.specs.Lists.{all_of}
-use Rattle.sql_parser.specs.Symbols as n
-use Rattle.sql_parser.specs.Tables.{begins}
-use Rattle.sql_parser.specs.declared.sort.Sort.TheVariants as s
+use Rattle.sql_grammar.specs.Cursors.{reading, sees}
+use Rattle.sql_grammar.specs.Descent.{Outcome, and_then, mapped}
+use Rattle.sql_grammar.specs.Lists.{all_of}
+use Rattle.sql_grammar.specs.Symbols as n
+use Rattle.sql_grammar.specs.Tables.{begins}
+use Rattle.sql_grammar.specs.declared.sort.Sort.TheVariants as s
 use Rattle.sql_tree.specs.declared.expression.ArmTree.{ArmTree}
 use Rattle.sql_tree.specs.declared.expression.AggWord.{AggWord}
 use Rattle.sql_tree.specs.declared.expression.ExprBody.{ExprBody}

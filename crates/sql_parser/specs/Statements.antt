@@ -2,14 +2,14 @@
 use Rattle.std.specs.Prelude.{ℕ, cond, List, [], ◌∷◌, Option, Some, None}
 use Rattle.std.specs.Borrow.{Bor}
 use Rattle.sql_lexer.specs.declared.token.Token.{Token}
-use Rattle.sql_parser.specs.Building.{Word}
-use Rattle.sql_parser.specs.Cursors.{reading, sees}
-use Rattle.sql_parser.specs.Descent.{Outcome, mapped}
-use Rattle.sql_parser.specs.Pieces.{by}
-use Rattle.sql_parser.specs.Rules.{word, token, symbol, ◌then◌, optional}
-use Rattle.sql_parser.specs.Symbols as n
-use Rattle.sql_parser.specs.Tables.{begins}
-use Rattle.sql_parser.specs.declared.sort.Sort.TheVariants as s
+use Rattle.sql_grammar.specs.Building.{Word}
+use Rattle.sql_grammar.specs.Cursors.{reading, sees}
+use Rattle.sql_grammar.specs.Descent.{Outcome, mapped}
+use Rattle.sql_grammar.specs.Pieces.{by}
+use Rattle.sql_grammar.specs.Rules.{word, token, symbol, ◌then◌, optional}
+use Rattle.sql_grammar.specs.Symbols as n
+use Rattle.sql_grammar.specs.Tables.{begins}
+use Rattle.sql_grammar.specs.declared.sort.Sort.TheVariants as s
 use Rattle.sql_tree.specs.declared.statement.Statement.{Statement}
 use Rattle.sql_tree.specs.declared.statement.StatementBody.{StatementBody}
 use Rattle.sql_tree.specs.declared.statement.StatementBody.TheVariants.{Select}

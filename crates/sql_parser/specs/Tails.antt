@@ -1,6 +1,6 @@
 -- Predicates without their first part, as functions of it.
 use Rattle.std.specs.Prelude.{Bool, false}
-use Rattle.sql_parser.specs.Building.{node}
+use Rattle.sql_grammar.specs.Building.{node}
 use Rattle.sql_parser.specs.declared.tail.Tail.{Tail}
 use Rattle.sql_parser.specs.declared.tail.Tail.TheVariants as tail
 use Rattle.sql_tree.specs.declared.expression.ExprBody.{ExprBody}

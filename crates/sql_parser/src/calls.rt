@@ -1,17 +1,17 @@
 //! Functions: aggregates, COALESCE and NULLIF, and the names that are none.
 
 ghost use Rattle.std.specs.Prelude.{◌≡◌, ◌<◌, suc, length, IfOk};
-ghost use Rattle.sql_parser.specs.Building as b;
+ghost use Rattle.sql_grammar.specs.Building as b;
 ghost use Rattle.sql_parser.specs.Calls as spelled;
-ghost use Rattle.sql_parser.specs.Cursors as spec;
-ghost use Rattle.sql_parser.specs.Nests.{Nests};
-ghost use Rattle.sql_parser.specs.Symbols as n;
+ghost use Rattle.sql_grammar.specs.Cursors as spec;
+ghost use Rattle.sql_grammar.specs.Nests.{Nests};
+ghost use Rattle.sql_grammar.specs.Symbols as n;
 
-use crate::cursor::Cursor;
-use crate::fault::Fault;
+use sql_grammar::Cursor;
+use sql_grammar::Fault;
 use crate::grammar::Grammar;
-use crate::names::{name_of, reference};
-use crate::sort::{Sort, same_sort, sort_of};
+use sql_grammar::{name_of, reference};
+use sql_grammar::{Sort, same_sort, sort_of};
 use perm_values::{Boxed, NoMemory};
 use sql_lexer::Token;
 use sql_tree::{AggWord, ExprBody, ExprTree, Name, QueryTree};
@@ -63,7 +63,7 @@ impl<
     G: Fn(&mut Cursor<'_>) -> Result<Boxed<QueryTree>, Fault>,
 > Grammar<F, G>
 {
-    #[tactic(auto, using(crate::proofs::Steps::counted_is, crate::proofs::Nested::nests_below))]
+    #[tactic(auto, using(sql_grammar::proofs::Steps::counted_is, sql_grammar::proofs::Nested::nests_below))]
     fn counted(
         &self,
         cursor: &mut Cursor<'_>,
@@ -83,7 +83,7 @@ impl<
         }
     }
 
-    #[tactic(auto, using(crate::proofs::Steps::count_is, crate::proofs::Nested::nests_below))]
+    #[tactic(auto, using(sql_grammar::proofs::Steps::count_is, sql_grammar::proofs::Nested::nests_below))]
     pub(crate) fn count(&self, cursor: &mut Cursor<'_>) -> Result<ExprBody, Fault>
         requires { Nests (length cursor.old) (F.pre self.now.expr) (G.pre self.now.query) (F.post self.now.expr) (G.post self.now.query) }
         ensures given { spec.Reads result (spec.reading n.Count cursor.old) cursor.new }
@@ -100,7 +100,7 @@ impl<
         Ok(ExprBody::Aggregate { function, argument })
     }
 
-    #[tactic(auto, using(crate::proofs::Steps::aggregate_is, crate::proofs::Nested::nests_below))]
+    #[tactic(auto, using(sql_grammar::proofs::Steps::aggregate_is, sql_grammar::proofs::Nested::nests_below))]
     pub(crate) fn aggregate(&self, cursor: &mut Cursor<'_>) -> Result<ExprBody, Fault>
         requires { Nests (length cursor.old) (F.pre self.now.expr) (G.pre self.now.query) (F.post self.now.expr) (G.post self.now.query) }
         ensures given { spec.Reads result (spec.reading n.Aggregate cursor.old) cursor.new }
@@ -120,7 +120,7 @@ impl<
         })
     }
 
-    #[tactic(auto, using(crate::proofs::Steps::coalesce_is, crate::proofs::Nested::nests_below))]
+    #[tactic(auto, using(sql_grammar::proofs::Steps::coalesce_is, sql_grammar::proofs::Nested::nests_below))]
     pub(crate) fn coalesce(&self, cursor: &mut Cursor<'_>) -> Result<ExprBody, Fault>
         requires { Nests (length cursor.old) (F.pre self.now.expr) (G.pre self.now.query) (F.post self.now.expr) (G.post self.now.query) }
         ensures given { spec.Reads result (spec.reading n.Coalesce cursor.old) cursor.new }
@@ -137,7 +137,7 @@ impl<
         Ok(ExprBody::Coalesce(list))
     }
 
-    #[tactic(auto, using(crate::proofs::Steps::null_if_is, crate::proofs::Nested::nests_below))]
+    #[tactic(auto, using(sql_grammar::proofs::Steps::null_if_is, sql_grammar::proofs::Nested::nests_below))]
     pub(crate) fn null_if(&self, cursor: &mut Cursor<'_>) -> Result<ExprBody, Fault>
         requires { Nests (length cursor.old) (F.pre self.now.expr) (G.pre self.now.query) (F.post self.now.expr) (G.post self.now.query) }
         ensures given { spec.Reads result (spec.reading n.NullIf cursor.old) cursor.new }
@@ -158,7 +158,7 @@ impl<
 }
 
 /// A column, which begins with a name that is no function's word.
-#[tactic(auto, using(crate::proofs::Steps::reference_is))]
+#[tactic(auto, using(sql_grammar::proofs::Steps::reference_is))]
 pub(crate) fn column_of(cursor: &mut Cursor<'_>) -> Result<ExprBody, Fault>
     ensures given { spec.Reads result (spec.reading n.Reference cursor.old) cursor.new }
     ensures fewer { IfOk result (λ _. length cursor.new < length cursor.old) }

@@ -1,19 +1,19 @@
 //! AND, OR and NOT over predicates, and lists of expressions.
 
 ghost use Rattle.std.specs.Prelude.{◌≡◌, ◌<◌, ◌≤◌, suc, [], ◌∷◌, length, IfOk};
-ghost use Rattle.sql_parser.specs.Building as b;
-ghost use Rattle.sql_parser.specs.Cursors as spec;
-ghost use Rattle.sql_parser.specs.Lists.{all_of, listed as list_read};
-ghost use Rattle.sql_parser.specs.Nests.{Nests};
-ghost use Rattle.sql_parser.specs.Symbols as n;
-ghost use Rattle.sql_parser.specs.declared.sort.Sort.TheVariants as s;
+ghost use Rattle.sql_grammar.specs.Building as b;
+ghost use Rattle.sql_grammar.specs.Cursors as spec;
+ghost use Rattle.sql_grammar.specs.Lists.{all_of, listed as list_read};
+ghost use Rattle.sql_grammar.specs.Nests.{Nests};
+ghost use Rattle.sql_grammar.specs.Symbols as n;
+ghost use Rattle.sql_grammar.specs.declared.sort.Sort.TheVariants as s;
 
-use crate::cursor::Cursor;
-use crate::fault::Fault;
+use sql_grammar::Cursor;
+use sql_grammar::Fault;
 use crate::grammar::{Grammar, node};
-use crate::listed::listed;
-use crate::repeated::repeated;
-use crate::sort::Sort;
+use sql_grammar::listed;
+use sql_grammar::repeated;
+use sql_grammar::Sort;
 use null_logic::Operator;
 use perm_values::{Boxed, List, NoMemory};
 use sql_tree::{ExprBody, ExprTree, QueryTree};
@@ -75,7 +75,7 @@ impl<
     G: Fn(&mut Cursor<'_>) -> Result<Boxed<QueryTree>, Fault>,
 > Grammar<F, G>
 {
-    #[tactic(auto, using(crate::proofs::Counts::negated_is, crate::proofs::Nested::nests_below))]
+    #[tactic(auto, using(crate::proofs::Counts::negated_is, sql_grammar::proofs::Nested::nests_below))]
     fn negated(&self, cursor: &mut Cursor<'_>) -> Result<Boxed<ExprTree>, Fault>
         requires { Nests (length cursor.old) (F.pre self.now.expr) (G.pre self.now.query) (F.post self.now.expr) (G.post self.now.query) }
         ensures given { spec.Reads result (spec.reading n.Negated cursor.old) cursor.new }
@@ -87,7 +87,7 @@ impl<
         Ok(negated(cursor.alloc(), at, nots.len() as u64, part)?)
     }
 
-    #[tactic(auto, using(crate::proofs::Nested::nests_below))]
+    #[tactic(auto, using(sql_grammar::proofs::Nested::nests_below))]
     fn conjuncts(&self, cursor: &mut Cursor<'_>) -> Result<List<ExprTree>, Fault>
         requires { Nests (length cursor.old) (F.pre self.now.expr) (G.pre self.now.query) (F.post self.now.expr) (G.post self.now.query) }
         ensures given { spec.Reads result (list_read s.And (spec.reading n.Negated) cursor.old) cursor.new }
@@ -98,7 +98,7 @@ impl<
         })
     }
 
-    #[tactic(auto, using(crate::proofs::Connecting::both_is, crate::proofs::Nested::nests_below))]
+    #[tactic(auto, using(crate::proofs::Connecting::both_is, sql_grammar::proofs::Nested::nests_below))]
     fn both(&self, cursor: &mut Cursor<'_>) -> Result<Boxed<ExprTree>, Fault>
         requires { Nests (length cursor.old) (F.pre self.now.expr) (G.pre self.now.query) (F.post self.now.expr) (G.post self.now.query) }
         ensures given { spec.Reads result (spec.reading n.Both cursor.old) cursor.new }
@@ -108,7 +108,7 @@ impl<
         Ok(connected(cursor.alloc(), Operator::And, parts)?)
     }
 
-    #[tactic(auto, using(crate::proofs::Nested::nests_below))]
+    #[tactic(auto, using(sql_grammar::proofs::Nested::nests_below))]
     fn disjuncts(&self, cursor: &mut Cursor<'_>) -> Result<List<ExprTree>, Fault>
         requires { Nests (length cursor.old) (F.pre self.now.expr) (G.pre self.now.query) (F.post self.now.expr) (G.post self.now.query) }
         ensures given { spec.Reads result (list_read s.Or (spec.reading n.Both) cursor.old) cursor.new }
@@ -120,7 +120,7 @@ impl<
     }
 
     /// An expression.
-    #[tactic(auto, using(crate::proofs::Connecting::expr_is, crate::proofs::Nested::nests_below))]
+    #[tactic(auto, using(crate::proofs::Connecting::expr_is, sql_grammar::proofs::Nested::nests_below))]
     pub(crate) fn disjunction(&self, cursor: &mut Cursor<'_>) -> Result<Boxed<ExprTree>, Fault>
         requires { Nests (length cursor.old) (F.pre self.now.expr) (G.pre self.now.query) (F.post self.now.expr) (G.post self.now.query) }
         ensures given { spec.Reads result (spec.reading n.Expr cursor.old) cursor.new }
@@ -131,7 +131,7 @@ impl<
     }
 
     /// Expressions with commas between them.
-    #[tactic(auto, using(crate::proofs::Nested::nests_below))]
+    #[tactic(auto, using(sql_grammar::proofs::Nested::nests_below))]
     pub(crate) fn expressions(&self, cursor: &mut Cursor<'_>) -> Result<List<ExprTree>, Fault>
         requires { Nests (suc (length cursor.old)) (F.pre self.now.expr) (G.pre self.now.query) (F.post self.now.expr) (G.post self.now.query) }
         ensures given { spec.Reads result (spec.reading n.Exprs cursor.old) cursor.new }

@@ -3,23 +3,13 @@
 
 mod calls;
 mod connectives;
-mod cursor;
-mod fault;
-mod from;
 mod grammar;
 mod laws;
-mod listed;
-mod names;
 mod nesting;
 mod parser;
 mod predicates;
 mod primary;
-mod query;
 mod recursion;
-mod repeated;
-mod select;
-mod set_operations;
-mod sort;
 mod statements;
 mod sums;
 mod syntax_error;

@@ -1,7 +1,7 @@
 ghost use Rattle.std.specs.Prelude.{◌≡◌, ◌<◌, ◌≤◌, ◌+◌};
 ghost use Rattle.sql_parser.specs.Nesting as spec;
 
-use crate::sort::{Sort, same_sort, sort_of};
+use sql_grammar::{Sort, same_sort, sort_of};
 use perm_values::List;
 use sql_lexer::Token;
 

@@ -3,8 +3,8 @@ ghost use Rattle.sql_parser.specs.Ending as ending;
 ghost use Rattle.sql_parser.specs.Spells as spec;
 
 use crate::SyntaxError;
-use crate::cursor::Cursor;
-use crate::fault::Fault;
+use sql_grammar::Cursor;
+use sql_grammar::Fault;
 use crate::grammar::Grammar;
 use crate::nesting::too_deep;
 use crate::recursion::{expr, query};

@@ -1,17 +1,17 @@
 //! Comparisons and the other predicates.
 
 ghost use Rattle.std.specs.Prelude.{◌≡◌, ◌<◌, length, IfOk};
-ghost use Rattle.sql_parser.specs.Building as b;
-ghost use Rattle.sql_parser.specs.Cursors as spec;
-ghost use Rattle.sql_parser.specs.Nests.{Nests};
-ghost use Rattle.sql_parser.specs.Symbols as n;
+ghost use Rattle.sql_grammar.specs.Building as b;
+ghost use Rattle.sql_grammar.specs.Cursors as spec;
+ghost use Rattle.sql_grammar.specs.Nests.{Nests};
+ghost use Rattle.sql_grammar.specs.Symbols as n;
 ghost use Rattle.sql_parser.specs.Tails as tails;
-ghost use Rattle.sql_parser.specs.declared.sort.Sort.TheVariants as s;
+ghost use Rattle.sql_grammar.specs.declared.sort.Sort.TheVariants as s;
 
-use crate::cursor::Cursor;
-use crate::fault::Fault;
+use sql_grammar::Cursor;
+use sql_grammar::Fault;
 use crate::grammar::Grammar;
-use crate::sort::{Sort, same_sort, sort_of};
+use sql_grammar::{Sort, same_sort, sort_of};
 use crate::tail::Tail;
 use null_logic::{Compare, Truth};
 use perm_values::Boxed;
@@ -76,7 +76,7 @@ impl<
     G: Fn(&mut Cursor<'_>) -> Result<Boxed<QueryTree>, Fault>,
 > Grammar<F, G>
 {
-    #[tactic(auto, using(crate::proofs::Steps::is_test_is, crate::proofs::Nested::nests_below, crate::proofs::Tails::is_some_word_if))]
+    #[tactic(auto, using(sql_grammar::proofs::Steps::is_test_is, sql_grammar::proofs::Nested::nests_below, crate::proofs::Tails::is_some_word_if))]
     fn is_test(&self, cursor: &mut Cursor<'_>) -> Result<(bool, Tail), Fault>
         requires { Nests (length cursor.old) (F.pre self.now.expr) (G.pre self.now.query) (F.post self.now.expr) (G.post self.now.query) }
         ensures given { spec.Sees tails.behind result (spec.reading n.IsTest cursor.old) cursor.new }
@@ -98,7 +98,7 @@ impl<
         Ok((negated, Tail::Distinct(second)))
     }
 
-    #[tactic(auto, using(crate::proofs::Steps::test_is, crate::proofs::Nested::nests_below))]
+    #[tactic(auto, using(sql_grammar::proofs::Steps::test_is, sql_grammar::proofs::Nested::nests_below))]
     pub(crate) fn test(&self, cursor: &mut Cursor<'_>) -> Result<Boxed<ExprTree>, Fault>
         requires { Nests (length cursor.old) (F.pre self.now.expr) (G.pre self.now.query) (F.post self.now.expr) (G.post self.now.query) }
         ensures given { spec.Reads result (spec.reading n.Test cursor.old) cursor.new }
@@ -112,7 +112,7 @@ impl<
         Ok(tail.on(cursor.alloc(), negated, part)?)
     }
 
-    #[tactic(auto, using(crate::proofs::Steps::comparison_is, crate::proofs::Nested::nests_below))]
+    #[tactic(auto, using(sql_grammar::proofs::Steps::comparison_is, sql_grammar::proofs::Nested::nests_below))]
     fn comparison(&self, cursor: &mut Cursor<'_>) -> Result<Tail, Fault>
         requires { Nests (length cursor.old) (F.pre self.now.expr) (G.pre self.now.query) (F.post self.now.expr) (G.post self.now.query) }
         ensures given { spec.Sees tails.compared result (spec.reading n.Comparison cursor.old) cursor.new }
@@ -129,7 +129,7 @@ impl<
         }
     }
 
-    #[tactic(auto, using(crate::proofs::Steps::compared_is, crate::proofs::Nested::nests_below))]
+    #[tactic(auto, using(sql_grammar::proofs::Steps::compared_is, sql_grammar::proofs::Nested::nests_below))]
     pub(crate) fn compared(&self, cursor: &mut Cursor<'_>) -> Result<Boxed<ExprTree>, Fault>
         requires { Nests (length cursor.old) (F.pre self.now.expr) (G.pre self.now.query) (F.post self.now.expr) (G.post self.now.query) }
         ensures given { spec.Reads result (spec.reading n.Compared cursor.old) cursor.new }
@@ -143,7 +143,7 @@ impl<
         Ok(tail.on(cursor.alloc(), false, part)?)
     }
 
-    #[tactic(auto, using(crate::proofs::Steps::members_is, crate::proofs::Nested::nests_below))]
+    #[tactic(auto, using(sql_grammar::proofs::Steps::members_is, sql_grammar::proofs::Nested::nests_below))]
     fn members(&self, cursor: &mut Cursor<'_>) -> Result<Tail, Fault>
         requires { Nests (length cursor.old) (F.pre self.now.expr) (G.pre self.now.query) (F.post self.now.expr) (G.post self.now.query) }
         ensures given { spec.Sees tails.ranged result (spec.reading n.Members cursor.old) cursor.new }
@@ -161,7 +161,7 @@ impl<
         }
     }
 
-    #[tactic(auto, using(crate::proofs::Steps::range_is, crate::proofs::Nested::nests_below))]
+    #[tactic(auto, using(sql_grammar::proofs::Steps::range_is, sql_grammar::proofs::Nested::nests_below))]
     fn range(&self, cursor: &mut Cursor<'_>) -> Result<Tail, Fault>
         requires { Nests (length cursor.old) (F.pre self.now.expr) (G.pre self.now.query) (F.post self.now.expr) (G.post self.now.query) }
         ensures given { spec.Sees tails.ranged result (spec.reading n.Range cursor.old) cursor.new }
@@ -182,7 +182,7 @@ impl<
         }
     }
 
-    #[tactic(auto, using(crate::proofs::Steps::ranged_is, crate::proofs::Nested::nests_below, crate::proofs::Tails::is_some_word_if))]
+    #[tactic(auto, using(sql_grammar::proofs::Steps::ranged_is, sql_grammar::proofs::Nested::nests_below, crate::proofs::Tails::is_some_word_if))]
     fn ranged(&self, cursor: &mut Cursor<'_>) -> Result<Boxed<ExprTree>, Fault>
         requires { Nests (length cursor.old) (F.pre self.now.expr) (G.pre self.now.query) (F.post self.now.expr) (G.post self.now.query) }
         ensures given { spec.Reads result (spec.reading n.Ranged cursor.old) cursor.new }

@@ -1,20 +1,20 @@
 //! Literals, CAST, CASE, EXISTS, parentheses and functions.
 
 ghost use Rattle.std.specs.Prelude.{◌≡◌, ◌<◌, ◌≤◌, suc, [], ◌∷◌, length, IfOk};
-ghost use Rattle.sql_parser.specs.Building as b;
+ghost use Rattle.sql_grammar.specs.Building as b;
 ghost use Rattle.sql_parser.specs.Calls as spelled;
-ghost use Rattle.sql_parser.specs.Cursors as spec;
-ghost use Rattle.sql_parser.specs.Lists.{all_of};
-ghost use Rattle.sql_parser.specs.Nests.{Nests};
-ghost use Rattle.sql_parser.specs.Symbols as n;
-ghost use Rattle.sql_parser.specs.declared.sort.Sort.TheVariants as s;
+ghost use Rattle.sql_grammar.specs.Cursors as spec;
+ghost use Rattle.sql_grammar.specs.Lists.{all_of};
+ghost use Rattle.sql_grammar.specs.Nests.{Nests};
+ghost use Rattle.sql_grammar.specs.Symbols as n;
+ghost use Rattle.sql_grammar.specs.declared.sort.Sort.TheVariants as s;
 
 use crate::calls::column_of;
-use crate::cursor::Cursor;
-use crate::fault::Fault;
+use sql_grammar::Cursor;
+use sql_grammar::Fault;
 use crate::grammar::{Grammar, node};
-use crate::repeated::repeated;
-use crate::sort::{Sort, same_sort, sort_of};
+use sql_grammar::repeated;
+use sql_grammar::{Sort, same_sort, sort_of};
 use perm_values::{Boxed, Copyable, Kind, List, NoMemory};
 use sql_lexer::Token;
 use sql_tree::{ArmTree, ExprBody, ExprTree, QueryTree};
@@ -67,7 +67,7 @@ fn literal_of(alloc: Global, token: &Token) -> Result<ExprBody, NoMemory>
     }
 }
 
-#[tactic(auto, using(crate::proofs::Steps::literal_is))]
+#[tactic(auto, using(sql_grammar::proofs::Steps::literal_is))]
 fn literal(cursor: &mut Cursor<'_>) -> Result<ExprBody, Fault>
     ensures given { spec.Reads result (spec.reading n.Literal cursor.old) cursor.new }
     ensures fewer { IfOk result (λ _. length cursor.new < length cursor.old) }
@@ -76,7 +76,7 @@ fn literal(cursor: &mut Cursor<'_>) -> Result<ExprBody, Fault>
     Ok(literal_of(cursor.alloc(), token)?)
 }
 
-#[tactic(auto, using(crate::proofs::Steps::cast_kind_is))]
+#[tactic(auto, using(sql_grammar::proofs::Steps::cast_kind_is))]
 fn cast_kind(cursor: &mut Cursor<'_>) -> Result<Kind, Fault>
     ensures given { spec.Reads result (spec.reading n.CastKind cursor.old) cursor.new }
     ensures fewer { IfOk result (λ _. length cursor.new < length cursor.old) }
@@ -84,7 +84,7 @@ fn cast_kind(cursor: &mut Cursor<'_>) -> Result<Kind, Fault>
     Ok(kind_of(cursor.one(&CAST_KINDS)?))
 }
 
-#[tactic(auto, using(crate::proofs::Steps::cast_is))]
+#[tactic(auto, using(sql_grammar::proofs::Steps::cast_is))]
 fn cast(cursor: &mut Cursor<'_>) -> Result<ExprBody, Fault>
     ensures given { spec.Reads result (spec.reading n.Cast cursor.old) cursor.new }
     ensures fewer { IfOk result (λ _. length cursor.new < length cursor.old) }
@@ -103,7 +103,7 @@ impl<
     G: Fn(&mut Cursor<'_>) -> Result<Boxed<QueryTree>, Fault>,
 > Grammar<F, G>
 {
-    #[tactic(auto, using(crate::proofs::Steps::arm_is, crate::proofs::Nested::nests_below))]
+    #[tactic(auto, using(sql_grammar::proofs::Steps::arm_is, sql_grammar::proofs::Nested::nests_below))]
     fn arm(&self, cursor: &mut Cursor<'_>) -> Result<ArmTree, Fault>
         requires { Nests (length cursor.old) (F.pre self.now.expr) (G.pre self.now.query) (F.post self.now.expr) (G.post self.now.query) }
         ensures given { spec.Reads result (spec.reading n.Arm cursor.old) cursor.new }
@@ -119,7 +119,7 @@ impl<
         })
     }
 
-    #[tactic(auto, using(crate::proofs::Nested::nests_below))]
+    #[tactic(auto, using(sql_grammar::proofs::Nested::nests_below))]
     fn more_arms(&self, cursor: &mut Cursor<'_>) -> Result<List<ArmTree>, Fault>
         requires { Nests (length cursor.old) (F.pre self.now.expr) (G.pre self.now.query) (F.post self.now.expr) (G.post self.now.query) }
         ensures given { spec.Reads result (all_of (s.When ∷ []) (spec.reading n.Arm) cursor.old) cursor.new }
@@ -128,7 +128,7 @@ impl<
         repeated(cursor, &[Sort::When], |cursor: &mut Cursor<'_>| self.arm(cursor))
     }
 
-    #[tactic(auto, using(crate::proofs::Nested::nests_below))]
+    #[tactic(auto, using(sql_grammar::proofs::Nested::nests_below))]
     fn arms(&self, cursor: &mut Cursor<'_>) -> Result<List<ArmTree>, Fault>
         requires { Nests (length cursor.old) (F.pre self.now.expr) (G.pre self.now.query) (F.post self.now.expr) (G.post self.now.query) }
         ensures given { spec.Reads result (spelled.arms cursor.old) cursor.new }
@@ -140,7 +140,7 @@ impl<
         Ok(arms)
     }
 
-    #[tactic(auto, using(crate::proofs::Steps::otherwise_is, crate::proofs::Nested::nests_below))]
+    #[tactic(auto, using(sql_grammar::proofs::Steps::otherwise_is, sql_grammar::proofs::Nested::nests_below))]
     fn otherwise(&self, cursor: &mut Cursor<'_>) -> Result<Option<Boxed<ExprTree>>, Fault>
         requires { Nests (length cursor.old) (F.pre self.now.expr) (G.pre self.now.query) (F.post self.now.expr) (G.post self.now.query) }
         ensures given { spec.Reads result (spec.reading n.Otherwise cursor.old) cursor.new }
@@ -153,7 +153,7 @@ impl<
         Ok(Some(self.expression(cursor)?))
     }
 
-    #[tactic(auto, using(crate::proofs::Primaries::case_is, crate::proofs::Nested::nests_below))]
+    #[tactic(auto, using(crate::proofs::Primaries::case_is, sql_grammar::proofs::Nested::nests_below))]
     fn case(&self, cursor: &mut Cursor<'_>) -> Result<ExprBody, Fault>
         requires { Nests (length cursor.old) (F.pre self.now.expr) (G.pre self.now.query) (F.post self.now.expr) (G.post self.now.query) }
         ensures given { spec.Reads result (spec.reading n.Case cursor.old) cursor.new }
@@ -166,7 +166,7 @@ impl<
         Ok(ExprBody::Case { arms, otherwise })
     }
 
-    #[tactic(auto, using(crate::proofs::Steps::exists_is, crate::proofs::Nested::nests_below))]
+    #[tactic(auto, using(sql_grammar::proofs::Steps::exists_is, sql_grammar::proofs::Nested::nests_below))]
     fn exists(&self, cursor: &mut Cursor<'_>) -> Result<ExprBody, Fault>
         requires { Nests (length cursor.old) (F.pre self.now.expr) (G.pre self.now.query) (F.post self.now.expr) (G.post self.now.query) }
         ensures given { spec.Reads result (spec.reading n.Exists cursor.old) cursor.new }
@@ -176,7 +176,7 @@ impl<
         Ok(ExprBody::Exists(self.in_parentheses(cursor)?))
     }
 
-    #[tactic(auto, using(crate::proofs::Steps::parentheses_is, crate::proofs::Nested::nests_below))]
+    #[tactic(auto, using(sql_grammar::proofs::Steps::parentheses_is, sql_grammar::proofs::Nested::nests_below))]
     fn parentheses(&self, cursor: &mut Cursor<'_>) -> Result<ExprBody, Fault>
         requires { Nests (length cursor.old) (F.pre self.now.expr) (G.pre self.now.query) (F.post self.now.expr) (G.post self.now.query) }
         ensures given { spec.Reads result (spec.reading n.Parentheses cursor.old) cursor.new }
@@ -222,7 +222,7 @@ impl<
         }
     }
 
-    #[tactic(auto, using(crate::proofs::Primaries::primary_is, crate::proofs::Nested::nests_below))]
+    #[tactic(auto, using(crate::proofs::Primaries::primary_is, sql_grammar::proofs::Nested::nests_below))]
     pub(crate) fn primary(&self, cursor: &mut Cursor<'_>) -> Result<Boxed<ExprTree>, Fault>
         requires { Nests (length cursor.old) (F.pre self.now.expr) (G.pre self.now.query) (F.post self.now.expr) (G.post self.now.query) }
         ensures given { spec.Reads result (spec.reading n.Primary cursor.old) cursor.new }

@@ -1,11 +1,11 @@
 //! Expressions hold queries, and queries expressions.
 
 ghost use Rattle.std.specs.Prelude.{◌≡◌, ◌<◌, length, IfOk};
-ghost use Rattle.sql_parser.specs.Cursors as spec;
-ghost use Rattle.sql_parser.specs.Symbols as n;
+ghost use Rattle.sql_grammar.specs.Cursors as spec;
+ghost use Rattle.sql_grammar.specs.Symbols as n;
 
-use crate::cursor::Cursor;
-use crate::fault::Fault;
+use sql_grammar::Cursor;
+use sql_grammar::Fault;
 use crate::grammar::Grammar;
 use perm_values::Boxed;
 use sql_tree::{ExprTree, QueryTree};
@@ -21,5 +21,5 @@ pub(crate) fn expr(cursor: &mut Cursor<'_>) -> Result<Boxed<ExprTree>, Fault>
 pub(crate) fn query(cursor: &mut Cursor<'_>) -> Result<Boxed<QueryTree>, Fault>
     ensures given { spec.Reads result (spec.reading n.Query cursor.old) cursor.new }
 {
-    Grammar { expr, query }.query_body(cursor)
+    sql_queries::Grammar { expr, query }.query_body(cursor)
 }

@@ -1,20 +1,20 @@
 //! Statements.
 
 ghost use Rattle.std.specs.Prelude.{◌≡◌, ◌<◌, ◌≤◌, suc, [], ◌∷◌, length, IfOk};
-ghost use Rattle.sql_parser.specs.Building as b;
-ghost use Rattle.sql_parser.specs.Cursors as spec;
-ghost use Rattle.sql_parser.specs.Lists.{listed as list_read};
-ghost use Rattle.sql_parser.specs.Nests.{Nests};
+ghost use Rattle.sql_grammar.specs.Building as b;
+ghost use Rattle.sql_grammar.specs.Cursors as spec;
+ghost use Rattle.sql_grammar.specs.Lists.{listed as list_read};
+ghost use Rattle.sql_grammar.specs.Nests.{Nests};
 ghost use Rattle.sql_parser.specs.Statements as spelled;
-ghost use Rattle.sql_parser.specs.Symbols as n;
-ghost use Rattle.sql_parser.specs.declared.sort.Sort.TheVariants as s;
+ghost use Rattle.sql_grammar.specs.Symbols as n;
+ghost use Rattle.sql_grammar.specs.declared.sort.Sort.TheVariants as s;
 
-use crate::cursor::Cursor;
-use crate::fault::Fault;
+use sql_grammar::Cursor;
+use sql_grammar::Fault;
 use crate::grammar::Grammar;
-use crate::listed::listed;
+use sql_grammar::listed;
 use crate::primary::kind_of;
-use crate::sort::Sort;
+use sql_grammar::Sort;
 use perm_values::{Boxed, Chars, Copyable, Kind, List, NoMemory};
 use sql_lexer::Token;
 use sql_tree::{ColumnDef, ExprTree, QueryTree, Script, Statement, StatementBody, ValuesRow};
@@ -35,7 +35,7 @@ const STATEMENTS: [Sort; 9] = [
 
 const KINDS: [Sort; 4] = [Sort::Integer, Sort::Int, Sort::BigInt, Sort::Text];
 
-#[tactic(auto, using(crate::proofs::Steps::column_kind_is))]
+#[tactic(auto, using(sql_grammar::proofs::Steps::column_kind_is))]
 fn column_kind(cursor: &mut Cursor<'_>) -> Result<Kind, Fault>
     ensures given { spec.Reads result (spec.reading n.ColumnKind cursor.old) cursor.new }
     ensures fewer { IfOk result (λ _. length cursor.new < length cursor.old) }
@@ -43,7 +43,7 @@ fn column_kind(cursor: &mut Cursor<'_>) -> Result<Kind, Fault>
     Ok(kind_of(cursor.one(&KINDS)?))
 }
 
-#[tactic(auto, using(crate::proofs::Steps::column_is))]
+#[tactic(auto, using(sql_grammar::proofs::Steps::column_is))]
 fn column_def(cursor: &mut Cursor<'_>) -> Result<ColumnDef, Fault>
     ensures given { spec.Reads result (spec.reading n.Column cursor.old) cursor.new }
     ensures fewer { IfOk result (λ _. length cursor.new < length cursor.old) }
@@ -107,7 +107,7 @@ fn null<'a>(cursor: &mut Cursor<'a>) -> Result<Option<&'a Token>, Fault>
     Ok(Some(cursor.one(&[Sort::Literal])?))
 }
 
-#[tactic(auto, using(crate::proofs::Steps::copy_is, crate::proofs::Tails::is_some_word_if, crate::proofs::Stating::null_mark_is))]
+#[tactic(auto, using(sql_grammar::proofs::Steps::copy_is, crate::proofs::Tails::is_some_word_if, crate::proofs::Stating::null_mark_is))]
 fn copy(cursor: &mut Cursor<'_>) -> Result<StatementBody, Fault>
     ensures given { spec.Reads result (spec.reading n.Copy cursor.old) cursor.new }
     ensures fewer { IfOk result (λ _. length cursor.new < length cursor.old) }
@@ -128,7 +128,7 @@ fn copy(cursor: &mut Cursor<'_>) -> Result<StatementBody, Fault>
     })
 }
 
-#[tactic(auto, using(crate::proofs::Steps::drop_is))]
+#[tactic(auto, using(sql_grammar::proofs::Steps::drop_is))]
 fn drop_what(cursor: &mut Cursor<'_>) -> Result<StatementBody, Fault>
     ensures given { spec.Reads result (spec.reading n.Drop cursor.old) cursor.new }
     ensures fewer { IfOk result (λ _. length cursor.new < length cursor.old) }
@@ -147,7 +147,7 @@ fn drop_what(cursor: &mut Cursor<'_>) -> Result<StatementBody, Fault>
     }
 }
 
-#[tactic(auto, using(crate::proofs::Steps::show_is))]
+#[tactic(auto, using(sql_grammar::proofs::Steps::show_is))]
 fn show(cursor: &mut Cursor<'_>) -> Result<StatementBody, Fault>
     ensures given { spec.Reads result (spec.reading n.Show cursor.old) cursor.new }
     ensures fewer { IfOk result (λ _. length cursor.new < length cursor.old) }
@@ -164,7 +164,7 @@ impl<
     G: Fn(&mut Cursor<'_>) -> Result<Boxed<QueryTree>, Fault>,
 > Grammar<F, G>
 {
-    #[tactic(auto, using(crate::proofs::Steps::create_table_is, crate::proofs::Nested::nests_below))]
+    #[tactic(auto, using(sql_grammar::proofs::Steps::create_table_is, sql_grammar::proofs::Nested::nests_below))]
     fn create_table(&self, cursor: &mut Cursor<'_>) -> Result<StatementBody, Fault>
         requires { Nests (length cursor.old) (F.pre self.now.expr) (G.pre self.now.query) (F.post self.now.expr) (G.post self.now.query) }
         ensures given { spec.Reads result (spec.reading n.CreateTable cursor.old) cursor.new }
@@ -181,7 +181,7 @@ impl<
         Ok(StatementBody::CreateTableAs { table, query })
     }
 
-    #[tactic(auto, using(crate::proofs::Steps::create_view_is, crate::proofs::Nested::nests_below))]
+    #[tactic(auto, using(sql_grammar::proofs::Steps::create_view_is, sql_grammar::proofs::Nested::nests_below))]
     fn create_view(&self, cursor: &mut Cursor<'_>) -> Result<StatementBody, Fault>
         requires { Nests (length cursor.old) (F.pre self.now.expr) (G.pre self.now.query) (F.post self.now.expr) (G.post self.now.query) }
         ensures given { spec.Reads result (spec.reading n.CreateView cursor.old) cursor.new }
@@ -194,7 +194,7 @@ impl<
         Ok(StatementBody::CreateView { view, query })
     }
 
-    #[tactic(auto, using(crate::proofs::Steps::create_is, crate::proofs::Nested::nests_below))]
+    #[tactic(auto, using(sql_grammar::proofs::Steps::create_is, sql_grammar::proofs::Nested::nests_below))]
     fn create(&self, cursor: &mut Cursor<'_>) -> Result<StatementBody, Fault>
         requires { Nests (length cursor.old) (F.pre self.now.expr) (G.pre self.now.query) (F.post self.now.expr) (G.post self.now.query) }
         ensures given { spec.Reads result (spec.reading n.Create cursor.old) cursor.new }
@@ -208,7 +208,7 @@ impl<
         }
     }
 
-    #[tactic(auto, using(crate::proofs::Steps::row_is, crate::proofs::Nested::nests_below))]
+    #[tactic(auto, using(sql_grammar::proofs::Steps::row_is, sql_grammar::proofs::Nested::nests_below))]
     fn row(&self, cursor: &mut Cursor<'_>) -> Result<ValuesRow, Fault>
         requires { Nests (length cursor.old) (F.pre self.now.expr) (G.pre self.now.query) (F.post self.now.expr) (G.post self.now.query) }
         ensures given { spec.Reads result (spec.reading n.Row cursor.old) cursor.new }
@@ -221,7 +221,7 @@ impl<
         Ok(ValuesRow { at, values })
     }
 
-    #[tactic(auto, using(crate::proofs::Nested::nests_below))]
+    #[tactic(auto, using(sql_grammar::proofs::Nested::nests_below))]
     fn rows(&self, cursor: &mut Cursor<'_>) -> Result<List<ValuesRow>, Fault>
         requires { Nests (length cursor.old) (F.pre self.now.expr) (G.pre self.now.query) (F.post self.now.expr) (G.post self.now.query) }
         ensures given { spec.Reads result (list_read s.Comma (spec.reading n.Row) cursor.old) cursor.new }
@@ -230,7 +230,7 @@ impl<
         listed(cursor, Sort::Comma, |cursor: &mut Cursor<'_>| self.row(cursor))
     }
 
-    #[tactic(auto, using(crate::proofs::Stating::insert_is, crate::proofs::Nested::nests_below))]
+    #[tactic(auto, using(crate::proofs::Stating::insert_is, sql_grammar::proofs::Nested::nests_below))]
     fn insert(&self, cursor: &mut Cursor<'_>) -> Result<StatementBody, Fault>
         requires { Nests (length cursor.old) (F.pre self.now.expr) (G.pre self.now.query) (F.post self.now.expr) (G.post self.now.query) }
         ensures given { spec.Reads result (spec.reading n.Insert cursor.old) cursor.new }
@@ -244,7 +244,7 @@ impl<
         Ok(StatementBody::Insert { table, rows })
     }
 
-    #[tactic(auto, using(crate::proofs::Steps::explain_is, crate::proofs::Nested::nests_below))]
+    #[tactic(auto, using(sql_grammar::proofs::Steps::explain_is, sql_grammar::proofs::Nested::nests_below))]
     fn explain(&self, cursor: &mut Cursor<'_>) -> Result<StatementBody, Fault>
         requires { Nests (length cursor.old) (F.pre self.now.expr) (G.pre self.now.query) (F.post self.now.expr) (G.post self.now.query) }
         ensures given { spec.Reads result (spec.reading n.Explain cursor.old) cursor.new }
@@ -256,7 +256,7 @@ impl<
         Ok(StatementBody::Explain { query })
     }
 
-    #[tactic(auto, using(crate::proofs::Steps::delete_is, crate::proofs::Nested::nests_below))]
+    #[tactic(auto, using(sql_grammar::proofs::Steps::delete_is, sql_grammar::proofs::Nested::nests_below))]
     fn delete(&self, cursor: &mut Cursor<'_>) -> Result<StatementBody, Fault>
         requires { Nests (length cursor.old) (F.pre self.now.expr) (G.pre self.now.query) (F.post self.now.expr) (G.post self.now.query) }
         ensures given { spec.Reads result (spec.reading n.Delete cursor.old) cursor.new }
@@ -269,7 +269,7 @@ impl<
         Ok(StatementBody::Delete { table, condition })
     }
 
-    #[tactic(auto, using(crate::proofs::Nested::nests_below))]
+    #[tactic(auto, using(sql_grammar::proofs::Nested::nests_below))]
     fn statement_body(&self, cursor: &mut Cursor<'_>) -> Result<StatementBody, Fault>
         requires { Nests (suc (length cursor.old)) (F.pre self.now.expr) (G.pre self.now.query) (F.post self.now.expr) (G.post self.now.query) }
         ensures given { spec.Reads result (spelled.statement_body cursor.old) cursor.new }
@@ -295,7 +295,7 @@ impl<
         }
     }
 
-    #[tactic(auto, using(crate::proofs::Stating::statement_is, crate::proofs::Nested::nests_below))]
+    #[tactic(auto, using(crate::proofs::Stating::statement_is, sql_grammar::proofs::Nested::nests_below))]
     fn statement(&self, cursor: &mut Cursor<'_>) -> Result<Statement, Fault>
         requires { Nests (suc (length cursor.old)) (F.pre self.now.expr) (G.pre self.now.query) (F.post self.now.expr) (G.post self.now.query) }
         ensures given { spec.Reads result (spec.reading n.StatementOf cursor.old) cursor.new }
@@ -306,7 +306,7 @@ impl<
         Ok(Statement { at, body })
     }
 
-    #[tactic(auto, using(crate::proofs::Nested::nests_below))]
+    #[tactic(auto, using(sql_grammar::proofs::Nested::nests_below))]
     fn optional_statement(
         &self,
         cursor: &mut Cursor<'_>,
@@ -322,7 +322,7 @@ impl<
         }
     }
 
-    #[tactic(auto, using(crate::proofs::Nested::nests_below))]
+    #[tactic(auto, using(sql_grammar::proofs::Nested::nests_below))]
     fn optional_statements(
         &self,
         cursor: &mut Cursor<'_>,
@@ -337,7 +337,7 @@ impl<
     }
 
     /// A whole script.
-    #[tactic(auto, using(crate::proofs::Stating::script_is, crate::proofs::Nested::nests_below))]
+    #[tactic(auto, using(crate::proofs::Stating::script_is, sql_grammar::proofs::Nested::nests_below))]
     pub(crate) fn script(&self, cursor: &mut Cursor<'_>) -> Result<Script, Fault>
         requires { Nests (suc (length cursor.old)) (F.pre self.now.expr) (G.pre self.now.query) (F.post self.now.expr) (G.post self.now.query) }
         ensures given { spec.Reads result (spec.reading n.ScriptOf cursor.old) cursor.new }

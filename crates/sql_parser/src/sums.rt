@@ -1,18 +1,18 @@
 //! Arithmetic.
 
 ghost use Rattle.std.specs.Prelude.{◌≡◌, ◌<◌, ◌≤◌, [], ◌∷◌, length, IfOk};
-ghost use Rattle.sql_parser.specs.Building as b;
-ghost use Rattle.sql_parser.specs.Cursors as spec;
-ghost use Rattle.sql_parser.specs.Lists.{all_of};
-ghost use Rattle.sql_parser.specs.Nests.{Nests};
-ghost use Rattle.sql_parser.specs.Symbols as n;
-ghost use Rattle.sql_parser.specs.declared.sort.Sort.TheVariants as s;
+ghost use Rattle.sql_grammar.specs.Building as b;
+ghost use Rattle.sql_grammar.specs.Cursors as spec;
+ghost use Rattle.sql_grammar.specs.Lists.{all_of};
+ghost use Rattle.sql_grammar.specs.Nests.{Nests};
+ghost use Rattle.sql_grammar.specs.Symbols as n;
+ghost use Rattle.sql_grammar.specs.declared.sort.Sort.TheVariants as s;
 
-use crate::cursor::Cursor;
-use crate::fault::Fault;
+use sql_grammar::Cursor;
+use sql_grammar::Fault;
 use crate::grammar::{Grammar, node};
-use crate::repeated::repeated;
-use crate::sort::{Sort, same_sort, sort_of};
+use sql_grammar::repeated;
+use sql_grammar::{Sort, same_sort, sort_of};
 use null_logic::Arith;
 use perm_values::{Boxed, List, NoMemory};
 use sql_lexer::Token;
@@ -78,7 +78,7 @@ impl<
     G: Fn(&mut Cursor<'_>) -> Result<Boxed<QueryTree>, Fault>,
 > Grammar<F, G>
 {
-    #[tactic(auto, using(crate::proofs::Counts::sign_is, crate::proofs::Nested::nests_below))]
+    #[tactic(auto, using(crate::proofs::Counts::sign_is, sql_grammar::proofs::Nested::nests_below))]
     fn sign(&self, cursor: &mut Cursor<'_>) -> Result<Boxed<ExprTree>, Fault>
         requires { Nests (length cursor.old) (F.pre self.now.expr) (G.pre self.now.query) (F.post self.now.expr) (G.post self.now.query) }
         ensures given { spec.Reads result (spec.reading n.Sign cursor.old) cursor.new }
@@ -90,7 +90,7 @@ impl<
         Ok(signed(cursor.alloc(), at, minuses.len() as u64, part)?)
     }
 
-    #[tactic(auto, using(crate::proofs::Steps::product_step_is, crate::proofs::Nested::nests_below))]
+    #[tactic(auto, using(sql_grammar::proofs::Steps::product_step_is, sql_grammar::proofs::Nested::nests_below))]
     fn product_step(&self, cursor: &mut Cursor<'_>) -> Result<ExprStep, Fault>
         requires { Nests (length cursor.old) (F.pre self.now.expr) (G.pre self.now.query) (F.post self.now.expr) (G.post self.now.query) }
         ensures given { spec.Reads result (spec.reading n.ProductStep cursor.old) cursor.new }
@@ -117,7 +117,7 @@ impl<
         )
     }
 
-    #[tactic(auto, using(crate::proofs::Steps::product_is, crate::proofs::Nested::nests_below))]
+    #[tactic(auto, using(sql_grammar::proofs::Steps::product_is, sql_grammar::proofs::Nested::nests_below))]
     fn product(&self, cursor: &mut Cursor<'_>) -> Result<Boxed<ExprTree>, Fault>
         requires { Nests (length cursor.old) (F.pre self.now.expr) (G.pre self.now.query) (F.post self.now.expr) (G.post self.now.query) }
         ensures given { spec.Reads result (spec.reading n.Product cursor.old) cursor.new }
@@ -128,7 +128,7 @@ impl<
         Ok(chain(cursor.alloc(), first, steps)?)
     }
 
-    #[tactic(auto, using(crate::proofs::Steps::sum_step_is, crate::proofs::Nested::nests_below))]
+    #[tactic(auto, using(sql_grammar::proofs::Steps::sum_step_is, sql_grammar::proofs::Nested::nests_below))]
     fn sum_step(&self, cursor: &mut Cursor<'_>) -> Result<ExprStep, Fault>
         requires { Nests (length cursor.old) (F.pre self.now.expr) (G.pre self.now.query) (F.post self.now.expr) (G.post self.now.query) }
         ensures given { spec.Reads result (spec.reading n.SumStep cursor.old) cursor.new }
@@ -153,7 +153,7 @@ impl<
         })
     }
 
-    #[tactic(auto, using(crate::proofs::Steps::sum_is, crate::proofs::Nested::nests_below))]
+    #[tactic(auto, using(sql_grammar::proofs::Steps::sum_is, sql_grammar::proofs::Nested::nests_below))]
     pub(crate) fn sum(&self, cursor: &mut Cursor<'_>) -> Result<Boxed<ExprTree>, Fault>
         requires { Nests (length cursor.old) (F.pre self.now.expr) (G.pre self.now.query) (F.post self.now.expr) (G.post self.now.query) }
         ensures given { spec.Reads result (spec.reading n.Sum cursor.old) cursor.new }

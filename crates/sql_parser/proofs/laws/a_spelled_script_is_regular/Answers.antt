@@ -1,5 +1,5 @@
 use Rattle.sql_parser.proofs.Regularity.{script-regular}
-use Rattle.sql_parser.proofs.TokenNumbers.{numbers-non_negative}
+use Rattle.sql_grammar.proofs.TokenNumbers.{numbers-non_negative}
 use Rattle.sql_parser.proofs.laws.a_spelled_script_is_regular.Goals as goal
 
 pub returns : goal.returns

@@ -1,14 +1,14 @@
 use Rattle.std.proofs.Common.{rules, refl, ap, ◌∙◌}
-use Rattle.sql_parser.specs.Cursors.{reading}
-use Rattle.sql_parser.specs.Symbols as n
-use Rattle.sql_parser.proofs.Steps.{reading-keeps, reading-takes}
+use Rattle.sql_grammar.specs.Cursors.{reading}
+use Rattle.sql_grammar.specs.Symbols as n
+use Rattle.sql_grammar.proofs.Steps.{reading-keeps, reading-takes}
 use Rattle.null_logic.specs.declared.operator.Operator.TheVariants.{Or}
-use Rattle.sql_parser.specs.Building as b
-use Rattle.sql_parser.specs.Descent.{mapped}
-use Rattle.sql_parser.specs.Lists.{listed}
-use Rattle.sql_parser.specs.declared.sort.Sort.TheVariants as s
+use Rattle.sql_grammar.specs.Building as b
+use Rattle.sql_grammar.specs.Descent.{mapped}
+use Rattle.sql_grammar.specs.Lists.{listed}
+use Rattle.sql_grammar.specs.declared.sort.Sort.TheVariants as s
 use Rattle.sql_parser.proofs.Connecting.{expr_is}
-use Rattle.sql_parser.proofs.Fewer.{fewer_of}
+use Rattle.sql_grammar.proofs.Fewer.{fewer_of}
 use Rattle.sql_parser.proofs.grammar.Grammar.disjuncts.Goals as goal
 
 pub returns-clause-given : goal.returns-clause-given

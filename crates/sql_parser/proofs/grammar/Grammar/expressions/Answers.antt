@@ -1,8 +1,8 @@
 use Rattle.std.proofs.Common.{rules, refl, ap, ◌∙◌}
-use Rattle.sql_parser.specs.Cursors.{reading}
-use Rattle.sql_parser.specs.Symbols as n
-use Rattle.sql_parser.proofs.Steps.{reading-keeps, reading-takes, exprs_is}
-use Rattle.sql_parser.proofs.Fewer.{fewer_of}
+use Rattle.sql_grammar.specs.Cursors.{reading}
+use Rattle.sql_grammar.specs.Symbols as n
+use Rattle.sql_grammar.proofs.Steps.{reading-keeps, reading-takes, exprs_is}
+use Rattle.sql_grammar.proofs.Fewer.{fewer_of}
 use Rattle.sql_parser.proofs.grammar.Grammar.expressions.Goals as goal
 
 pub returns-clause-given : goal.returns-clause-given

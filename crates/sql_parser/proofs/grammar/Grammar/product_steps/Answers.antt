@@ -1,7 +1,7 @@
 use Rattle.std.proofs.Common.{rules, refl}
-use Rattle.sql_parser.specs.Cursors.{reading}
-use Rattle.sql_parser.specs.Symbols as n
-use Rattle.sql_parser.proofs.Steps.{reading-takes}
+use Rattle.sql_grammar.specs.Cursors.{reading}
+use Rattle.sql_grammar.specs.Symbols as n
+use Rattle.sql_grammar.proofs.Steps.{reading-takes}
 use Rattle.sql_parser.proofs.grammar.Grammar.product_steps.Goals as goal
 
 pub returns-clause-given : goal.returns-clause-given

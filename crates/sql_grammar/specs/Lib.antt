@@ -1,0 +1,14 @@
+pub mod Building
+pub mod Cursors
+pub mod Descent
+pub mod FirstWrong
+pub mod Grammar
+pub mod Lists
+pub mod Nests
+pub mod Pieces
+pub mod Readers
+pub mod Rules
+pub mod Sorts
+pub mod Symbols
+pub mod Tables
+pub mod Toy

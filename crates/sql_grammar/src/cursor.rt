@@ -1,0 +1,174 @@
+ghost use Rattle.std.specs.Prelude.{◌≡◌, ◌<◌, ◌≤◌, [], ◌∷◌, length, IfOk};
+ghost use Rattle.sql_grammar.specs.Cursors as spec;
+ghost use Rattle.sql_grammar.specs.Pieces.{sees_table_star, word_if, word_at};
+
+use crate::fault::Fault;
+use crate::sort::{NAMES, Sort, is_among, same_sort, sort_of};
+use sql_lexer::Token;
+use std::alloc::Global;
+use std::marker::Model;
+
+/// The tokens that are still to be read.
+#[derive(Drop)]
+pub struct Cursor<'a> {
+    alloc: Global,
+    tokens: &'a [Token],
+    /// The sort of the next token, if there is one.
+    sort: Option<Sort>,
+}
+
+impl<'a> Model for Cursor<'a> {
+    ghost use Rattle.std.specs.Prelude.{◌≡◌, List};
+    ghost use Rattle.sql_lexer.specs.declared.token.Token.{Token};
+    ghost use Rattle.sql_grammar.specs.Cursors.{next_sort};
+
+    ghost Value = { List Token };
+
+    ghost view = { λ c. c.tokens.now };
+
+    ghost invariant = { λ c. c.sort ≡ next_sort c.tokens.now };
+}
+
+fn next_sort(tokens: &[Token]) -> Option<Sort>
+    ensures { result ≡ spec.next_sort tokens.now }
+{
+    match tokens.first() {
+        Some(token) => Some(sort_of(token)),
+        None => None,
+    }
+}
+
+impl<'a> Cursor<'a> {
+    pub fn new(alloc: Global, tokens: &'a [Token]) -> Cursor<'a>
+        ensures { result ≡ tokens.now }
+    {
+        Cursor {
+            alloc,
+            tokens,
+            sort: next_sort(tokens),
+        }
+    }
+
+    pub fn alloc(&self) -> Global {
+        self.alloc
+    }
+
+    /// The offset of the next token, or 0 where none is left.
+    pub fn place(&self) -> usize
+        ensures { result ≡ spec.place self.now }
+    {
+        match self.tokens.first() {
+            Some(token) => token.start,
+            None => 0,
+        }
+    }
+
+    /// The offset of the next token, if there is one.
+    pub fn next_place(&self) -> Option<usize>
+        ensures { result ≡ spec.next_place self.now }
+    {
+        match self.tokens.first() {
+            Some(token) => Some(token.start),
+            None => None,
+        }
+    }
+
+    /// Whether the next token is of this sort.
+    pub fn sees(&self, sort: Sort) -> bool
+        ensures { result ≡ spec.sees (sort ∷ []) self.now }
+    {
+        match self.sort {
+            Some(found) => same_sort(found, sort),
+            None => false,
+        }
+    }
+
+    /// Whether the next token is of one of these sorts.
+    pub fn sees_any(&self, sorts: &[Sort]) -> bool
+        ensures { result ≡ spec.sees sorts.now self.now }
+    {
+        match self.sort {
+            Some(found) => is_among(found, sorts),
+            None => false,
+        }
+    }
+
+    /// Takes the next token, if there is one.
+    fn take(&mut self) -> Result<&'a Token, Fault>
+        ensures given { spec.Sees (λ token. token.now) result (spec.next self.old) self.new }
+        ensures fewer { IfOk result (λ _. length self.new < length self.old) }
+    {
+        match self.tokens.split_first() {
+            Some((token, rest)) => {
+                self.tokens = rest;
+                self.sort = next_sort(rest);
+                Ok(token)
+            }
+            None => Err(Fault::Unexpected),
+        }
+    }
+
+    /// Takes the next token, which has to be of one of these sorts.
+    pub fn one(&mut self, sorts: &[Sort]) -> Result<&'a Token, Fault>
+        ensures given { spec.Sees (λ token. token.now) result (spec.one sorts.now self.old) self.new }
+        ensures fewer { IfOk result (λ _. length self.new < length self.old) }
+    {
+        if self.sees_any(sorts) {
+            self.take()
+        } else {
+            Err(Fault::Unexpected)
+        }
+    }
+
+    /// Goes past the next token, which has to be of this sort.
+    pub fn past(&mut self, sort: Sort) -> Result<(), Fault>
+        ensures given { spec.Reads result (spec.past sort self.old) self.new }
+        ensures fewer { IfOk result (λ _. length self.new < length self.old) }
+    {
+        if self.sees(sort) {
+            self.take()?;
+            Ok(())
+        } else {
+            Err(Fault::Unexpected)
+        }
+    }
+
+    /// Goes past the next token where it is of this sort, and says whether it is.
+    pub fn passes(&mut self, sort: Sort) -> Result<bool, Fault>
+        ensures given { spec.Reads result (spec.passing sort self.old) self.new }
+        ensures fewer { IfOk result (λ _. length self.new ≤ length self.old) }
+    {
+        let found = self.sees(sort);
+        if found {
+            self.take()?;
+        }
+        Ok(found)
+    }
+
+    /// Goes past a word that may stand next, and says whether it does.
+    pub fn option(&mut self, sort: Sort) -> Result<bool, Fault>
+        ensures given { spec.Sees word_if result (word_at sort self.old) self.new }
+        ensures fewer { IfOk result (λ _. length self.new ≤ length self.old) }
+    {
+        if self.sees(sort) {
+            self.past(sort)?;
+            Ok(true)
+        } else {
+            Ok(false)
+        }
+    }
+
+    /// Whether a name, a dot and a star stand next.
+    pub fn sees_table_star(&self) -> bool
+        ensures { result ≡ sees_table_star self.now }
+    {
+        match self.tokens {
+            [name, dot, star, ..] => {
+                is_among(sort_of(name), &NAMES)
+                    && is_among(sort_of(dot), &[Sort::Dot])
+                    && is_among(sort_of(star), &[Sort::Star])
+            }
+            [] | [_] | [_, _] => false,
+        }
+    }
+}

@@ -1,0 +1,18 @@
+//! The grammar of the SQL as data (after ISO/IEC 9075-2), what it means to read by it, and the tokens that are still to be read.
+#![tactic(auto)]
+
+mod clauses;
+mod cursor;
+mod fault;
+mod lists;
+mod names;
+mod query;
+mod repeats;
+mod sort;
+
+pub use cursor::Cursor;
+pub use fault::Fault;
+pub use lists::listed;
+pub use names::{name_of, reference};
+pub use repeats::repeated;
+pub use sort::{NAMES, Sort, is_among, same_sort, sort_of};

@@ -1,0 +1,172 @@
+//! FROM and its joins (ISO/IEC 9075-2, 'table reference').
+
+ghost use Rattle.std.specs.Prelude.{◌≡◌, ◌<◌, ◌≤◌, suc, length, IfOk};
+ghost use Rattle.sql_grammar.specs.Building as b;
+ghost use Rattle.sql_grammar.specs.Cursors as spec;
+ghost use Rattle.sql_grammar.specs.Nests.{Nests};
+ghost use Rattle.sql_grammar.specs.Pieces as piece;
+ghost use Rattle.sql_grammar.specs.Symbols as n;
+
+use sql_grammar::Cursor;
+use sql_grammar::Fault;
+use crate::grammar::Grammar;
+use sql_grammar::listed;
+use sql_grammar::repeated;
+use sql_grammar::{NAMES, Sort, same_sort, sort_of};
+use perm_values::{Boxed, List};
+use sql_lexer::Token;
+use sql_tree::{ExprTree, FromItem, FromSource, FromTree, JoinStep, JoinWord, Name, QueryTree, ScopeMark};
+
+impl<
+    F: Fn(&mut Cursor<'_>) -> Result<Boxed<ExprTree>, Fault>,
+    G: Fn(&mut Cursor<'_>) -> Result<Boxed<QueryTree>, Fault>,
+> Grammar<F, G>
+{
+    #[tactic(auto, using(sql_grammar::proofs::Nested::nests_below))]
+    fn inner_source(&self, cursor: &mut Cursor<'_>) -> Result<(FromSource, Option<Name>), Fault>
+        requires { Nests (length cursor.old) (F.pre self.now.expr) (G.pre self.now.query) (F.post self.now.expr) (G.post self.now.query) }
+        ensures given { spec.Reads result (piece.inner_source cursor.old) cursor.new }
+        ensures fewer { IfOk result (λ _. length cursor.new < length cursor.old) }
+    {
+        cursor.past(Sort::Opening)?;
+        let query = self.nested_query(cursor)?;
+        cursor.past(Sort::Closing)?;
+        cursor.option(Sort::As)?;
+        let name = cursor.name()?;
+        Ok((FromSource::Inner(query), Some(name)))
+    }
+
+    #[tactic(auto, using(sql_grammar::proofs::Queries::aliased_is))]
+    fn aliased(&self, cursor: &mut Cursor<'_>) -> Result<(FromSource, Option<Name>), Fault>
+        requires { Nests (length cursor.old) (F.pre self.now.expr) (G.pre self.now.query) (F.post self.now.expr) (G.post self.now.query) }
+        ensures given { spec.Reads result (spec.reading n.Aliased cursor.old) cursor.new }
+        ensures fewer { IfOk result (λ _. length cursor.new < length cursor.old) }
+    {
+        if cursor.sees_any(&NAMES) {
+            cursor.named_source()
+        } else {
+            self.inner_source(cursor)
+        }
+    }
+
+    #[tactic(auto, using(sql_grammar::proofs::Nested::reading_is, sql_grammar::proofs::Nested::nests_below))]
+    fn from_item(&self, cursor: &mut Cursor<'_>) -> Result<Boxed<FromItem>, Fault>
+        requires { Nests (length cursor.old) (F.pre self.now.expr) (G.pre self.now.query) (F.post self.now.expr) (G.post self.now.query) }
+        ensures given { spec.Reads result (spec.reading n.Source cursor.old) cursor.new }
+        ensures fewer { IfOk result (λ _. length cursor.new < length cursor.old) }
+    {
+        let at = cursor.place();
+        let (source, alias) = self.aliased(cursor)?;
+        let mark = cursor.mark()?;
+        let item = FromItem {
+            at,
+            source,
+            alias,
+            mark,
+        };
+        Ok(Boxed::new(cursor.alloc(), item)?)
+    }
+
+    #[tactic(auto, using(sql_grammar::proofs::Nested::nests_below))]
+    fn joined_on(&self, cursor: &mut Cursor<'_>) -> Result<JoinStep, Fault>
+        requires { Nests (length cursor.old) (F.pre self.now.expr) (G.pre self.now.query) (F.post self.now.expr) (G.post self.now.query) }
+        ensures given { spec.Reads result (piece.joined_on cursor.old) cursor.new }
+        ensures fewer { IfOk result (λ _. length cursor.new < length cursor.old) }
+    {
+        let word = cursor.join_kind()?;
+        let item = self.from_item(cursor)?;
+        cursor.past(Sort::On)?;
+        let condition = self.expression(cursor)?;
+        Ok(JoinStep {
+            word,
+            item: item.into_inner(),
+            condition: Some(condition.into_inner()),
+        })
+    }
+
+    #[tactic(auto, using(sql_grammar::proofs::Nested::nests_below))]
+    fn crossed(&self, cursor: &mut Cursor<'_>) -> Result<JoinStep, Fault>
+        requires { Nests (length cursor.old) (F.pre self.now.expr) (G.pre self.now.query) (F.post self.now.expr) (G.post self.now.query) }
+        ensures given { spec.Reads result (piece.crossed cursor.old) cursor.new }
+        ensures fewer { IfOk result (λ _. length cursor.new < length cursor.old) }
+    {
+        cursor.past(Sort::Cross)?;
+        cursor.past(Sort::Join)?;
+        let item = self.from_item(cursor)?;
+        Ok(JoinStep {
+            word: JoinWord::Cross,
+            item: item.into_inner(),
+            condition: None,
+        })
+    }
+
+    #[tactic(auto, using(sql_grammar::proofs::Queries::join_is))]
+    fn join(&self, cursor: &mut Cursor<'_>) -> Result<JoinStep, Fault>
+        requires { Nests (length cursor.old) (F.pre self.now.expr) (G.pre self.now.query) (F.post self.now.expr) (G.post self.now.query) }
+        ensures given { spec.Reads result (spec.reading n.Join cursor.old) cursor.new }
+        ensures fewer { IfOk result (λ _. length cursor.new < length cursor.old) }
+    {
+        if cursor.sees_any(&[Sort::Inner, Sort::Join, Sort::Left, Sort::Right, Sort::Full]) {
+            self.joined_on(cursor)
+        } else {
+            self.crossed(cursor)
+        }
+    }
+
+    #[tactic(auto, using(sql_grammar::proofs::Nested::nests_below))]
+    fn joins(&self, cursor: &mut Cursor<'_>) -> Result<List<JoinStep>, Fault>
+        requires { Nests (length cursor.old) (F.pre self.now.expr) (G.pre self.now.query) (F.post self.now.expr) (G.post self.now.query) }
+        ensures given { spec.Reads result (piece.joins cursor.old) cursor.new }
+        ensures fewer { IfOk result (λ _. length cursor.new ≤ length cursor.old) }
+    {
+        repeated(
+            cursor,
+            &[
+                Sort::Inner,
+                Sort::Join,
+                Sort::Left,
+                Sort::Right,
+                Sort::Full,
+                Sort::Cross,
+            ],
+            |cursor: &mut Cursor<'_>| self.join(cursor),
+        )
+    }
+
+    #[tactic(auto, using(sql_grammar::proofs::Queries::from_is, sql_grammar::proofs::Nested::nests_below))]
+    fn from_tree(&self, cursor: &mut Cursor<'_>) -> Result<FromTree, Fault>
+        requires { Nests (length cursor.old) (F.pre self.now.expr) (G.pre self.now.query) (F.post self.now.expr) (G.post self.now.query) }
+        ensures given { spec.Reads result (spec.reading n.From cursor.old) cursor.new }
+        ensures fewer { IfOk result (λ _. length cursor.new < length cursor.old) }
+    {
+        let first = self.from_item(cursor)?;
+        let joins = self.joins(cursor)?;
+        Ok(FromTree {
+            first: first.into_inner(),
+            joins,
+        })
+    }
+
+    #[tactic(auto, using(sql_grammar::proofs::Nested::nests_below))]
+    fn from_list(&self, cursor: &mut Cursor<'_>) -> Result<List<FromTree>, Fault>
+        requires { Nests (length cursor.old) (F.pre self.now.expr) (G.pre self.now.query) (F.post self.now.expr) (G.post self.now.query) }
+        ensures given { spec.Reads result (piece.from_list cursor.old) cursor.new }
+        ensures fewer { IfOk result (λ _. length cursor.new ≤ length cursor.old) }
+    {
+        listed(cursor, Sort::Comma, |cursor: &mut Cursor<'_>| self.from_tree(cursor))
+    }
+
+    #[tactic(auto, using(sql_grammar::proofs::Queries::sources_is, sql_grammar::proofs::Nested::nests_below))]
+    pub(crate) fn sources(&self, cursor: &mut Cursor<'_>) -> Result<List<FromTree>, Fault>
+        requires { Nests (length cursor.old) (F.pre self.now.expr) (G.pre self.now.query) (F.post self.now.expr) (G.post self.now.query) }
+        ensures given { spec.Reads result (spec.reading n.Sources cursor.old) cursor.new }
+        ensures fewer { IfOk result (λ _. length cursor.new ≤ length cursor.old) }
+    {
+        if cursor.sees(Sort::From) {
+            cursor.past(Sort::From)?;
+            self.from_list(cursor)
+        } else {
+            Ok(List::new(cursor.alloc()))
+        }
+    }
+}

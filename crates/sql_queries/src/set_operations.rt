@@ -1,0 +1,198 @@
+//! Queries and their set operations (ISO/IEC 9075-2, 'query expression').
+
+ghost use Rattle.std.specs.Prelude.{◌≡◌, ◌<◌, ◌≤◌, suc, length, IfOk};
+ghost use Rattle.sql_grammar.specs.Building as b;
+ghost use Rattle.sql_grammar.specs.Cursors as spec;
+ghost use Rattle.sql_grammar.specs.Nests.{Nests};
+ghost use Rattle.sql_grammar.specs.Pieces as piece;
+ghost use Rattle.sql_grammar.specs.Symbols as n;
+
+use sql_grammar::Cursor;
+use sql_grammar::Fault;
+use crate::grammar::Grammar;
+use sql_grammar::repeated;
+use sql_grammar::{Sort, same_sort, sort_of};
+use perm_values::{Boxed, List, NoMemory};
+use sql_lexer::Token;
+use sql_tree::{ExprTree, OrderTree, QueryTree, SetStep, SetTree, SetWord};
+use std::alloc::Global;
+
+fn set_word(token: &Token) -> SetWord
+    ensures { result ≡ b.set_word token.now }
+{
+    if same_sort(sort_of(token), Sort::Union) {
+        SetWord::Union
+    } else {
+        SetWord::Except
+    }
+}
+
+/// The chain of the steps behind the first operand; without steps the operand itself.
+#[tactic(auto, using(sql_grammar::proofs::Queries::set_chain_of))]
+fn set_chain(
+    alloc: Global,
+    first: Boxed<SetTree>,
+    steps: List<SetStep>,
+) -> Result<Boxed<SetTree>, NoMemory>
+    ensures { IfOk result (λ tree. tree ≡ b.set_chain (first, steps)) }
+{
+    if steps.is_empty() {
+        return Ok(first);
+    }
+    Boxed::new(alloc, SetTree::Chain { first, steps })
+}
+
+fn query_tree(
+    alloc: Global,
+    at: usize,
+    first: Boxed<SetTree>,
+    rest: (List<SetStep>, (List<SetStep>, (List<OrderTree>, Option<i64>))),
+) -> Result<Boxed<QueryTree>, NoMemory>
+    ensures { IfOk result (λ tree. tree ≡ b.query_rest rest at first) }
+{
+    let (intersections, (unions, (order, limit))) = rest;
+    let term = set_chain(alloc, first, intersections)?;
+    let body = set_chain(alloc, term, unions)?;
+    let query = QueryTree {
+        at,
+        body: body.into_inner(),
+        order,
+        limit,
+    };
+    Boxed::new(alloc, query)
+}
+
+impl<
+    F: Fn(&mut Cursor<'_>) -> Result<Boxed<ExprTree>, Fault>,
+    G: Fn(&mut Cursor<'_>) -> Result<Boxed<QueryTree>, Fault>,
+> Grammar<F, G>
+{
+    #[tactic(auto, using(sql_grammar::proofs::Nested::nests_below))]
+    fn parenthesised(&self, cursor: &mut Cursor<'_>) -> Result<Boxed<SetTree>, Fault>
+        requires { Nests (length cursor.old) (F.pre self.now.expr) (G.pre self.now.query) (F.post self.now.expr) (G.post self.now.query) }
+        ensures given { spec.Reads result (piece.parenthesised cursor.old) cursor.new }
+        ensures fewer { IfOk result (λ _. length cursor.new < length cursor.old) }
+    {
+        cursor.past(Sort::Opening)?;
+        let query = self.nested_query(cursor)?;
+        cursor.past(Sort::Closing)?;
+        Ok(Boxed::new(cursor.alloc(), SetTree::Paren(query))?)
+    }
+
+    #[tactic(auto, using(sql_grammar::proofs::Queries::operand_is))]
+    fn operand(&self, cursor: &mut Cursor<'_>) -> Result<Boxed<SetTree>, Fault>
+        requires { Nests (length cursor.old) (F.pre self.now.expr) (G.pre self.now.query) (F.post self.now.expr) (G.post self.now.query) }
+        ensures given { spec.Reads result (spec.reading n.Operand cursor.old) cursor.new }
+        ensures fewer { IfOk result (λ _. length cursor.new < length cursor.old) }
+    {
+        if cursor.sees(Sort::Select) {
+            let core = self.core(cursor)?;
+            Ok(Boxed::new(cursor.alloc(), SetTree::Core(core))?)
+        } else {
+            self.parenthesised(cursor)
+        }
+    }
+
+    #[tactic(auto, using(sql_grammar::proofs::Queries::intersect_is, sql_grammar::proofs::Nested::nests_below))]
+    fn intersect_step(&self, cursor: &mut Cursor<'_>) -> Result<SetStep, Fault>
+        requires { Nests (length cursor.old) (F.pre self.now.expr) (G.pre self.now.query) (F.post self.now.expr) (G.post self.now.query) }
+        ensures given { spec.Reads result (spec.reading n.IntersectStep cursor.old) cursor.new }
+        ensures fewer { IfOk result (λ _. length cursor.new < length cursor.old) }
+    {
+        cursor.past(Sort::Intersect)?;
+        let all = cursor.has(Sort::All)?;
+        let at = cursor.place();
+        let operand = self.operand(cursor)?;
+        Ok(SetStep {
+            word: SetWord::Intersect,
+            all,
+            at,
+            operand: operand.into_inner(),
+        })
+    }
+
+    #[tactic(auto, using(sql_grammar::proofs::Nested::nests_below))]
+    fn intersections(&self, cursor: &mut Cursor<'_>) -> Result<List<SetStep>, Fault>
+        requires { Nests (length cursor.old) (F.pre self.now.expr) (G.pre self.now.query) (F.post self.now.expr) (G.post self.now.query) }
+        ensures given { spec.Reads result (piece.intersections cursor.old) cursor.new }
+        ensures fewer { IfOk result (λ _. length cursor.new ≤ length cursor.old) }
+    {
+        repeated(cursor, &[Sort::Intersect], |cursor: &mut Cursor<'_>| self.intersect_step(cursor))
+    }
+
+    #[tactic(auto, using(sql_grammar::proofs::Queries::term_is, sql_grammar::proofs::Nested::nests_below))]
+    fn term(&self, cursor: &mut Cursor<'_>) -> Result<Boxed<SetTree>, Fault>
+        requires { Nests (length cursor.old) (F.pre self.now.expr) (G.pre self.now.query) (F.post self.now.expr) (G.post self.now.query) }
+        ensures given { spec.Reads result (spec.reading n.Term cursor.old) cursor.new }
+        ensures fewer { IfOk result (λ _. length cursor.new < length cursor.old) }
+    {
+        let first = self.operand(cursor)?;
+        let steps = self.intersections(cursor)?;
+        Ok(set_chain(cursor.alloc(), first, steps)?)
+    }
+
+    #[tactic(auto, using(sql_grammar::proofs::Queries::union_is, sql_grammar::proofs::Nested::nests_below))]
+    fn union_step(&self, cursor: &mut Cursor<'_>) -> Result<SetStep, Fault>
+        requires { Nests (length cursor.old) (F.pre self.now.expr) (G.pre self.now.query) (F.post self.now.expr) (G.post self.now.query) }
+        ensures given { spec.Reads result (spec.reading n.UnionStep cursor.old) cursor.new }
+        ensures fewer { IfOk result (λ _. length cursor.new < length cursor.old) }
+    {
+        let token = cursor.one(&[Sort::Union, Sort::Except])?;
+        let word = set_word(token);
+        let all = cursor.has(Sort::All)?;
+        let at = cursor.place();
+        let operand = self.term(cursor)?;
+        Ok(SetStep {
+            word,
+            all,
+            at,
+            operand: operand.into_inner(),
+        })
+    }
+
+    #[tactic(auto, using(sql_grammar::proofs::Nested::nests_below))]
+    fn unions(&self, cursor: &mut Cursor<'_>) -> Result<List<SetStep>, Fault>
+        requires { Nests (length cursor.old) (F.pre self.now.expr) (G.pre self.now.query) (F.post self.now.expr) (G.post self.now.query) }
+        ensures given { spec.Reads result (piece.unions cursor.old) cursor.new }
+        ensures fewer { IfOk result (λ _. length cursor.new ≤ length cursor.old) }
+    {
+        repeated(cursor, &[Sort::Union, Sort::Except], |cursor: &mut Cursor<'_>| self.union_step(cursor))
+    }
+
+    #[tactic(auto, using(sql_grammar::proofs::Nested::nests_below))]
+    fn unions_on(&self, cursor: &mut Cursor<'_>) -> Result<(List<SetStep>, (List<OrderTree>, Option<i64>)), Fault>
+        requires { Nests (length cursor.old) (F.pre self.now.expr) (G.pre self.now.query) (F.post self.now.expr) (G.post self.now.query) }
+        ensures given { spec.Reads result (piece.unions_on cursor.old) cursor.new }
+        ensures fewer { IfOk result (λ _. length cursor.new ≤ length cursor.old) }
+    {
+        let steps = self.unions(cursor)?;
+        let rest = cursor.ends()?;
+        Ok((steps, rest))
+    }
+
+    #[tactic(auto, using(sql_grammar::proofs::Nested::nests_below))]
+    fn query_rest(&self, cursor: &mut Cursor<'_>) -> Result<(List<SetStep>, (List<SetStep>, (List<OrderTree>, Option<i64>))), Fault>
+        requires { Nests (length cursor.old) (F.pre self.now.expr) (G.pre self.now.query) (F.post self.now.expr) (G.post self.now.query) }
+        ensures given { spec.Reads result (piece.query_rest cursor.old) cursor.new }
+        ensures fewer { IfOk result (λ _. length cursor.new ≤ length cursor.old) }
+    {
+        let steps = self.intersections(cursor)?;
+        let rest = self.unions_on(cursor)?;
+        Ok((steps, rest))
+    }
+
+    /// A query, whose inner queries are read by another function.
+    #[tactic(auto, using(sql_grammar::proofs::Queries::query_is, sql_grammar::proofs::Nested::nests_below))]
+    pub fn query_body(&self, cursor: &mut Cursor<'_>) -> Result<Boxed<QueryTree>, Fault>
+        requires { Nests (length cursor.old) (F.pre self.now.expr) (G.pre self.now.query) (F.post self.now.expr) (G.post self.now.query) }
+        ensures given { spec.Reads result (spec.reading n.Query cursor.old) cursor.new }
+        ensures fewer { IfOk result (λ _. length cursor.new < length cursor.old) }
+    {
+        let at = cursor.place();
+        let first = self.operand(cursor)?;
+        let rest = self.query_rest(cursor)?;
+        Ok(query_tree(cursor.alloc(), at, first, rest)?)
+    }
+
+
+}
