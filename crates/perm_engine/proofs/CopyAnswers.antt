@@ -4,12 +4,12 @@ use Rattle.perm_catalog.specs.Changes.{table_named}
 use Rattle.perm_catalog.specs.Contents.{Contents}
 use Rattle.perm_catalog.specs.declared.entries.TableEntry.{TableEntry}
 use Rattle.perm_engine.specs.Asking.{copy_asks, copy_outcome, copy_refusal, IsAnswered, IsOutcome}
-use Rattle.perm_engine.specs.Copying.{copy, copy_to, IsAdded, IsCopy}
-use Rattle.perm_engine.specs.Found.{Found}
-use Rattle.perm_engine.specs.Step.{Stepped}
-use Rattle.perm_engine.specs.declared.copy.CopyBreak.{CopyBreak}
-use Rattle.perm_engine.specs.declared.copy.CopyBreak.TheVariants.{UnknownTable, VersionsSpent, File}
-use Rattle.perm_engine.specs.declared.copying.CopyRefusal.TheVariants as refusal
+use Rattle.statement_steps.specs.Copying.{copy, copy_to, IsAdded, IsCopy}
+use Rattle.statement_steps.specs.Found.{Found}
+use Rattle.statement_steps.specs.Step.{Stepped}
+use Rattle.statement_steps.specs.declared.copy.CopyBreak.{CopyBreak}
+use Rattle.statement_steps.specs.declared.copy.CopyBreak.TheVariants.{UnknownTable, VersionsSpent, File}
+use Rattle.statement_steps.specs.declared.copying.CopyRefusal.TheVariants as refusal
 use Rattle.perm_engine.specs.declared.step_refusal.StepRefusal.{StepRefusal}
 
 -- the answer of a COPY at an offset

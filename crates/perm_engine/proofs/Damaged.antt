@@ -3,7 +3,7 @@ use Rattle.std.proofs.Common.{◌≡◌, ◌∙◌, ◌⊎◌, ℕ, ◌<◌, Boo
 use Rattle.std.specs.Io.KnownBytes.{append_known}
 use Rattle.perm_io.proofs.Known.{append_known-append_known}
 use Rattle.perm_engine.specs.Asking.{is_missing, is_too_large}
-use Rattle.perm_engine.specs.Copying.{file_limit}
+use Rattle.statement_steps.specs.Copying.{file_limit}
 use Rattle.perm_engine.specs.DataLines.{data_line}
 use Rattle.perm_engine.specs.Ends.{Written, Ends, EndsStopped, EndsUnfit}
 use Rattle.perm_engine.specs.Lines.{error_line}

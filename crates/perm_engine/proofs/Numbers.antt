@@ -9,19 +9,19 @@ use Rattle.sql_tree.specs.declared.statement.Statement.{Statement}
 use Rattle.sql_commands.specs.Commands.{command_of}
 use Rattle.sql_commands.specs.Lists.{all_of}
 use Rattle.perm_engine.specs.Run.{StopsBy, StopsAsked, StopsAt}
-use Rattle.perm_engine.specs.Step.{kinds_in_order, Stepped, Turn, Stands, Refuses, unfit, last_number, drawing, with_entry, can_create, all_fit, insert_into, delete_from, drop_unused, select_places, place_from, names_of, step, step_of, turn}
+use Rattle.statement_steps.specs.Step.{kinds_in_order, Stepped, Turn, Stands, Refuses, unfit, last_number, drawing, with_entry, can_create, all_fit, insert_into, delete_from, drop_unused, select_places, place_from, names_of, step, step_of, turn}
 use Rattle.sql_commands.specs.declared.command.Command.{Command}
 use Rattle.sql_commands.specs.declared.command.Command.TheVariants.{CreateTable, Insert, Select, Delete, DropTable}
-use Rattle.perm_engine.specs.declared.refusal.Break.{Break}
+use Rattle.statement_steps.specs.declared.refusal.Break.{Break}
 use Rattle.bag_algebra.specs.Bags.{Bag}
 use Rattle.sql_tree.specs.declared.statement.StatementBody.{StatementBody}
 use Rattle.sql_tree.specs.declared.statement.StatementBody.TheVariants as st
 use Rattle.perm_engine.specs.Asking.{Outcome, Asked, Settled, Begins, settled, copy_outcome, copy_asks, asks, asked}
-use Rattle.perm_engine.specs.Copying.{copied, copy_into, copy_to, copy_text}
-use Rattle.perm_engine.specs.Found.{Found}
-use Rattle.perm_engine.specs.declared.copy.CopyBreak.TheVariants.{VersionsSpent}
-use Rattle.perm_engine.specs.declared.copying.CopyRefusal.{CopyRefusal}
-use Rattle.perm_engine.specs.declared.copying.CopyRefusal.TheVariants as file
+use Rattle.statement_steps.specs.Copying.{copied, copy_into, copy_to, copy_text}
+use Rattle.statement_steps.specs.Found.{Found}
+use Rattle.statement_steps.specs.declared.copy.CopyBreak.TheVariants.{VersionsSpent}
+use Rattle.statement_steps.specs.declared.copying.CopyRefusal.{CopyRefusal}
+use Rattle.statement_steps.specs.declared.copying.CopyRefusal.TheVariants as file
 use Rattle.perm_engine.specs.declared.step_refusal.StepRefusal.{StepRefusal}
 use Rattle.perm_engine.specs.declared.step_refusal.StepRefusal.TheVariants as r
 

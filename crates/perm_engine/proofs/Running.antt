@@ -4,14 +4,14 @@ use Rattle.perm_io.specs.Counts.{HasRisen, next_count}
 use Rattle.perm_io.specs.declared.named_file.NamedFile.{NamedFile}
 use Rattle.perm_catalog.specs.Changes.{nothing_held}
 use Rattle.sql_tree.specs.declared.statement.Script.{Script}
-use Rattle.perm_engine.specs.Copying.{file_limit}
+use Rattle.statement_steps.specs.Copying.{file_limit}
 use Rattle.perm_engine.specs.Ends.{Written, Ends, EndsOne, EndsSome, EndsRefused, Opens, opened}
-use Rattle.perm_engine.specs.Found.{Found, CanBe}
+use Rattle.statement_steps.specs.Found.{Found, CanBe}
 use Rattle.perm_engine.specs.Lines.{error_line}
 use Rattle.perm_engine.specs.Run.{Ran, Runs, RunsFrom, RunsScript, RunsFile, is_one, usage, IsOfScript, line_alone, after_files, script_limit}
 use Rattle.perm_engine.specs.Scripts.{IsReading, IsScriptOf}
-use Rattle.perm_engine.specs.declared.refusal.CommandRefusal.{CommandRefusal}
-use Rattle.perm_engine.specs.declared.refusal.CommandRefusal.TheVariants.{Break, NoMemory}
+use Rattle.statement_steps.specs.declared.refusal.CommandRefusal.{CommandRefusal}
+use Rattle.statement_steps.specs.declared.refusal.CommandRefusal.TheVariants.{Break, NoMemory}
 use Rattle.perm_engine.specs.declared.status.Status.{Status}
 use Rattle.perm_engine.specs.declared.status.Status.TheVariants as status
 use Rattle.perm_engine.proofs.Ending.{Ends-files, opened-more}

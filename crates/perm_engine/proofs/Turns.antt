@@ -6,9 +6,9 @@ use Rattle.perm_io.specs.declared.named_file.NamedFile.{NamedFile}
 use Rattle.perm_catalog.specs.Contents.{Contents}
 use Rattle.sql_tree.specs.declared.statement.Statement.{Statement}
 use Rattle.perm_engine.specs.Asking.{Outcome, Asked, Settled, Begins, asked, begins, is_short, has_failed, IsAnswered, IsOutcome}
-use Rattle.perm_engine.specs.Copying.{file_limit}
+use Rattle.statement_steps.specs.Copying.{file_limit}
 use Rattle.perm_engine.specs.Ends.{opened}
-use Rattle.perm_engine.specs.Found.{Found, Read, Missing, TooLong, CanBe}
+use Rattle.statement_steps.specs.Found.{Found, Read, Missing, TooLong, CanBe}
 use Rattle.perm_engine.specs.Run.{Ran, line_alone, after_text, after_files, refusal_line, refusal_status, is_failed, GoesOn, Asks, RunsFrom}
 use Rattle.perm_engine.specs.declared.step_refusal.StepRefusal.{StepRefusal}
 use Rattle.perm_engine.specs.declared.step_refusal.StepRefusal.TheVariants as r

@@ -6,12 +6,12 @@ use Rattle.perm_catalog.specs.declared.entries.TableEntry.{TableEntry}
 use Rattle.sql_tree.specs.declared.statement.Statement.{Statement}
 use Rattle.sql_tree.specs.declared.statement.StatementBody.{StatementBody}
 use Rattle.sql_tree.specs.declared.statement.StatementBody.TheVariants as st
-use Rattle.perm_engine.specs.Copying.{copy}
-use Rattle.perm_engine.specs.Found.{Found}
-use Rattle.perm_engine.specs.Step.{Stepped, Turn, Stands, Refuses, turn}
-use Rattle.perm_engine.specs.declared.copy.CopyBreak.{CopyBreak}
-use Rattle.perm_engine.specs.declared.copy.CopyBreak.TheVariants.{UnknownTable, VersionsSpent, File}
-use Rattle.perm_engine.specs.declared.copying.CopyRefusal.TheVariants as file
+use Rattle.statement_steps.specs.Copying.{copy}
+use Rattle.statement_steps.specs.Found.{Found}
+use Rattle.statement_steps.specs.Step.{Stepped, Turn, Stands, Refuses, turn}
+use Rattle.statement_steps.specs.declared.copy.CopyBreak.{CopyBreak}
+use Rattle.statement_steps.specs.declared.copy.CopyBreak.TheVariants.{UnknownTable, VersionsSpent, File}
+use Rattle.statement_steps.specs.declared.copying.CopyRefusal.TheVariants as file
 use Rattle.perm_engine.specs.declared.step_refusal.StepRefusal.{StepRefusal}
 use Rattle.perm_engine.specs.declared.step_refusal.StepRefusal.TheVariants.{Break, Missing, TooLarge, Unfit, ReadFault, NoMemory}
 

@@ -7,8 +7,8 @@ use Rattle.perm_engine.specs.Run.{Ran, text_of, line_alone, refusal_line, IsWhol
 use Rattle.csv_tables.specs.declared.data_error.DataError.{DataError}
 use Rattle.perm_engine.specs.DataLines.{data_line}
 use Rattle.perm_engine.specs.Lines.{error_line}
-use Rattle.perm_engine.specs.declared.refusal.CommandRefusal.{CommandRefusal}
-use Rattle.perm_engine.specs.declared.refusal.CommandRefusal.TheVariants.{Break, NoMemory}
+use Rattle.statement_steps.specs.declared.refusal.CommandRefusal.{CommandRefusal}
+use Rattle.statement_steps.specs.declared.refusal.CommandRefusal.TheVariants.{Break, NoMemory}
 use Rattle.perm_engine.specs.declared.step_refusal.StepRefusal.{StepRefusal}
 use Rattle.perm_engine.specs.declared.step_refusal.StepRefusal.TheVariants as step
 use Rattle.perm_engine.specs.declared.status.Status.{Status}

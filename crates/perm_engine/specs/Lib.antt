@@ -1,11 +1,7 @@
-pub mod Answers
 pub mod Asking
-pub mod Copying
 pub mod DataLines
 pub mod Ends
-pub mod Found
 pub mod Lines
 pub mod Run
 pub mod Scripts
 pub mod Statuses
-pub mod Step

@@ -1,7 +1,7 @@
 -- The lines that name a refusal.
 use Rattle.std.specs.Prelude.{ℕ, nat_lt, cond, List, [], ◌++◌, codes}
 use Rattle.std.specs.Fmt.{decimal}
-use Rattle.perm_engine.specs.declared.refusal.Break.{Break}
+use Rattle.statement_steps.specs.declared.refusal.Break.{Break}
 
 -- a number of at least two digits
 abbrev pub two_digits : ℕ → List ℕ

@@ -7,12 +7,12 @@ use Rattle.perm_catalog.specs.Contents.{Contents}
 use Rattle.sql_tree.specs.declared.statement.Script.{Script}
 use Rattle.sql_tree.specs.declared.statement.Statement.{Statement}
 use Rattle.perm_engine.specs.Asking.{Outcome, Asked, Settled, Begins, asked}
-use Rattle.perm_engine.specs.Copying.{file_limit}
+use Rattle.statement_steps.specs.Copying.{file_limit}
 use Rattle.perm_engine.specs.DataLines.{data_line}
-use Rattle.perm_engine.specs.Found.{Found, Read, Missing, TooLong, Failed, CanBe}
+use Rattle.statement_steps.specs.Found.{Found, Read, Missing, TooLong, Failed, CanBe}
 use Rattle.perm_engine.specs.Lines.{error_line}
 use Rattle.perm_engine.specs.Scripts.{IsScriptOf, IsMisspelled}
-use Rattle.perm_engine.specs.declared.refusal.Break.{Break}
+use Rattle.statement_steps.specs.declared.refusal.Break.{Break}
 use Rattle.perm_engine.specs.declared.step_refusal.StepRefusal.{StepRefusal}
 use Rattle.perm_engine.specs.declared.step_refusal.StepRefusal.TheVariants as refusal
 use Rattle.perm_engine.specs.declared.step_refusal.StepRefusal.TheVariants.{Break as Broken, Unfit, ReadFault, NoMemory}

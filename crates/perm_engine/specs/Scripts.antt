@@ -8,9 +8,9 @@ use Rattle.sql_lexer.specs.declared.token.Token.{Token}
 use Rattle.sql_parser.specs.Nesting as nesting
 use Rattle.sql_parser.specs.Spells.{Spells, IsUnexpected}
 use Rattle.sql_tree.specs.declared.statement.Script.{Script}
-use Rattle.perm_engine.specs.declared.refusal.Break.{Break}
-use Rattle.perm_engine.specs.declared.refusal.CommandRefusal.{CommandRefusal}
-use Rattle.perm_engine.specs.declared.refusal.CommandRefusal.TheVariants.{Break as Broken, NoMemory}
+use Rattle.statement_steps.specs.declared.refusal.Break.{Break}
+use Rattle.statement_steps.specs.declared.refusal.CommandRefusal.{CommandRefusal}
+use Rattle.statement_steps.specs.declared.refusal.CommandRefusal.TheVariants.{Break as Broken, NoMemory}
 
 -- the bytes are split into tokens that nest within bounds and spell the script
 pub record IsScriptOf (bytes : List ℕ) (script : Script) : Type 0 where

@@ -1,7 +1,7 @@
 ghost use Rattle.std.specs.Prelude.{◌≡◌, IfOk};
 ghost use Rattle.perm_engine.specs.DataLines.{data_line, field_line, record_line};
 
-use crate::text::text_of;
+use statement_steps::text_of;
 use csv_tables::DataError;
 use perm_values::{Bytes, NoMemory};
 use std::alloc::Global;

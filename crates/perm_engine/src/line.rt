@@ -1,8 +1,8 @@
 ghost use Rattle.std.specs.Prelude.{◌≡◌, ◌++◌, IfOk, OnOk};
 ghost use Rattle.perm_engine.specs.Lines.{two_digits, error_line};
 
-use crate::refusal::Break;
-use crate::text::text_of;
+use statement_steps::Break;
+use statement_steps::text_of;
 use perm_values::{Bytes, NoMemory};
 use std::alloc::Global;
 

@@ -1,16 +1,16 @@
 ghost use Rattle.std.specs.Prelude.{◌≡◌, ◌⊎◌, ◌<◌, IsTrue, true, false};
 ghost use Rattle.perm_io.specs.Counts.{HasRisen};
 ghost use Rattle.perm_catalog.specs.Changes.{nothing_held};
-ghost use Rattle.perm_engine.specs.Copying.{file_limit};
+ghost use Rattle.statement_steps.specs.Copying.{file_limit};
 ghost use Rattle.perm_engine.specs.DataLines.{data_line};
 ghost use Rattle.perm_engine.specs.Ends.{Ends, EndsOne, EndsSome, EndsRefused, EndsStopped, EndsUnfit};
-ghost use Rattle.perm_engine.specs.Found.{CanBe};
+ghost use Rattle.statement_steps.specs.Found.{CanBe};
 ghost use Rattle.perm_engine.specs.Lines.{error_line};
 ghost use Rattle.perm_engine.specs.Run.{Runs, RunsFrom, RunsScript, line_alone, is_failed, is_one, IsWhole, IsSteady, IsOfScript, script_limit};
 
 use crate::data_line::data_line;
 use crate::line::error_line;
-use crate::refusal::{Break, CommandRefusal};
+use statement_steps::{Break, CommandRefusal};
 use crate::script::script_of;
 use crate::session::Session;
 use crate::status::Status;

@@ -2,7 +2,7 @@ ghost use Rattle.std.specs.Prelude.{◌≡◌};
 ghost use Rattle.sql_lexer.specs.Lexes.{Lexes};
 ghost use Rattle.perm_engine.specs.Scripts.{IsReading, no_tokens};
 
-use crate::refusal::CommandRefusal;
+use statement_steps::CommandRefusal;
 use perm_values::List;
 use sql_lexer::{LexError, Token, tokens};
 use sql_parser::{SyntaxError, script};

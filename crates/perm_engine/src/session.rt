@@ -1,15 +1,15 @@
 ghost use Rattle.std.specs.Prelude.{◌≡◌, ◌⊎◌, ◌<◌, IsTrue, false};
 ghost use Rattle.perm_catalog.specs.Changes.{nothing_held, table_named};
 ghost use Rattle.perm_io.specs.Counts.{next_count, CountsFault, HasRisen};
-ghost use Rattle.perm_engine.specs.Answers.{IsTurn};
+ghost use Rattle.statement_steps.specs.Answers.{IsTurn};
 ghost use Rattle.perm_engine.specs.Asking.{asked, begins, copy_asks, has_failed, is_missing, is_short, is_too_large, settled, IsAnswered, IsOutcome};
-ghost use Rattle.perm_engine.specs.Copying.{file_limit};
-ghost use Rattle.perm_engine.specs.Found.{CanBe};
-ghost use Rattle.perm_engine.specs.Step.{turn};
+ghost use Rattle.statement_steps.specs.Copying.{file_limit};
+ghost use Rattle.statement_steps.specs.Found.{CanBe};
+ghost use Rattle.statement_steps.specs.Step.{turn};
 
-use crate::copy::copy_into;
-use crate::refusal::CommandRefusal;
-use crate::step::step;
+use statement_steps::copy_into;
+use statement_steps::CommandRefusal;
+use statement_steps::step;
 use crate::step_refusal::StepRefusal;
 use perm_catalog::Catalog;
 use perm_io::Files;

@@ -1,9 +1,9 @@
 ghost use Rattle.std.specs.Prelude.{◌≡◌};
 ghost use Rattle.perm_engine.specs.Asking.{copy_refusal};
 
-use crate::copy::CopyBreak;
-use crate::copying::CopyRefusal;
-use crate::refusal::{Break, CommandRefusal};
+use statement_steps::CopyBreak;
+use statement_steps::CopyRefusal;
+use statement_steps::{Break, CommandRefusal};
 use csv_tables::DataError;
 
 /// Why a session doesn't run a statement. Offsets are the statement's.

@@ -3,8 +3,8 @@ use Rattle.perm_io.specs.Counts.{HasRisen, CountsFault}
 use Rattle.perm_io.specs.declared.named_file.NamedFile.{NamedFile}
 use Rattle.perm_catalog.specs.Changes.{nothing_held}
 use Rattle.perm_engine.specs.Asking.{asked, has_failed, IsAnswered}
-use Rattle.perm_engine.specs.Copying.{file_limit}
-use Rattle.perm_engine.specs.Found.{CanBe}
+use Rattle.statement_steps.specs.Copying.{file_limit}
+use Rattle.statement_steps.specs.Found.{CanBe}
 use Rattle.perm_engine.specs.declared.status.Status.TheVariants as status
 use Rattle.perm_engine.specs.Ends.{joined}
 use Rattle.perm_engine.proofs.Damaged.{damaged, damaged-by}

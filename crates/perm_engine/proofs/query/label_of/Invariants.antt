@@ -1,6 +1,0 @@
-use Rattle.std.proofs.Common.{◌≡◌, take}
-use Rattle.perm_engine.specs.Step.{names_of}
-use Rattle.perm_engine.proofs.query.label_of.Given as goal
-
-abbrev pub invariant-loop-column : goal.invariant-loop-column
-invariant-loop-column l = l.names ≡ names_of (take l.column-index l.columns)

@@ -1,0 +1,4 @@
+pub mod CopiedFile
+pub mod CopiedInto
+pub mod Fitting
+pub mod Queries

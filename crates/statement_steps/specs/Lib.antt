@@ -1,0 +1,4 @@
+pub mod Answers
+pub mod Copying
+pub mod Found
+pub mod Step
