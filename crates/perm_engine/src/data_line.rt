@@ -1,9 +1,9 @@
 ghost use Rattle.std.specs.Prelude.{◌≡◌, IfOk};
 ghost use Rattle.perm_engine.specs.DataLines.{data_line, field_line, record_line};
 
-use statement_steps::text_of;
 use csv_tables::DataError;
 use perm_values::{Bytes, NoMemory};
+use statement_steps::text_of;
 use std::alloc::Global;
 
 /// The line that names what is wrong with a file's records; want of memory has none.

@@ -1,9 +1,8 @@
 ghost use Rattle.std.specs.Prelude.{◌≡◌, ◌++◌, IfOk, OnOk};
 ghost use Rattle.perm_engine.specs.Lines.{two_digits, error_line};
 
-use statement_steps::Break;
-use statement_steps::text_of;
 use perm_values::{Bytes, NoMemory};
+use statement_steps::{Break, text_of};
 use std::alloc::Global;
 
 /// The line that names a break.

@@ -10,7 +10,6 @@ ghost use Rattle.perm_engine.specs.Run.{Runs, RunsFrom, RunsScript, line_alone, 
 
 use crate::data_line::data_line;
 use crate::line::error_line;
-use statement_steps::{Break, CommandRefusal};
 use crate::script::script_of;
 use crate::session::Session;
 use crate::status::Status;
@@ -19,6 +18,7 @@ use csv_tables::DataError;
 use perm_io::{Files, ReadError, Sink, read_all, write_all};
 use perm_values::{Chars, List};
 use sql_tree::Statement;
+use statement_steps::{Break, CommandRefusal};
 use std::alloc::Global;
 
 /// The greatest length of a script, in bytes.

@@ -2,11 +2,11 @@ ghost use Rattle.std.specs.Prelude.{◌≡◌};
 ghost use Rattle.sql_lexer.specs.Lexes.{Lexes};
 ghost use Rattle.perm_engine.specs.Scripts.{IsReading, no_tokens};
 
-use statement_steps::CommandRefusal;
 use perm_values::List;
 use sql_lexer::{LexError, Token, tokens};
 use sql_parser::{SyntaxError, script};
 use sql_tree::Script;
+use statement_steps::CommandRefusal;
 use std::alloc::Global;
 
 /// The script that the bytes spell; a break says why they spell none.

@@ -7,15 +7,13 @@ ghost use Rattle.statement_steps.specs.Copying.{file_limit};
 ghost use Rattle.statement_steps.specs.Found.{CanBe};
 ghost use Rattle.statement_steps.specs.Step.{turn};
 
-use statement_steps::copy_into;
-use statement_steps::CommandRefusal;
-use statement_steps::step;
 use crate::step_refusal::StepRefusal;
 use perm_catalog::Catalog;
 use perm_io::Files;
 use perm_values::{Bytes, Chars};
 use sql_commands::command_of;
 use sql_tree::{Statement, StatementBody};
+use statement_steps::{CommandRefusal, copy_into, step};
 use std::alloc::Global;
 use std::marker::Model;
 

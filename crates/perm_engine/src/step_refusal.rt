@@ -1,10 +1,8 @@
 ghost use Rattle.std.specs.Prelude.{◌≡◌};
 ghost use Rattle.perm_engine.specs.Asking.{copy_refusal};
 
-use statement_steps::CopyBreak;
-use statement_steps::CopyRefusal;
-use statement_steps::{Break, CommandRefusal};
 use csv_tables::DataError;
+use statement_steps::{Break, CommandRefusal, CopyBreak, CopyRefusal};
 
 /// Why a session doesn't run a statement. Offsets are the statement's.
 #[derive(Clone, Copy, Debug, PartialEq, Eq)]

@@ -19,14 +19,20 @@ pub parses : (tokens : List Token) (length : ℕ) → too_deep tokens ≡ None �
     → Reads read (reading ScriptOf tokens) rest → Parses tokens length (ended read rest length)
 unfolding reading
 parses tokens length shallow (Ok script) [] e = (shallow, whole-spelled sql sql_tables goes_on decided ScriptOf tokens script e)
-parses tokens length shallow (Ok script) (t ∷ rest) e = (shallow, record {
-  wrong = t ∷ rest;
-  first = left-wrong sql sql_tables goes_on decided samples ScriptOf tokens rest t script e;
-  place = refl;
-})
-parses tokens length shallow (Err fault.Unexpected) rest e = (shallow, record {
-  wrong = rest;
-  first = stopped-wrong sql sql_tables goes_on decided samples ScriptOf tokens rest e;
-  place = refl;
-})
+parses tokens length shallow (Ok script) (t ∷ rest) e = (
+  shallow,
+  record {
+    wrong = t ∷ rest;
+    first = left-wrong sql sql_tables goes_on decided samples ScriptOf tokens rest t script e;
+    place = refl;
+  },
+)
+parses tokens length shallow (Err fault.Unexpected) rest e = (
+  shallow,
+  record {
+    wrong = rest;
+    first = stopped-wrong sql sql_tables goes_on decided samples ScriptOf tokens rest e;
+    place = refl;
+  },
+)
 parses tokens length shallow (Err fault.NoMemory) rest e = shallow

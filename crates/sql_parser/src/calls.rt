@@ -7,12 +7,9 @@ ghost use Rattle.sql_grammar.specs.Cursors as spec;
 ghost use Rattle.sql_grammar.specs.Nests.{Nests};
 ghost use Rattle.sql_grammar.specs.Symbols as n;
 
-use sql_grammar::Cursor;
-use sql_grammar::Fault;
 use crate::grammar::Grammar;
-use sql_grammar::{name_of, reference};
-use sql_grammar::{Sort, same_sort, sort_of};
 use perm_values::{Boxed, NoMemory};
+use sql_grammar::{Cursor, Fault, Sort, name_of, reference, same_sort, sort_of};
 use sql_lexer::Token;
 use sql_tree::{AggWord, ExprBody, ExprTree, Name, QueryTree};
 use std::alloc::Global;
@@ -61,13 +58,9 @@ fn column(alloc: Global, first: &Token, second: Option<Name>) -> Result<ExprBody
 impl<
     F: Fn(&mut Cursor<'_>) -> Result<Boxed<ExprTree>, Fault>,
     G: Fn(&mut Cursor<'_>) -> Result<Boxed<QueryTree>, Fault>,
-> Grammar<F, G>
-{
+> Grammar<F, G> {
     #[tactic(auto, using(sql_grammar::proofs::Steps::counted_is, sql_grammar::proofs::Nested::nests_below))]
-    fn counted(
-        &self,
-        cursor: &mut Cursor<'_>,
-    ) -> Result<(AggWord, Option<Boxed<ExprTree>>), Fault>
+    fn counted(&self, cursor: &mut Cursor<'_>) -> Result<(AggWord, Option<Boxed<ExprTree>>), Fault>
         requires { Nests (suc (length cursor.old)) (F.pre self.now.expr) (G.pre self.now.query) (F.post self.now.expr) (G.post self.now.query) }
         ensures given { spec.Sees spelled.aggregate result (spec.reading n.Counted cursor.old) cursor.new }
         ensures fewer { IfOk result (λ _. length cursor.new < length cursor.old) }

@@ -8,14 +8,10 @@ ghost use Rattle.sql_grammar.specs.Nests.{Nests};
 ghost use Rattle.sql_grammar.specs.Symbols as n;
 ghost use Rattle.sql_grammar.specs.declared.sort.Sort.TheVariants as s;
 
-use sql_grammar::Cursor;
-use sql_grammar::Fault;
 use crate::grammar::{Grammar, node};
-use sql_grammar::listed;
-use sql_grammar::repeated;
-use sql_grammar::Sort;
 use null_logic::Operator;
 use perm_values::{Boxed, List, NoMemory};
+use sql_grammar::{Cursor, Fault, Sort, listed, repeated};
 use sql_tree::{ExprBody, ExprTree, QueryTree};
 use std::alloc::Global;
 
@@ -67,14 +63,17 @@ fn nots(cursor: &mut Cursor<'_>) -> Result<List<()>, Fault>
     ensures given { spec.Reads result (all_of (s.Not ∷ []) (spec.past s.Not) cursor.old) cursor.new }
     ensures fewer { IfOk result (λ _. length cursor.new ≤ length cursor.old) }
 {
-    repeated(cursor, &[Sort::Not], |cursor: &mut Cursor<'_>| cursor.past(Sort::Not))
+    repeated(
+        cursor,
+        &[Sort::Not],
+        |cursor: &mut Cursor<'_>| cursor.past(Sort::Not),
+    )
 }
 
 impl<
     F: Fn(&mut Cursor<'_>) -> Result<Boxed<ExprTree>, Fault>,
     G: Fn(&mut Cursor<'_>) -> Result<Boxed<QueryTree>, Fault>,
-> Grammar<F, G>
-{
+> Grammar<F, G> {
     #[tactic(auto, using(crate::proofs::Counts::negated_is, sql_grammar::proofs::Nested::nests_below))]
     fn negated(&self, cursor: &mut Cursor<'_>) -> Result<Boxed<ExprTree>, Fault>
         requires { Nests (length cursor.old) (F.pre self.now.expr) (G.pre self.now.query) (F.post self.now.expr) (G.post self.now.query) }

@@ -6,10 +6,8 @@ ghost use Rattle.sql_grammar.specs.Cursors as spec;
 ghost use Rattle.sql_grammar.specs.Nests.{Nests};
 ghost use Rattle.sql_grammar.specs.Symbols as n;
 
-use sql_grammar::Cursor;
-use sql_grammar::Fault;
-use sql_grammar::Sort;
 use perm_values::{Boxed, NoMemory};
+use sql_grammar::{Cursor, Fault, Sort};
 use sql_tree::{ExprBody, ExprTree, QueryTree};
 use std::alloc::Global;
 
@@ -23,8 +21,7 @@ pub(crate) struct Grammar<F, G> {
 impl<
     F: Fn(&mut Cursor<'_>) -> Result<Boxed<ExprTree>, Fault>,
     G: Fn(&mut Cursor<'_>) -> Result<Boxed<QueryTree>, Fault>,
-> Grammar<F, G>
-{
+> Grammar<F, G> {
     #[tactic(auto, using(sql_grammar::proofs::Nested::expr_takes))]
     pub(crate) fn expression(&self, cursor: &mut Cursor<'_>) -> Result<Boxed<ExprTree>, Fault>
         requires { Nests (suc (length cursor.old)) (F.pre self.now.expr) (G.pre self.now.query) (F.post self.now.expr) (G.post self.now.query) }
@@ -71,7 +68,10 @@ impl<
 
     /// WHERE and its condition.
     #[tactic(auto, using(sql_grammar::proofs::Queries::condition_is, sql_grammar::proofs::Nested::nests_below))]
-    pub(crate) fn condition(&self, cursor: &mut Cursor<'_>) -> Result<Option<Boxed<ExprTree>>, Fault>
+    pub(crate) fn condition(
+        &self,
+        cursor: &mut Cursor<'_>,
+    ) -> Result<Option<Boxed<ExprTree>>, Fault>
         requires { Nests (length cursor.old) (F.pre self.now.expr) (G.pre self.now.query) (F.post self.now.expr) (G.post self.now.query) }
         ensures given { spec.Reads result (spec.reading n.Condition cursor.old) cursor.new }
         ensures fewer { IfOk result (λ _. length cursor.new ≤ length cursor.old) }

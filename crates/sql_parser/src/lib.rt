@@ -15,7 +15,9 @@ mod sums;
 mod syntax_error;
 mod tail;
 
-pub use laws::{a_script_has_one_tree, a_spelled_script_is_regular, an_unexpected_token_has_no_tree};
+pub use laws::{
+    a_script_has_one_tree, a_spelled_script_is_regular, an_unexpected_token_has_no_tree,
+};
 pub use nesting::too_deep;
 pub use parser::script;
 pub use syntax_error::SyntaxError;

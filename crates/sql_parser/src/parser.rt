@@ -3,12 +3,11 @@ ghost use Rattle.sql_parser.specs.Ending as ending;
 ghost use Rattle.sql_parser.specs.Spells as spec;
 
 use crate::SyntaxError;
-use sql_grammar::Cursor;
-use sql_grammar::Fault;
 use crate::grammar::Grammar;
 use crate::nesting::too_deep;
 use crate::recursion::{expr, query};
 use perm_values::List;
+use sql_grammar::{Cursor, Fault};
 use sql_lexer::Token;
 use sql_tree::Script;
 use std::alloc::Global;

@@ -8,13 +8,11 @@ ghost use Rattle.sql_grammar.specs.Symbols as n;
 ghost use Rattle.sql_parser.specs.Tails as tails;
 ghost use Rattle.sql_grammar.specs.declared.sort.Sort.TheVariants as s;
 
-use sql_grammar::Cursor;
-use sql_grammar::Fault;
 use crate::grammar::Grammar;
-use sql_grammar::{Sort, same_sort, sort_of};
 use crate::tail::Tail;
 use null_logic::{Compare, Truth};
 use perm_values::Boxed;
+use sql_grammar::{Cursor, Fault, Sort, same_sort, sort_of};
 use sql_lexer::Token;
 use sql_tree::{ExprTree, QueryTree};
 
@@ -74,8 +72,7 @@ fn is_all(token: &Token) -> bool
 impl<
     F: Fn(&mut Cursor<'_>) -> Result<Boxed<ExprTree>, Fault>,
     G: Fn(&mut Cursor<'_>) -> Result<Boxed<QueryTree>, Fault>,
-> Grammar<F, G>
-{
+> Grammar<F, G> {
     #[tactic(auto, using(sql_grammar::proofs::Steps::is_test_is, sql_grammar::proofs::Nested::nests_below, crate::proofs::Tails::is_some_word_if))]
     fn is_test(&self, cursor: &mut Cursor<'_>) -> Result<(bool, Tail), Fault>
         requires { Nests (length cursor.old) (F.pre self.now.expr) (G.pre self.now.query) (F.post self.now.expr) (G.post self.now.query) }

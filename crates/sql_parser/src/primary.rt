@@ -10,12 +10,9 @@ ghost use Rattle.sql_grammar.specs.Symbols as n;
 ghost use Rattle.sql_grammar.specs.declared.sort.Sort.TheVariants as s;
 
 use crate::calls::column_of;
-use sql_grammar::Cursor;
-use sql_grammar::Fault;
 use crate::grammar::{Grammar, node};
-use sql_grammar::repeated;
-use sql_grammar::{Sort, same_sort, sort_of};
 use perm_values::{Boxed, Copyable, Kind, List, NoMemory};
+use sql_grammar::{Cursor, Fault, Sort, repeated, same_sort, sort_of};
 use sql_lexer::Token;
 use sql_tree::{ArmTree, ExprBody, ExprTree, QueryTree};
 use std::alloc::Global;
@@ -101,8 +98,7 @@ fn cast(cursor: &mut Cursor<'_>) -> Result<ExprBody, Fault>
 impl<
     F: Fn(&mut Cursor<'_>) -> Result<Boxed<ExprTree>, Fault>,
     G: Fn(&mut Cursor<'_>) -> Result<Boxed<QueryTree>, Fault>,
-> Grammar<F, G>
-{
+> Grammar<F, G> {
     #[tactic(auto, using(sql_grammar::proofs::Steps::arm_is, sql_grammar::proofs::Nested::nests_below))]
     fn arm(&self, cursor: &mut Cursor<'_>) -> Result<ArmTree, Fault>
         requires { Nests (length cursor.old) (F.pre self.now.expr) (G.pre self.now.query) (F.post self.now.expr) (G.post self.now.query) }
@@ -125,7 +121,11 @@ impl<
         ensures given { spec.Reads result (all_of (s.When ∷ []) (spec.reading n.Arm) cursor.old) cursor.new }
         ensures fewer { IfOk result (λ _. length cursor.new ≤ length cursor.old) }
     {
-        repeated(cursor, &[Sort::When], |cursor: &mut Cursor<'_>| self.arm(cursor))
+        repeated(
+            cursor,
+            &[Sort::When],
+            |cursor: &mut Cursor<'_>| self.arm(cursor),
+        )
     }
 
     #[tactic(auto, using(sql_grammar::proofs::Nested::nests_below))]

@@ -4,10 +4,9 @@ ghost use Rattle.std.specs.Prelude.{◌≡◌, ◌<◌, length, IfOk};
 ghost use Rattle.sql_grammar.specs.Cursors as spec;
 ghost use Rattle.sql_grammar.specs.Symbols as n;
 
-use sql_grammar::Cursor;
-use sql_grammar::Fault;
 use crate::grammar::Grammar;
 use perm_values::Boxed;
+use sql_grammar::{Cursor, Fault};
 use sql_tree::{ExprTree, QueryTree};
 
 #[cycle(grammar)]

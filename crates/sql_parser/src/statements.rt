@@ -9,13 +9,10 @@ ghost use Rattle.sql_parser.specs.Statements as spelled;
 ghost use Rattle.sql_grammar.specs.Symbols as n;
 ghost use Rattle.sql_grammar.specs.declared.sort.Sort.TheVariants as s;
 
-use sql_grammar::Cursor;
-use sql_grammar::Fault;
 use crate::grammar::Grammar;
-use sql_grammar::listed;
 use crate::primary::kind_of;
-use sql_grammar::Sort;
 use perm_values::{Boxed, Chars, Copyable, Kind, List, NoMemory};
+use sql_grammar::{Cursor, Fault, Sort, listed};
 use sql_lexer::Token;
 use sql_tree::{ColumnDef, ExprTree, QueryTree, Script, Statement, StatementBody, ValuesRow};
 use std::alloc::Global;
@@ -57,7 +54,11 @@ fn column_defs(cursor: &mut Cursor<'_>) -> Result<List<ColumnDef>, Fault>
     ensures given { spec.Reads result (list_read s.Comma (spec.reading n.Column) cursor.old) cursor.new }
     ensures fewer { IfOk result (λ _. length cursor.new ≤ length cursor.old) }
 {
-    listed(cursor, Sort::Comma, |cursor: &mut Cursor<'_>| column_def(cursor))
+    listed(
+        cursor,
+        Sort::Comma,
+        |cursor: &mut Cursor<'_>| column_def(cursor),
+    )
 }
 
 #[tactic(auto, using(crate::proofs::Stating::columns_is))]
@@ -162,8 +163,7 @@ fn show(cursor: &mut Cursor<'_>) -> Result<StatementBody, Fault>
 impl<
     F: Fn(&mut Cursor<'_>) -> Result<Boxed<ExprTree>, Fault>,
     G: Fn(&mut Cursor<'_>) -> Result<Boxed<QueryTree>, Fault>,
-> Grammar<F, G>
-{
+> Grammar<F, G> {
     #[tactic(auto, using(sql_grammar::proofs::Steps::create_table_is, sql_grammar::proofs::Nested::nests_below))]
     fn create_table(&self, cursor: &mut Cursor<'_>) -> Result<StatementBody, Fault>
         requires { Nests (length cursor.old) (F.pre self.now.expr) (G.pre self.now.query) (F.post self.now.expr) (G.post self.now.query) }
@@ -227,7 +227,11 @@ impl<
         ensures given { spec.Reads result (list_read s.Comma (spec.reading n.Row) cursor.old) cursor.new }
         ensures fewer { IfOk result (λ _. length cursor.new ≤ length cursor.old) }
     {
-        listed(cursor, Sort::Comma, |cursor: &mut Cursor<'_>| self.row(cursor))
+        listed(
+            cursor,
+            Sort::Comma,
+            |cursor: &mut Cursor<'_>| self.row(cursor),
+        )
     }
 
     #[tactic(auto, using(crate::proofs::Stating::insert_is, sql_grammar::proofs::Nested::nests_below))]
@@ -307,10 +311,7 @@ impl<
     }
 
     #[tactic(auto, using(sql_grammar::proofs::Nested::nests_below))]
-    fn optional_statement(
-        &self,
-        cursor: &mut Cursor<'_>,
-    ) -> Result<Option<Statement>, Fault>
+    fn optional_statement(&self, cursor: &mut Cursor<'_>) -> Result<Option<Statement>, Fault>
         requires { Nests (suc (length cursor.old)) (F.pre self.now.expr) (G.pre self.now.query) (F.post self.now.expr) (G.post self.now.query) }
         ensures given { spec.Reads result (spelled.optional_statement cursor.old) cursor.new }
         ensures fewer { IfOk result (λ _. length cursor.new ≤ length cursor.old) }
@@ -323,10 +324,7 @@ impl<
     }
 
     #[tactic(auto, using(sql_grammar::proofs::Nested::nests_below))]
-    fn optional_statements(
-        &self,
-        cursor: &mut Cursor<'_>,
-    ) -> Result<List<Option<Statement>>, Fault>
+    fn optional_statements(&self, cursor: &mut Cursor<'_>) -> Result<List<Option<Statement>>, Fault>
         requires { Nests (suc (length cursor.old)) (F.pre self.now.expr) (G.pre self.now.query) (F.post self.now.expr) (G.post self.now.query) }
         ensures given { spec.Reads result (list_read s.Semicolon spelled.optional_statement cursor.old) cursor.new }
         ensures fewer { IfOk result (λ _. length cursor.new ≤ length cursor.old) }

@@ -8,13 +8,10 @@ ghost use Rattle.sql_grammar.specs.Nests.{Nests};
 ghost use Rattle.sql_grammar.specs.Symbols as n;
 ghost use Rattle.sql_grammar.specs.declared.sort.Sort.TheVariants as s;
 
-use sql_grammar::Cursor;
-use sql_grammar::Fault;
 use crate::grammar::{Grammar, node};
-use sql_grammar::repeated;
-use sql_grammar::{Sort, same_sort, sort_of};
 use null_logic::Arith;
 use perm_values::{Boxed, List, NoMemory};
+use sql_grammar::{Cursor, Fault, Sort, repeated, same_sort, sort_of};
 use sql_lexer::Token;
 use sql_tree::{ExprBody, ExprStep, ExprTree, QueryTree};
 use std::alloc::Global;
@@ -70,14 +67,17 @@ fn minuses(cursor: &mut Cursor<'_>) -> Result<List<()>, Fault>
     ensures given { spec.Reads result (all_of (s.Minus ∷ []) (spec.past s.Minus) cursor.old) cursor.new }
     ensures fewer { IfOk result (λ _. length cursor.new ≤ length cursor.old) }
 {
-    repeated(cursor, &[Sort::Minus], |cursor: &mut Cursor<'_>| cursor.past(Sort::Minus))
+    repeated(
+        cursor,
+        &[Sort::Minus],
+        |cursor: &mut Cursor<'_>| cursor.past(Sort::Minus),
+    )
 }
 
 impl<
     F: Fn(&mut Cursor<'_>) -> Result<Boxed<ExprTree>, Fault>,
     G: Fn(&mut Cursor<'_>) -> Result<Boxed<QueryTree>, Fault>,
-> Grammar<F, G>
-{
+> Grammar<F, G> {
     #[tactic(auto, using(crate::proofs::Counts::sign_is, sql_grammar::proofs::Nested::nests_below))]
     fn sign(&self, cursor: &mut Cursor<'_>) -> Result<Boxed<ExprTree>, Fault>
         requires { Nests (length cursor.old) (F.pre self.now.expr) (G.pre self.now.query) (F.post self.now.expr) (G.post self.now.query) }
@@ -148,9 +148,11 @@ impl<
         ensures given { spec.Reads result (all_of (s.Plus ∷ s.Minus ∷ []) (spec.reading n.SumStep) cursor.old) cursor.new }
         ensures fewer { IfOk result (λ _. length cursor.new ≤ length cursor.old) }
     {
-        repeated(cursor, &[Sort::Plus, Sort::Minus], |cursor: &mut Cursor<'_>| {
-            self.sum_step(cursor)
-        })
+        repeated(
+            cursor,
+            &[Sort::Plus, Sort::Minus],
+            |cursor: &mut Cursor<'_>| { self.sum_step(cursor) },
+        )
     }
 
     #[tactic(auto, using(sql_grammar::proofs::Steps::sum_is, sql_grammar::proofs::Nested::nests_below))]

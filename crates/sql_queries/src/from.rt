@@ -7,21 +7,18 @@ ghost use Rattle.sql_grammar.specs.Nests.{Nests};
 ghost use Rattle.sql_grammar.specs.Pieces as piece;
 ghost use Rattle.sql_grammar.specs.Symbols as n;
 
-use sql_grammar::Cursor;
-use sql_grammar::Fault;
 use crate::grammar::Grammar;
-use sql_grammar::listed;
-use sql_grammar::repeated;
-use sql_grammar::{NAMES, Sort, same_sort, sort_of};
 use perm_values::{Boxed, List};
+use sql_grammar::{Cursor, Fault, NAMES, Sort, listed, repeated, same_sort, sort_of};
 use sql_lexer::Token;
-use sql_tree::{ExprTree, FromItem, FromSource, FromTree, JoinStep, JoinWord, Name, QueryTree, ScopeMark};
+use sql_tree::{
+    ExprTree, FromItem, FromSource, FromTree, JoinStep, JoinWord, Name, QueryTree, ScopeMark,
+};
 
 impl<
     F: Fn(&mut Cursor<'_>) -> Result<Boxed<ExprTree>, Fault>,
     G: Fn(&mut Cursor<'_>) -> Result<Boxed<QueryTree>, Fault>,
-> Grammar<F, G>
-{
+> Grammar<F, G> {
     #[tactic(auto, using(sql_grammar::proofs::Nested::nests_below))]
     fn inner_source(&self, cursor: &mut Cursor<'_>) -> Result<(FromSource, Option<Name>), Fault>
         requires { Nests (length cursor.old) (F.pre self.now.expr) (G.pre self.now.query) (F.post self.now.expr) (G.post self.now.query) }
@@ -153,7 +150,11 @@ impl<
         ensures given { spec.Reads result (piece.from_list cursor.old) cursor.new }
         ensures fewer { IfOk result (λ _. length cursor.new ≤ length cursor.old) }
     {
-        listed(cursor, Sort::Comma, |cursor: &mut Cursor<'_>| self.from_tree(cursor))
+        listed(
+            cursor,
+            Sort::Comma,
+            |cursor: &mut Cursor<'_>| self.from_tree(cursor),
+        )
     }
 
     #[tactic(auto, using(sql_grammar::proofs::Queries::sources_is, sql_grammar::proofs::Nested::nests_below))]

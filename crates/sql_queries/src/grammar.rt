@@ -5,9 +5,8 @@ ghost use Rattle.sql_grammar.specs.Cursors as spec;
 ghost use Rattle.sql_grammar.specs.Nests.{Nests};
 ghost use Rattle.sql_grammar.specs.Symbols as n;
 
-use sql_grammar::Cursor;
-use sql_grammar::Fault;
 use perm_values::Boxed;
+use sql_grammar::{Cursor, Fault};
 use sql_tree::{ExprTree, QueryTree};
 
 /// What reads an expression, and what reads a query.
@@ -20,8 +19,7 @@ pub struct Grammar<F, G> {
 impl<
     F: Fn(&mut Cursor<'_>) -> Result<Boxed<ExprTree>, Fault>,
     G: Fn(&mut Cursor<'_>) -> Result<Boxed<QueryTree>, Fault>,
-> Grammar<F, G>
-{
+> Grammar<F, G> {
     #[tactic(auto, using(sql_grammar::proofs::Nested::expr_takes))]
     pub fn expression(&self, cursor: &mut Cursor<'_>) -> Result<Boxed<ExprTree>, Fault>
         requires { Nests (suc (length cursor.old)) (F.pre self.now.expr) (G.pre self.now.query) (F.post self.now.expr) (G.post self.now.query) }

@@ -7,12 +7,9 @@ ghost use Rattle.sql_grammar.specs.Nests.{Nests};
 ghost use Rattle.sql_grammar.specs.Pieces as piece;
 ghost use Rattle.sql_grammar.specs.Symbols as n;
 
-use sql_grammar::Cursor;
-use sql_grammar::Fault;
 use crate::grammar::Grammar;
-use sql_grammar::listed;
-use sql_grammar::{NAMES, Sort};
 use perm_values::{Boxed, Copyable, List, NoMemory};
+use sql_grammar::{Cursor, Fault, NAMES, Sort, listed};
 use sql_lexer::Token;
 use sql_tree::{ColRef, Core, ExprTree, FromTree, Name, QueryTree, SelectItem};
 use std::alloc::Global;
@@ -29,8 +26,7 @@ fn unboxed(part: Option<Boxed<ExprTree>>) -> Option<ExprTree>
 impl<
     F: Fn(&mut Cursor<'_>) -> Result<Boxed<ExprTree>, Fault>,
     G: Fn(&mut Cursor<'_>) -> Result<Boxed<QueryTree>, Fault>,
-> Grammar<F, G>
-{
+> Grammar<F, G> {
     #[tactic(auto, using(sql_grammar::proofs::Queries::item_value_is, sql_grammar::proofs::Nested::nests_below))]
     fn item_value(&self, cursor: &mut Cursor<'_>) -> Result<SelectItem, Fault>
         requires { Nests (suc (length cursor.old)) (F.pre self.now.expr) (G.pre self.now.query) (F.post self.now.expr) (G.post self.now.query) }
@@ -67,7 +63,11 @@ impl<
         ensures given { spec.Reads result (piece.items cursor.old) cursor.new }
         ensures fewer { IfOk result (λ _. length cursor.new ≤ length cursor.old) }
     {
-        listed(cursor, Sort::Comma, |cursor: &mut Cursor<'_>| self.item(cursor))
+        listed(
+            cursor,
+            Sort::Comma,
+            |cursor: &mut Cursor<'_>| self.item(cursor),
+        )
     }
 
     #[tactic(auto, using(sql_grammar::proofs::Queries::condition_is, sql_grammar::proofs::Nested::nests_below))]
@@ -101,7 +101,10 @@ impl<
     }
 
     #[tactic(auto, using(sql_grammar::proofs::Nested::nests_below))]
-    fn groups_on(&self, cursor: &mut Cursor<'_>) -> Result<(List<ColRef>, Option<Boxed<ExprTree>>), Fault>
+    fn groups_on(
+        &self,
+        cursor: &mut Cursor<'_>,
+    ) -> Result<(List<ColRef>, Option<Boxed<ExprTree>>), Fault>
         requires { Nests (length cursor.old) (F.pre self.now.expr) (G.pre self.now.query) (F.post self.now.expr) (G.post self.now.query) }
         ensures given { spec.Reads result (piece.groups_on cursor.old) cursor.new }
         ensures fewer { IfOk result (λ _. length cursor.new ≤ length cursor.old) }
@@ -112,7 +115,16 @@ impl<
     }
 
     #[tactic(auto, using(sql_grammar::proofs::Nested::nests_below))]
-    fn condition_on(&self, cursor: &mut Cursor<'_>) -> Result<(Option<Boxed<ExprTree>>, (List<ColRef>, Option<Boxed<ExprTree>>)), Fault>
+    fn condition_on(
+        &self,
+        cursor: &mut Cursor<'_>,
+    ) -> Result<
+        (
+            Option<Boxed<ExprTree>>,
+            (List<ColRef>, Option<Boxed<ExprTree>>),
+        ),
+        Fault,
+    >
         requires { Nests (length cursor.old) (F.pre self.now.expr) (G.pre self.now.query) (F.post self.now.expr) (G.post self.now.query) }
         ensures given { spec.Reads result (piece.condition_on cursor.old) cursor.new }
         ensures fewer { IfOk result (λ _. length cursor.new ≤ length cursor.old) }
@@ -123,7 +135,19 @@ impl<
     }
 
     #[tactic(auto, using(sql_grammar::proofs::Nested::nests_below))]
-    fn sources_on(&self, cursor: &mut Cursor<'_>) -> Result<(List<FromTree>, (Option<Boxed<ExprTree>>, (List<ColRef>, Option<Boxed<ExprTree>>))), Fault>
+    fn sources_on(
+        &self,
+        cursor: &mut Cursor<'_>,
+    ) -> Result<
+        (
+            List<FromTree>,
+            (
+                Option<Boxed<ExprTree>>,
+                (List<ColRef>, Option<Boxed<ExprTree>>),
+            ),
+        ),
+        Fault,
+    >
         requires { Nests (length cursor.old) (F.pre self.now.expr) (G.pre self.now.query) (F.post self.now.expr) (G.post self.now.query) }
         ensures given { spec.Reads result (piece.sources_on cursor.old) cursor.new }
         ensures fewer { IfOk result (λ _. length cursor.new ≤ length cursor.old) }
@@ -134,7 +158,22 @@ impl<
     }
 
     #[tactic(auto, using(sql_grammar::proofs::Queries::items_is, sql_grammar::proofs::Nested::nests_below))]
-    fn items_on(&self, cursor: &mut Cursor<'_>) -> Result<(List<SelectItem>, (List<FromTree>, (Option<Boxed<ExprTree>>, (List<ColRef>, Option<Boxed<ExprTree>>)))), Fault>
+    fn items_on(
+        &self,
+        cursor: &mut Cursor<'_>,
+    ) -> Result<
+        (
+            List<SelectItem>,
+            (
+                List<FromTree>,
+                (
+                    Option<Boxed<ExprTree>>,
+                    (List<ColRef>, Option<Boxed<ExprTree>>),
+                ),
+            ),
+        ),
+        Fault,
+    >
         requires { Nests (suc (length cursor.old)) (F.pre self.now.expr) (G.pre self.now.query) (F.post self.now.expr) (G.post self.now.query) }
         ensures given { spec.Reads result (piece.items_on cursor.old) cursor.new }
         ensures fewer { IfOk result (λ _. length cursor.new ≤ length cursor.old) }

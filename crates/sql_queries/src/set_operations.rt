@@ -7,12 +7,9 @@ ghost use Rattle.sql_grammar.specs.Nests.{Nests};
 ghost use Rattle.sql_grammar.specs.Pieces as piece;
 ghost use Rattle.sql_grammar.specs.Symbols as n;
 
-use sql_grammar::Cursor;
-use sql_grammar::Fault;
 use crate::grammar::Grammar;
-use sql_grammar::repeated;
-use sql_grammar::{Sort, same_sort, sort_of};
 use perm_values::{Boxed, List, NoMemory};
+use sql_grammar::{Cursor, Fault, Sort, repeated, same_sort, sort_of};
 use sql_lexer::Token;
 use sql_tree::{ExprTree, OrderTree, QueryTree, SetStep, SetTree, SetWord};
 use std::alloc::Global;
@@ -46,7 +43,10 @@ fn query_tree(
     alloc: Global,
     at: usize,
     first: Boxed<SetTree>,
-    rest: (List<SetStep>, (List<SetStep>, (List<OrderTree>, Option<i64>))),
+    rest: (
+        List<SetStep>,
+        (List<SetStep>, (List<OrderTree>, Option<i64>)),
+    ),
 ) -> Result<Boxed<QueryTree>, NoMemory>
     ensures { IfOk result (λ tree. tree ≡ b.query_rest rest at first) }
 {
@@ -65,8 +65,7 @@ fn query_tree(
 impl<
     F: Fn(&mut Cursor<'_>) -> Result<Boxed<ExprTree>, Fault>,
     G: Fn(&mut Cursor<'_>) -> Result<Boxed<QueryTree>, Fault>,
-> Grammar<F, G>
-{
+> Grammar<F, G> {
     #[tactic(auto, using(sql_grammar::proofs::Nested::nests_below))]
     fn parenthesised(&self, cursor: &mut Cursor<'_>) -> Result<Boxed<SetTree>, Fault>
         requires { Nests (length cursor.old) (F.pre self.now.expr) (G.pre self.now.query) (F.post self.now.expr) (G.post self.now.query) }
@@ -117,7 +116,11 @@ impl<
         ensures given { spec.Reads result (piece.intersections cursor.old) cursor.new }
         ensures fewer { IfOk result (λ _. length cursor.new ≤ length cursor.old) }
     {
-        repeated(cursor, &[Sort::Intersect], |cursor: &mut Cursor<'_>| self.intersect_step(cursor))
+        repeated(
+            cursor,
+            &[Sort::Intersect],
+            |cursor: &mut Cursor<'_>| self.intersect_step(cursor),
+        )
     }
 
     #[tactic(auto, using(sql_grammar::proofs::Queries::term_is, sql_grammar::proofs::Nested::nests_below))]
@@ -156,11 +159,18 @@ impl<
         ensures given { spec.Reads result (piece.unions cursor.old) cursor.new }
         ensures fewer { IfOk result (λ _. length cursor.new ≤ length cursor.old) }
     {
-        repeated(cursor, &[Sort::Union, Sort::Except], |cursor: &mut Cursor<'_>| self.union_step(cursor))
+        repeated(
+            cursor,
+            &[Sort::Union, Sort::Except],
+            |cursor: &mut Cursor<'_>| self.union_step(cursor),
+        )
     }
 
     #[tactic(auto, using(sql_grammar::proofs::Nested::nests_below))]
-    fn unions_on(&self, cursor: &mut Cursor<'_>) -> Result<(List<SetStep>, (List<OrderTree>, Option<i64>)), Fault>
+    fn unions_on(
+        &self,
+        cursor: &mut Cursor<'_>,
+    ) -> Result<(List<SetStep>, (List<OrderTree>, Option<i64>)), Fault>
         requires { Nests (length cursor.old) (F.pre self.now.expr) (G.pre self.now.query) (F.post self.now.expr) (G.post self.now.query) }
         ensures given { spec.Reads result (piece.unions_on cursor.old) cursor.new }
         ensures fewer { IfOk result (λ _. length cursor.new ≤ length cursor.old) }
@@ -171,7 +181,16 @@ impl<
     }
 
     #[tactic(auto, using(sql_grammar::proofs::Nested::nests_below))]
-    fn query_rest(&self, cursor: &mut Cursor<'_>) -> Result<(List<SetStep>, (List<SetStep>, (List<OrderTree>, Option<i64>))), Fault>
+    fn query_rest(
+        &self,
+        cursor: &mut Cursor<'_>,
+    ) -> Result<
+        (
+            List<SetStep>,
+            (List<SetStep>, (List<OrderTree>, Option<i64>)),
+        ),
+        Fault,
+    >
         requires { Nests (length cursor.old) (F.pre self.now.expr) (G.pre self.now.query) (F.post self.now.expr) (G.post self.now.query) }
         ensures given { spec.Reads result (piece.query_rest cursor.old) cursor.new }
         ensures fewer { IfOk result (λ _. length cursor.new ≤ length cursor.old) }
@@ -193,6 +212,4 @@ impl<
         let rest = self.query_rest(cursor)?;
         Ok(query_tree(cursor.alloc(), at, first, rest)?)
     }
-
-
 }

@@ -9,8 +9,6 @@ mod statement;
 
 pub use expression::{AggWord, ArmTree, ExprBody, ExprStep, ExprTree};
 pub use name::{ColRef, Name};
-pub use query::{
-    Core, OrderKey, OrderTree, QueryTree, SelectItem, SetStep, SetTree, SetWord,
-};
+pub use query::{Core, OrderKey, OrderTree, QueryTree, SelectItem, SetStep, SetTree, SetWord};
 pub use source::{FromItem, FromSource, FromTree, JoinStep, JoinWord, ScopeMark};
 pub use statement::{ColumnDef, Script, Statement, StatementBody, ValuesRow};

@@ -76,14 +76,7 @@ pub struct Core {
 #[derive(Debug, Drop)]
 #[cycle(tree)]
 pub enum SelectItem {
-    Star {
-        at: usize,
-    },
-    TableStar {
-        table: Name,
-    },
-    Value {
-        expr: ExprTree,
-        name: Option<Name>,
-    },
+    Star { at: usize },
+    TableStar { table: Name },
+    Value { expr: ExprTree, name: Option<Name> },
 }
