@@ -11,7 +11,6 @@ use Rattle.sql_grammar.specs.declared.sort.Sort.{Sort}
 use Rattle.sql_grammar.specs.declared.sort.Sort.TheVariants as s
 use Rattle.sql_tree.specs.declared.query.Core.{Core}
 use Rattle.sql_tree.specs.declared.query.QueryTree.{QueryTree}
-use Rattle.sql_tree.specs.declared.query.SetTree.{SetTree}
 use Rattle.sql_grammar.proofs.Queries.{query_is, inner_is, operand_is, core_is}
 
 past-unseen : (sort : Sort) (tokens : List Token) → sees (sort ∷ []) tokens ≡ false → past sort tokens ≡ Stopped tokens

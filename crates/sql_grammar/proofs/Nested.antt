@@ -1,18 +1,18 @@
 -- What the rules with expressions need: a step of reading a symbol, and that what reads an expression may be called further on.
-use Rattle.std.proofs.Common.{◌≡◌, ℕ, ◌≤◌, ◌<◌, List, length, Result, refl, sym, ap, subst, ◌∙◌, arith}
+use Rattle.std.proofs.Common.{◌≡◌, ℕ, ◌≤◌, ◌<◌, List, length, Result, refl, arith}
 use denote.Ref.{MutBor}
 use Rattle.sql_lexer.specs.declared.token.Token.{Token}
-use Rattle.sql_grammar.specs.Cursors.{reading, Reads}
-use Rattle.sql_grammar.specs.Descent.{Outcome, Taken, Stopped, mapped, step}
+use Rattle.sql_grammar.specs.Cursors.{reading}
+use Rattle.sql_grammar.specs.Descent.{Taken, mapped, step}
 use Rattle.sql_grammar.specs.Grammar.{sql, body, build}
-use Rattle.sql_grammar.specs.Nests.{Nests, ReadsBelow}
+use Rattle.sql_grammar.specs.Nests.{Nests}
 use Rattle.sql_grammar.specs.Symbols as n
 use Rattle.sql_grammar.specs.Symbols.{Symbol, Tree}
 use Rattle.sql_grammar.specs.Tables.{sql_tables}
 use Rattle.sql_grammar.specs.declared.fault.Fault.{Fault}
 use Rattle.sql_tree.specs.declared.expression.ExprTree.{ExprTree}
 use Rattle.sql_tree.specs.declared.query.QueryTree.{QueryTree}
-use Rattle.sql_grammar.proofs.Depth.{read-is, read-claims, no_longer}
+use Rattle.sql_grammar.proofs.Depth.{read-is}
 use Rattle.sql_grammar.proofs.Steps.{reading-takes}
 use Rattle.sql_grammar.proofs.TablesHold.{told, has_begins, has_falls}
 

@@ -1,5 +1,5 @@
 -- Outcomes, one after another.
-use Rattle.std.proofs.Common.{◌≡◌, Bool, true, false, cond, List, inl, inr, ◌⊎◌, refl, ◌∙◌}
+use Rattle.std.proofs.Common.{◌≡◌, Bool, true, false, cond, List, inl, inr, refl, ◌∙◌}
 use Rattle.sql_lexer.specs.declared.token.Token.{Token}
 use Rattle.sql_grammar.specs.Building.{one_of}
 use Rattle.sql_grammar.specs.Descent.{Outcome, Taken, Stopped, and_then, mapped}

@@ -3,11 +3,10 @@ use Rattle.std.proofs.Common.{◌≡◌, ℕ, ◌⊎◌, Bool, true, false, ◌|
 use Rattle.sql_lexer.specs.declared.token.Token.{Token}
 use Rattle.sql_grammar.specs.Building as b
 use Rattle.sql_grammar.specs.Building.{Word}
-use Rattle.sql_grammar.specs.Rules.{Rule, word, token, ◌then◌, ◌or◌, optional, many, placed, symbol}
+use Rattle.sql_grammar.specs.Rules.{word, token, ◌then◌, optional, placed, symbol}
 use Rattle.sql_grammar.specs.Cursors.{reading, one, past, place, sees}
 use Rattle.sql_grammar.specs.Descent.{Outcome, Taken, Stopped, and_then, mapped, begins_with, step}
-use Rattle.sql_grammar.specs.Grammar.{sql, body, build, list_of, in_parentheses}
-use Rattle.sql_grammar.specs.Lists.{listed}
+use Rattle.sql_grammar.specs.Grammar.{sql, body, list_of, in_parentheses}
 use Rattle.sql_grammar.specs.Pieces as piece
 use Rattle.sql_grammar.specs.Sorts.{names, sort_of, same_sort}
 use Rattle.sql_grammar.specs.Symbols as n

@@ -1,13 +1,12 @@
 -- One step of reading each symbol, as its function takes it.
-use Rattle.std.proofs.Common.{◌≡◌, ◌≤◌, ◌<◌, false, List, [], ◌∷◌, length, refl, subst}
+use Rattle.std.proofs.Common.{◌≡◌, ◌≤◌, ◌<◌, false, List, [], ◌∷◌, length, subst}
 use Rattle.sql_lexer.specs.declared.token.Token.{Token}
 use Rattle.sql_grammar.specs.Building as b
-use Rattle.sql_grammar.specs.Cursors.{reading, one}
+use Rattle.sql_grammar.specs.Cursors.{reading}
 use Rattle.sql_grammar.specs.Descent.{Taken, and_then, mapped, step}
 use Rattle.sql_grammar.specs.Grammar.{sql, body, build}
 use Rattle.sql_grammar.specs.Lists.{all_of, listed}
 use Rattle.sql_grammar.specs.Rules.{symbol}
-use Rattle.sql_grammar.specs.Sorts.{names}
 use Rattle.sql_grammar.specs.Symbols as n
 use Rattle.sql_grammar.specs.Symbols.{Symbol, Tree}
 use Rattle.sql_grammar.specs.Tables.{empty, sql_tables}

@@ -9,7 +9,7 @@ use Rattle.sql_grammar.specs.Descent.{Outcome, and_then, mapped, begins_with, st
 use Rattle.sql_grammar.specs.Grammar.{SqlRule, Given, sql, in_parentheses}
 use Rattle.sql_grammar.specs.Lists.{all_of, listed}
 use Rattle.sql_grammar.specs.Sorts.{names}
-use Rattle.sql_grammar.specs.Rules.{Rule, word, token, ◌then◌, ◌or◌, optional, many, placed, symbol}
+use Rattle.sql_grammar.specs.Rules.{word, token, ◌then◌, optional, placed, symbol}
 use Rattle.sql_grammar.specs.Symbols as n
 use Rattle.sql_grammar.specs.Tables.{join_begins, sql_tables}
 use Rattle.sql_grammar.specs.declared.sort.Sort.{Sort}
@@ -20,7 +20,7 @@ use Rattle.sql_tree.specs.declared.source.FromSource.{FromSource}
 use Rattle.sql_tree.specs.declared.source.FromTree.{FromTree}
 use Rattle.sql_tree.specs.declared.source.JoinStep.{JoinStep}
 use Rattle.sql_tree.specs.declared.query.OrderKey.{OrderKey}
-use Rattle.sql_tree.specs.declared.query.OrderKey.TheVariants.{Named, Position}
+use Rattle.sql_tree.specs.declared.query.OrderKey.TheVariants.{Named}
 use Rattle.sql_tree.specs.declared.query.OrderTree.{OrderTree}
 use Rattle.sql_tree.specs.declared.expression.ExprTree.{ExprTree}
 use Rattle.sql_tree.specs.declared.query.Core.{Core, roll-Core}

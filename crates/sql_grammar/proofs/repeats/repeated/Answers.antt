@@ -1,10 +1,10 @@
-use Rattle.std.proofs.Common.{◌≡◌, ◌≤◌, ◌<◌, true, false, List, length, Result, Ok, Err, arith, rules, sym, ◌∙◌}
+use Rattle.std.proofs.Common.{◌≡◌, ◌<◌, true, List, length, Err, arith, rules, sym, ◌∙◌}
 use Rattle.std.proofs.lemmas.Result.{err_from_is_err_and}
 use Rattle.sql_lexer.specs.declared.token.Token.{Token}
 use Rattle.sql_grammar.specs.Cursors.{Reads, sees}
 use Rattle.sql_grammar.specs.Descent.{Outcome, Taken}
 use Rattle.sql_grammar.specs.Lists.{all_of}
-use Rattle.sql_grammar.proofs.Listing.{Takes, Within, Within-next, Within-stopped, Within-done, fails-on}
+use Rattle.sql_grammar.proofs.Listing.{Takes, Within-next, Within-stopped, Within-done, fails-on}
 use Rattle.sql_grammar.proofs.repeats.repeated.Goals as goal
 
 takes_of : {X : Type 0} (reading : List Token → Outcome Token X) →
