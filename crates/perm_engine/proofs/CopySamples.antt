@@ -1,5 +1,5 @@
 -- What a COPY answers, worked out.
-use Rattle.std.proofs.Common.{◌≡◌, List, [], ◌∷◌, Err, codes, false, refl}
+use Rattle.std.proofs.Common.{◌≡◌, [], ◌∷◌, Err, codes, false, refl}
 use Rattle.std.specs.Fmt.{digits}
 use Rattle.csv_tables.specs.declared.data_error.DataError.TheVariants as rule
 use Rattle.perm_values.specs.declared.kind.Kind.TheVariants as kind

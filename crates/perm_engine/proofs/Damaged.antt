@@ -1,5 +1,5 @@
 -- When a run ends with damaged data.
-use Rattle.std.proofs.Common.{◌≡◌, ◌∙◌, ◌⊎◌, ℕ, ◌<◌, Bool, true, false, List, ◌++◌, Option, Result, Err, refl, sym, ap, subst, inl, inr, arith, IsTrue}
+use Rattle.std.proofs.Common.{◌≡◌, ◌∙◌, ◌⊎◌, ℕ, ◌<◌, true, List, Option, Err, refl, sym, ap, subst, inl, inr, arith, IsTrue}
 use Rattle.std.specs.Io.KnownBytes.{append_known}
 use Rattle.perm_io.proofs.Known.{append_known-append_known}
 use Rattle.perm_engine.specs.Asking.{is_missing, is_too_large}

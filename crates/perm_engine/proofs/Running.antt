@@ -1,14 +1,14 @@
 -- Which run a command line and its script's file stand for.
-use Rattle.std.proofs.Common.{◌≡◌, ◌∙◌, ◌⊎◌, ℕ, ◌+◌, ◌≤◌, ◌<◌, Bool, false, List, [], ◌∷◌, length, Option, Some, Err, get_or, refl, sym, ap, inl, inr, subst, arith}
+use Rattle.std.proofs.Common.{◌≡◌, ◌∙◌, ◌⊎◌, ℕ, ◌+◌, false, List, [], ◌∷◌, length, Option, Err, get_or, refl, sym, ap, inl, inr, subst, arith}
 use Rattle.perm_io.specs.Counts.{HasRisen, next_count}
 use Rattle.perm_io.specs.declared.named_file.NamedFile.{NamedFile}
 use Rattle.perm_catalog.specs.Changes.{nothing_held}
 use Rattle.sql_tree.specs.declared.statement.Script.{Script}
 use Rattle.statement_steps.specs.Copying.{file_limit}
-use Rattle.perm_engine.specs.Ends.{Written, Ends, EndsOne, EndsSome, EndsRefused, Opens, opened}
+use Rattle.perm_engine.specs.Ends.{Written, EndsOne, EndsSome, EndsRefused, Opens, opened}
 use Rattle.statement_steps.specs.Found.{Found, CanBe}
 use Rattle.perm_engine.specs.Lines.{error_line}
-use Rattle.perm_engine.specs.Run.{Ran, Runs, RunsFrom, RunsScript, RunsFile, is_one, usage, IsOfScript, line_alone, after_files, script_limit}
+use Rattle.perm_engine.specs.Run.{Runs, RunsFrom, RunsScript, RunsFile, is_one, usage, IsOfScript, line_alone, after_files, script_limit}
 use Rattle.perm_engine.specs.Scripts.{IsReading, IsScriptOf}
 use Rattle.statement_steps.specs.declared.refusal.CommandRefusal.{CommandRefusal}
 use Rattle.statement_steps.specs.declared.refusal.CommandRefusal.TheVariants.{Break, NoMemory}

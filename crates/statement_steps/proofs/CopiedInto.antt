@@ -1,15 +1,14 @@
 -- What a COPY answers before its rows are added.
-use Rattle.std.proofs.Common.{◌≡◌, ◌⊎◌, ◌∙◌, ℕ, ◌≤◌, ◌<◌, Bool, List, length, Option, Some, None, IfSome, IsSomeAnd, Result, Ok, Err, refl, sym, ap, subst, inl, inr}
+use Rattle.std.proofs.Common.{◌≡◌, ◌⊎◌, ◌∙◌, ℕ, ◌≤◌, ◌<◌, Bool, List, length, Option, Some, None, IsSomeAnd, Err, refl, sym, ap, subst, inl, inr}
 use Rattle.std.proofs.lemmas.Bool.{cases_lt}
 use Rattle.perm_io.specs.Named.{file_named}
 use Rattle.perm_io.specs.declared.named_file.NamedFile.{NamedFile}
 use Rattle.perm_catalog.specs.Changes.{table_named}
 use Rattle.perm_catalog.specs.Contents.{Contents}
 use Rattle.perm_catalog.specs.declared.entries.TableEntry.{TableEntry}
-use Rattle.statement_steps.specs.Copying.{copied, copy, copy_into, copy_to, Gives, IsCopied, IsCopy}
+use Rattle.statement_steps.specs.Copying.{copied, copy, copy_into, copy_to, IsCopied, IsCopy}
 use Rattle.statement_steps.specs.Found.{Found, CanBe, Read, Missing, TooLong}
 use Rattle.statement_steps.specs.Step.{kinds_in_order}
-use Rattle.statement_steps.specs.declared.copy.CopyBreak.{CopyBreak}
 use Rattle.statement_steps.specs.declared.copy.CopyBreak.TheVariants.{UnknownTable, File}
 use Rattle.statement_steps.specs.declared.copying.CopyRefusal.{CopyRefusal}
 use Rattle.statement_steps.specs.declared.copying.CopyRefusal.TheVariants as refusal

@@ -1,4 +1,4 @@
-use Rattle.std.proofs.Common.{◌≡◌, ◌∙◌, List, ℕ, Option, Err, ap, refl, inl, sym, subst}
+use Rattle.std.proofs.Common.{List, ℕ, Err, ap, refl, inl, subst}
 use Rattle.perm_io.specs.Answers.{is_fault}
 use Rattle.perm_io.specs.Counts.{CountsFault}
 use Rattle.perm_engine.proofs.Damaged.{past_script}

@@ -1,4 +1,4 @@
-use Rattle.std.proofs.Common.{◌≡◌, ◌∙◌, ℕ, List, Option, length, sym, ap, arith, subst, false, Ok, Err, refl}
+use Rattle.std.proofs.Common.{◌∙◌, ℕ, List, Option, length, sym, ap, arith, subst, false, Ok, Err, refl}
 use Rattle.perm_io.specs.Counts.{HasRisen, CountsFault}
 use Rattle.perm_io.specs.declared.named_file.NamedFile.{NamedFile}
 use Rattle.perm_catalog.specs.Changes.{nothing_held}
