@@ -1,4 +1,4 @@
-use Rattle.std.proofs.Common.{refl, rules}
+use Rattle.std.proofs.Common.{rules}
 use Rattle.sql_grammar.specs.Cursors.{reading}
 use Rattle.sql_grammar.specs.Symbols as n
 use Rattle.sql_grammar.proofs.Steps.{reading-keeps}
