@@ -1,4 +1,4 @@
-use Rattle.std.proofs.Common.{rules, refl, ap, ◌∙◌}
+use Rattle.std.proofs.Common.{rules, refl}
 use Rattle.sql_grammar.specs.Cursors.{reading}
 use Rattle.sql_grammar.specs.Symbols as n
 use Rattle.sql_grammar.proofs.Steps.{reading-keeps, reading-takes, exprs_is}
