@@ -17,3 +17,4 @@ pub use copy::{CopyBreak, copy_into};
 pub use copying::CopyRefusal;
 pub use refusal::{Break, CommandRefusal};
 pub use stepping::step;
+pub use text::text_of;

@@ -5,7 +5,7 @@ use perm_values::{Bytes, NoMemory};
 use std::alloc::Global;
 
 /// The bytes in memory of their own.
-pub(crate) fn text_of(alloc: Global, bytes: &[u8]) -> Result<Bytes, NoMemory>
+pub fn text_of(alloc: Global, bytes: &[u8]) -> Result<Bytes, NoMemory>
     ensures { IfOk result (λ text. text ≡ bytes.now) }
 {
     let mut text = Bytes::new(alloc);
