@@ -1,4 +1,4 @@
--- Worked examples of the words that sum counts: over r with rows 1, 1, 2 and s with rows 1, 3, 3.
+-- Worked examples of the words that sum counts: r holds 1 twice and 2 once, s holds 1 once and 3 twice.
 use Rattle.std.specs.Prelude.{◌≡◌, ℕ, pos, List, [], ◌∷◌, refl}
 use Rattle.null_logic.specs.Comparison.{compare_values}
 use Rattle.null_logic.specs.Logic.{value_of}
