@@ -8,7 +8,6 @@ use Rattle.sql_grammar.specs.Descent.{Outcome, Taken, Stopped, and_then, mapped}
 use Rattle.sql_grammar.specs.Lists.{all_of}
 use Rattle.sql_grammar.specs.Symbols as n
 use Rattle.sql_grammar.specs.declared.sort.Sort.TheVariants as s
-use Rattle.sql_grammar.proofs.Listing.{mapped-mapped}
 use Rattle.sql_grammar.proofs.Steps.{reading-is}
 
 placed-counted : {X Y Z : Type 0} (at : ℕ) (f : ℕ × (X × Y) → Z) (o : Outcome Token X) (next : List Token → Outcome Token Y)

@@ -3,5 +3,7 @@ pub mod Counts
 pub mod Primaries
 pub mod Regularity
 pub mod Stating
+pub mod Tabled
 pub mod Tails
+pub mod Texts
 pub mod Whole

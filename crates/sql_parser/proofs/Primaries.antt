@@ -4,7 +4,7 @@ use Rattle.sql_lexer.specs.declared.token.Token.{Token}
 use Rattle.sql_grammar.specs.Building as b
 use Rattle.sql_parser.specs.Calls.{arms, primary_body}
 use Rattle.sql_grammar.specs.Cursors.{reading, past, place, sees}
-use Rattle.sql_grammar.specs.Descent.{Outcome, and_then, mapped}
+use Rattle.sql_grammar.specs.Descent.{and_then, mapped}
 use Rattle.sql_grammar.specs.Symbols as n
 use Rattle.sql_grammar.specs.Tables.{begins}
 use Rattle.sql_grammar.specs.declared.sort.Sort.TheVariants as s

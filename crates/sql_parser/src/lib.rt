@@ -1,4 +1,4 @@
-//! Reads the syntax tree of a script from its tokens (ISO/IEC 9075-2, cut to the grammar in `specs/Grammar.antt`).
+//! Reads the syntax tree of a script from its tokens (ISO/IEC 9075-2, cut to the grammar in `sql_grammar/specs/Grammar.antt`).
 #![tactic(auto)]
 
 mod calls;
@@ -17,7 +17,11 @@ mod tail;
 
 pub use laws::{
     a_script_has_one_tree, a_spelled_script_is_regular, an_unexpected_token_has_no_tree,
+    computed_trees_are_spelled, operators_are_read_by_their_table,
 };
 pub use nesting::too_deep;
 pub use parser::script;
 pub use syntax_error::SyntaxError;
+
+#[cfg(test)]
+mod tests;
