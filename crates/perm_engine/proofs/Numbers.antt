@@ -1,7 +1,8 @@
 -- A statement draws one number at most, and wants the last one only where it is the next.
-use Rattle.std.proofs.Common.{◌≡◌, ◌∙◌, ℕ, ◌+◌, ◌≤◌, Bool, true, false, cond, nat_eq, List, [], ◌∷◌, length, Option, Some, None, Result, Ok, Err, refl, sym, ap, arith}
+use Rattle.std.proofs.Common.{◌≡◌, ◌∙◌, ℕ, ◌+◌, ◌≤◌, Bool, true, false, true≢false, cond, nat_eq, List, [], ◌∷◌, length, Option, Some, None, Result, Ok, Err, refl, sym, ap, subst, arith}
 use Rattle.std.proofs.lemmas.Bool.Decides.{nat_tests}
 use Rattle.perm_catalog.specs.Changes.{table_named, with_more_rows}
+use Rattle.perm_catalog.specs.Columns.{column_kinds, column_names}
 use Rattle.perm_catalog.specs.Contents.{Contents}
 use Rattle.perm_catalog.specs.Lookups.{first_user}
 use Rattle.perm_catalog.specs.declared.entries.TableEntry.{TableEntry}
@@ -9,14 +10,15 @@ use Rattle.sql_tree.specs.declared.statement.Statement.{Statement}
 use Rattle.sql_commands.specs.Commands.{command_of}
 use Rattle.sql_commands.specs.Lists.{all_of}
 use Rattle.perm_engine.specs.Run.{StopsBy, StopsAsked, StopsAt}
-use Rattle.statement_steps.specs.Step.{kinds_in_order, Stepped, Turn, Stands, Refuses, unfit, last_number, drawing, with_entry, can_create, all_fit, insert_into, delete_from, drop_unused, select_places, place_from, names_of, step, step_of, turn}
+use Rattle.statement_steps.specs.Step.{Stepped, Turn, Stands, Refuses, unfit, last_number, drawing, with_entry, can_create, insert_into, delete_from, drop_unused, select_places, place_from, step, step_of, turn}
 use Rattle.sql_commands.specs.declared.command.Command.{Command}
 use Rattle.sql_commands.specs.declared.command.Command.TheVariants.{CreateTable, Insert, Select, Delete, DropTable}
 use Rattle.statement_steps.specs.declared.refusal.Break.{Break}
 use Rattle.bag_algebra.specs.Bags.{Bag}
+use Rattle.bag_algebra.specs.Fits.{bag_fits}
 use Rattle.sql_tree.specs.declared.statement.StatementBody.{StatementBody}
 use Rattle.sql_tree.specs.declared.statement.StatementBody.TheVariants as st
-use Rattle.perm_engine.specs.Asking.{Outcome, Asked, Settled, Begins, settled, copy_outcome, copy_asks, asks, asked}
+use Rattle.perm_engine.specs.Asking.{Outcome, Asked, Settled, Begins, settled, copy_outcome, copy_asks, asks, asked, IsAnswered}
 use Rattle.statement_steps.specs.Copying.{copied, copy_into, copy_to, copy_text}
 use Rattle.statement_steps.specs.Found.{Found}
 use Rattle.statement_steps.specs.declared.copy.CopyBreak.TheVariants.{VersionsSpent}
@@ -54,9 +56,6 @@ abbrev IsThrifty : Contents → Asked → Type 0
 IsThrifty c (Settled outcome) = IsSparing c outcome
 IsThrifty c (Begins name after) = (found : Found) → IsSparing c (after found)
 
-no_truth : false ≡ true → ⊥
-no_truth e = absurd cc
-
 same_number : (a b : ℕ) → nat_eq a b ≡ true → a ≡ b
 same_number a b h = grind (arith, nat_tests)
 
@@ -92,10 +91,10 @@ module _ (c : Contents) where
   frugal-step (CreateTable table columns) at = either (can_create c table columns) _ unfit (frugal-drawing at _ refl) frugal-unfit
   frugal-step (Insert table rows) at =
       frugal-with_entry (table_named c table) (λ entry. insert_into c table entry rows at)
-      (λ entry. either (all_fit entry.columns rows) _ unfit (frugal-drawing at _ refl) frugal-unfit)
+      (λ entry. either (bag_fits rows (column_kinds entry.columns)) _ unfit (frugal-drawing at _ refl) frugal-unfit)
   frugal-step (Select provenance columns table) at =
-      frugal-with_entry (table_named c table) (λ entry. select_places c provenance table entry columns (all_of (place_from 0 (names_of entry.columns)) columns))
-      (λ entry. frugal-select provenance table entry columns (all_of (place_from 0 (names_of entry.columns)) columns))
+      frugal-with_entry (table_named c table) (λ entry. select_places c provenance table entry columns (all_of (place_from 0 (column_names entry.columns)) columns))
+      (λ entry. frugal-select provenance table entry columns (all_of (place_from 0 (column_names entry.columns)) columns))
   frugal-step (Delete table) at =
       frugal-with_entry (table_named c table) (λ entry. delete_from c table entry at) (λ entry. frugal-drawing at _ refl)
   frugal-step (DropTable table place) at =
@@ -126,7 +125,7 @@ module _ (c : Contents) where
 
   sparing-copy_to : (at : ℕ) (table mark : List ℕ) (header : Bool) (found : Found) (o : Option TableEntry) → IsSparing c (copy_outcome at (copy_to c table o mark header found))
   sparing-copy_to at table mark header found None = refuses_so (λ e. absurd (omega (arith, e)))
-  sparing-copy_to at table mark header found (Some entry) = sparing-copied at table entry (copied (kinds_in_order entry.columns) mark header found)
+  sparing-copy_to at table mark header found (Some entry) = sparing-copied at table entry (copied (column_kinds entry.columns) mark header found)
 
   thrifty-copy : (table name mark : List ℕ) (header : Bool) (at : ℕ) (o : Option TableEntry) → IsThrifty c (copy_asks c table name mark header at o)
   thrifty-copy table name mark header at None = refuses_so (λ e. absurd (omega (arith, e)))
@@ -150,12 +149,12 @@ module _ (c : Contents) where
       ((after : Contents) → StopsAt after statements b → last_number ≤ after.next + length statements) → last_number ≤ c.next + (length statements + 1)
   stops-outcome (Ok stepped) statements b (stands_so h) e stops later = let l = later stepped.contents stops in omega (arith, h, l)
   stops-outcome (Err (r.Break found)) statements b (refuses_so h) e stops later = let l = h (ap code_of stops ∙ e) in omega (arith, l)
-  stops-outcome (Err (r.Break found)) statements b (other_so n) e stops later = absurd (no_truth (sym n))
-  stops-outcome (Err (r.Missing at)) statements b (other_so n) e stops later = absurd (no_truth (ap is_break stops))
-  stops-outcome (Err (r.TooLarge at)) statements b (other_so n) e stops later = absurd (no_truth (ap is_break stops))
-  stops-outcome (Err (r.Unfit rule)) statements b (other_so n) e stops later = absurd (no_truth (ap is_break stops))
-  stops-outcome (Err r.ReadFault) statements b (other_so n) e stops later = absurd (no_truth (ap is_break stops))
-  stops-outcome (Err r.NoMemory) statements b (other_so n) e stops later = absurd (no_truth (ap is_break stops))
+  stops-outcome (Err (r.Break found)) statements b (other_so n) e stops later = absurd (true≢false n)
+  stops-outcome (Err (r.Missing at)) statements b (other_so n) e stops later = absurd (true≢false (sym (ap is_break stops)))
+  stops-outcome (Err (r.TooLarge at)) statements b (other_so n) e stops later = absurd (true≢false (sym (ap is_break stops)))
+  stops-outcome (Err (r.Unfit rule)) statements b (other_so n) e stops later = absurd (true≢false (sym (ap is_break stops)))
+  stops-outcome (Err r.ReadFault) statements b (other_so n) e stops later = absurd (true≢false (sym (ap is_break stops)))
+  stops-outcome (Err r.NoMemory) statements b (other_so n) e stops later = absurd (true≢false (sym (ap is_break stops)))
 
   stops-asked : (a : Asked) (statements : List Statement) (b : Break) → IsThrifty c a → b.code ≡ 17 → StopsAsked a (λ after. StopsAt after statements b) b →
       ((after : Contents) → StopsAt after statements b → last_number ≤ after.next + length statements) → last_number ≤ c.next + (length statements + 1)
@@ -167,3 +166,29 @@ stops-late c [] b e stops = absurd stops
 stops-late c (statement ∷ statements) b e stops =
     let l = stops-asked c (asked c statement) statements b (thrifty-asks c statement statement.body) e stops (λ after more. stops-late after statements b e more) in
     omega (arith, l)
+
+-- ---- what a call of a session leaves
+
+stood : (c : Contents) (stepped : Stepped) → IsSparing c (Ok stepped) → stepped.contents.next ≤ c.next + 1
+stood c stepped (stands_so h) = h
+
+spent : (c : Contents) (b : Break) → IsSparing c (Err (r.Break b)) → b.code ≡ 17 → c.next ≡ last_number
+spent c b (refuses_so h) e = h e
+spent c b (other_so n) e = absurd (true≢false n)
+
+module _ (Can : List ℕ → Found → Type 0) (c next : Contents) where
+  answered-stood : (a : Asked) (text : List ℕ) → IsThrifty c a → IsAnswered Can a c next (Ok text) → next.next ≤ c.next + 1
+  answered-stood (Settled outcome) text thrifty e = stood c (record { text = text; contents = next }) (subst (IsSparing c) e thrifty)
+  answered-stood (Begins name after) text thrifty (found, can, e) = stood c (record { text = text; contents = next }) (subst (IsSparing c) e (thrifty found))
+
+  answered-spent : (a : Asked) (b : Break) → IsThrifty c a → IsAnswered Can a c next (Err (r.Break b)) → b.code ≡ 17 → c.next ≡ last_number
+  answered-spent (Settled outcome) b thrifty (e, same) code = spent c b (subst (IsSparing c) e thrifty) code
+  answered-spent (Begins name after) b thrifty (found, can, (e, same)) code = spent c b (subst (IsSparing c) e (thrifty found)) code
+
+  -- a statement that stood has drawn one number at most
+  pub next-after : (statement : Statement) (text : List ℕ) → IsAnswered Can (asked c statement) c next (Ok text) → next.next ≤ c.next + 1
+  next-after statement text answered = answered-stood (asked c statement) text (thrifty-asks c statement statement.body) answered
+
+  -- one that is refused for want of a number stands where the last is the next
+  pub next-spent : (statement : Statement) (b : Break) → IsAnswered Can (asked c statement) c next (Err (r.Break b)) → b.code ≡ 17 → c.next ≡ last_number
+  next-spent statement b answered code = answered-spent (asked c statement) b (thrifty-asks c statement statement.body) answered code

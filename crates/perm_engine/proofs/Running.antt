@@ -70,17 +70,13 @@ pub EndsOne-refused : (Can : List ℕ → Found → Type 0) (bytes : List ℕ) (
 EndsOne-refused Can bytes (Break b) w count s misspelled e = inl (line_alone (error_line b) status.Syntax, inr (b, misspelled, refl), e, Opens-none (error_line b) status.Syntax count s)
 EndsOne-refused Can bytes NoMemory w count s misspelled e = inr (e, refl)
 
--- the end of a run in which no file failed
-pub not_failed : (s given : Status) → (given ≡ status.ReadFault → ⊥) → (s ≡ given) ⊎ (s ≡ status.WriteFault) → s ≡ status.ReadFault → ⊥
-not_failed s given other (inl same) e = other (sym same ∙ e)
-not_failed s given other (inr cut) e = absurd cc
+-- a run that was to end with one status doesn't end with others but a failed output
+pub other_end : (s given wrong : Status) → (given ≡ wrong → ⊥) → (status.WriteFault ≡ wrong → ⊥) → (s ≡ given) ⊎ (s ≡ status.WriteFault) → s ≡ wrong → ⊥
+other_end s given wrong other cut (inl same) e = other (sym same ∙ e)
+other_end s given wrong other cut (inr failed) e = cut (sym failed ∙ e)
 
 -- the same files, counts and bytes under other names
 pub EndsOne-moved : (held held' : Option (List NamedFile)) (faults faults' new : ℕ) (bytes bytes' : List ℕ) (w : Written) (before after : ℕ) (s : Status) → held ≡ held' → faults ≡ faults' → bytes ≡ bytes' →
     EndsOne 0 (RunsScript (CanBe file_limit held (HasRisen faults new)) bytes) w before after s → EndsOne 0 (RunsScript (CanBe file_limit held' (HasRisen faults' new)) bytes') w before after s
 EndsOne-moved held held' faults faults' new bytes bytes' w before after s e f g h =
     subst (λ (p : Option (List NamedFile) × ℕ × List ℕ). EndsOne 0 (RunsScript (CanBe file_limit p.0 (HasRisen p.1 new)) p.2) w before after s) (λ i. (e i, f i, g i)) h
-
-pub not_damaged : (s : Status) → (s ≡ status.Done) ⊎ (s ≡ status.WriteFault) → s ≡ status.BadData → ⊥
-not_damaged s (inl done) e = absurd cc
-not_damaged s (inr cut) e = absurd cc

@@ -1,14 +1,14 @@
 -- What a statement that ran makes of the runs behind it, and that every start has some run.
-use Rattle.std.proofs.Common.{◌≡◌, ◌⊎◌, ℕ, ◌+◌, ◌≤◌, ◌<◌, Bool, true, false, List, [], ◌∷◌, length, Option, Some, None, Ok, Err, refl, sym, subst, inl, inr, arith, IsTrue, IsSomeAnd}
+use Rattle.std.proofs.Common.{◌≡◌, ◌⊎◌, ℕ, ◌+◌, ◌≤◌, Bool, true, false, true≢false, List, [], ◌∷◌, Option, Ok, Err, refl, sym, subst, inl, inr, arith, IsTrue}
 use Rattle.perm_io.specs.Counts.{HasRisen, CountsFault, next_count}
-use Rattle.perm_io.specs.Named.{file_named}
 use Rattle.perm_io.specs.declared.named_file.NamedFile.{NamedFile}
 use Rattle.perm_catalog.specs.Contents.{Contents}
 use Rattle.sql_tree.specs.declared.statement.Statement.{Statement}
-use Rattle.perm_engine.specs.Asking.{Outcome, Asked, Settled, Begins, asked, begins, is_short, has_failed, IsAnswered, IsOutcome}
+use Rattle.perm_engine.specs.Asking.{Outcome, Asked, Settled, Begins, asked, begins, has_failed, IsAnswered, IsOutcome}
 use Rattle.statement_steps.specs.Copying.{file_limit}
 use Rattle.perm_engine.specs.Ends.{opened}
-use Rattle.statement_steps.specs.Found.{Found, Read, Missing, TooLong, CanBe}
+use Rattle.statement_steps.proofs.CopiedInto.{some_found}
+use Rattle.statement_steps.specs.Found.{Found, CanBe}
 use Rattle.perm_engine.specs.Run.{Ran, line_alone, after_text, after_files, refusal_line, refusal_status, is_failed, GoesOn, Asks, RunsFrom}
 use Rattle.perm_engine.specs.declared.step_refusal.StepRefusal.{StepRefusal}
 use Rattle.perm_engine.specs.declared.step_refusal.StepRefusal.TheVariants as r
@@ -63,23 +63,6 @@ module _ (Can : List ℕ → Found → Type 0) (CanStep : List ℕ → Found →
 
 -- ---- every start has some run
 
-within_or_longer : (n limit : ℕ) → (n ≤ limit) ⊎ (limit < n)
-within_or_longer n limit = grind arith
-
-found_bytes : (files : List NamedFile) (fault : Type 0) (name bytes : List ℕ) → file_named files name ≡ Some bytes → ((length bytes ≤ file_limit) ⊎ (file_limit < length bytes)) →
-    (found : Found) × CanBe file_limit (Some files) fault name found
-found_bytes files fault name bytes e (inl within) = (Read bytes, (e, within))
-found_bytes files fault name bytes e (inr longer) = (TooLong, subst (λ o. IsSomeAnd o (λ bytes. file_limit < length bytes)) (sym e) longer)
-
-found_named : (files : List NamedFile) (fault : Type 0) (name : List ℕ) (o : Option (List ℕ)) → file_named files name ≡ o → (found : Found) × CanBe file_limit (Some files) fault name found
-found_named files fault name None e = (Missing, e)
-found_named files fault name (Some bytes) e = found_bytes files fault name bytes e (within_or_longer (length bytes) file_limit)
-
--- something can have become of every file
-pub some_found : (held : Option (List NamedFile)) (fault : Type 0) (name : List ℕ) → (found : Found) × CanBe file_limit held fault name found
-some_found None fault name = (Missing, tt)
-some_found (Some files) fault name = found_named files fault name (file_named files name) refl
-
 module _ (held : Option (List NamedFile)) (fault : Type 0) where
   abbrev Can : List ℕ → Found → Type 0
   Can name found = CanBe file_limit held fault name found
@@ -91,7 +74,7 @@ module _ (held : Option (List NamedFile)) (fault : Type 0) where
   some_asks : (a : Asked) (Next : Contents → Ran → Type 0) → ((after : Contents) → (ran : Ran) × Next after ran) → (ran : Ran) × Asks (CanBe file_limit held fault) a Next ran × (files_of a ≤ ran.begun)
   some_asks (Settled outcome) Next later = let g = some_goes outcome Next later in (g.0, g.1, omega arith)
   some_asks (Begins name after) Next later =
-      let f = some_found held fault name in
+      let f = some_found file_limit held fault name in
       let g = some_goes (after f.0) Next later in
       (after_files 1 g.0, (f.0, g.0, f.1, g.1, refl), omega arith)
 
@@ -109,9 +92,6 @@ module _ (held : Option (List NamedFile)) (fault : Type 0) where
 
 -- ---- the files that it has begun, and their faults
 
-true_not_false : true ≡ false → ⊥
-true_not_false e = absurd cc
-
 -- all that it asks for, unless memory was wanting
 pub begun-told : (a : Asked) (old new : ℕ) (short : Bool) → (IsTrue (begins a) → (new ≡ next_count old) ⊎ (IsTrue short × (new ≡ old))) →
     (begins a ≡ false → new ≡ old) → short ≡ false → new ≡ opened (files_of a) old
@@ -120,8 +100,8 @@ begun-told (Begins name after) old new false h k e = either (h refl)
   where
     either : ((new ≡ next_count old) ⊎ (IsTrue false × (new ≡ old))) → new ≡ next_count old
     either (inl one) = one
-    either (inr (wrong, same)) = absurd (true_not_false (sym wrong))
-begun-told (Begins name after) old new true h k e = absurd (true_not_false e)
+    either (inr (wrong, same)) = absurd (true≢false (sym wrong))
+begun-told (Begins name after) old new true h k e = absurd (true≢false e)
 
 -- that or none
 pub begun-short : (a : Asked) (old new : ℕ) (short : Bool) → (IsTrue (begins a) → (new ≡ next_count old) ⊎ (IsTrue short × (new ≡ old))) →
@@ -145,11 +125,3 @@ has_failed-is (r.TooLarge at) = refl
 has_failed-is (r.Unfit rule) = refl
 has_failed-is r.ReadFault = refl
 has_failed-is r.NoMemory = refl
-
-pub is_short-is : (refusal : StepRefusal) → is_told refusal ≡ true → is_short {T = List ℕ} (Err refusal) ≡ false
-is_short-is (r.Break b) e = refl
-is_short-is (r.Missing at) e = refl
-is_short-is (r.TooLarge at) e = refl
-is_short-is (r.Unfit rule) e = refl
-is_short-is r.ReadFault e = refl
-is_short-is r.NoMemory e = absurd (true_not_false (sym e))

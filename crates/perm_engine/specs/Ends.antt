@@ -1,14 +1,17 @@
 -- How a run ends: what stands in the output then, beside the status.
-use Rattle.std.specs.Prelude.{◌≡◌, ◌⊎◌, ℕ, zero, suc, ◌≤◌, Bool, false, List, ◌++◌, length, take, Option}
+use Rattle.std.specs.Prelude.{◌≡◌, ◌≢◌, ◌⊎◌, ℕ, zero, suc, ◌≤◌, ◌<◌, Bool, false, List, ◌++◌, length, take, Option, IsTrue}
 use Rattle.std.specs.Io.KnownBytes.{append_known}
 use Rattle.std.specs.List.{flat_map}
 use Rattle.perm_io.specs.Counts.{HasRisen, next_count}
-use Rattle.perm_engine.specs.Run.{Ran, text_of, line_alone, refusal_line, IsWhole}
+use Rattle.perm_engine.specs.Run.{Ran, text_of, line_alone, refusal_line, script_limit, IsWhole}
 use Rattle.csv_tables.specs.declared.data_error.DataError.{DataError}
+use Rattle.csv_tables.specs.declared.data_error.DataError.TheVariants as broken
 use Rattle.perm_engine.specs.DataLines.{data_line}
 use Rattle.perm_engine.specs.Lines.{error_line}
+use Rattle.statement_steps.specs.Copying.{file_limit}
+use Rattle.statement_steps.specs.declared.refusal.Break.{Break}
 use Rattle.statement_steps.specs.declared.refusal.CommandRefusal.{CommandRefusal}
-use Rattle.statement_steps.specs.declared.refusal.CommandRefusal.TheVariants.{Break, NoMemory}
+use Rattle.statement_steps.specs.declared.refusal.CommandRefusal.TheVariants.{Break as Broken, NoMemory}
 use Rattle.perm_engine.specs.declared.step_refusal.StepRefusal.{StepRefusal}
 use Rattle.perm_engine.specs.declared.step_refusal.StepRefusal.TheVariants as step
 use Rattle.perm_engine.specs.declared.status.Status.{Status}
@@ -78,7 +81,7 @@ pub record IsSilent (w : Written) (s : Status) : Type 0 where
 
 -- the line of a script's refusal ends the run, where memory suffices
 abbrev pub EndsRefused : CommandRefusal → Written → Status → Type 0
-EndsRefused (Break b) w s = Ends (line_alone (error_line b) status.Syntax) w s
+EndsRefused (Broken b) w s = Ends (line_alone (error_line b) status.Syntax) w s
 EndsRefused NoMemory w s = IsSilent w s
 
 -- the line of a statement's refusal ends the run, where memory suffices
@@ -98,6 +101,22 @@ EndsSome IsRun w before after s = (ran : Ran) × IsRun ran × Ends ran w s × Op
 abbrev pub EndsOne : ℕ → (Ran → Type 0) → Written → ℕ → ℕ → Status → Type 0
 EndsOne files IsRun w before after s = EndsSome IsRun w before after s ⊎ (IsSilent w s × (after ≡ opened files before))
 
+-- ---- why a run ends with a status, also where the bytes of files and outputs aren't told
+
 -- the line written last names a rule that a record of a file breaks
 abbrev pub EndsUnfit : Option (List ℕ) → Option (List ℕ) → Type 0
-EndsUnfit before after = (rule : DataError) × (text : List ℕ) × (after ≡ append_known before (text ++ data_line rule))
+EndsUnfit before after = (rule : DataError) × (rule ≢ broken.NoMemory) × (text : List ℕ) × (after ≡ append_known before (text ++ data_line rule))
+
+-- one file was begun, the script's, and there is none of its name, or more bytes of it were read than a script may have
+abbrev pub IsBadScript : ℕ → ℕ → Bool → ℕ → Type 0
+IsBadScript before after absent taken = (after ≡ next_count before) × (IsTrue absent ⊎ (script_limit < taken))
+
+-- more files were begun than this, and there is none of the last one's name, or more bytes of it were read than a file of
+-- rows may have, or the line written last names a rule that a record breaks
+abbrev pub IsBadFile : ℕ → ℕ → ℕ → Bool → ℕ → Option (List ℕ) → Option (List ℕ) → Type 0
+IsBadFile others before after absent taken old new =
+    (files : ℕ) × (others < files) × (after ≡ opened files before) × (IsTrue absent ⊎ ((file_limit < taken) ⊎ EndsUnfit old new))
+
+-- the line written last names a break of a statement, and that isn't want of a number to draw
+abbrev pub EndsBroken : Option (List ℕ) → Option (List ℕ) → Type 0
+EndsBroken before after = (b : Break) × (b.code ≢ 17) × (text : List ℕ) × (after ≡ append_known before (text ++ error_line b))

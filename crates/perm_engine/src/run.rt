@@ -1,12 +1,12 @@
-ghost use Rattle.std.specs.Prelude.{◌≡◌, ◌⊎◌, ◌<◌, IsTrue, true, false};
+ghost use Rattle.std.specs.Prelude.{◌≡◌, ◌⊎◌, true, false};
 ghost use Rattle.perm_io.specs.Counts.{HasRisen};
 ghost use Rattle.perm_catalog.specs.Changes.{nothing_held};
 ghost use Rattle.statement_steps.specs.Copying.{file_limit};
 ghost use Rattle.perm_engine.specs.DataLines.{data_line};
-ghost use Rattle.perm_engine.specs.Ends.{Ends, EndsOne, EndsSome, EndsRefused, EndsStopped, EndsUnfit};
+ghost use Rattle.perm_engine.specs.Ends.{Ends, EndsOne, EndsSome, EndsBroken, EndsRefused, EndsStopped, IsBadFile, IsBadScript};
 ghost use Rattle.statement_steps.specs.Found.{CanBe};
 ghost use Rattle.perm_engine.specs.Lines.{error_line};
-ghost use Rattle.perm_engine.specs.Run.{Runs, RunsFrom, RunsScript, line_alone, is_failed, is_one, IsWhole, IsSteady, IsOfScript, script_limit};
+ghost use Rattle.perm_engine.specs.Run.{Runs, RunsFrom, RunsScript, line_alone, is_failed, is_one, IsWhole, IsSteady, IsOfScript};
 
 use crate::data_line::data_line;
 use crate::line::error_line;
@@ -96,7 +96,7 @@ fn refuse<K: Sink>(alloc: Global, refusal: CommandRefusal, out: &mut K) -> Statu
       unflushed = K.unflushed out.new;
     }) result }
     ensures status { IsOfScript result }
-    ensures data { (result ≡ Status.ReadFault → ⊥) × (result ≡ Status.BadData → ⊥) }
+    ensures data { (result ≡ Status.ReadFault → ⊥) × (result ≡ Status.BadData → ⊥) × (result ≡ Status.Refused → ⊥) }
 {
     match refusal {
         CommandRefusal::Break(found) => end_broken(alloc, found, Status::Syntax, out),
@@ -147,7 +147,9 @@ fn run_statements<F: Files, K: Sink>(
           unflushed = K.unflushed out.new;
         }) (F.begun files.old) (F.begun files.new) result }
     ensures status { IsOfScript result }
-    ensures bad_data { result ≡ Status.BadData → IsTrue (F.absent files.new) ⊎ ((file_limit < F.taken files.new) ⊎ EndsUnfit (K.written out.old) (K.written out.new)) }
+    ensures refused { result ≡ Status.Refused → EndsBroken (K.written out.old) (K.written out.new) }
+    ensures bad_data { result ≡ Status.BadData → IsBadFile 0 (F.begun files.old) (F.begun files.new) (F.absent files.new) (F.taken files.new)
+        (K.written out.old) (K.written out.new) }
     ensures read_fault { result ≡ Status.ReadFault → HasRisen (F.faults files.old) (F.faults files.new) }
     ensures steady { IsSteady result → F.faults files.new ≡ F.faults files.old }
     ensures held { F.held files.new ≡ F.held files.old }
@@ -176,7 +178,9 @@ fn run_script<F: Files, K: Sink>(alloc: Global, bytes: &[u8], files: &mut F, out
           unflushed = K.unflushed out.new;
         }) (F.begun files.old) (F.begun files.new) result }
     ensures status { IsOfScript result }
-    ensures bad_data { result ≡ Status.BadData → IsTrue (F.absent files.new) ⊎ ((file_limit < F.taken files.new) ⊎ EndsUnfit (K.written out.old) (K.written out.new)) }
+    ensures refused { result ≡ Status.Refused → EndsBroken (K.written out.old) (K.written out.new) }
+    ensures bad_data { result ≡ Status.BadData → IsBadFile 0 (F.begun files.old) (F.begun files.new) (F.absent files.new) (F.taken files.new)
+        (K.written out.old) (K.written out.new) }
     ensures read_fault { result ≡ Status.ReadFault → HasRisen (F.faults files.old) (F.faults files.new) }
     ensures steady { IsSteady result → F.faults files.new ≡ F.faults files.old }
     ensures held { F.held files.new ≡ F.held files.old }
@@ -202,7 +206,10 @@ pub fn perm<F: Files, K: Sink>(alloc: Global, words: &[Chars], files: &mut F, ou
     // When each status comes.
     ensures usage { result ≡ Status.Usage → is_one words.now ≡ false }
     ensures misused { is_one words.now ≡ false → (result ≡ Status.Usage) ⊎ (result ≡ Status.WriteFault) }
-    ensures bad_data { result ≡ Status.BadData → IsTrue (F.absent files.new) ⊎ ((script_limit < F.taken files.new) ⊎ EndsUnfit (K.written out.old) (K.written out.new)) }
+    ensures refused { result ≡ Status.Refused → EndsBroken (K.written out.old) (K.written out.new) }
+    ensures bad_data { result ≡ Status.BadData →
+        IsBadScript (F.begun files.old) (F.begun files.new) (F.absent files.new) (F.taken files.new)
+        ⊎ IsBadFile 1 (F.begun files.old) (F.begun files.new) (F.absent files.new) (F.taken files.new) (K.written out.old) (K.written out.new) }
     ensures read_fault { result ≡ Status.ReadFault → HasRisen (F.faults files.old) (F.faults files.new) }
     ensures write_fault { result ≡ Status.WriteFault → HasRisen (K.faults out.old) (K.faults out.new) }
     ensures steady { IsSteady result → (F.faults files.new ≡ F.faults files.old) × (K.faults out.new ≡ K.faults out.old) }

@@ -1,4 +1,5 @@
-ghost use Rattle.std.specs.Prelude.{◌≡◌, ◌⊎◌, ◌<◌, IsTrue, false};
+ghost use Rattle.std.specs.Prelude.{◌≡◌, ◌≢◌, ◌⊎◌, ◌<◌, Err, IsTrue, false};
+ghost use Rattle.csv_tables.specs.declared.data_error.DataError.TheVariants as broken;
 ghost use Rattle.perm_catalog.specs.Changes.{nothing_held, table_named};
 ghost use Rattle.perm_io.specs.Counts.{next_count, CountsFault, HasRisen};
 ghost use Rattle.statement_steps.specs.Answers.{IsTurn};
@@ -73,6 +74,7 @@ impl Session {
         // When the refusals come that files decide.
         ensures missing { IsTrue (is_missing result) → IsTrue (F.absent files.new) }
         ensures too_large { IsTrue (is_too_large result) → file_limit < F.taken files.new }
+        ensures memory { result ≢ Err (StepRefusal.Unfit broken.NoMemory) }
         ensures faults { CountsFault (F.faults files.old) (F.faults files.new) (has_failed result) }
 
         // The file is begun, unless memory was wanting before.
@@ -115,6 +117,7 @@ impl Session {
             (copy_asks self.old table.now file.now mark.now header at (table_named self.old table.now)) self.old self.new result }
         ensures missing { IsTrue (is_missing result) → IsTrue (F.absent files.new) }
         ensures too_large { IsTrue (is_too_large result) → file_limit < F.taken files.new }
+        ensures memory { result ≢ Err (StepRefusal.Unfit broken.NoMemory) }
         ensures faults { CountsFault (F.faults files.old) (F.faults files.new) (has_failed result) }
         ensures begun { IsTrue (begins (copy_asks self.old table.now file.now mark.now header at (table_named self.old table.now))) →
             (F.begun files.new ≡ next_count (F.begun files.old)) ⊎ (IsTrue (is_short result) × (F.begun files.new ≡ F.begun files.old)) }
@@ -141,6 +144,7 @@ impl Session {
         ensures answer { IsOutcome (settled (turn self.old statement.now)) self.old self.new result }
         ensures missing { is_missing result ≡ false }
         ensures too_large { is_too_large result ≡ false }
+        ensures memory { result ≢ Err (StepRefusal.Unfit broken.NoMemory) }
         ensures failed { has_failed result ≡ false }
     {
         match self.answer(statement) {

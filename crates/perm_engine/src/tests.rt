@@ -19,19 +19,25 @@ struct Ended {
     out: MemorySink,
 }
 
-/// Runs the words over one file `s` of this script, where these calls on the file fail and the output is as given.
+fn file(alloc: Global, name: &str, content: &[u8]) -> Result<NamedFile, NoMemory> {
+    let mut bytes = Bytes::new(alloc);
+    bytes.add(content)?;
+    let name = Chars::from_text(alloc, name)?;
+    Ok(NamedFile { name, bytes })
+}
+
+/// Runs the words over the files `s`, a script, and `c`, where these calls on files fail and the output is as given.
 fn run(
     alloc: Global,
     words: &[&str],
     script: &[u8],
+    rows: &[u8],
     failing: &[u64],
     mut out: MemorySink,
 ) -> Result<Ended, NoMemory> {
-    let mut bytes = Bytes::new(alloc);
-    bytes.add(script)?;
-    let name = Chars::from_text(alloc, "s")?;
     let mut held = List::new(alloc);
-    held.push(NamedFile { name, bytes })?;
+    held.push(file(alloc, "s", script)?)?;
+    held.push(file(alloc, "c", rows)?)?;
     let mut files = MemoryFiles::new(alloc, held, failing)?;
     let mut list = List::new(alloc);
     for word in words {
@@ -41,7 +47,7 @@ fn run(
     Ok(Ended { status, out })
 }
 
-/// Scripts with what they write and how they end: first those that are none, then statements that can't stand.
+/// Scripts with what they write and how they end: those that are none, then statements that can't stand.
 const SCRIPTS: [(&[u8], &str, Status); 12] = [
     (b"", "", Status::Done),
     (b"SELECT \xff", "error E01 at 7\n", Status::Syntax),
@@ -85,6 +91,7 @@ fn scripts_and_their_answers(rt: HostRuntime) -> Result<(), Fail> {
             alloc,
             &["s"],
             script,
+            b"",
             &[],
             MemorySink::new(alloc, 200, &[])?,
         )?;
@@ -145,6 +152,7 @@ fn words_files_and_failures(rt: HostRuntime) -> Result<(), Fail> {
             alloc,
             words,
             SCRIPT,
+            b"",
             reads,
             MemorySink::new(alloc, 200, writes)?,
         )?;
@@ -156,6 +164,7 @@ fn words_files_and_failures(rt: HostRuntime) -> Result<(), Fail> {
             alloc,
             &["s"],
             SCRIPT,
+            b"",
             &[],
             MemorySink::new(alloc, room, &[])?,
         )?;
@@ -165,6 +174,110 @@ fn words_files_and_failures(rt: HostRuntime) -> Result<(), Fail> {
             &ANSWER.as_bytes()[..room],
             "room {room}"
         );
+    }
+    Ok(())
+}
+
+const COPY: &[u8] = b"CREATE TABLE t (a INTEGER, b TEXT); COPY t FROM 'c'; SELECT a, b FROM t";
+
+const MARKED: &[u8] =
+    b"CREATE TABLE t (a INTEGER, b TEXT); COPY t FROM 'c' NULL '-'; SELECT PROVENANCE b FROM t;";
+
+const HEADED: &[u8] =
+    b"CREATE TABLE t (a INTEGER, b TEXT); COPY t FROM 'c' HEADER NULL '-'; SELECT a, b FROM t;";
+
+const COPIED: &str = "CREATE TABLE\nCOPY 1\n\"a\",\"b\"\n5,\"x\"\n(1 rows)\n";
+
+/// Scripts that copy, the bytes of the file `c`, and the failing calls on files, with what is written and how the run ends.
+/// The calls on the script are the first three, those on the file the next.
+const COPIES: [(&[u8], &[u8], &[u64], &str, Status); 11] = [
+    (
+        MARKED,
+        b"1,\"a\nb\"\r\n-,x\r\n+5,-",
+        &[],
+        "CREATE TABLE\nCOPY 3\n\"b\",\"prov_t_a\",\"prov_t_b\"\n\"a\nb\",1,\"a\nb\"\n\"x\",,\"x\"\n,5,\n(3 rows)\n",
+        Status::Done,
+    ),
+    (
+        HEADED,
+        b"a,b\n1,-\n-,\"\"\n",
+        &[],
+        "CREATE TABLE\nCOPY 2\n\"a\",\"b\"\n1,\n,\"\"\n(2 rows)\n",
+        Status::Done,
+    ),
+    (
+        b"CREATE TABLE t (a INTEGER, b TEXT); COPY t FROM 'd'",
+        b"",
+        &[],
+        "CREATE TABLE\nerror E40 at 36\n",
+        Status::BadData,
+    ),
+    (
+        b"COPY t FROM 'd'",
+        b"",
+        &[],
+        "error E10 at 0\n",
+        Status::Refused,
+    ),
+    (
+        COPY,
+        b"1,x\n2,y\n3,z,w\n",
+        &[],
+        "CREATE TABLE\nerror E42 record 3\n",
+        Status::BadData,
+    ),
+    (
+        COPY,
+        b"1,x\n-,y\n",
+        &[],
+        "CREATE TABLE\nerror E43 record 2 field 1\n",
+        Status::BadData,
+    ),
+    (
+        COPY,
+        b"1,\xff",
+        &[],
+        "CREATE TABLE\nerror E44 record 1 field 2\n",
+        Status::BadData,
+    ),
+    (
+        COPY,
+        b"+5,x",
+        &[4],
+        "CREATE TABLE\nerror E50\n",
+        Status::ReadFault,
+    ),
+    (
+        COPY,
+        b"+5,x",
+        &[5],
+        "CREATE TABLE\nerror E50\n",
+        Status::ReadFault,
+    ),
+    (
+        COPY,
+        b"+5,x",
+        &[6],
+        "CREATE TABLE\nerror E50\n",
+        Status::ReadFault,
+    ),
+    (COPY, b"+5,x", &[7], COPIED, Status::Done),
+];
+
+#[test]
+fn files_are_copied(rt: HostRuntime) -> Result<(), Fail> {
+    let alloc = rt.alloc();
+    for (script, rows, failing, text, status) in COPIES {
+        let ended = run(
+            alloc,
+            &["s"],
+            script,
+            rows,
+            failing,
+            MemorySink::new(alloc, 300, &[])?,
+        )?;
+        assert_eq!(rt; ended.status, status, "{text}");
+        assert_eq!(rt; ended.out.written(), text.as_bytes(), "{text}");
     }
     Ok(())
 }

@@ -4,11 +4,11 @@ use Rattle.std.proofs.lemmas.Bool.{cases_lt}
 use Rattle.perm_io.specs.Named.{file_named}
 use Rattle.perm_io.specs.declared.named_file.NamedFile.{NamedFile}
 use Rattle.perm_catalog.specs.Changes.{table_named}
+use Rattle.perm_catalog.specs.Columns.{column_kinds}
 use Rattle.perm_catalog.specs.Contents.{Contents}
 use Rattle.perm_catalog.specs.declared.entries.TableEntry.{TableEntry}
 use Rattle.statement_steps.specs.Copying.{copied, copy, copy_into, copy_to, IsCopied, IsCopy}
 use Rattle.statement_steps.specs.Found.{Found, CanBe, Read, Missing, TooLong}
-use Rattle.statement_steps.specs.Step.{kinds_in_order}
 use Rattle.statement_steps.specs.declared.copy.CopyBreak.TheVariants.{UnknownTable, File}
 use Rattle.statement_steps.specs.declared.copying.CopyRefusal.{CopyRefusal}
 use Rattle.statement_steps.specs.declared.copying.CopyRefusal.TheVariants as refusal
@@ -35,11 +35,11 @@ module _ (Can : Found → Type 0) (c : Contents) (table mark : List ℕ) (header
   copy-unknown (found, can) none = (found, can, (ap (λ entry. copy_to c table entry mark header found) none, refl))
 
   module _ (entry : TableEntry) (known : table_named c table ≡ Some entry) where
-    same : (found : Found) (answer : CopyRefusal) → copied (kinds_in_order entry.columns) mark header found ≡ Err answer → copy c table mark header found ≡ Err (File answer)
+    same : (found : Found) (answer : CopyRefusal) → copied (column_kinds entry.columns) mark header found ≡ Err answer → copy c table mark header found ≡ Err (File answer)
     same found answer e = ap (λ entry. copy_to c table entry mark header found) known ∙ ap (copy_into c table entry) e
 
     -- the file gives no rows
-    pub copy-refused : (answer : CopyRefusal) → (found : Found) × Can found → IsCopied Can (kinds_in_order entry.columns) mark header (Err answer) → IsCopy Can (copy c table mark header) c c (Err (File answer))
+    pub copy-refused : (answer : CopyRefusal) → (found : Found) × Can found → IsCopied Can (column_kinds entry.columns) mark header (Err answer) → IsCopy Can (copy c table mark header) c c (Err (File answer))
     copy-refused refusal.Missing some (found, can, e) = (found, can, (same found _ e, refl))
     copy-refused refusal.TooLarge some (found, can, e) = (found, can, (same found _ e, refl))
     copy-refused (refusal.Unfit rule) some (found, can, e) = (found, can, (same found _ e, refl))

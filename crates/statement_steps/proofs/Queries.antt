@@ -18,10 +18,11 @@ use Rattle.bag_algebra.specs.declared.query.Query.{Query, end_of-Sublink}
 use Rattle.bag_algebra.specs.declared.query.Query.TheVariants.{Table}
 use Rattle.bag_algebra.specs.declared.query.Label.TheVariants.{Relation}
 use Rattle.csv_tables.specs.AnswerText.{answer_bytes}
+use Rattle.perm_catalog.specs.Columns.{column_kinds, column_names}
 use Rattle.perm_catalog.specs.Contents.{Contents}
 use Rattle.perm_catalog.specs.declared.entries.TableEntry.{TableEntry}
 use Rattle.row_executor.specs.Answers.{meets}
-use Rattle.statement_steps.specs.Step.{Stands, unfit, kinds_in_order, names_of, all_places, plain_query, query_of, answer, answer_names, answer_rows}
+use Rattle.statement_steps.specs.Step.{Stands, unfit, all_places, plain_query, query_of, answer, answer_names, answer_rows}
 
 -- a good outcome meets no fault
 pub no_fault : {X : Type 0} (o : Outcome X) (x : X) (fault : RunFault) → o ≡ Good x → meets o fault ≡ true → ⊥
@@ -31,10 +32,10 @@ no_fault o x fault good met = true≢false (sym met ∙ ap (λ p. meets p fault)
 pub plain-good : (table : List ℕ) (entry : TableEntry) (places : List ℕ) (db : Database) →
     mapped (sorted row_cmp) (meaning (plain_query table entry places) db []) ≡ Good (sorted row_cmp (map (picked places) (db entry.id)))
 plain-good table entry places db =
-    ap (mapped (sorted row_cmp)) (source_columns-meaning entry.id (kinds_in_order entry.columns) (all_places entry) places (Relation table (names_of entry.columns)) db [])
+    ap (mapped (sorted row_cmp)) (source_columns-meaning entry.id (column_kinds entry.columns) (all_places entry) places (Relation table (column_names entry.columns)) db [])
 
 abbrev pub rewritten_query : TableEntry → List ℕ → Query
-rewritten_query entry places = DistinctOf (ProjectOf (Table entry.id (kinds_in_order entry.columns)) (column_items (kinds_in_order entry.columns) (places ++ all_places entry)) [] end_of-Sublink)
+rewritten_query entry places = DistinctOf (ProjectOf (Table entry.id (column_kinds entry.columns)) (column_items (column_kinds entry.columns) (places ++ all_places entry)) [] end_of-Sublink)
 
 abbrev both_columns : TableEntry → List ℕ → Database → Bag
 both_columns entry places db = once (map (λ u. picked places u ++ picked (all_places entry) u) (db entry.id))
@@ -42,7 +43,7 @@ both_columns entry places db = once (map (λ u. picked places u ++ picked (all_p
 pub rewritten-good : (entry : TableEntry) (places : List ℕ) (db : Database) →
     mapped (sorted row_cmp) (meaning (rewritten_query entry places) db []) ≡ Good (sorted row_cmp (both_columns entry places db))
 rewritten-good entry places db =
-    ap (mapped (sorted row_cmp)) (distinct_columns-meaning entry.id (kinds_in_order entry.columns) places (all_places entry) db [])
+    ap (mapped (sorted row_cmp)) (distinct_columns-meaning entry.id (column_kinds entry.columns) places (all_places entry) db [])
 
 one_good : {X : Type 0} {o : Outcome X} {x y : X} → o ≡ Good x → o ≡ Good y → x ≡ y
 one_good e f = cc
@@ -52,7 +53,7 @@ pub rewritten-rows : (table : List ℕ) (entry : TableEntry) (places : List ℕ)
     mapped (sorted row_cmp) (meaning (rewritten_query entry places) db []) ≡ Good rows →
     rows ≡ sorted row_cmp (good_rows (meaning (query_of true table entry places) db []))
 rewritten-rows table entry places db rows given =
-    let p = source_columns-provenance entry.id (kinds_in_order entry.columns) (all_places entry) places (Relation table (names_of entry.columns)) db [] in
+    let p = source_columns-provenance entry.id (column_kinds entry.columns) (all_places entry) places (Relation table (column_names entry.columns)) db [] in
     one_good given (rewritten-good entry places db)
     ∙ sym (printed_unique [] p.0 (both_columns entry places db) p.2)
     ∙ ap (λ o. sorted row_cmp (good_rows o)) (sym p.1)

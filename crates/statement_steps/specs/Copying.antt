@@ -1,5 +1,5 @@
 -- What a COPY makes of its file.
-use Rattle.std.specs.Prelude.{◌≡◌, ℕ, ◌-◌, ◌^◌, nat_eq, Bool, true, false, cond, List, [], ◌∷◌, ◌++◌, length, Option, Some, None, Result, Ok, Err, codes}
+use Rattle.std.specs.Prelude.{◌≡◌, ℕ, nat_eq, Bool, true, false, cond, List, [], ◌∷◌, ◌++◌, length, Option, Some, None, Result, Ok, Err, codes}
 use Rattle.std.specs.Fmt.{decimal}
 use Rattle.perm_values.specs.declared.kind.Kind.{Kind}
 use Rattle.bag_algebra.specs.Bags.{Bag}
@@ -7,13 +7,14 @@ use Rattle.csv_tables.specs.Loading.{broken_rules, spelled_rows}
 use Rattle.csv_tables.specs.declared.data_error.DataError.{DataError}
 use Rattle.csv_tables.specs.declared.data_error.DataError.TheVariants as broken
 use Rattle.perm_catalog.specs.Changes.{table_named, with_more_rows}
+use Rattle.perm_catalog.specs.Columns.{column_kinds}
 use Rattle.perm_catalog.specs.Contents.{Contents}
 use Rattle.perm_catalog.specs.declared.catalog.CatalogRefusal.{CatalogRefusal}
 use Rattle.perm_catalog.specs.declared.catalog.CatalogRefusal.TheVariants as change
 use Rattle.perm_catalog.specs.declared.entries.TableEntry.{TableEntry}
 use Rattle.statement_steps.specs.Found.{Found}
 use Rattle.statement_steps.specs.Found as found
-use Rattle.statement_steps.specs.Step.{Stepped, kinds_in_order}
+use Rattle.statement_steps.specs.Step.{Stepped, last_number}
 use Rattle.statement_steps.specs.declared.copy.CopyBreak.{CopyBreak}
 use Rattle.statement_steps.specs.declared.copy.CopyBreak.TheVariants.{UnknownTable, VersionsSpent, File}
 use Rattle.statement_steps.specs.declared.copying.CopyRefusal.{CopyRefusal}
@@ -69,10 +70,6 @@ unloaded broken.NoMemory = NoMemory
 abbrev pub copy_text : ℕ → List ℕ
 copy_text count = codes "COPY " ++ decimal count ++ codes "\n"
 
--- the last number, which is never drawn
-abbrev pub last_number : ℕ
-last_number = 2 ^ 64 - 1
-
 -- the rows are added at the end of the table, which draws a number
 abbrev pub with_copied : Contents → List ℕ → TableEntry → Bag → Result Stepped CopyBreak
 with_copied c table entry rows = cond (nat_eq c.next last_number) (Err VersionsSpent)
@@ -85,7 +82,7 @@ copy_into c table entry (Err refusal) = Err (File refusal)
 -- what becomes of a COPY whose file was found to be this; where the table is unknown no file is looked at
 abbrev pub copy_to : Contents → List ℕ → Option TableEntry → List ℕ → Bool → Found → Result Stepped CopyBreak
 copy_to c table None mark header found = Err UnknownTable
-copy_to c table (Some entry) mark header found = copy_into c table entry (copied (kinds_in_order entry.columns) mark header found)
+copy_to c table (Some entry) mark header found = copy_into c table entry (copied (column_kinds entry.columns) mark header found)
 
 abbrev pub copy : Contents → List ℕ → List ℕ → Bool → Found → Result Stepped CopyBreak
 copy c table mark header found = copy_to c table (table_named c table) mark header found

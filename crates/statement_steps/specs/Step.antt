@@ -2,11 +2,11 @@
 use Rattle.std.specs.Prelude.{ℕ, suc, ◌-◌, ◌^◌, Bool, true, cond, not, ◌&&◌, nat_le, nat_eq, List, [], ◌∷◌, ◌++◌, map, length, replicate, Option, Some, None, codes}
 use Rattle.std.specs.Cmp.Lexicographic.{pointwise}
 use Rattle.std.specs.Fmt.{decimal}
-use Rattle.std.specs.List.{list_any, list_all, range_with_len}
-use Rattle.perm_values.specs.Rows.{row_cmp, row_fits}
-use Rattle.perm_values.specs.declared.kind.Kind.{Kind}
+use Rattle.std.specs.List.{list_any, range_with_len}
+use Rattle.perm_values.specs.Rows.{row_cmp}
 use Rattle.bag_algebra.specs.Bags.{Bag, sorted}
 use Rattle.bag_algebra.specs.ColumnItems.{column_items}
+use Rattle.bag_algebra.specs.Fits.{bag_fits}
 use Rattle.bag_algebra.specs.Kinds.{shape}
 use Rattle.bag_algebra.specs.Meaning.{meaning}
 use Rattle.bag_algebra.specs.Means.{good_rows}
@@ -18,6 +18,7 @@ use Rattle.bag_algebra.specs.declared.query.Query.{Query, end_of-Sublink}
 use Rattle.bag_algebra.specs.declared.query.Query.TheVariants.{Table}
 use Rattle.csv_tables.specs.AnswerText.{answer_bytes}
 use Rattle.perm_catalog.specs.Changes.{table_named, is_free, with_table, with_more_rows, with_fewer_rows, without_table}
+use Rattle.perm_catalog.specs.Columns.{column_kinds, column_names}
 use Rattle.perm_catalog.specs.Lookups.{first_user}
 use Rattle.perm_catalog.specs.Contents.{Contents}
 use Rattle.perm_catalog.specs.declared.column.Column.{Column}
@@ -51,12 +52,6 @@ last_number = 2 ^ 64 - 1
 abbrev pub drawing : Contents → ℕ → Stepped → Turn
 drawing c at stepped = cond (nat_eq c.next last_number) (Refuses (record { code = 17; at = at })) (Stands stepped)
 
-abbrev pub names_of : List Column → List (List ℕ)
-names_of columns = map (λ (column : Column). column.name) columns
-
-abbrev pub kinds_in_order : List Column → List Kind
-kinds_in_order columns = map (λ (column : Column). column.kind) columns
-
 -- ---- CREATE TABLE: the name is free, the columns' names differ, and there are at most 256
 
 abbrev pub all_differ : List (List ℕ) → Bool
@@ -64,7 +59,7 @@ all_differ [] = true
 all_differ (name ∷ names) = not (list_any (pointwise nat_eq name) names) && all_differ names
 
 abbrev pub can_create : Contents → List ℕ → List Column → Bool
-can_create c table columns = is_free c table && nat_le (length columns) 256 && all_differ (names_of columns)
+can_create c table columns = is_free c table && nat_le (length columns) 256 && all_differ (column_names columns)
 
 abbrev pub create : Contents → List ℕ → List Column → ℕ → Turn
 create c table columns at = cond (can_create c table columns)
@@ -72,11 +67,8 @@ create c table columns at = cond (can_create c table columns)
 
 -- ---- INSERT: each row has a value for each column, which fits its kind
 
-abbrev pub all_fit : List Column → Bag → Bool
-all_fit columns rows = list_all (λ row. row_fits row (kinds_in_order columns)) rows
-
 abbrev pub insert_into : Contents → List ℕ → TableEntry → Bag → ℕ → Turn
-insert_into c table entry rows at = cond (all_fit entry.columns rows)
+insert_into c table entry rows at = cond (bag_fits rows (column_kinds entry.columns))
     (drawing c at (record { text = codes "INSERT " ++ decimal (length rows) ++ codes "\n"; contents = with_more_rows c table entry.id rows })) unfit
 
 -- ---- DELETE: all rows of the table
@@ -99,18 +91,18 @@ abbrev pub place_from : ℕ → List (List ℕ) → List ℕ → Option ℕ
 place_from place [] name = None
 place_from place (other ∷ others) name = cond (pointwise nat_eq name other) (Some place) (place_from (suc place) others name)
 
--- the table as a source with all its columns
-abbrev pub source_of : List ℕ → TableEntry → Query
-source_of table entry = BaseOf (Table entry.id (kinds_in_order entry.columns)) (range_with_len 0 (length entry.columns))
-    (Relation table (names_of entry.columns))
-
-abbrev pub plain_query : List ℕ → TableEntry → List ℕ → Query
-plain_query table entry places =
-    ProjectOf (source_of table entry) (column_items (kinds_in_order entry.columns) places) [] end_of-Sublink
-
 -- every column of the table by its place
 abbrev pub all_places : TableEntry → List ℕ
 all_places entry = range_with_len 0 (length entry.columns)
+
+-- the table as a source with all its columns
+abbrev pub source_of : List ℕ → TableEntry → Query
+source_of table entry = BaseOf (Table entry.id (column_kinds entry.columns)) (all_places entry)
+    (Relation table (column_names entry.columns))
+
+abbrev pub plain_query : List ℕ → TableEntry → List ℕ → Query
+plain_query table entry places =
+    ProjectOf (source_of table entry) (column_items (column_kinds entry.columns) places) [] end_of-Sublink
 
 abbrev pub query_of : Bool → List ℕ → TableEntry → List ℕ → Query
 query_of provenance table entry places = cond provenance (ProvOf (plain_query table entry places)) (plain_query table entry places)
@@ -149,7 +141,7 @@ abbrev pub step : Contents → Command → ℕ → Turn
 step c (CreateTable table columns) at = create c table columns at
 step c (Insert table rows) at = with_entry (table_named c table) (λ entry. insert_into c table entry rows at)
 step c (Select provenance columns table) at = with_entry (table_named c table)
-    (λ entry. select_places c provenance table entry columns (all_of (place_from 0 (names_of entry.columns)) columns))
+    (λ entry. select_places c provenance table entry columns (all_of (place_from 0 (column_names entry.columns)) columns))
 step c (Delete table) at = with_entry (table_named c table) (λ entry. delete_from c table entry at)
 step c (DropTable table place) at = with_entry (table_named c table) (λ entry. drop_unused c table entry place (first_user c table))
 

@@ -1,4 +1,5 @@
-ghost use Rattle.std.specs.Prelude.{◌≡◌, ◌≢◌, ◌⊎◌, ◌<◌, ◌-◌, ◌^◌, None, length, IfOk, IsErrOf, IsOk, IsSome, IsTrue, IfSome, OnErr};
+ghost use Rattle.std.specs.Prelude.{◌≡◌, ◌≢◌, ◌⊎◌, ◌<◌, ◌-◌, ◌^◌, None, Err, length, IfOk, IsErrOf, IsOk, IsSome, IsTrue, IfSome, OnErr};
+ghost use Rattle.csv_tables.specs.declared.data_error.DataError.TheVariants as broken;
 ghost use Rattle.perm_catalog.specs.Changes.{table_named, with_more_rows};
 ghost use Rattle.perm_io.specs.Counts.{next_count, HasRisen, CountsFault};
 ghost use Rattle.statement_steps.specs.Found.{CanBe};
@@ -78,6 +79,7 @@ pub fn copy_into<F: Files>(
     // When the refusals come that the files decide.
     ensures missing { IsErrOf result (CopyBreak.File of_file.Missing) → IsTrue (F.absent files.new) }
     ensures too_large { IsErrOf result (CopyBreak.File of_file.TooLarge) → file_limit < F.taken files.new }
+    ensures memory { result ≢ Err (CopyBreak.File (of_file.Unfit broken.NoMemory)) }
     ensures faults { CountsFault (F.faults files.old) (F.faults files.new) (has_failed result) }
 
     // The file is begun where the table is known, unless memory was wanting before.

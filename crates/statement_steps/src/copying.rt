@@ -1,5 +1,5 @@
 ghost use Rattle.std.specs.Prelude.{◌≡◌, ◌≢◌, ◌↔◌, ◌<◌, Err, IsTrue, IfOk, IsErrOf};
-ghost use Rattle.csv_tables.specs.Loading.{all_fit};
+ghost use Rattle.bag_algebra.specs.Fits.{bag_fits};
 ghost use Rattle.csv_tables.specs.declared.data_error.DataError.TheVariants as broken;
 ghost use Rattle.perm_io.specs.Counts.{next_count, HasRisen, CountsFault};
 ghost use Rattle.statement_steps.specs.Found.{CanBe};
@@ -52,7 +52,7 @@ pub(crate) fn file_rows<F: Files>(
 ) -> Result<Rows, CopyRefusal>
     ensures copied { IsCopied (CanBe file_limit (F.held files.old) (HasRisen (F.faults files.old) (F.faults files.new)) name.now)
         kinds.now mark.now header result }
-    ensures fit { IfOk result (λ rows. IsTrue (all_fit kinds.now rows)) }
+    ensures fit { IfOk result (λ rows. IsTrue (bag_fits rows kinds.now)) }
     ensures memory { result ≢ Err (CopyRefusal.Unfit broken.NoMemory) }
 
     // When each refusal comes.

@@ -2,8 +2,9 @@ ghost use Rattle.std.specs.Prelude.{◌≡◌, ◌&&◌, not, nat_eq, is_some};
 ghost use Rattle.std.specs.Cmp.Lexicographic.{pointwise};
 ghost use Rattle.std.specs.List.{list_any};
 ghost use Rattle.perm_catalog.specs.Changes.{is_free};
+ghost use Rattle.perm_catalog.specs.Columns.{column_names};
 ghost use Rattle.statement_steps.specs.Answers.{IsTurn};
-ghost use Rattle.statement_steps.specs.Step.{names_of, all_differ, can_create, create};
+ghost use Rattle.statement_steps.specs.Step.{all_differ, can_create, create};
 
 use crate::refusal::CommandRefusal;
 use crate::text::text_of;
@@ -50,7 +51,7 @@ fn is_free(catalog: &Catalog, name: &Chars) -> bool
 }
 
 fn names_differ(columns: &[Column]) -> bool
-    ensures { result ≡ all_differ (names_of columns.now) }
+    ensures { result ≡ all_differ (column_names columns.now) }
 {
     for (i, column) in columns.iter().enumerate() {
         if is_name_of(&columns[i + 1..], &column.name) {
@@ -61,7 +62,7 @@ fn names_differ(columns: &[Column]) -> bool
 }
 
 fn is_name_of(columns: &[Column], name: &Chars) -> bool
-    ensures { result ≡ list_any (pointwise nat_eq name.now) (names_of columns.now) }
+    ensures { result ≡ list_any (pointwise nat_eq name.now) (column_names columns.now) }
 {
     for column in columns {
         if *name == column.name {

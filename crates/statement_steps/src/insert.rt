@@ -1,8 +1,10 @@
 ghost use Rattle.std.specs.Prelude.{◌≡◌, List};
 ghost use Rattle.perm_values.specs.Rows.{row_fits};
+ghost use Rattle.bag_algebra.specs.Fits.{bag_fits};
 ghost use Rattle.perm_catalog.specs.Changes.{table_named};
+ghost use Rattle.perm_catalog.specs.Columns.{column_kinds};
 ghost use Rattle.statement_steps.specs.Answers.{IsTurn};
-ghost use Rattle.statement_steps.specs.Step.{kinds_in_order, all_fit, with_entry, insert_into};
+ghost use Rattle.statement_steps.specs.Step.{with_entry, insert_into};
 
 use crate::refusal::CommandRefusal;
 use crate::text::counted;
@@ -36,7 +38,7 @@ pub(crate) fn insert(
 }
 
 fn all_fit(columns: &[Column], rows: &[Row]) -> bool
-    ensures { result ≡ all_fit columns.now rows.now }
+    ensures { result ≡ bag_fits rows.now (column_kinds columns.now) }
 {
     for row in rows {
         if !row_fits(columns, row.as_slice()) {
@@ -47,7 +49,7 @@ fn all_fit(columns: &[Column], rows: &[Row]) -> bool
 }
 
 fn row_fits(columns: &[Column], values: &[Value]) -> bool
-    ensures { result ≡ row_fits values.now (kinds_in_order columns.now) }
+    ensures { result ≡ row_fits values.now (column_kinds columns.now) }
 {
     if values.len() != columns.len() {
         return false;

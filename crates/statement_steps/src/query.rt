@@ -12,7 +12,8 @@ ghost use Rattle.bag_algebra.specs.declared.query.Query.TheVariants.{Table as Ta
 ghost use Rattle.perm_values.specs.Rows.{row_cmp};
 ghost use Rattle.row_executor.specs.Answers.{Gives};
 ghost use Rattle.row_executor.specs.Runs.{is_built};
-ghost use Rattle.statement_steps.specs.Step.{kinds_in_order, names_of, source_of, plain_query, query_of, all_places, answer_rows};
+ghost use Rattle.perm_catalog.specs.Columns.{column_kinds, column_names};
+ghost use Rattle.statement_steps.specs.Step.{source_of, plain_query, query_of, all_places, answer_rows};
 
 use bag_algebra::{Env, Expr, Item, Label, Query};
 use perm_catalog::{Catalog, Column, TableEntry};
@@ -107,8 +108,8 @@ fn plain(
 /// What PROVENANCE of the columns at these places is rewritten into: the distinct rows of these columns, beside all
 /// columns of the table. On every database it has the rows of PROVENANCE, each once.
 fn rewritten(alloc: Global, entry: &TableEntry, places: &[usize]) -> Result<Query, NoMemory>
-    ensures { IfOk result (λ query. query ≡ DistinctOf (ProjectOf (TableOf entry.now.id (kinds_in_order entry.now.columns))
-        (column_items (kinds_in_order entry.now.columns) (places.now ++ all_places entry.now)) [] end_of-Sublink)) }
+    ensures { IfOk result (λ query. query ≡ DistinctOf (ProjectOf (TableOf entry.now.id (column_kinds entry.now.columns))
+        (column_items (column_kinds entry.now.columns) (places.now ++ all_places entry.now)) [] end_of-Sublink)) }
 {
     let wanted = with_all_places(alloc, entry.columns.len(), places)?;
     let input = table_of(alloc, entry)?;
@@ -133,7 +134,7 @@ fn base_of(
     places: List<usize>,
     label: Label,
 ) -> Result<Query, NoMemory>
-    ensures { IfOk result (λ query. query ≡ BaseOf (TableOf entry.now.id (kinds_in_order entry.now.columns)) places label) }
+    ensures { IfOk result (λ query. query ≡ BaseOf (TableOf entry.now.id (column_kinds entry.now.columns)) places label) }
 {
     let input = table_of(alloc, entry)?;
     Ok(Query::Base {
@@ -144,7 +145,7 @@ fn base_of(
 }
 
 fn table_of(alloc: Global, entry: &TableEntry) -> Result<Query, NoMemory>
-    ensures { IfOk result (λ query. query ≡ TableOf entry.now.id (kinds_in_order entry.now.columns)) }
+    ensures { IfOk result (λ query. query ≡ TableOf entry.now.id (column_kinds entry.now.columns)) }
 {
     Ok(Query::Table {
         id: entry.id,
@@ -158,7 +159,7 @@ fn columns_of(
     columns: &[Column],
     places: &[usize],
 ) -> Result<Query, NoMemory>
-    ensures { IfOk result (λ query. query ≡ ProjectOf input (column_items (kinds_in_order columns.now) places.now) [] end_of-Sublink) }
+    ensures { IfOk result (λ query. query ≡ ProjectOf input (column_items (column_kinds columns.now) places.now) [] end_of-Sublink) }
 {
     let items = items_of(alloc, columns, places)?;
     Ok(Query::Project {
@@ -169,7 +170,7 @@ fn columns_of(
 }
 
 fn items_of(alloc: Global, columns: &[Column], places: &[usize]) -> Result<List<Item>, NoMemory>
-    ensures { IfOk result (λ items. items ≡ column_items (kinds_in_order columns.now) places.now) }
+    ensures { IfOk result (λ items. items ≡ column_items (column_kinds columns.now) places.now) }
 {
     let mut items = List::new(alloc);
     for place in places {
@@ -179,7 +180,7 @@ fn items_of(alloc: Global, columns: &[Column], places: &[usize]) -> Result<List<
 }
 
 fn item_of(columns: &[Column], place: usize) -> Item
-    ensures { result ≡ column_item (kinds_in_order columns.now) place }
+    ensures { result ≡ column_item (column_kinds columns.now) place }
 {
     let kind = match columns.get(place) {
         Some(column) => column.kind,
@@ -192,7 +193,7 @@ fn item_of(columns: &[Column], place: usize) -> Item
 }
 
 pub(crate) fn kinds_of(alloc: Global, columns: &[Column]) -> Result<List<Kind>, NoMemory>
-    ensures { IfOk result (λ kinds. kinds ≡ kinds_in_order columns.now) }
+    ensures { IfOk result (λ kinds. kinds ≡ column_kinds columns.now) }
 {
     let mut kinds = List::new(alloc);
     for column in columns {
@@ -202,7 +203,7 @@ pub(crate) fn kinds_of(alloc: Global, columns: &[Column]) -> Result<List<Kind>, 
 }
 
 fn label_of(alloc: Global, table: &Chars, columns: &[Column]) -> Result<Label, NoMemory>
-    ensures { IfOk result (λ label. label ≡ Relation table.now (names_of columns.now)) }
+    ensures { IfOk result (λ label. label ≡ Relation table.now (column_names columns.now)) }
 {
     let mut names = List::new(alloc);
     for column in columns {

@@ -1,7 +1,8 @@
 ghost use Rattle.std.specs.Prelude.{◌≡◌, ◌++◌, ◌∷◌, [], IfOk, codes, nat_eq};
 ghost use Rattle.perm_catalog.specs.Changes.{table_named};
+ghost use Rattle.perm_catalog.specs.Columns.{column_names};
 ghost use Rattle.statement_steps.specs.Answers.{IsAnswer};
-ghost use Rattle.statement_steps.specs.Step.{names_of, with_entry, select_places, answer, answer_names, place_from, source_names};
+ghost use Rattle.statement_steps.specs.Step.{with_entry, select_places, answer, answer_names, place_from, source_names};
 ghost use Rattle.sql_commands.specs.Lists.{all_of};
 
 use crate::query::query_rows;
@@ -23,7 +24,7 @@ pub(crate) fn select(
     table: &Chars,
 ) -> Result<Bytes, CommandRefusal>
     ensures { IsAnswer (with_entry (table_named catalog.now table.now)
-        (λ entry. select_places catalog.now provenance table.now entry columns.now (all_of (place_from 0 (names_of entry.columns)) columns.now))) catalog.now result }
+        (λ entry. select_places catalog.now provenance table.now entry columns.now (all_of (place_from 0 (column_names entry.columns)) columns.now))) catalog.now result }
 {
     let Some(entry) = catalog.table(table) else {
         return Err(CommandRefusal::new(10, 0));
@@ -87,7 +88,7 @@ fn provenance_names(
     table: &Chars,
     columns: &[Column],
 ) -> Result<List<Chars>, NoMemory>
-    ensures { IfOk result (λ names. names ≡ source_names table.now (names_of columns.now)) }
+    ensures { IfOk result (λ names. names ≡ source_names table.now (column_names columns.now)) }
 {
     let mut names = List::new(alloc);
     for column in columns {
@@ -112,7 +113,7 @@ fn places_of(
     columns: &[Column],
     names: &[Chars],
 ) -> Result<Option<List<usize>>, NoMemory>
-    ensures { IfOk result (λ places. places ≡ all_of (place_from 0 (names_of columns.now)) names.now) }
+    ensures { IfOk result (λ places. places ≡ all_of (place_from 0 (column_names columns.now)) names.now) }
 {
     let mut places = List::new(alloc);
     for name in names {
@@ -126,7 +127,7 @@ fn places_of(
 
 /// The place of the first column of this name.
 fn place_of(columns: &[Column], name: &Chars) -> Option<usize>
-    ensures { result ≡ place_from 0 (names_of columns.now) name.now }
+    ensures { result ≡ place_from 0 (column_names columns.now) name.now }
 {
     for (i, column) in columns.iter().enumerate() {
         if *name == column.name {

@@ -1,7 +1,7 @@
-use Rattle.std.proofs.Common.{List, ℕ, Err, ap, refl, inl, subst}
+use Rattle.std.proofs.Common.{List, ℕ, Err, ap, refl, inl, inr, subst}
 use Rattle.perm_io.specs.Answers.{is_fault}
 use Rattle.perm_io.specs.Counts.{CountsFault}
-use Rattle.perm_engine.proofs.Damaged.{past_script}
+use Rattle.perm_engine.proofs.Damaged.{bad_file-later}
 use Rattle.perm_engine.proofs.Running.{Runs-misused, Runs-found, EndsOne-moved, Opens-none, one_word, none_or_more}
 use Rattle.statement_steps.specs.Found.{Read, Missing, TooLong, Failed}
 use Rattle.perm_engine.specs.Run.{usage}
@@ -25,7 +25,9 @@ returns-in-Ok-clause-run g c =
     (EndsOne-moved _ _ _ _ new _ _ _ _ _ c.run_script.result c.in-Ok.ensures.held c.in-Ok.ensures.faults c.as_slice.ensures c.run_script.ensures.ends)
 
 pub returns-in-Ok-clause-bad_data : goal.returns-in-Ok-clause-bad_data
-returns-in-Ok-clause-bad_data g c = λ e. past_script _ _ _ (c.run_script.ensures.bad_data e)
+returns-in-Ok-clause-bad_data g c = λ e.
+    inr (bad_file-later (g.F.Files.begun c.args.files.now) (g.F.Files.begun c.read_all.new.files) (g.F.Files.begun c.run_script.new.files) (g.F.Files.absent c.run_script.new.files) (g.F.Files.taken c.run_script.new.files)
+    (g.K.Sink.written c.args.out.now) (g.K.Sink.written c.run_script.new.out) c.in-Ok.ensures.begun (c.run_script.ensures.bad_data e))
 
 pub returns-in-Err-Missing-clause-run : goal.returns-in-Err-Missing-clause-run
 returns-in-Err-Missing-clause-run g c =

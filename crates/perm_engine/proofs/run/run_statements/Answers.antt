@@ -2,14 +2,16 @@ use Rattle.std.proofs.Common.{◌∙◌, ℕ, List, Option, length, sym, ap, ari
 use Rattle.perm_io.specs.Counts.{HasRisen, CountsFault}
 use Rattle.perm_io.specs.declared.named_file.NamedFile.{NamedFile}
 use Rattle.perm_catalog.specs.Changes.{nothing_held}
+use Rattle.perm_catalog.specs.Contents.{Contents}
 use Rattle.perm_engine.specs.Asking.{asked, has_failed, IsAnswered}
 use Rattle.statement_steps.specs.Copying.{file_limit}
 use Rattle.statement_steps.specs.Found.{CanBe}
 use Rattle.perm_engine.specs.declared.status.Status.TheVariants as status
-use Rattle.perm_engine.specs.Ends.{joined}
-use Rattle.perm_engine.proofs.Damaged.{damaged, damaged-by}
+use Rattle.perm_engine.specs.Ends.{joined, EndsBroken, IsBadFile}
+use Rattle.perm_engine.proofs.Damaged.{bad_file, ends_broken}
 use Rattle.perm_engine.proofs.Ending.{HasRun, HasRun-nothing, HasRun-more, HasRun-cut, HasRun-stopped, HasRun-done}
-use Rattle.perm_engine.proofs.Running.{of_script, not_failed, not_damaged}
+use Rattle.perm_engine.proofs.Numbers.{next-after}
+use Rattle.perm_engine.proofs.Running.{of_script, other_end}
 use Rattle.perm_engine.proofs.Turns.{begun-told, still_risen, has_failed-is}
 use Rattle.perm_engine.proofs.run.run_statements.Goals as goal
 
@@ -21,6 +23,7 @@ loop-i-init g c = (
       (g.K.Sink.faults c.args.out.now) (g.F.Files.begun c.args.files.now)),
   refl,
   refl,
+  omega (arith, ap (λ (held : Contents). held.next) c.new-session.ensures),
 )
 
 pub returns-in-Err-write_all : goal.returns-in-Err-write_all
@@ -37,7 +40,8 @@ returns-in-Err-write_all g c =
           (begun-told (asked c.loop-i.session c.get.result.now) (g.F.Files.begun c.loop-i.files) (g.F.Files.begun c.step.new.files) false c.in-Ok.ensures.begun (λ e. ap g.F.Files.begun (c.in-Ok.ensures.unbegun e)) refl)
           (omega (arith, c.in-Err-write_all.ensures.prefix.1, ap length c.as_slice.ensures)) (rw (← c.as_slice.ensures) c.in-Err-write_all.ensures.prefix.2) c.in-Err-write_all.ensures.faults;
       status = tt;
-      bad_data = λ e. absurd cc;
+      refused = λ e. absurd {A = EndsBroken _ _} cc;
+      bad_data = λ e. absurd {A = IsBadFile 0 _ _ _ _ _ _} cc;
       read_fault = λ e. absurd cc;
       steady = λ w. absurd w;
       held = c.in-Ok.ensures.held ∙ c.loop-i.invariant.2;
@@ -57,8 +61,14 @@ returns-in-Err g c =
           new (g.K.Sink.written c.stop.new.out) (g.K.Sink.faults c.stop.new.out) (g.F.Files.begun c.step.new.files) (g.K.Sink.unflushed c.stop.new.out) c.stop.result
           (still_risen old new (has_failed {T = List ℕ} (Err c.in-Err.refusal)) counts) answered c.in-Err.ensures.begun (λ e. ap g.F.Files.begun (c.in-Err.ensures.unbegun e)) c.stop.ensures.ends;
       status = c.stop.ensures.status;
-      bad_data = λ e. damaged-by c.in-Err.refusal _ _ _ c.in-Err.ensures.missing c.in-Err.ensures.too_large
-          (damaged c.in-Err.refusal _ c.stop.result (g.K.Sink.written c.args.out.now) (joined c.loop-i.invariant.0.texts) c.loop-i.invariant.0.text c.stop.ensures.ends e);
+      refused = λ e. ends_broken (CanBe file_limit (g.F.Files.held c.args.files.now) (HasRisen old new)) c.loop-i.session c.step.new.self c.get.result.now c.in-Err.refusal
+          _ c.stop.result (g.K.Sink.written c.args.out.now) (joined c.loop-i.invariant.0.texts)
+          (omega (arith, c.loop-i.invariant.3, c.loop-i-test.true, c.len-i-end.ensures.bound)) answered c.loop-i.invariant.0.text c.stop.ensures.ends e;
+      bad_data = λ e. bad_file (CanBe file_limit (g.F.Files.held c.args.files.now) (HasRisen old new)) c.loop-i.session c.step.new.self c.get.result.now c.in-Err.refusal
+          _ c.stop.result (g.K.Sink.written c.args.out.now) (joined c.loop-i.invariant.0.texts)
+          c.loop-i.invariant.0.files (g.F.Files.begun c.args.files.now) (g.F.Files.begun c.loop-i.files) (g.F.Files.begun c.step.new.files) (g.F.Files.absent c.step.new.files) (g.F.Files.taken c.step.new.files)
+          answered c.in-Err.ensures.memory c.in-Err.ensures.missing c.in-Err.ensures.too_large c.in-Err.ensures.begun (λ e. ap g.F.Files.begun (c.in-Err.ensures.unbegun e))
+          c.loop-i.invariant.0.counted c.loop-i.invariant.0.text c.stop.ensures.ends e;
       read_fault = λ e. subst (CountsFault old new) (has_failed-is c.in-Err.refusal ∙ c.stop.ensures.failed e) counts;
       steady = λ w. subst (CountsFault old new) (has_failed-is c.in-Err.refusal ∙ c.stop.ensures.steady w) counts;
       held = c.in-Err.ensures.held ∙ c.loop-i.invariant.2;
@@ -76,6 +86,7 @@ loop-i-preserved g c =
           (rw (← c.as_slice.ensures) c.in-Ok-write_all.ensures.whole) c.in-Ok-write_all.ensures.faults,
       c.in-Ok.ensures.faults ∙ calm,
       c.in-Ok.ensures.held ∙ c.loop-i.invariant.2,
+      omega (arith, next-after _ c.loop-i.session c.step.new.self c.get.result.now c.in-Ok.text answered, c.loop-i.invariant.3),
     )
 
 pub returns : goal.returns
@@ -88,8 +99,9 @@ returns g c =
           (still_risen (g.F.Files.faults c.args.files.now) (g.F.Files.faults c.loop-i.files) false calm)
           (omega (arith, c.loop-i-test.false, c.len-i-end.ensures.value)) c.finish.ensures.ends;
       status = of_script c.finish.result status.Done tt c.finish.ensures.status;
-      bad_data = λ e. absurd (not_damaged c.finish.result c.finish.ensures.status e);
-      read_fault = λ e. absurd (not_failed c.finish.result status.Done (λ e. absurd cc) c.finish.ensures.status e);
+      refused = λ e. absurd {A = EndsBroken _ _} (other_end c.finish.result status.Done status.Refused (λ e. absurd cc) (λ e. absurd cc) c.finish.ensures.status e);
+      bad_data = λ e. absurd {A = IsBadFile 0 _ _ _ _ _ _} (other_end c.finish.result status.Done status.BadData (λ e. absurd cc) (λ e. absurd cc) c.finish.ensures.status e);
+      read_fault = λ e. absurd (other_end c.finish.result status.Done status.ReadFault (λ e. absurd cc) (λ e. absurd cc) c.finish.ensures.status e);
       steady = λ w. calm;
       held = c.loop-i.invariant.2;
     }

@@ -5,7 +5,7 @@ use Rattle.statement_steps.proofs.CopiedFile.{kept-error}
 use Rattle.statement_steps.proofs.CopiedInto.{copy-refused, copy-short, copy-unknown, some_found}
 use Rattle.statement_steps.specs.Copying.{copy, file_limit, IsCopied, IsCopy}
 use Rattle.statement_steps.specs.Found.{Found, CanBe}
-use Rattle.statement_steps.specs.Step.{kinds_in_order}
+use Rattle.perm_catalog.specs.Columns.{column_kinds}
 use Rattle.statement_steps.specs.declared.copy.CopyBreak.TheVariants.{File}
 use Rattle.statement_steps.specs.declared.copying.CopyRefusal.TheVariants.{NoMemory}
 use Rattle.statement_steps.proofs.copy.copy_into.Goals as goal
@@ -25,7 +25,7 @@ returns-in_err-kinds-clause-copy g c =
 pub returns-in_err-rows-clause-copy : goal.returns-in_err-rows-clause-copy
 returns-in_err-rows-clause-copy g c =
     let Can : Found → Type 0 = CanBe file_limit (g.F.Files.held c.args.files.now) (HasRisen (g.F.Files.faults c.args.files.now) (g.F.Files.faults c.file_rows.new.files)) c.args.file.now in
-    let kinds : c.as_slice-2.result.now ≡ kinds_in_order c.in-Some.entry.now.columns = c.as_slice-2.ensures ∙ c.in_ok-kinds.ensures ∙ ap kinds_in_order c.as_slice.ensures in
+    let kinds : c.as_slice-2.result.now ≡ column_kinds c.in-Some.entry.now.columns = c.as_slice-2.ensures ∙ c.in_ok-kinds.ensures ∙ ap column_kinds c.as_slice.ensures in
     kept-error (IsCopy Can (copy c.args.catalog.now c.args.table.now c.args.mark.now c.args.header) c.args.catalog.now c.args.catalog.now) c.from_residual-in_err-rows.result (File c.in_err-rows.field-0.0) c.from_residual-in_err-rows.ensures.1
     (copy-refused Can c.args.catalog.now c.args.table.now c.args.mark.now c.args.header c.in-Some.entry.now
     (sym c.table.ensures ∙ ap option_copied c.in-Some.is)

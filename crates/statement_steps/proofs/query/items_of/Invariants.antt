@@ -1,7 +1,7 @@
 use Rattle.std.proofs.Common.{◌≡◌, take}
 use Rattle.bag_algebra.specs.ColumnItems.{column_items}
-use Rattle.statement_steps.specs.Step.{kinds_in_order}
+use Rattle.perm_catalog.specs.Columns.{column_kinds}
 use Rattle.statement_steps.proofs.query.items_of.Given as goal
 
 abbrev pub invariant-loop-place : goal.invariant-loop-place
-invariant-loop-place l = l.items ≡ column_items (kinds_in_order l.columns) (take l.place-index l.places)
+invariant-loop-place l = l.items ≡ column_items (column_kinds l.columns) (take l.place-index l.places)
