@@ -10,6 +10,7 @@ mod kind;
 mod laws;
 mod list;
 mod no_memory;
+mod room;
 mod row;
 #[cfg(test)]
 mod tests;
