@@ -14,6 +14,7 @@ mod room;
 mod row;
 #[cfg(test)]
 mod tests;
+mod text;
 mod value;
 
 pub use boxed::Boxed;
