@@ -45,9 +45,9 @@ row_fits [] (k ∷ ks) = false
 row_fits (v ∷ vs) [] = false
 row_fits (v ∷ vs) (k ∷ ks) = fits v k && row_fits vs ks
 
--- each row fits the kinds
-abbrev pub rows_fit : List (List Value) → List Kind → Bool
-rows_fit rows kinds = list_all (λ row. row_fits row kinds) rows
+-- each row has exactly these kinds
+abbrev pub bag_fits : List (List Value) → List Kind → Bool
+bag_fits rows kinds = list_all (λ row. row_fits row kinds) rows
 
 -- each place is one of the row's
 abbrev pub PlacesWithin : ℕ → List ℕ → Type 0

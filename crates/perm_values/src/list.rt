@@ -119,6 +119,10 @@ impl<T: Drop> List<T> {
         ensures err { OnErr result (self.new ≡ self.old) }
     {
         let List { mut items } = more;
+        if self.items.is_empty() {
+            self.items = items;
+            return Ok(());
+        }
         self.items.append(&mut items)?;
         Ok(())
     }
