@@ -1,12 +1,8 @@
 -- Which rows good outcomes and joins have: the converse of where they come from.
-use Rattle.std.proofs.Common.{◌≡◌, ℕ, inl, inr, Bool, true, false, cond, ◌&&◌, List, [], ◌∷◌, ◌++◌, map, refl, sym, ap, ◌∙◌, subst, true≢false}
-use Rattle.perm_values.specs.Rows.{row_fits}
-use Rattle.perm_values.specs.Values.{fits}
-use Rattle.perm_values.specs.declared.kind.Kind.{Kind}
+use Rattle.std.proofs.Common.{◌≡◌, ℕ, inl, inr, Bool, true, false, cond, List, [], ◌∷◌, ◌++◌, map, refl, sym, ap, ◌∙◌, subst, true≢false}
 use Rattle.perm_values.specs.declared.value.Value.{Value}
 use Rattle.bag_algebra.proofs.Members.{IsIn, in-map, in-append_left, in-append_right}
 use Rattle.bag_algebra.specs.Bags.{Row, Bag, nulls}
-use Rattle.bag_algebra.specs.Fits.{row_begins}
 use Rattle.bag_algebra.specs.Means.{good_rows, is_met, holds_of, kept, met_pairs, keeps_left, keeps_right, unmatched_left, unmatched_right, joined_rows}
 use Rattle.bag_algebra.specs.Outcome.{Outcome, Good, Bad, mapped, both, both_then, gather}
 use Rattle.bag_algebra.specs.declared.query.JoinKind.{JoinKind}
@@ -94,14 +90,3 @@ module _ (condition : Row → Outcome Value) (us vs : Bag) (t : Row) where
       by_pairs : (o : Outcome Bag) → met_pairs condition us vs ≡ o → mapped (λ pairs. pairs ++ lefts ++ rights) o ≡ Good bag → IsIn t bag
       by_pairs (Good pairs) met e = subst (IsIn t) (ap good_rows e) (in-parts pairs met j)
       by_pairs (Bad faults) met e = absurd (cc e)
-
-both_true : (a b c : Bool) → (a && b) ≡ true → (b ≡ true → c ≡ true) → (a && c) ≡ true
-both_true true b c e next = next e
-both_true false b c e next = e
-
--- a row that fits kinds begins with them
-pub row_begins-fits : (row : Row) (kinds : List Kind) → row_fits row kinds ≡ true → row_begins row kinds ≡ true
-row_begins-fits [] [] e = refl
-row_begins-fits [] (kind ∷ kinds) e = e
-row_begins-fits (v ∷ row) [] e = refl
-row_begins-fits (v ∷ row) (kind ∷ kinds) e = both_true (fits v kind) (row_fits row kinds) (row_begins row kinds) e (row_begins-fits row kinds)

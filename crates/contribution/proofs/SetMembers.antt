@@ -1,5 +1,5 @@
 -- Which rows the bags of set operations have.
-use Rattle.std.proofs.Common.{◌≡◌, ◌⊎◌, ◌<◌, ℕ, inl, inr, Bool, true, false, not, List, ◌++◌, filter, min, sym, ap, ◌∙◌, subst, arith, true≢false}
+use Rattle.std.proofs.Common.{◌≡◌, ◌⊎◌, ◌<◌, inl, inr, Bool, true, false, not, ◌++◌, filter, min, sym, ap, ◌∙◌, subst, arith, true≢false}
 use Rattle.bag_algebra.proofs.BagLaws.{member_decides}
 use Rattle.bag_algebra.proofs.Members.{IsIn, in-append_left, in-append_right, in-filter, from-filter, in-member, member-in}
 use Rattle.bag_algebra.specs.Bags.{Row, Bag, member, count, in_both, beyond, union_of, intersect_of, except_of}

@@ -1,0 +1,4 @@
+pub mod Answers
+pub mod Contributed
+pub mod NodeLists
+pub mod PairedLists
