@@ -1,4 +1,5 @@
-pub mod Answers
+pub mod AnswerRows
 pub mod Contributed
+pub mod JoinLists
 pub mod NodeLists
 pub mod PairedLists
