@@ -30,7 +30,7 @@ of_made P (Err error) made e p = tt
 all-nothing : {X : Type 0} (P : X → Type 0) → All P []
 all-nothing P k d within = absurd (omega arith)
 
-all-first : {X : Type 0} (P : X → Type 0) (x : X) (xs : List X) → P x → All P xs → All P (x ∷ xs)
+pub all-first : {X : Type 0} (P : X → Type 0) (x : X) (xs : List X) → P x → All P xs → All P (x ∷ xs)
 all-first P x xs p a zero d within = p
 all-first P x xs p a (suc k) d within = a k d (omega arith)
 
@@ -92,12 +92,12 @@ module _ (q : Query) (order : List ℕ) where
   pub tables-columns : (db : Database) → TablesFit db q → TablesFit db columns
   tables-columns db fit = (fit, tt)
 
-kind_there : (kinds : List Kind) (place : ℕ) → place < length kinds → slice_get kinds place ≡ Some (kind_in kinds place)
+pub kind_there : (kinds : List Kind) (place : ℕ) → place < length kinds → slice_get kinds place ≡ Some (kind_in kinds place)
 kind_there [] place within = absurd (omega arith)
 kind_there (kind ∷ kinds) zero within = refl
 kind_there (kind ∷ kinds) (suc place) within = kind_there kinds place (omega arith)
 
-column_items-formed : (kinds : List Kind) (outer : List (List Kind)) (places : List ℕ) → PlacesIn (length kinds) places → ItemsForm (kinds ∷ outer) [] (column_items kinds places)
+pub column_items-formed : (kinds : List Kind) (outer : List (List Kind)) (places : List ℕ) → PlacesIn (length kinds) places → ItemsForm (kinds ∷ outer) [] (column_items kinds places)
 column_items-formed kinds outer [] within = all-nothing _
 column_items-formed kinds outer (place ∷ places) within =
     all-first (λ (item : Item). HasKind (kinds ∷ outer) [] item.expr item.kind) (column_item kinds place) (column_items kinds places)

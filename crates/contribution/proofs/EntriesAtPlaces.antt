@@ -125,7 +125,7 @@ all-project ps qs rs ss items contributions m a c = all-with_lists (ps ++ qs) (r
 abbrev pub Blank : List Place → Rows → Type 0
 Blank ps rs = At ps rs (all_empty ps)
 
-all_empty-append : (ps qs : List Place) → all_empty (ps ++ qs) ≡ all_empty ps ++ all_empty qs
+pub all_empty-append : (ps qs : List Place) → all_empty (ps ++ qs) ≡ all_empty ps ++ all_empty qs
 all_empty-append [] qs = refl
 all_empty-append (p ∷ ps) qs = ap (λ w. Empty (length p.kinds) ∷ w) (all_empty-append ps qs)
 

@@ -12,7 +12,9 @@ pub mod FirstColumns
 pub mod GoodRows
 pub mod GroupKinds
 pub mod Growth
+pub mod JoinMembers
 pub mod ListedRows
+pub mod ListsInBases
 pub mod LongerKinds
 pub mod MembersByIndex
 pub mod NoRowLost
@@ -23,6 +25,7 @@ pub mod OrderOfRows
 pub mod OrderOfSets
 pub mod QueryKinds
 pub mod RowKinds
+pub mod SetMembers
 pub mod SetsOfNodes
 pub mod SetsOfRows
 pub mod SharedMembers

@@ -44,7 +44,7 @@ only_rows (AggregateOf input groups aggregates) db env = only_rows-with_lists _ 
 only_rows (LimitOf input keys count) db env = only_rows-with_lists _ _
 only_rows (ProvOf input) db env = only_rows-with_lists _ _
 
-none-in : {X : Type 0} (xs : List X) → ((x : X) → IsIn x xs → ⊥) → xs ≡ []
+pub none-in : {X : Type 0} (xs : List X) → ((x : X) → IsIn x xs → ⊥) → xs ≡ []
 none-in [] f = refl
 none-in (x ∷ xs) f = absurd (f x (inl refl))
 
@@ -81,6 +81,11 @@ pub answers-of_contributing_rows : (subs : List Sublink) (db : Database) (env : 
 answers-of_contributing_rows [] db env u = refl
 answers-of_contributing_rows (sub ∷ subs) db env u =
     λ i. both (λ v vs. v ∷ vs) (contributing-same sub db env u i) (answers-of_contributing_rows subs db env u i)
+
+-- each sublink has its value over the contributing rows alone
+pub contributing_rows-suffice : (subs : List Sublink) (db : Database) (env : List Row) (u : Row) →
+    each (contributing_value db env u) subs ≡ each (sublink_value db env u) subs
+contributing_rows-suffice subs db env u = sym (answers-of_contributing_rows subs db env u) ∙ answers-of_all_rows subs db env u
 
 -- ---- PROVENANCE
 

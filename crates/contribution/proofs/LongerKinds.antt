@@ -56,7 +56,7 @@ module _ {P Q : Kind → Type 0} (keep : (k : Kind) → P k → Q k) where
   alike_form_kept : {Number : Type 0} (given kind : Kind) → OpForm Number (Alike P) given kind → OpForm Number (Alike Q) given kind
   alike_form_kept given kind f = record { number = f.number; parts = alike-kept f.parts; gives = f.gives }
 
-  op_form-kept : (o : Operator) (n : ℕ) (kind : Kind) → op_form o n P kind → op_form o n Q kind
+  pub op_form-kept : (o : Operator) (n : ℕ) (kind : Kind) → op_form o n P kind → op_form o n Q kind
   op_form-kept op.And n kind f = form_kept Boolean Boolean kind f
   op_form-kept op.Or n kind f = form_kept Boolean Boolean kind f
   op_form-kept op.Not n kind f = form_kept Boolean Boolean kind f

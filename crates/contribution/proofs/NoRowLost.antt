@@ -82,7 +82,7 @@ none_lost-filter condition contributions m all n = none_lost-with_lists _ _ (λ 
     let same = (from-kept condition from.0 t from.2).0 in
     listed-beside (m.lists t) (contributions t) (n.listed t (subst (λ u. IsIn u (good_rows m.rows)) same from.1)) (all t))
 
-gives-good : (t : Row) (o : Outcome Row) → o ≡ Good t → gives t o ≡ true
+pub gives-good : (t : Row) (o : Outcome Row) → o ≡ Good t → gives t o ≡ true
 gives-good t o e = ap (gives t) e ∙ (row_decides t t).1 refl
 
 pub none_lost-project : (items : Row → Outcome Row) (contributions : Row → List (List Witness)) (m : Means) →

@@ -18,18 +18,19 @@ use Rattle.bag_algebra.specs.declared.query.JoinKind.{JoinKind}
 use Rattle.bag_algebra.specs.declared.query.Query.{Query}
 use Rattle.bag_algebra.specs.declared.query.Query.TheVariants.{Filter, Project, Join, Union, Intersect, Except, Distinct}
 use Rattle.bag_algebra.specs.declared.query.Sublink.{Sublink}
-use Rattle.contribution.proofs.BagMembers.{from-once, in-once}
+use Rattle.contribution.proofs.BagMembers.{from-once, in-once, from-intersect}
+use Rattle.contribution.proofs.SetMembers.{in-intersect}
 use Rattle.contribution.proofs.SetsOfRows.{SetAgree, set_good, set_bad, set_agree-refl, same_set-agrees, set_agree-same_set, gather-set, each-set, and_then-set, mapped-set, both_then-set, both-set}
 use Rattle.contribution.proofs.SharedMembers.{Within, Shared, shared-map, shared-append, shared-where}
 
 -- ---- lists with the same members
 
-any_in : {X : Type 0} (test : X → Bool) (x : X) (xs : List X) → IsIn x xs → test x ≡ true → list_any test xs ≡ true
+pub any_in : {X : Type 0} (test : X → Bool) (x : X) (xs : List X) → IsIn x xs → test x ≡ true → list_any test xs ≡ true
 any_in test x [] h e = absurd h
 any_in test x (y ∷ ys) (inl same) e = or-first (test y) (list_any test ys) (ap test same ∙ e)
 any_in test x (y ∷ ys) (inr h) e = or-second (test y) (list_any test ys) (any_in test x ys h e)
 
-from_any : {X : Type 0} (test : X → Bool) (xs : List X) → list_any test xs ≡ true → (x : X) × IsIn x xs × (test x ≡ true)
+pub from_any : {X : Type 0} (test : X → Bool) (xs : List X) → list_any test xs ≡ true → (x : X) × IsIn x xs × (test x ≡ true)
 from_any test [] e = cc
 from_any test (y ∷ ys) e = elim (one_of (test y) (list_any test ys) e) [
   | inl here ↦ (y, inl refl, here)
@@ -70,6 +71,14 @@ shared-members : (test : Bool → Bool) {us vs xs ys : Bag} → Shared us vs →
 shared-members test {us} {vs} {xs} {ys} s r =
     let e : (λ (u : Row). test (member u xs)) ≡ (λ (u : Row). test (member u ys)) = λ i u. test (member_shared u r i) in
     subst (λ f. Shared (filter (λ u. test (member u xs)) us) (filter f vs)) e (shared-filter _ s)
+
+-- a row is in INTERSECT, with ALL too, where it is on both sides
+intersect_shared : (all : Bool) {us vs xs ys : Bag} → Shared us vs → Shared xs ys → Shared (intersect_of all us xs) (intersect_of all vs ys)
+intersect_shared all s r = record { there = intersect_within all s.there r.there; back = intersect_within all s.back r.back } where
+  intersect_within : (all : Bool) {us vs xs ys : Bag} → Within us vs → Within xs ys → Within (intersect_of all us xs) (intersect_of all vs ys)
+  intersect_within all {us} {vs} {xs} {ys} s r = record {
+    within = λ t h. let found = from-intersect all t us xs h in in-intersect all t vs ys (s.within t found.0) (r.within t found.1);
+  }
 
 -- ---- joins
 
@@ -150,10 +159,10 @@ module _ (db : Database) (env : List Row) where
         subst₂ SameSet (sym (meaning-Union db env all left right)) (sym (meaning-Union db env all other_left other_right))
         (set_agree-same_set (both-set (union_of all) (union_of all) left_agrees right_agrees (λ us vs xs ys s t. shared-either_once all (shared-append s t))))
 
-    pub intersect-same_set : SameSet (meaning (Intersect false left right) db env) (meaning (Intersect false other_left other_right) db env)
-    intersect-same_set =
-        subst₂ SameSet (sym (meaning-Intersect db env false left right)) (sym (meaning-Intersect db env false other_left other_right))
-        (set_agree-same_set (both-set (intersect_of false) (intersect_of false) left_agrees right_agrees (λ us vs xs ys s t. once_shared (shared-members (λ b. b) s t))))
+    pub intersect-same_set : (all : Bool) → SameSet (meaning (Intersect all left right) db env) (meaning (Intersect all other_left other_right) db env)
+    intersect-same_set all =
+        subst₂ SameSet (sym (meaning-Intersect db env all left right)) (sym (meaning-Intersect db env all other_left other_right))
+        (set_agree-same_set (both-set (intersect_of all) (intersect_of all) left_agrees right_agrees (λ us vs xs ys s t. intersect_shared all s t)))
 
     pub except-same_set : SameSet (meaning (Except false left right) db env) (meaning (Except false other_left other_right) db env)
     except-same_set =

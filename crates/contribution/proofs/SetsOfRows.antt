@@ -30,7 +30,7 @@ union-assoc f g h = λ i. record {
   several = or_assoc f.several g.several h.several i;
 }
 
-union-same : (f : Faults) → union f f ≡ f
+pub union-same : (f : Faults) → union f f ≡ f
 union-same f = λ i. record { divides = or_same f.divides i; range = or_same f.range i; several = or_same f.several i }
 
 pub included-refl : (f : Faults) → Included f f

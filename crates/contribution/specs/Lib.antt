@@ -2,6 +2,7 @@ pub mod CrossBase
 pub mod EachTable
 pub mod FitsPlaces
 pub mod Fitting
+pub mod HasSublinks
 pub mod HeldRows
 pub mod LabelNames
 pub mod Longer

@@ -1,9 +1,9 @@
 //! All rows that the sources of a query could contribute, in all combinations.
-ghost use Rattle.std.specs.Prelude.{◌≡◌, ◌++◌, ◌↔◌, [], ◌∷◌, List as Items, None, IfOk, OnOk, IsTrue};
+ghost use Rattle.std.specs.Prelude.{◌≡◌, ◌++◌, ◌↔◌, [], ◌∷◌, List as Items, None, Contains, IfOk, OnOk, IsTrue};
 ghost use Rattle.bag_algebra.specs.Bags.{Row as Cells, Bag, member};
 ghost use Rattle.bag_algebra.specs.Fits.{TablesFit};
 ghost use Rattle.bag_algebra.specs.Kinds.{kinds_of, kinds_in, shape, place_kinds};
-ghost use Rattle.bag_algebra.specs.Meaning.{Database, meaning};
+ghost use Rattle.bag_algebra.specs.Meaning.{Database, meaning, witnesses};
 ghost use Rattle.bag_algebra.specs.Means.{Witness, flat};
 ghost use Rattle.bag_algebra.specs.Outcome.{Good};
 ghost use Rattle.bag_algebra.specs.Patterns.{JoinOf, ProjectOf, UnionOf};
@@ -35,8 +35,9 @@ pub struct TableSource {
 }
 
 /// A query of the kinds of the query's places, whose rows are all combinations of, for each place, a row of its source or
-/// NULLs. It is never bad, plain, without sublinks, closed, and well formed where the query is; what fits the query fits
-/// it. It fails only for want of memory.
+/// NULLs; the flattened witness lists of the query's rows are among them, under whatever outer rows. It is never bad,
+/// plain, without sublinks, closed, and well formed where the query is; what fits the query fits it. It fails only for
+/// want of memory.
 pub fn cross_base(alloc: Global, query: &Query) -> Result<Query, NoMemory>
     requires { IsTrue (over_tables query.now) }
     ensures made { IfOk result (λ p. p ≡ cross_base_of query.now) }
@@ -44,6 +45,9 @@ pub fn cross_base(alloc: Global, query: &Query) -> Result<Query, NoMemory>
     ensures rows { IfOk result (λ p. (db : Database) (env : Items Cells) →
         (found : Bag) × (meaning p db env ≡ Good found) × ((u : Cells) → IsTrue (member u found) ↔
         ((w : Witness) × StandAt (shape query.now) (held_rows query.now db None) w × (flat w ≡ u)))) }
+    ensures lists { IfOk result (λ p. (db : Database) (env other : Items Cells) (t : Cells) (w : Witness) →
+        Contains (witnesses query.now db env t) w →
+        (found : Bag) × (meaning p db other ≡ Good found) × IsTrue (member (flat w) found)) }
     ensures formed { IfOk result (λ p. (outer other : Items (Items Sort)) →
         WellFormed outer query.now → WellFormed other p) }
     ensures plain { IfOk result (λ p. IsTrue (is_plain p)) }

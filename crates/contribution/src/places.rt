@@ -1,12 +1,20 @@
 //! The places of a query's witness lists, and the kinds of its columns.
-ghost use Rattle.std.specs.Prelude.{◌≡◌, ◌++◌, [], ◌∷◌, List as Items, Some, All, IfOk, OnOk, map};
-ghost use Rattle.bag_algebra.specs.Bags.{Row as Cells};
+ghost use Rattle.std.specs.Prelude.{◌≡◌, ◌≢◌, ◌↔◌, ◌++◌, [], ◌∷◌, List as Items, Some, All, IfOk, OnOk, IsTrue, map};
+ghost use Rattle.bag_algebra.specs.Bags.{Row as Cells, Bag, member};
 ghost use Rattle.bag_algebra.specs.Children.{subs_shape};
+ghost use Rattle.bag_algebra.specs.Fits.{env_fits};
 ghost use Rattle.bag_algebra.specs.Kinds.{kinds_of, kind_in, kinds_in, shape, place_kinds};
-ghost use Rattle.bag_algebra.specs.Meaning.{Database, witnesses};
+ghost use Rattle.bag_algebra.specs.Meaning.{Database, denote, meaning, witnesses};
+ghost use Rattle.bag_algebra.specs.Outcome.{Good, each};
+ghost use Rattle.bag_algebra.specs.WellFormed.{WellFormed};
 ghost use Rattle.bag_algebra.specs.declared.expr.Item.{Item as Column};
 ghost use Rattle.bag_algebra.specs.declared.query.Aggr.{Aggr as Aggregated};
+ghost use Rattle.bag_algebra.specs.declared.query.Sublink.{Sublink as Tested};
+ghost use Rattle.contribution.specs.HasSublinks.{HasSublinks};
 ghost use Rattle.contribution.specs.HeldRows.{held_rows, StandAt};
+ghost use Rattle.contribution.specs.Longer.{Longer};
+ghost use Rattle.contribution.specs.SublinkValues.{sublink_value, contributing_value};
+ghost use Rattle.perm_values.specs.declared.kind.Kind.{Kind as Sort};
 
 use bag_algebra::{Aggr, Item, Label, Place, Query, Sublink};
 use perm_values::{Copyable, Kind, List, NoMemory};
@@ -19,11 +27,19 @@ pub struct PlaceList {
 }
 
 /// The places of the query's witness lists: one for each source. Each entry of a witness list stands at its place: it is
-/// empty, or one of the rows that the source holds. It fails only for want of memory.
+/// empty, or one of the rows that the source holds. No row of a good answer is without a list, each of the query's
+/// sublinks has its value over the contributing rows alone, and values added to outer rows change neither rows nor lists.
+/// It fails only for want of memory.
 pub fn shape(alloc: Global, query: &Query) -> Result<PlaceList, NoMemory>
     ensures places { IfOk result (λ list. list.places ≡ shape query.now) }
     ensures entries { IfOk result (λ list. (db : Database) (env : Items Cells) (t : Cells) →
         All (StandAt list.places (held_rows query.now db (Some env))) (witnesses query.now db env t)) }
+    ensures no_row_lost { (db : Database) (env : Items Cells) (bag : Bag) (t : Cells) →
+        meaning query.now db env ≡ Good bag → IsTrue (member t bag) ↔ (witnesses query.now db env t ≢ []) }
+    ensures truth_kept { (subs : Items Tested) (db : Database) (env : Items Cells) (u : Cells) → HasSublinks query.now subs →
+        each (contributing_value db env u) subs ≡ each (sublink_value db env u) subs }
+    ensures growth { (outer : Items (Items Sort)) (db : Database) (env other : Items Cells) →
+        WellFormed outer query.now → IsTrue (env_fits env outer) → Longer env other → denote query.now db env ≡ denote query.now db other }
 {
     let mut places = List::new(alloc);
     add_places(alloc, query, &mut places)?;

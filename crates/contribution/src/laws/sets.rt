@@ -13,7 +13,7 @@ ghost use Rattle.bag_algebra.specs.declared.query.Query.TheVariants.{Filter, Pro
 ghost use Rattle.bag_algebra.specs.declared.query.Sublink.{Sublink};
 
 /// Over inputs that meet the same faults or have the same set of rows, selection, projection, join, DISTINCT and the set
-/// operations meet the same faults or have the same set of rows; INTERSECT ALL and EXCEPT ALL, grouping and LIMIT count.
+/// operations meet the same faults or have the same set of rows; EXCEPT ALL, grouping and LIMIT count.
 /// DISTINCT itself changes no set.
 pub fn sets_of_rows_decide()
     ensures filter { (db : Database) (env : List Row) (input other : Query) → SameSet (meaning input db env) (meaning other db env) → (condition : Expr) (subs : List Sublink) →
@@ -29,7 +29,7 @@ pub fn sets_of_rows_decide()
         (all : Bool) → SameSet (meaning (Union all left right) db env) (meaning (Union all other_left other_right) db env) }
     ensures intersect { (db : Database) (env : List Row) (left right other_left other_right : Query) →
         SameSet (meaning left db env) (meaning other_left db env) → SameSet (meaning right db env) (meaning other_right db env) →
-        SameSet (meaning (Intersect false left right) db env) (meaning (Intersect false other_left other_right) db env) }
+        (all : Bool) → SameSet (meaning (Intersect all left right) db env) (meaning (Intersect all other_left other_right) db env) }
     ensures except { (db : Database) (env : List Row) (left right other_left other_right : Query) →
         SameSet (meaning left db env) (meaning other_left db env) → SameSet (meaning right db env) (meaning other_right db env) →
         SameSet (meaning (Except false left right) db env) (meaning (Except false other_left other_right) db env) }

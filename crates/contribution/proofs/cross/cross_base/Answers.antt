@@ -1,9 +1,10 @@
-use Rattle.std.proofs.Common.{◌≡◌, ◌↔◌, ◌++◌, ◌∙◌, List, IfOk, IsTrue, ap, subst}
+use Rattle.std.proofs.Common.{◌≡◌, ◌↔◌, ◌++◌, ◌∙◌, List, Contains, IfOk, IsTrue, ap, subst}
 use Rattle.perm_values.specs.declared.kind.Kind.{Kind}
 use Rattle.bag_algebra.specs.Bags.{Row, Bag, member}
 use Rattle.bag_algebra.specs.Fits.{TablesFit}
 use Rattle.bag_algebra.specs.Kinds.{kinds_of, shape, place_kinds}
-use Rattle.bag_algebra.specs.Meaning.{Database, meaning}
+use Rattle.bag_algebra.specs.Meaning.{Database, meaning, witnesses}
+use Rattle.bag_algebra.specs.Means.{Witness, flat}
 use Rattle.bag_algebra.specs.Outcome.{Good}
 use Rattle.bag_algebra.specs.Rewriting.{is_plain}
 use Rattle.bag_algebra.specs.WellFormed.{WellFormed}
@@ -12,6 +13,7 @@ use Rattle.std.specs.Prelude.{None}
 use Rattle.contribution.proofs.ColumnQueries.{of_made}
 use Rattle.contribution.proofs.CrossBases.{kinds_of-cross_base, meaning-cross_base, formed-cross_base, plain-cross_base, tables-cross_base}
 use Rattle.contribution.proofs.CrossedRows.{FlatAt}
+use Rattle.contribution.proofs.ListsInBases.{lists-in_cross_base}
 use Rattle.contribution.proofs.cross.cross_base.Goals as goal
 use Rattle.contribution.specs.CrossBase.{table_sources, crossed, cross_base_of}
 use Rattle.contribution.specs.HeldRows.{held_rows}
@@ -31,6 +33,12 @@ returns-clause-rows c =
     of_made (λ p. (db : Database) (env : List Row) → (found : Bag) × (meaning p db env ≡ Good found) ×
     ((u : Row) → IsTrue (member u found) ↔ FlatAt (shape c.args.query.now) (held_rows c.args.query.now db None) u))
     c.crossed.result (cross_base_of c.args.query.now) (returns-clause-made c) (meaning-cross_base c.args.query.now c.requires)
+
+pub returns-clause-lists : goal.returns-clause-lists
+returns-clause-lists c =
+    of_made (λ p. (db : Database) (env other : List Row) (t : Row) (w : Witness) → Contains (witnesses c.args.query.now db env t) w →
+    (found : Bag) × (meaning p db other ≡ Good found) × IsTrue (member (flat w) found))
+    c.crossed.result (cross_base_of c.args.query.now) (returns-clause-made c) (lists-in_cross_base c.args.query.now c.requires)
 
 pub returns-clause-formed : goal.returns-clause-formed
 returns-clause-formed c =

@@ -1,0 +1,5 @@
+pub mod AnswerRows
+pub mod Contributed
+pub mod JoinLists
+pub mod NodeLists
+pub mod PairedLists

@@ -1,0 +1,2 @@
+pub mod ListsOfNodes
+pub mod SublinkLists
