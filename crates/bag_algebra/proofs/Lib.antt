@@ -8,5 +8,6 @@ pub mod NeverBad
 pub mod Rest
 pub mod Seeking
 pub mod SortedBags
+pub mod TablesRead
 pub mod Truths
 pub mod Widths

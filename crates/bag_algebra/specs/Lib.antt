@@ -21,6 +21,7 @@ pub mod Rewriting
 pub mod Scoped
 pub mod Sought
 pub mod TableRows
+pub mod TablesRead
 pub mod WellFormed
 pub mod WorkedRows
 pub mod WorkedTests

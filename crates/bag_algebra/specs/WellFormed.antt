@@ -249,11 +249,13 @@ pub record ProjectForm (Input Subs Items : Type 0) : Type 0 where
   pub subs : Subs
   pub items : Items
 
-pub record JoinForm (LeftSide RightSide Subs Condition : Type 0) : Type 0 where
+-- what any node asks of its sublinks, and besides that a join has none
+pub record JoinForm (LeftSide RightSide Subs Condition WithoutSubs : Type 0) : Type 0 where
   pub left : LeftSide
   pub right : RightSide
   pub subs : Subs
   pub condition : Condition
+  pub without_subs : WithoutSubs
 
 pub record SetForm (LeftSide RightSide : Type 0) (left right : List Kind) : Type 0 where
   pub left_side : LeftSide
@@ -283,8 +285,8 @@ abbrev mutual
       ProjectForm (WellFormed outer input) (SubsForm (kinds_of input ∷ outer) subs)
       (ItemsForm (kinds_of input ∷ outer) (sub_kinds subs) items)
   WellFormed outer (JoinOf kind left right condition _ subs) =
-      JoinForm (WellFormed outer left) (WellFormed outer right) (no_sublinks subs)
-      (HasKind ((kinds_of left ++ kinds_of right) ∷ outer) [] condition Boolean)
+      JoinForm (WellFormed outer left) (WellFormed outer right) (SubsForm ((kinds_of left ++ kinds_of right) ∷ outer) subs)
+      (HasKind ((kinds_of left ++ kinds_of right) ∷ outer) (sub_kinds subs) condition Boolean) (no_sublinks subs)
   WellFormed outer (UnionOf all left right) = SetForm (WellFormed outer left) (WellFormed outer right) (kinds_of left) (kinds_of right)
   WellFormed outer (IntersectOf all left right) = SetForm (WellFormed outer left) (WellFormed outer right) (kinds_of left) (kinds_of right)
   WellFormed outer (ExceptOf all left right) = SetForm (WellFormed outer left) (WellFormed outer right) (kinds_of left) (kinds_of right)

@@ -10,7 +10,7 @@ use Rattle.bag_algebra.specs.Outcome.{Good}
 use Rattle.bag_algebra.specs.Patterns.{BaseOf, FilterOf, ProjectOf, JoinOf, UnionOf, IntersectOf, ExceptOf, DistinctOf, AggregateOf, LimitOf, ProvOf}
 use Rattle.bag_algebra.specs.Rewriting.{is_plain}
 use Rattle.bag_algebra.specs.Scoped.{is_table, over_tables, subs_over_tables}
-use Rattle.bag_algebra.specs.WellFormed.{WellFormed, SubsForm, PlacesIn, no_sublinks}
+use Rattle.bag_algebra.specs.WellFormed.{WellFormed, SubsForm, PlacesIn}
 use Rattle.bag_algebra.specs.declared.place.Place.{Place}
 use Rattle.bag_algebra.specs.declared.query.Label.{Label}
 use Rattle.bag_algebra.specs.declared.query.Query.{Query, Row_of-Sublink, more_of-Sublink, end_of-Sublink}
@@ -125,10 +125,6 @@ ranged-base : (input : Query) (places : List ℕ) → PlacesIn (length (kinds_of
 ranged-base (Table id kinds) places within = some (record { id = id; kinds = kinds; places = places }) within none
 ranged-base other places within = none
 
-ranged-none : {m : _} (subs : Row_of-Sublink m) → no_sublinks subs → EachSource InRange (sub_table_sources subs)
-ranged-none end_of-Sublink f = none
-ranged-none (more_of-Sublink kind tested query subs) f = absurd f
-
 mutual
   pub ranged : (q : Query) (outer : List (List Kind)) → WellFormed outer q → EachSource InRange (table_sources q)
   ranged (Table id kinds) outer f = none
@@ -137,7 +133,7 @@ mutual
   ranged (FilterOf input condition _ subs) outer f = each_source-append InRange (ranged input outer f.input) (ranged-subs subs (kinds_of input ∷ outer) f.subs)
   ranged (ProjectOf input items _ subs) outer f = each_source-append InRange (ranged input outer f.input) (ranged-subs subs (kinds_of input ∷ outer) f.subs)
   ranged (JoinOf kind left right condition _ subs) outer f =
-      each_source-append InRange (each_source-append InRange (ranged left outer f.left) (ranged right outer f.right)) (ranged-none subs f.subs)
+      each_source-append InRange (each_source-append InRange (ranged left outer f.left) (ranged right outer f.right)) (ranged-subs subs ((kinds_of left ++ kinds_of right) ∷ outer) f.subs)
   ranged (UnionOf all left right) outer f = each_source-append InRange (ranged left outer f.left_side) (ranged right outer f.right_side)
   ranged (IntersectOf all left right) outer f = each_source-append InRange (ranged left outer f.left_side) (ranged right outer f.right_side)
   ranged (ExceptOf all left right) outer f = each_source-append InRange (ranged left outer f.left_side) (ranged right outer f.right_side)
@@ -164,43 +160,48 @@ formed-crossed (source ∷ sources) outer (some _ within rest) = record {
   right = formed-crossed sources outer rest;
   subs = tt;
   condition = record { fitting = refl; gives = refl };
+  without_subs = tt;
 }
 
 pub formed-cross_base : (q : Query) (outer other : List (List Kind)) → WellFormed outer q → WellFormed other (cross_base_of q)
 formed-cross_base q outer other f = formed-crossed (table_sources q) other (ranged q outer f)
 
--- the table of the source has rows of its kinds
-abbrev pub TableFits : Database → TableSource → Type 0
-TableFits db source = bag_fits (db source.id) source.kinds ≡ true
+-- P holds of the source's table
+abbrev pub SourceHas : (ℕ → List Kind → Type 0) → TableSource → Type 0
+SourceHas P source = P source.id source.kinds
 
-fitting-base : (input : Query) (places : List ℕ) (db : Database) → TablesFit db input → EachSource (TableFits db) (base_source input places)
-fitting-base (Table id kinds) places db fit = some (record { id = id; kinds = kinds; places = places }) fit none
-fitting-base other places db fit = none
+had-base : (input : Query) (places : List ℕ) (P : ℕ → List Kind → Type 0) → EachTable P input → EachSource (SourceHas P) (base_source input places)
+had-base (Table id kinds) places P fit = some (record { id = id; kinds = kinds; places = places }) fit none
+had-base other places P fit = none
 
 mutual
-  pub fitting : (q : Query) (db : Database) → TablesFit db q → EachSource (TableFits db) (table_sources q)
-  fitting (Table id kinds) db f = none
-  fitting Single db f = none
-  fitting (BaseOf input places label) db f = fitting-base input places db f
-  fitting (FilterOf input condition _ subs) db f = each_source-append (TableFits db) (fitting input db f.0) (fitting-subs subs db f.1)
-  fitting (ProjectOf input items _ subs) db f = each_source-append (TableFits db) (fitting input db f.0) (fitting-subs subs db f.1)
-  fitting (JoinOf kind left right condition _ subs) db f =
-      each_source-append (TableFits db) (each_source-append (TableFits db) (fitting left db f.0) (fitting right db f.1)) (fitting-subs subs db f.2)
-  fitting (UnionOf all left right) db f = each_source-append (TableFits db) (fitting left db f.0) (fitting right db f.1)
-  fitting (IntersectOf all left right) db f = each_source-append (TableFits db) (fitting left db f.0) (fitting right db f.1)
-  fitting (ExceptOf all left right) db f = each_source-append (TableFits db) (fitting left db f.0) (fitting right db f.1)
-  fitting (DistinctOf input) db f = fitting input db f
-  fitting (AggregateOf input groups aggregates) db f = fitting input db f
-  fitting (LimitOf input keys count) db f = fitting input db f
-  fitting (ProvOf input) db f = none
+  pub had : (q : Query) (P : ℕ → List Kind → Type 0) → EachTable P q → EachSource (SourceHas P) (table_sources q)
+  had (Table id kinds) P f = none
+  had Single P f = none
+  had (BaseOf input places label) P f = had-base input places P f
+  had (FilterOf input condition _ subs) P f = each_source-append (SourceHas P) (had input P f.0) (had-subs subs P f.1)
+  had (ProjectOf input items _ subs) P f = each_source-append (SourceHas P) (had input P f.0) (had-subs subs P f.1)
+  had (JoinOf kind left right condition _ subs) P f =
+      each_source-append (SourceHas P) (each_source-append (SourceHas P) (had left P f.0) (had right P f.1)) (had-subs subs P f.2)
+  had (UnionOf all left right) P f = each_source-append (SourceHas P) (had left P f.0) (had right P f.1)
+  had (IntersectOf all left right) P f = each_source-append (SourceHas P) (had left P f.0) (had right P f.1)
+  had (ExceptOf all left right) P f = each_source-append (SourceHas P) (had left P f.0) (had right P f.1)
+  had (DistinctOf input) P f = had input P f
+  had (AggregateOf input groups aggregates) P f = had input P f
+  had (LimitOf input keys count) P f = had input P f
+  had (ProvOf input) P f = none
 
-  pub fitting-subs : {m : _} (subs : Row_of-Sublink m) (db : Database) → SubTablesFit db subs → EachSource (TableFits db) (sub_table_sources subs)
-  fitting-subs end_of-Sublink db f = none
-  fitting-subs (more_of-Sublink kind tested query subs) db f = each_source-append (TableFits db) (fitting query db f.0) (fitting-subs subs db f.1)
+  pub had-subs : {m : _} (subs : Row_of-Sublink m) (P : ℕ → List Kind → Type 0) → EachSubTable P subs → EachSource (SourceHas P) (sub_table_sources subs)
+  had-subs end_of-Sublink P f = none
+  had-subs (more_of-Sublink kind tested query subs) P f = each_source-append (SourceHas P) (had query P f.0) (had-subs subs P f.1)
 
-tables-crossed : (sources : List TableSource) (db : Database) → EachSource (TableFits db) sources → TablesFit db (crossed sources Single)
-tables-crossed [] db none = tt
-tables-crossed (source ∷ sources) db (some _ fit rest) = (((fit, tt), (tt, tt)), tables-crossed sources db rest, tt)
+each_table-crossed : (sources : List TableSource) (P : ℕ → List Kind → Type 0) → EachSource (SourceHas P) sources → EachTable P (crossed sources Single)
+each_table-crossed [] P none = tt
+each_table-crossed (source ∷ sources) P (some _ fit rest) = (((fit, tt), (tt, tt)), each_table-crossed sources P rest, tt)
 
-pub tables-cross_base : (q : Query) (db : Database) → TablesFit db q → TablesFit db (cross_base_of q)
-tables-cross_base q db f = tables-crossed (table_sources q) db (fitting q db f)
+pub each_table-cross_base : (q : Query) (P : ℕ → List Kind → Type 0) → EachTable P q → EachTable P (cross_base_of q)
+each_table-cross_base q P f = each_table-crossed (table_sources q) P (had q P f)
+
+-- the cross base reads the query's tables alone
+pub tables-cross_base : (q : Query) → ReadsAmong (cross_base_of q) q
+tables-cross_base q = each_table-cross_base (λ id kinds. Contains (tables_read q) (record { id = id; kinds = kinds })) q (reads_among-itself q)

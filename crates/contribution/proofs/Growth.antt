@@ -17,7 +17,7 @@ use Rattle.bag_algebra.specs.Meaning.{Database, denote, sub_denote, optional_val
 use Rattle.bag_algebra.specs.Means.{SubMeans, with_sub, all_empty, base_means, filter_means, project_means, join_means, union_means, intersect_means, except_means, distinct_means, aggregate_means, limit_means, provenance_means}
 use Rattle.bag_algebra.specs.Outcome.{Outcome, Good, and_then, mapped, both, both_then, each}
 use Rattle.bag_algebra.specs.Patterns.{OpOf, ChainOf, CaseOf, IsNullOf, IsTruthOf, SameOf, BaseOf, FilterOf, ProjectOf, JoinOf, UnionOf, IntersectOf, ExceptOf, DistinctOf, AggregateOf, LimitOf, ProvOf}
-use Rattle.bag_algebra.specs.WellFormed.{column_kind, op_form, HasKind, PartsHave, StepsHave, ArmsHave, number_of_parts, ItemsForm, aggr_form, AggregatesForm, sub_form, sub_kinds, no_sublinks, WellFormed, SubsForm}
+use Rattle.bag_algebra.specs.WellFormed.{column_kind, op_form, HasKind, PartsHave, StepsHave, ArmsHave, number_of_parts, ItemsForm, aggr_form, AggregatesForm, sub_form, sub_kinds, WellFormed, SubsForm}
 use Rattle.bag_algebra.specs.declared.expr.Expr.{Expr, Row_of-Expr, Row_of-Arm, Row_of-ChainStep, more_of-Expr, end_of-Expr, more_of-Arm, end_of-Arm, more_of-ChainStep, end_of-ChainStep}
 use Rattle.bag_algebra.specs.declared.expr.Expr.TheVariants.{Col, Lit, Sub}
 use Rattle.bag_algebra.specs.declared.expr.Item.{Item}
@@ -151,12 +151,6 @@ module _ (kinds : List Kind) (outer : List (List Kind)) (env other : List Row) (
 
 -- ---- queries
 
--- a join has no sublinks
-joined_subs-same : {m : _} (subs : Row_of-Sublink m) (db : Database) (env other : List Row) → no_sublinks subs →
-    sub_denote subs db env ≡ sub_denote subs db other
-joined_subs-same end_of-Sublink db env other h = refl
-joined_subs-same (more_of-Sublink kind tested query subs) db env other h = absurd h
-
 mutual
   pub denote-same : (q : Query) (outer : List (List Kind)) (db : Database) (env other : List Row) → WellFormed outer q →
       SameColumns outer env other → denote q db env ≡ denote q db other
@@ -172,8 +166,8 @@ mutual
       let c = items_on-same (kinds_of input) outer env other s (sub_kinds subs) items (sub_denote subs db env) (sub_denote subs db other) e f.items in
       λ i. project_means (c i) (e i).contributions (denote-same input outer db env other f.input s i)
   denote-same (JoinOf kind left right condition _ subs) outer db env other f s =
-      let e = joined_subs-same subs db env other f.subs in
-      let c = condition_on-same (kinds_of left ++ kinds_of right) outer env other s [] condition (sub_denote subs db env) (sub_denote subs db other) e f.condition in
+      let e = sub_denote-same subs (kinds_of left ++ kinds_of right) outer db env other f.subs s in
+      let c = condition_on-same (kinds_of left ++ kinds_of right) outer env other s (sub_kinds subs) condition (sub_denote subs db env) (sub_denote subs db other) e f.condition in
       λ i. join_means kind (c i) (e i).contributions (record { left = all_empty (shape left); right = all_empty (shape right); subs = (e i).blank })
       (width_of left) (width_of right) (denote-same left outer db env other f.left s i) (denote-same right outer db env other f.right s i)
   denote-same (UnionOf all left right) outer db env other f s =

@@ -150,8 +150,10 @@ mutual
   well_formed-longer (JoinOf kind left right condition _ subs) outer longer n f = record {
     left = well_formed-longer left outer longer n f.left;
     right = well_formed-longer right outer longer n f.right;
-    subs = f.subs;
-    condition = has_kind-longer (names-own (kinds_of left ++ kinds_of right) n) [] condition Boolean f.condition;
+    subs = subs_form-longer subs ((kinds_of left ++ kinds_of right) ∷ outer) ((kinds_of left ++ kinds_of right) ∷ longer)
+        (names-own (kinds_of left ++ kinds_of right) n) f.subs;
+    condition = has_kind-longer (names-own (kinds_of left ++ kinds_of right) n) (sub_kinds subs) condition Boolean f.condition;
+    without_subs = f.without_subs;
   }
   well_formed-longer (UnionOf all left right) outer longer n f =
       record { left_side = well_formed-longer left outer longer n f.left_side; right_side = well_formed-longer right outer longer n f.right_side; same_kinds = f.same_kinds }

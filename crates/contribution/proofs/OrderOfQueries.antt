@@ -29,8 +29,9 @@ use Rattle.contribution.proofs.OrderOfGroups.{aggregate_means-alike}
 use Rattle.contribution.proofs.OrderOfRows.{Alike, any-permuted, permuted-good_rows, unlisted_means-alike, base_means-alike, SameContributions, filter_means-alike, project_means-alike, join_means-alike}
 use Rattle.contribution.proofs.OrderOfSets.{shared-either, union_means-alike, intersect_means-alike, except_means-alike, distinct_means-alike, limit_means-alike, provenance_means-alike}
 use Rattle.contribution.proofs.SharedMembers.{Shared, shared-refl, shared-permuted, shared-flat_map, none_each, next_each}
-use Rattle.contribution.specs.EachTable.{EachSubTable}
-use Rattle.contribution.specs.SameMeaning.{SameTables, SameRows, SameMembers, SameMeaning}
+use Rattle.bag_algebra.specs.TablesRead.{EachSubTable}
+use Rattle.bag_algebra.specs.Rewriting.{SameRows}
+use Rattle.contribution.specs.SameMeaning.{SameTables, SameMembers, SameMeaning}
 
 -- ---- sublinks
 

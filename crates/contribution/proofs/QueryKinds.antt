@@ -14,7 +14,7 @@ use Rattle.bag_algebra.specs.Meaning.{Database, denote, sub_denote, meaning, wit
 use Rattle.bag_algebra.specs.Means.{Witness, Means, SubMeans, no_subs, with_sub, all_empty, good_rows, good_value, scalar, sub_value, chosen, contribution_of, is_some_row, some_of, all_of, comparisons, filter_means, join_means}
 use Rattle.bag_algebra.specs.Outcome.{Outcome, Good, both_then, each}
 use Rattle.bag_algebra.specs.Patterns.{BaseOf, FilterOf, ProjectOf, JoinOf, UnionOf, IntersectOf, ExceptOf, DistinctOf, AggregateOf, LimitOf, ProvOf}
-use Rattle.bag_algebra.specs.WellFormed.{HasKind, ItemsForm, aggr_form, AggregatesForm, sub_kind, sub_kinds, no_sublinks, WellFormed, SubsForm}
+use Rattle.bag_algebra.specs.WellFormed.{HasKind, ItemsForm, aggr_form, AggregatesForm, sub_kind, sub_kinds, WellFormed, SubsForm}
 use Rattle.bag_algebra.specs.declared.expr.Expr.{Expr}
 use Rattle.bag_algebra.specs.declared.expr.Item.{Item}
 use Rattle.bag_algebra.specs.declared.place.Place.{Place}
@@ -181,12 +181,6 @@ filter_node : {kinds answer_kinds : List Kind} {places sub_places : List Place} 
     MeansFit kinds (places ++ sub_places) (filter_means (condition_on condition env s) s.contributions m)
 filter_node condition env s m f g = filter_means-fit (condition_on condition env s) s.contributions m f.contributions g
 
--- a join has no sublinks
-joined_subs-fit : {m : _} (kinds : List Kind) (subs : Row_of-Sublink m) (db : Database) (env : List Row) → no_sublinks subs →
-    SubsFit kinds (sub_shape subs) [] (sub_denote subs db env)
-joined_subs-fit kinds end_of-Sublink db env h = no_subs-fit kinds
-joined_subs-fit kinds (more_of-Sublink kind tested query subs) db env h = absurd h
-
 join_node : {left_places right_places sub_places : List Place} (left_kinds right_kinds answer_kinds : List Kind) (kind : JoinKind) (condition : Expr) (env : List Row) (s : SubMeans)
     (left_blank right_blank : Witness) (l r : Means) → SubsFit (left_kinds ++ right_kinds) sub_places answer_kinds s → FitsPlaces left_places left_blank → FitsPlaces right_places right_blank →
     MeansFit left_kinds left_places l → MeansFit right_kinds right_places r →
@@ -216,8 +210,8 @@ mutual
       (items_on-fit items (kinds_of input) outer (sub_kinds subs) env (sub_denote subs db env) form.items e subs_fit) subs_fit.contributions
       (denote-fits input outer db env form.input tables.0 e)
   denote-fits (JoinOf kind left right condition _ subs) outer db env form tables e =
-      join_node (kinds_of left) (kinds_of right) [] kind condition env (sub_denote subs db env) (all_empty (shape left)) (all_empty (shape right)) (denote left db env) (denote right db env)
-      (joined_subs-fit (kinds_of left ++ kinds_of right) subs db env form.subs) (all_empty-fits (shape left)) (all_empty-fits (shape right))
+      join_node (kinds_of left) (kinds_of right) (sub_kinds subs) kind condition env (sub_denote subs db env) (all_empty (shape left)) (all_empty (shape right)) (denote left db env) (denote right db env)
+      (sub_denote-fits subs (kinds_of left ++ kinds_of right) outer db env form.subs tables.2 e) (all_empty-fits (shape left)) (all_empty-fits (shape right))
       (denote-fits left outer db env form.left tables.0 e) (denote-fits right outer db env form.right tables.1 e)
   denote-fits (UnionOf all left right) outer db env form tables e =
       union_means-fit all (denote left db env) (denote right db env) (denote-fits left outer db env form.left_side tables.0 e)

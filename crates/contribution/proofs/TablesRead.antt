@@ -3,9 +3,10 @@ use Rattle.std.proofs.Common.{◌≡◌, ℕ, Bool, true, false, ◌&&◌, List,
 use Rattle.std.specs.List.{list_all}
 use Rattle.perm_values.specs.Rows.{row_fits}
 use Rattle.perm_values.specs.declared.kind.Kind.{Kind}
+use Rattle.bag_algebra.proofs.TablesRead.{each_table-both}
 use Rattle.bag_algebra.proofs.BagLaws.{Permuted, nothing, onward, turn, joined, permuted-from_same_bag}
 use Rattle.bag_algebra.specs.Bags.{Row, Bag, SameBag}
-use Rattle.bag_algebra.specs.Fits.{bag_fits, TablesFit, SubTablesFit}
+use Rattle.bag_algebra.specs.Fits.{bag_fits, TablesFit}
 use Rattle.bag_algebra.specs.Kinds.{shape, width_of}
 use Rattle.bag_algebra.specs.Meaning.{Database, denote, sub_denote, optional_value, condition_on, items_on, arguments_on}
 use Rattle.bag_algebra.specs.Means.{with_sub, all_empty, unlisted_means, base_means, filter_means, project_means, join_means, union_means, intersect_means, except_means, distinct_means, aggregate_means, limit_means, provenance_means}
@@ -14,33 +15,8 @@ use Rattle.bag_algebra.specs.Patterns.{BaseOf, FilterOf, ProjectOf, JoinOf, Unio
 use Rattle.bag_algebra.specs.declared.query.Aggr.{Aggr}
 use Rattle.bag_algebra.specs.declared.query.Query.{Query, Row_of-Sublink, more_of-Sublink, end_of-Sublink}
 use Rattle.bag_algebra.specs.declared.query.Query.TheVariants.{Table, Single}
-use Rattle.contribution.specs.EachTable.{EachTable, EachSubTable}
+use Rattle.bag_algebra.specs.TablesRead.{EachSubTable}
 use Rattle.contribution.specs.SameMeaning.{SameTables, EqualTables}
-
--- ---- what each table has
-
-mutual
-  pub each_table-kept : (P Q : ℕ → List Kind → Type 0) → ((id : ℕ) (kinds : List Kind) → P id kinds → Q id kinds) → (q : Query) → EachTable P q →
-      EachTable Q q
-  each_table-kept P Q keep (Table id kinds) h = keep id kinds h
-  each_table-kept P Q keep Single h = tt
-  each_table-kept P Q keep (BaseOf input places label) h = each_table-kept P Q keep input h
-  each_table-kept P Q keep (FilterOf input condition _ subs) h = (each_table-kept P Q keep input h.0, each_sub_table-kept P Q keep subs h.1)
-  each_table-kept P Q keep (ProjectOf input items _ subs) h = (each_table-kept P Q keep input h.0, each_sub_table-kept P Q keep subs h.1)
-  each_table-kept P Q keep (JoinOf kind left right condition _ subs) h =
-      (each_table-kept P Q keep left h.0, each_table-kept P Q keep right h.1, each_sub_table-kept P Q keep subs h.2)
-  each_table-kept P Q keep (UnionOf all left right) h = (each_table-kept P Q keep left h.0, each_table-kept P Q keep right h.1)
-  each_table-kept P Q keep (IntersectOf all left right) h = (each_table-kept P Q keep left h.0, each_table-kept P Q keep right h.1)
-  each_table-kept P Q keep (ExceptOf all left right) h = (each_table-kept P Q keep left h.0, each_table-kept P Q keep right h.1)
-  each_table-kept P Q keep (DistinctOf input) h = each_table-kept P Q keep input h
-  each_table-kept P Q keep (AggregateOf input groups aggregates) h = each_table-kept P Q keep input h
-  each_table-kept P Q keep (LimitOf input keys count) h = each_table-kept P Q keep input h
-  each_table-kept P Q keep (ProvOf input) h = each_table-kept P Q keep input h
-
-  pub each_sub_table-kept : (P Q : ℕ → List Kind → Type 0) → ((id : ℕ) (kinds : List Kind) → P id kinds → Q id kinds) →
-      {m : _} (subs : Row_of-Sublink m) → EachSubTable P subs → EachSubTable Q subs
-  each_sub_table-kept P Q keep end_of-Sublink h = tt
-  each_sub_table-kept P Q keep (more_of-Sublink kind tested query subs) h = (each_table-kept P Q keep query h.0, each_sub_table-kept P Q keep subs h.1)
 
 -- ---- the same rows
 
@@ -94,24 +70,6 @@ all-permuted test (joined p q) = all-permuted test p ∙ all-permuted test q
 bag_fits-same_bag : (us vs : Bag) (kinds : List Kind) → SameBag us vs → bag_fits us kinds ≡ true → bag_fits vs kinds ≡ true
 bag_fits-same_bag us vs kinds s e = sym (all-permuted (λ row. row_fits row kinds) (permuted-from_same_bag us vs s)) ∙ e
 
-mutual
-  pub tables_fit-same_tables : (q : Query) (db other : Database) → SameTables db other q → TablesFit db q → TablesFit other q
-  tables_fit-same_tables (Table id kinds) db other s f = bag_fits-same_bag (db id) (other id) kinds s f
-  tables_fit-same_tables Single db other s f = tt
-  tables_fit-same_tables (BaseOf input places label) db other s f = tables_fit-same_tables input db other s f
-  tables_fit-same_tables (FilterOf input condition _ subs) db other s f = (tables_fit-same_tables input db other s.0 f.0, sub_tables_fit-same_tables subs db other s.1 f.1)
-  tables_fit-same_tables (ProjectOf input items _ subs) db other s f = (tables_fit-same_tables input db other s.0 f.0, sub_tables_fit-same_tables subs db other s.1 f.1)
-  tables_fit-same_tables (JoinOf kind left right condition _ subs) db other s f =
-      (tables_fit-same_tables left db other s.0 f.0, tables_fit-same_tables right db other s.1 f.1, sub_tables_fit-same_tables subs db other s.2 f.2)
-  tables_fit-same_tables (UnionOf all left right) db other s f = (tables_fit-same_tables left db other s.0 f.0, tables_fit-same_tables right db other s.1 f.1)
-  tables_fit-same_tables (IntersectOf all left right) db other s f = (tables_fit-same_tables left db other s.0 f.0, tables_fit-same_tables right db other s.1 f.1)
-  tables_fit-same_tables (ExceptOf all left right) db other s f = (tables_fit-same_tables left db other s.0 f.0, tables_fit-same_tables right db other s.1 f.1)
-  tables_fit-same_tables (DistinctOf input) db other s f = tables_fit-same_tables input db other s f
-  tables_fit-same_tables (AggregateOf input groups aggregates) db other s f = tables_fit-same_tables input db other s f
-  tables_fit-same_tables (LimitOf input keys count) db other s f = tables_fit-same_tables input db other s f
-  tables_fit-same_tables (ProvOf input) db other s f = tables_fit-same_tables input db other s f
-
-  sub_tables_fit-same_tables : {m : _} (subs : Row_of-Sublink m) (db other : Database) →
-      EachSubTable (λ id kinds. SameBag (db id) (other id)) subs → SubTablesFit db subs → SubTablesFit other subs
-  sub_tables_fit-same_tables end_of-Sublink db other s f = tt
-  sub_tables_fit-same_tables (more_of-Sublink kind tested query subs) db other s f = (tables_fit-same_tables query db other s.0 f.0, sub_tables_fit-same_tables subs db other s.1 f.1)
+pub tables_fit-same_tables : (q : Query) (db other : Database) → SameTables db other q → TablesFit db q → TablesFit other q
+tables_fit-same_tables q db other s f =
+    each_table-both _ _ (λ id kinds. bag_fits (other id) kinds ≡ true) (λ id kinds same fits. bag_fits-same_bag (db id) (other id) kinds same fits) q s f

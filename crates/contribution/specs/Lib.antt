@@ -1,5 +1,4 @@
 pub mod CrossBase
-pub mod EachTable
 pub mod FitsPlaces
 pub mod Fitting
 pub mod HasSublinks

@@ -1,11 +1,11 @@
 -- When two databases hold the same bags for a query, and when two queries mean the same up to the order of rows and lists.
 use Rattle.std.specs.Prelude.{◌≡◌, List, Contains}
-use Rattle.bag_algebra.specs.Bags.{Row, Bag, SameBag}
+use Rattle.bag_algebra.specs.Bags.{Row, SameBag}
 use Rattle.bag_algebra.specs.Meaning.{Database}
 use Rattle.bag_algebra.specs.Means.{Means}
-use Rattle.bag_algebra.specs.Outcome.{Outcome, Good, Bad}
+use Rattle.bag_algebra.specs.Rewriting.{SameRows}
+use Rattle.bag_algebra.specs.TablesRead.{EachTable}
 use Rattle.bag_algebra.specs.declared.query.Query.{Query}
-use Rattle.contribution.specs.EachTable.{EachTable}
 
 -- the same bag for each table that the query reads
 abbrev pub SameTables : Database → Database → Query → Type 0
@@ -14,13 +14,6 @@ SameTables db other q = EachTable (λ id kinds. SameBag (db id) (other id)) q
 -- the same rows in the same order for each table that the query reads
 abbrev pub EqualTables : Database → Database → Query → Type 0
 EqualTables db other q = EachTable (λ id kinds. db id ≡ other id) q
-
--- both good with one bag, or both bad with one set of faults
-abbrev pub SameRows : Outcome Bag → Outcome Bag → Type 0
-SameRows (Good us) (Good vs) = SameBag us vs
-SameRows (Good us) (Bad g) = ⊥
-SameRows (Bad f) (Good vs) = ⊥
-SameRows (Bad f) (Bad g) = f ≡ g
 
 -- what is in the one list is in the other
 pub record SameMembers {X : Type 0} (xs ys : List X) : Type 0 where

@@ -10,7 +10,7 @@ use Rattle.perm_catalog.specs.Changes.{table_named, view_named, nothing_held}
 use Rattle.perm_catalog.specs.Columns.{column_kinds}
 use Rattle.perm_catalog.specs.Contents.{Contents}
 use Rattle.perm_catalog.specs.Lookups.{uses_name, first_user}
-use Rattle.perm_catalog.specs.Reads.{TableRead}
+use Rattle.bag_algebra.specs.TablesRead.{TableRead}
 use Rattle.perm_catalog.specs.Sound.{IsSound, IsSoundTable, IsSoundView, IsHeldRead}
 use Rattle.perm_catalog.specs.declared.entries.TableEntry.{TableEntry}
 use Rattle.perm_catalog.specs.declared.entries.ViewEntry.{ViewEntry}

@@ -2,6 +2,5 @@ pub mod Changes
 pub mod Columns
 pub mod Contents
 pub mod Lookups
-pub mod Reads
 pub mod Sound
 pub mod WorkedCatalogs

@@ -14,7 +14,7 @@ use Rattle.perm_catalog.specs.Changes.{table_named, view_named}
 use Rattle.perm_catalog.specs.Columns.{AreTableColumns, column_kinds}
 use Rattle.perm_catalog.specs.Contents.{Contents}
 use Rattle.perm_catalog.specs.Lookups.{uses_name}
-use Rattle.perm_catalog.specs.Reads.{TableRead, tables_read}
+use Rattle.bag_algebra.specs.TablesRead.{TableRead, tables_read}
 use Rattle.perm_catalog.specs.declared.column.Column.{Column}
 use Rattle.perm_catalog.specs.declared.entries.TableEntry.{TableEntry}
 use Rattle.perm_catalog.specs.declared.entries.ViewEntry.{ViewEntry}

@@ -14,7 +14,7 @@ use Rattle.bag_algebra.specs.declared.query.Query.TheVariants.{Table, Single}
 use Rattle.perm_catalog.specs.Changes.{is_free, with_more_rows, with_table, without_table, without_view}
 use Rattle.perm_catalog.specs.Contents.{Contents}
 use Rattle.perm_catalog.specs.Lookups.{first_user, name_of_id}
-use Rattle.perm_catalog.specs.Reads.{tables_read}
+use Rattle.bag_algebra.specs.TablesRead.{tables_read}
 use Rattle.perm_catalog.specs.declared.entries.TableEntry.{TableEntry}
 use Rattle.perm_catalog.specs.declared.entries.ViewEntry.{ViewEntry}
 

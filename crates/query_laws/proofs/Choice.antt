@@ -12,7 +12,7 @@ use Rattle.bag_algebra.specs.Means.{Witness}
 use Rattle.bag_algebra.specs.Outcome.{Outcome, Good, Bad, Faults, has}
 use Rattle.bag_algebra.specs.declared.query.AggFn.{AggFn}
 use Rattle.bag_algebra.specs.declared.query.JoinKind.{JoinKind}
-use Rattle.query_laws.specs.Choice.{SameOutcome}
+use Rattle.bag_algebra.specs.Rewriting.{SameRows}
 use Rattle.query_laws.specs.Faults.{IsGood, Meets, PassesFaults, UnitesFaults}
 use Rattle.query_laws.specs.Holding.{InBag}
 use Rattle.query_laws.specs.Nodes.{IsFiltered, IsProjected, IsJoined, IsCombined, IsDistinct, IsGrouped, IsLimited, IsProvenance}
@@ -32,23 +32,23 @@ same_faults f g there back = λ i. record {
   several = same_flag f.several g.several (there SeveralRows) (back SeveralRows) i;
 }
 
-same-refl : (o : Outcome Bag) → SameOutcome o o
+same-refl : (o : Outcome Bag) → SameRows o o
 same-refl (Good us) = same_bag-refl us
 same-refl (Bad faults) = refl
 
-same-of_equal : (a b o : Outcome Bag) → a ≡ o → b ≡ o → SameOutcome a b
-same-of_equal a b o e k = subst (λ c. SameOutcome a c) (sym k) (subst (λ c. SameOutcome c o) (sym e) (same-refl o))
+same-of_equal : (a b o : Outcome Bag) → a ≡ o → b ≡ o → SameRows a b
+same-of_equal a b o e k = subst (λ c. SameRows a c) (sym k) (subst (λ c. SameRows c o) (sym e) (same-refl o))
 
 -- answers that are good under one condition, meet one set of faults and have one bag where they are good
 agree : (G : Type 0) (M : RunFault → Type 0) (a b : Outcome Bag) → (IsGood a ↔ G) → (IsGood b ↔ G) →
     ((fault : RunFault) → Meets a fault ↔ M fault) → ((fault : RunFault) → Meets b fault ↔ M fault) →
-    ((ts ss : Bag) → a ≡ Good ts → b ≡ Good ss → SameBag ts ss) → SameOutcome a b
+    ((ts ss : Bag) → a ≡ Good ts → b ≡ Good ss → SameBag ts ss) → SameRows a b
 agree G M (Good ts) (Good ss) g h m n s = s ts ss refl refl
 agree G M (Good ts) (Bad f) g h m n s = h.1 (g.0 tt)
 agree G M (Bad f) (Good ss) g h m n s = g.1 (h.0 tt)
 agree G M (Bad f) (Bad k) g h m n s = same_faults f k (λ fault e. (n fault).1 ((m fault).0 e)) (λ fault e. (m fault).1 ((n fault).0 e))
 
-agree-good : (a b : Outcome Bag) → IsGood a → IsGood b → ((ts ss : Bag) → a ≡ Good ts → b ≡ Good ss → SameBag ts ss) → SameOutcome a b
+agree-good : (a b : Outcome Bag) → IsGood a → IsGood b → ((ts ss : Bag) → a ≡ Good ts → b ≡ Good ss → SameBag ts ss) → SameRows a b
 agree-good (Good ts) (Good ss) g h s = s ts ss refl refl
 agree-good (Good ts) (Bad f) g h s = h
 agree-good (Bad f) b g h s = absurd g
@@ -56,12 +56,12 @@ agree-good (Bad f) b g h s = absurd g
 -- ---- by inputs
 
 module _ (a b : Outcome Bag) where
-  by_input : (input : Outcome Bag) → PassesFaults input a → PassesFaults input b → ((us : Bag) → input ≡ Good us → SameOutcome a b) → SameOutcome a b
+  by_input : (input : Outcome Bag) → PassesFaults input a → PassesFaults input b → ((us : Bag) → input ≡ Good us → SameRows a b) → SameRows a b
   by_input (Good us) p q s = s us refl
   by_input (Bad faults) p q s = same-of_equal a b (Bad faults) (p faults refl) (q faults refl)
 
   by_inputs : (left right : Outcome Bag) → UnitesFaults left right a → UnitesFaults left right b →
-      ((us vs : Bag) → left ≡ Good us → right ≡ Good vs → SameOutcome a b) → SameOutcome a b
+      ((us vs : Bag) → left ≡ Good us → right ≡ Good vs → SameRows a b) → SameRows a b
   by_inputs (Good us) (Good vs) p q s = s us vs refl refl
   by_inputs (Good us) (Bad f) p q s = same-of_equal a b (Bad f) (p.of_right us f refl refl) (q.of_right us f refl refl)
   by_inputs (Bad f) (Good vs) p q s = same-of_equal a b (Bad f) (p.of_left f vs refl refl) (q.of_left f vs refl refl)
@@ -69,14 +69,14 @@ module _ (a b : Outcome Bag) where
 
 -- ---- by nodes
 
-pub filter_once : (condition : Row → Outcome Value) (input a b : Outcome Bag) → IsFiltered condition input a → IsFiltered condition input b → SameOutcome a b
+pub filter_once : (condition : Row → Outcome Value) (input a b : Outcome Bag) → IsFiltered condition input a → IsFiltered condition input b → SameRows a b
 filter_once condition input a b p q =
     by_input a b input p.bad q.bad
     (λ us e. let k = p.evaluated us e in
     let l = q.evaluated us e in
     agree _ _ a b k.good l.good k.faults l.faults (λ ts ss x y. record { counts = λ t. p.counts us ts e x t ∙ sym (q.counts us ss e y t) }))
 
-pub project_once : (items : Row → Outcome Row) (input a b : Outcome Bag) → IsProjected items input a → IsProjected items input b → SameOutcome a b
+pub project_once : (items : Row → Outcome Row) (input a b : Outcome Bag) → IsProjected items input a → IsProjected items input b → SameRows a b
 project_once items input a b p q =
     by_input a b input p.bad q.bad
     (λ us e. let k = p.evaluated us e in
@@ -85,7 +85,7 @@ project_once items input a b p q =
     (λ ts ss x y. record { counts = λ t. p.counts us ts e x (once us) (listed us) t ∙ sym (q.counts us ss e y (once us) (listed us) t) }))
 
 pub join_once : (kind : JoinKind) (condition : Row → Outcome Value) (left_width right_width : ℕ) (left right a b : Outcome Bag) →
-    IsJoined kind condition left_width right_width left right a → IsJoined kind condition left_width right_width left right b → SameOutcome a b
+    IsJoined kind condition left_width right_width left right a → IsJoined kind condition left_width right_width left right b → SameRows a b
 join_once kind condition left_width right_width left right a b p q =
     by_inputs a b left right p.bad q.bad
     (λ us vs e f. let k = p.evaluated us vs e f in
@@ -103,22 +103,22 @@ combined-same many some false left right a b p q us vs ts ss e f x y =
     holds_once-same (λ t. some (count t us) (count t vs)) ts ss (p.without_all us vs ts e f x refl) (q.without_all us vs ss e f y refl)
 
 pub combined_once : (many : ℕ → ℕ → ℕ) (some : ℕ → ℕ → Type 0) (all : Bool) (left right a b : Outcome Bag) →
-    IsCombined many some all left right a → IsCombined many some all left right b → SameOutcome a b
+    IsCombined many some all left right a → IsCombined many some all left right b → SameRows a b
 combined_once many some all left right a b p q =
     by_inputs a b left right p.bad q.bad
     (λ us vs e f. agree-good a b (p.good us vs e f) (q.good us vs e f) (λ ts ss x y. combined-same many some all left right a b p q us vs ts ss e f x y))
 
-pub distinct_once : (input a b : Outcome Bag) → IsDistinct input a → IsDistinct input b → SameOutcome a b
+pub distinct_once : (input a b : Outcome Bag) → IsDistinct input a → IsDistinct input b → SameRows a b
 distinct_once input a b p q =
     by_input a b input p.bad q.bad
     (λ us e. agree-good a b (p.good us e) (q.good us e) (λ ts ss x y. holds_once-same (λ t. InBag t us) ts ss (p.rows us ts e x) (q.rows us ss e y)))
 
-pub provenance_once : (lists : Row → List Witness) (input a b : Outcome Bag) → IsProvenance lists input a → IsProvenance lists input b → SameOutcome a b
+pub provenance_once : (lists : Row → List Witness) (input a b : Outcome Bag) → IsProvenance lists input a → IsProvenance lists input b → SameRows a b
 provenance_once lists input a b p q =
     by_input a b input p.bad q.bad
     (λ us e. agree-good a b (p.good us e) (q.good us e) (λ ts ss x y. holds_once-same _ ts ss (p.rows us ts e x) (q.rows us ss e y)))
 
-pub limit_once : (keys : List Key) (most : ℕ) (input a b : Outcome Bag) → IsLimited keys most input a → IsLimited keys most input b → SameOutcome a b
+pub limit_once : (keys : List Key) (most : ℕ) (input a b : Outcome Bag) → IsLimited keys most input a → IsLimited keys most input b → SameRows a b
 limit_once keys most input a b p q =
     by_input a b input p.bad q.bad
     (λ us e. let k = p.first us e in
@@ -143,7 +143,7 @@ all_or_one f (w ∷ us) = elim (good_or_not (f w)) [
 ]
 
 pub group_once : (groups : List ℕ) (functions : List AggFn) (arguments : Row → Outcome Row) (input a b : Outcome Bag) →
-    IsGrouped groups functions arguments input a → IsGrouped groups functions arguments input b → SameOutcome a b
+    IsGrouped groups functions arguments input a → IsGrouped groups functions arguments input b → SameRows a b
 group_once groups functions arguments input a b p q =
     by_input a b input p.bad q.bad
     (λ us e. elim (all_or_one arguments us) [

@@ -11,7 +11,7 @@ use Rattle.bag_algebra.specs.Means.{Witness, is_met, gives, keeps_left, keeps_ri
 use Rattle.bag_algebra.specs.Outcome.{Outcome, Good, Bad, Faults}
 use Rattle.bag_algebra.specs.declared.query.AggFn.{AggFn}
 use Rattle.bag_algebra.specs.declared.query.JoinKind.{JoinKind}
-use Rattle.query_laws.specs.Choice.{SameOutcome}
+use Rattle.bag_algebra.specs.Rewriting.{SameRows}
 use Rattle.query_laws.specs.Faults.{PassesFaults, UnitesFaults, OverRows, OverPairs}
 use Rattle.query_laws.specs.Holding.{InBag, HoldsOnce, Lists, counted_where}
 use Rattle.query_laws.specs.Nodes.{IsFiltered, IsProjected, makes, pairs_count, is_unmatched_left, is_unmatched_right, left_count, right_count, IsJoined, IsCombined, IsDistinct, IsKey, class_values, IsClassRow, SumOverflows, IsGrouped, IsLimited, IsProvenance}
@@ -22,22 +22,22 @@ use Rattle.query_laws.proofs.Sums.{sum_by-same}
 -- ---- inputs
 
 -- the other input is good with the same bag, or bad with the same set
-good_other : (i j : Outcome Bag) → SameOutcome i j → (vs : Bag) → j ≡ Good vs → (us : Bag) × (i ≡ Good us) × SameBag us vs
+good_other : (i j : Outcome Bag) → SameRows i j → (vs : Bag) → j ≡ Good vs → (us : Bag) × (i ≡ Good us) × SameBag us vs
 good_other (Good us) (Good ws) s vs e = (us, refl, subst (SameBag us) (same_good ws vs e) s)
 good_other (Good us) (Bad g) s vs e = absurd s
 good_other (Bad f) (Good ws) s vs e = absurd s
 good_other (Bad f) (Bad g) s vs e = absurd (bad-not_good g vs e)
 
-bad_other : (i j : Outcome Bag) → SameOutcome i j → (faults : Faults) → j ≡ Bad faults → i ≡ Bad faults
+bad_other : (i j : Outcome Bag) → SameRows i j → (faults : Faults) → j ≡ Bad faults → i ≡ Bad faults
 bad_other (Good us) (Good ws) s faults e = absurd (bad-not_good faults ws (sym e))
 bad_other (Good us) (Bad g) s faults e = absurd s
 bad_other (Bad f) (Good ws) s faults e = absurd s
 bad_other (Bad f) (Bad g) s faults e = ap Bad s ∙ e
 
-passes_along : (i j a : Outcome Bag) → SameOutcome i j → PassesFaults i a → PassesFaults j a
+passes_along : (i j a : Outcome Bag) → SameRows i j → PassesFaults i a → PassesFaults j a
 passes_along i j a s p faults e = p faults (bad_other i j s faults e)
 
-unites_along : (i j k l a : Outcome Bag) → SameOutcome i k → SameOutcome j l → UnitesFaults i j a → UnitesFaults k l a
+unites_along : (i j k l a : Outcome Bag) → SameRows i k → SameRows j l → UnitesFaults i j a → UnitesFaults k l a
 unites_along i j k l a s r u = record {
   of_left = λ faults vs e f. let g = good_other j l r vs f in u.of_left faults g.0 (bad_other i k s faults e) g.1;
   of_right = λ us faults e f. let g = good_other i k s us e in u.of_right g.0 faults g.1 (bad_other j l r faults f);
@@ -102,7 +102,7 @@ any-same test us vs s = any-permuted test (permuted-from_same_bag us vs s)
 
 -- ---- Filter and Project
 
-pub filter_along : (condition : Row → Outcome Value) (i j a : Outcome Bag) → SameOutcome i j → IsFiltered condition i a → IsFiltered condition j a
+pub filter_along : (condition : Row → Outcome Value) (i j a : Outcome Bag) → SameRows i j → IsFiltered condition i a → IsFiltered condition j a
 filter_along condition i j a s p = record {
   bad = passes_along i j a s p.bad;
   evaluated = λ vs e. let k = good_other i j s vs e in over_rows_along condition k.0 vs a k.2 (p.evaluated k.0 k.1);
@@ -111,7 +111,7 @@ filter_along condition i j a s p = record {
       p.counts k.0 ts k.1 w t ∙ ap (λ n. cond (is_met (condition t)) n 0) (same.counts t);
 }
 
-pub project_along : (items : Row → Outcome Row) (i j a : Outcome Bag) → SameOutcome i j → IsProjected items i a → IsProjected items j a
+pub project_along : (items : Row → Outcome Row) (i j a : Outcome Bag) → SameRows i j → IsProjected items i a → IsProjected items j a
 project_along items i j a s p = record {
   bad = passes_along i j a s p.bad;
   evaluated = λ vs e. let k = good_other i j s vs e in over_rows_along items k.0 vs a k.2 (p.evaluated k.0 k.1);
@@ -162,7 +162,7 @@ module _ (kind : JoinKind) (condition : Row → Outcome Value) (us vs ws xs : Ba
       + cond (keeps_left kind && same_row (nulls right_width) v && unmatched_left-same u i) (s.counts u i) 0
       + cond (keeps_right kind && same_row (nulls left_width) u && unmatched_right-same v i) (r.counts v i) 0
 
-pub join_along : (kind : JoinKind) (condition : Row → Outcome Value) (left_width right_width : ℕ) (i j k l a : Outcome Bag) → SameOutcome i k → SameOutcome j l →
+pub join_along : (kind : JoinKind) (condition : Row → Outcome Value) (left_width right_width : ℕ) (i j k l a : Outcome Bag) → SameRows i k → SameRows j l →
     IsJoined kind condition left_width right_width i j a → IsJoined kind condition left_width right_width k l a
 join_along kind condition left_width right_width i j k l a s r p = record {
   bad = unites_along i j k l a s r p.bad;
@@ -186,7 +186,7 @@ join_along kind condition left_width right_width i j k l a s r p = record {
 
 -- ---- set operations, Distinct, Limit, PROVENANCE
 
-pub combined_along : (many : ℕ → ℕ → ℕ) (some : ℕ → ℕ → Type 0) (all : Bool) (i j k l a : Outcome Bag) → SameOutcome i k → SameOutcome j l →
+pub combined_along : (many : ℕ → ℕ → ℕ) (some : ℕ → ℕ → Type 0) (all : Bool) (i j k l a : Outcome Bag) → SameRows i k → SameRows j l →
     IsCombined many some all i j a → IsCombined many some all k l a
 combined_along many some all i j k l a s r p = record {
   bad = unites_along i j k l a s r p.bad;
@@ -209,7 +209,7 @@ combined_along many some all i j k l a s r p = record {
       subst (λ P. HoldsOnce P ts) one (p.without_all m.0 n.0 ts m.1 n.1 w set);
 }
 
-pub distinct_along : (i j a : Outcome Bag) → SameOutcome i j → IsDistinct i a → IsDistinct j a
+pub distinct_along : (i j a : Outcome Bag) → SameRows i j → IsDistinct i a → IsDistinct j a
 distinct_along i j a s p = record {
   bad = passes_along i j a s p.bad;
   good = λ vs e. let k = good_other i j s vs e in p.good k.0 k.1;
@@ -217,7 +217,7 @@ distinct_along i j a s p = record {
       holds_once_along (λ t. InBag t k.0) (λ t. InBag t vs) ts (λ t. (in_bag_along k.0 vs k.2 t, in_bag_along vs k.0 (same_bag-sym k.0 vs k.2) t)) (p.rows k.0 ts k.1 w);
 }
 
-pub limit_along : (keys : List Key) (most : ℕ) (i j a : Outcome Bag) → SameOutcome i j → IsLimited keys most i a → IsLimited keys most j a
+pub limit_along : (keys : List Key) (most : ℕ) (i j a : Outcome Bag) → SameRows i j → IsLimited keys most i a → IsLimited keys most j a
 limit_along keys most i j a s p = record {
   bad = passes_along i j a s p.bad;
   first = λ vs e. let k = good_other i j s vs e in
@@ -225,7 +225,7 @@ limit_along keys most i j a s p = record {
       (o.0, same_bag-trans vs k.0 o.0 (same_bag-sym k.0 vs k.2) o.1, o.2, o.3);
 }
 
-pub provenance_along : (lists : Row → List Witness) (i j a : Outcome Bag) → SameOutcome i j → IsProvenance lists i a → IsProvenance lists j a
+pub provenance_along : (lists : Row → List Witness) (i j a : Outcome Bag) → SameRows i j → IsProvenance lists i a → IsProvenance lists j a
 provenance_along lists i j a s p = record {
   bad = passes_along i j a s p.bad;
   good = λ vs e. let k = good_other i j s vs e in p.good k.0 k.1;
@@ -259,7 +259,7 @@ module _ (groups : List ℕ) (functions : List AggFn) (arguments : Row → Outco
         sym (aggregated-permuted function (class_values groups arguments us key place) (class_values groups arguments vs key place) (values_along key place)) ∙ c.each place function h;
   }
 
-pub group_along : (groups : List ℕ) (functions : List AggFn) (arguments : Row → Outcome Row) (i j a : Outcome Bag) → SameOutcome i j →
+pub group_along : (groups : List ℕ) (functions : List AggFn) (arguments : Row → Outcome Row) (i j a : Outcome Bag) → SameRows i j →
     IsGrouped groups functions arguments i a → IsGrouped groups functions arguments j a
 group_along groups functions arguments i j a s p = record {
   bad = passes_along i j a s p.bad;

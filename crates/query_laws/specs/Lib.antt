@@ -1,5 +1,4 @@
 pub mod Aggregated
-pub mod Choice
 pub mod Evaluated
 pub mod Faults
 pub mod Holding

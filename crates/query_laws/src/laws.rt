@@ -27,7 +27,7 @@ ghost use Rattle.bag_algebra.specs.declared.query.Query.TheVariants.{Table, Sing
 ghost use Rattle.bag_algebra.specs.declared.query.Query.{Query};
 ghost use Rattle.bag_algebra.specs.declared.query.Sublink.{Sublink};
 ghost use Rattle.query_laws.specs.Aggregated.{occurrences, ListsValues, IsLeast, IsGreatest};
-ghost use Rattle.query_laws.specs.Choice.{SameOutcome};
+ghost use Rattle.bag_algebra.specs.Rewriting.{SameRows};
 ghost use Rattle.query_laws.specs.Holding.{Lists};
 ghost use Rattle.query_laws.specs.Nodes.{IsFiltered, IsProjected, IsJoined, IsCombined, in_either, in_both, in_left_alone, IsDistinct, IsGrouped, IsLimited, IsProvenance};
 
@@ -127,25 +127,25 @@ pub fn every_bag_can_be_listed()
 /// with one bag, whatever keeps the law is the same.
 pub fn laws_leave_no_choice()
     ensures filter { (condition : Row → Outcome Cell) (input other a b : Outcome Bag) →
-        SameOutcome input other → IsFiltered condition input a → IsFiltered condition other b → SameOutcome a b }
+        SameRows input other → IsFiltered condition input a → IsFiltered condition other b → SameRows a b }
     ensures project { (items : Row → Outcome Row) (input other a b : Outcome Bag) →
-        SameOutcome input other → IsProjected items input a → IsProjected items other b → SameOutcome a b }
+        SameRows input other → IsProjected items input a → IsProjected items other b → SameRows a b }
     ensures join { (kind : JoinKind) (condition : Row → Outcome Cell) (left_width right_width : ℕ) (left right other another a b : Outcome Bag) →
-        SameOutcome left other → SameOutcome right another → IsJoined kind condition left_width right_width left right a → IsJoined kind condition left_width right_width other another b → SameOutcome a b }
+        SameRows left other → SameRows right another → IsJoined kind condition left_width right_width left right a → IsJoined kind condition left_width right_width other another b → SameRows a b }
     ensures union_of { (all : Bool) (left right other another a b : Outcome Bag) →
-        SameOutcome left other → SameOutcome right another → IsCombined ◌+◌ in_either all left right a → IsCombined ◌+◌ in_either all other another b → SameOutcome a b }
+        SameRows left other → SameRows right another → IsCombined ◌+◌ in_either all left right a → IsCombined ◌+◌ in_either all other another b → SameRows a b }
     ensures intersect { (all : Bool) (left right other another a b : Outcome Bag) →
-        SameOutcome left other → SameOutcome right another → IsCombined min in_both all left right a → IsCombined min in_both all other another b → SameOutcome a b }
+        SameRows left other → SameRows right another → IsCombined min in_both all left right a → IsCombined min in_both all other another b → SameRows a b }
     ensures except { (all : Bool) (left right other another a b : Outcome Bag) →
-        SameOutcome left other → SameOutcome right another → IsCombined ◌-◌ in_left_alone all left right a → IsCombined ◌-◌ in_left_alone all other another b → SameOutcome a b }
+        SameRows left other → SameRows right another → IsCombined ◌-◌ in_left_alone all left right a → IsCombined ◌-◌ in_left_alone all other another b → SameRows a b }
     ensures distinct { (input other a b : Outcome Bag) →
-        SameOutcome input other → IsDistinct input a → IsDistinct other b → SameOutcome a b }
+        SameRows input other → IsDistinct input a → IsDistinct other b → SameRows a b }
     ensures aggregate { (groups : List ℕ) (functions : List AggFn) (arguments : Row → Outcome Row) (input other a b : Outcome Bag) →
-        SameOutcome input other → IsGrouped groups functions arguments input a → IsGrouped groups functions arguments other b → SameOutcome a b }
+        SameRows input other → IsGrouped groups functions arguments input a → IsGrouped groups functions arguments other b → SameRows a b }
     ensures limit { (keys : List Key) (most : ℕ) (input other a b : Outcome Bag) →
-        SameOutcome input other → IsLimited keys most input a → IsLimited keys most other b → SameOutcome a b }
+        SameRows input other → IsLimited keys most input a → IsLimited keys most other b → SameRows a b }
     ensures provenance { (lists : Row → List Witness) (input other a b : Outcome Bag) →
-        SameOutcome input other → IsProvenance lists input a → IsProvenance lists other b → SameOutcome a b }
+        SameRows input other → IsProvenance lists input a → IsProvenance lists other b → SameRows a b }
 {}
 
 /// COUNT(*) counts all values, COUNT those that aren't NULL, COUNT DISTINCT each of these once. SUM, MIN and MAX of none
