@@ -1,5 +1,5 @@
 -- What holds of each table that a query reads, table by table and as a list; what fits a query fits what reads its tables alone.
-use Rattle.std.proofs.Common.{◌≡◌, ℕ, ◌<◌, true, List, [], ◌∷◌, ◌++◌, ◌⊎◌, ap, subst, arith}
+use Rattle.std.proofs.Common.{◌≡◌, ℕ, ◌<◌, true, List, [], ◌∷◌, ◌++◌, ◌⊎◌, ⊎_elim, subst, arith}
 use Rattle.std.proofs.lemmas.List.Elements.{Contains-append_left, Contains-append_right, Contains-append_cases, Contains-push_cases, Contains-push}
 use Rattle.std.specs.List.{Contains}
 use Rattle.perm_values.specs.declared.kind.Kind.{Kind}
@@ -38,7 +38,7 @@ each_table-kept P Q keep q h = each_table-both P P Q (λ id kinds g other. keep 
 
 -- what holds of each table holds of each entry of the list
 module _ (P : ℕ → List Kind → Type 0) where
-  Told : List TableRead → Type 0
+  abbrev Told : List TableRead → Type 0
   Told reads = (r : TableRead) → Contains reads r → P r.id r.kinds
 
   told-append : (rs ss : List TableRead) → Told rs → Told ss → Told (rs ++ ss)
@@ -60,8 +60,8 @@ module _ (P : ℕ → List Kind → Type 0) where
     each_table-told (FilterOf input condition _ subs) h = told-append (tables_read input) (sub_tables_read subs) (each_table-told input h.0) (each_sub_table-told subs h.1)
     each_table-told (ProjectOf input items _ subs) h = told-append (tables_read input) (sub_tables_read subs) (each_table-told input h.0) (each_sub_table-told subs h.1)
     each_table-told (JoinOf kind left right condition _ subs) h =
-        told-append (tables_read left) (tables_read right ++ sub_tables_read subs) (each_table-told left h.0)
-        (told-append (tables_read right) (sub_tables_read subs) (each_table-told right h.1) (each_sub_table-told subs h.2))
+        told-append (tables_read left ++ tables_read right) (sub_tables_read subs)
+        (told-append (tables_read left) (tables_read right) (each_table-told left h.0) (each_table-told right h.1)) (each_sub_table-told subs h.2)
     each_table-told (UnionOf all left right) h = told-append (tables_read left) (tables_read right) (each_table-told left h.0) (each_table-told right h.1)
     each_table-told (IntersectOf all left right) h = told-append (tables_read left) (tables_read right) (each_table-told left h.0) (each_table-told right h.1)
     each_table-told (ExceptOf all left right) h = told-append (tables_read left) (tables_read right) (each_table-told left h.0) (each_table-told right h.1)
@@ -81,26 +81,33 @@ module _ (P : ℕ → List Kind → Type 0) where
     each_table-from_told (Table id kinds) h = h (record { id = id; kinds = kinds }) (Contains-push [] _)
     each_table-from_told Single h = tt
     each_table-from_told (BaseOf input places label) h = each_table-from_told input h
-    each_table-from_told (FilterOf input condition _ subs) h =
-        (each_table-from_told input (λ r i. h r (Contains-append_left (tables_read input) (sub_tables_read subs) r i)),
-        each_sub_table-from_told subs (λ r i. h r (Contains-append_right (tables_read input) (sub_tables_read subs) r i)))
-    each_table-from_told (ProjectOf input items _ subs) h =
-        (each_table-from_told input (λ r i. h r (Contains-append_left (tables_read input) (sub_tables_read subs) r i)),
-        each_sub_table-from_told subs (λ r i. h r (Contains-append_right (tables_read input) (sub_tables_read subs) r i)))
+    each_table-from_told (FilterOf input condition _ subs) h = (
+      each_table-from_told input (λ r i. h r (Contains-append_left (tables_read input) (sub_tables_read subs) r i)),
+      each_sub_table-from_told subs (λ r i. h r (Contains-append_right (tables_read input) (sub_tables_read subs) r i)),
+    )
+    each_table-from_told (ProjectOf input items _ subs) h = (
+      each_table-from_told input (λ r i. h r (Contains-append_left (tables_read input) (sub_tables_read subs) r i)),
+      each_sub_table-from_told subs (λ r i. h r (Contains-append_right (tables_read input) (sub_tables_read subs) r i)),
+    )
     each_table-from_told (JoinOf kind left right condition _ subs) h =
-        let rest = tables_read right ++ sub_tables_read subs in
-        (each_table-from_told left (λ r i. h r (Contains-append_left (tables_read left) rest r i)),
-        each_table-from_told right (λ r i. h r (Contains-append_right (tables_read left) rest r (Contains-append_left (tables_read right) (sub_tables_read subs) r i))),
-        each_sub_table-from_told subs (λ r i. h r (Contains-append_right (tables_read left) rest r (Contains-append_right (tables_read right) (sub_tables_read subs) r i))))
-    each_table-from_told (UnionOf all left right) h =
-        (each_table-from_told left (λ r i. h r (Contains-append_left (tables_read left) (tables_read right) r i)),
-        each_table-from_told right (λ r i. h r (Contains-append_right (tables_read left) (tables_read right) r i)))
-    each_table-from_told (IntersectOf all left right) h =
-        (each_table-from_told left (λ r i. h r (Contains-append_left (tables_read left) (tables_read right) r i)),
-        each_table-from_told right (λ r i. h r (Contains-append_right (tables_read left) (tables_read right) r i)))
-    each_table-from_told (ExceptOf all left right) h =
-        (each_table-from_told left (λ r i. h r (Contains-append_left (tables_read left) (tables_read right) r i)),
-        each_table-from_told right (λ r i. h r (Contains-append_right (tables_read left) (tables_read right) r i)))
+        let inputs = tables_read left ++ tables_read right in
+        let of_inputs = λ (r : TableRead) (i : Contains inputs r). h r (Contains-append_left inputs (sub_tables_read subs) r i) in (
+          each_table-from_told left (λ r i. of_inputs r (Contains-append_left (tables_read left) (tables_read right) r i)),
+          each_table-from_told right (λ r i. of_inputs r (Contains-append_right (tables_read left) (tables_read right) r i)),
+          each_sub_table-from_told subs (λ r i. h r (Contains-append_right inputs (sub_tables_read subs) r i)),
+        )
+    each_table-from_told (UnionOf all left right) h = (
+      each_table-from_told left (λ r i. h r (Contains-append_left (tables_read left) (tables_read right) r i)),
+      each_table-from_told right (λ r i. h r (Contains-append_right (tables_read left) (tables_read right) r i)),
+    )
+    each_table-from_told (IntersectOf all left right) h = (
+      each_table-from_told left (λ r i. h r (Contains-append_left (tables_read left) (tables_read right) r i)),
+      each_table-from_told right (λ r i. h r (Contains-append_right (tables_read left) (tables_read right) r i)),
+    )
+    each_table-from_told (ExceptOf all left right) h = (
+      each_table-from_told left (λ r i. h r (Contains-append_left (tables_read left) (tables_read right) r i)),
+      each_table-from_told right (λ r i. h r (Contains-append_right (tables_read left) (tables_read right) r i)),
+    )
     each_table-from_told (DistinctOf input) h = each_table-from_told input h
     each_table-from_told (AggregateOf input groups aggregates) h = each_table-from_told input h
     each_table-from_told (LimitOf input keys count) h = each_table-from_told input h
@@ -108,9 +115,10 @@ module _ (P : ℕ → List Kind → Type 0) where
 
     pub each_sub_table-from_told : {m : _} (subs : Row_of-Sublink m) → ((r : TableRead) → Contains (sub_tables_read subs) r → P r.id r.kinds) → EachSubTable P subs
     each_sub_table-from_told end_of-Sublink h = tt
-    each_sub_table-from_told (more_of-Sublink kind tested query subs) h =
-        (each_table-from_told query (λ r i. h r (Contains-append_left (tables_read query) (sub_tables_read subs) r i)),
-        each_sub_table-from_told subs (λ r i. h r (Contains-append_right (tables_read query) (sub_tables_read subs) r i)))
+    each_sub_table-from_told (more_of-Sublink kind tested query subs) h = (
+      each_table-from_told query (λ r i. h r (Contains-append_left (tables_read query) (sub_tables_read subs) r i)),
+      each_sub_table-from_told subs (λ r i. h r (Contains-append_right (tables_read query) (sub_tables_read subs) r i)),
+    )
 
 -- ---- reading among the tables of another
 

@@ -1,9 +1,5 @@
 pub mod Bags
 pub mod Built
-pub mod BuiltClosed
-pub mod BuiltFaultFree
-pub mod BuiltMeasures
-pub mod BuiltScopes
 pub mod Children
 pub mod Closed
 pub mod ColumnItems
@@ -19,7 +15,6 @@ pub mod Patterns
 pub mod PlaceNames
 pub mod Rewriting
 pub mod Scoped
-pub mod Sought
 pub mod TableRows
 pub mod TablesRead
 pub mod WellFormed

@@ -10,7 +10,7 @@ use std::alloc::Global;
 pub enum Expr {
     /// A column: level 0 reads the node's own row, level k the kth outer row.
     Col {
-        level: u32,
+        level: usize,
         place: usize,
     },
     /// A value as written, with its kind.

@@ -1,15 +1,17 @@
 -- The cross base of a query whose sources are over tables.
 use Rattle.std.proofs.Common.{◌≡◌, ◌↔◌, ℕ, Bool, true, false, ◌&&◌, List, [], ◌∷◌, ◌++◌, length, None, IsTrue, refl, sym, ap, ◌∙◌, subst, true≢false}
 use Rattle.perm_values.specs.declared.kind.Kind.{Kind}
+use Rattle.std.specs.List.{Contains}
+use Rattle.bag_algebra.proofs.TablesRead.{reads_among-itself}
 use Rattle.bag_algebra.proofs.Members.{IsIn, in-member, member-in}
 use Rattle.bag_algebra.specs.Bags.{Row, Bag, member}
-use Rattle.bag_algebra.specs.Fits.{TablesFit, SubTablesFit, bag_fits}
 use Rattle.bag_algebra.specs.Kinds.{kinds_of, kinds_in, shape, sub_shape, place_kinds}
 use Rattle.bag_algebra.specs.Meaning.{Database, meaning}
 use Rattle.bag_algebra.specs.Outcome.{Good}
 use Rattle.bag_algebra.specs.Patterns.{BaseOf, FilterOf, ProjectOf, JoinOf, UnionOf, IntersectOf, ExceptOf, DistinctOf, AggregateOf, LimitOf, ProvOf}
 use Rattle.bag_algebra.specs.Rewriting.{is_plain}
 use Rattle.bag_algebra.specs.Scoped.{is_table, over_tables, subs_over_tables}
+use Rattle.bag_algebra.specs.TablesRead.{tables_read, EachTable, EachSubTable, ReadsAmong}
 use Rattle.bag_algebra.specs.WellFormed.{WellFormed, SubsForm, PlacesIn}
 use Rattle.bag_algebra.specs.declared.place.Place.{Place}
 use Rattle.bag_algebra.specs.declared.query.Label.{Label}

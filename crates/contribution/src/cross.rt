@@ -1,7 +1,6 @@
 //! All rows that the sources of a query could contribute, in all combinations.
 ghost use Rattle.std.specs.Prelude.{◌≡◌, ◌++◌, ◌↔◌, [], ◌∷◌, List as Items, None, Contains, IfOk, OnOk, IsTrue};
 ghost use Rattle.bag_algebra.specs.Bags.{Row as Cells, Bag, member};
-ghost use Rattle.bag_algebra.specs.Fits.{TablesFit};
 ghost use Rattle.bag_algebra.specs.Kinds.{kinds_of, kinds_in, shape, place_kinds};
 ghost use Rattle.bag_algebra.specs.Meaning.{Database, meaning, witnesses};
 ghost use Rattle.bag_algebra.specs.Means.{Witness, flat};
@@ -9,6 +8,7 @@ ghost use Rattle.bag_algebra.specs.Outcome.{Good};
 ghost use Rattle.bag_algebra.specs.Patterns.{JoinOf, ProjectOf, UnionOf};
 ghost use Rattle.bag_algebra.specs.Rewriting.{is_plain};
 ghost use Rattle.bag_algebra.specs.Scoped.{over_tables};
+ghost use Rattle.bag_algebra.specs.TablesRead.{ReadsAmong};
 ghost use Rattle.bag_algebra.specs.WellFormed.{WellFormed};
 ghost use Rattle.bag_algebra.specs.declared.query.JoinKind.TheVariants.{Inner};
 ghost use Rattle.bag_algebra.specs.declared.query.Query.{end_of-Sublink};
@@ -36,7 +36,7 @@ pub struct TableSource {
 
 /// A query of the kinds of the query's places, whose rows are all combinations of, for each place, a row of its source or
 /// NULLs; the flattened witness lists of the query's rows are among them, under whatever outer rows. It is never bad,
-/// plain, without sublinks, closed, and well formed where the query is; what fits the query fits it. It fails only for
+/// plain, without sublinks, closed, and well formed where the query is, and reads the query's tables alone. It fails only for
 /// want of memory.
 pub fn cross_base(alloc: Global, query: &Query) -> Result<Query, NoMemory>
     requires { IsTrue (over_tables query.now) }
@@ -51,7 +51,7 @@ pub fn cross_base(alloc: Global, query: &Query) -> Result<Query, NoMemory>
     ensures formed { IfOk result (λ p. (outer other : Items (Items Sort)) →
         WellFormed outer query.now → WellFormed other p) }
     ensures plain { IfOk result (λ p. IsTrue (is_plain p)) }
-    ensures tables { IfOk result (λ p. (db : Database) → TablesFit db query.now → TablesFit db p) }
+    ensures tables { IfOk result (λ p. ReadsAmong p query.now) }
 {
     let mut sources = List::new(alloc);
     add_sources(alloc, query, &mut sources)?;

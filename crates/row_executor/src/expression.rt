@@ -163,13 +163,13 @@ fn chosen(
     Ok(None)
 }
 
-fn column(alloc: Global, level: u32, place: usize, row: &Row, env: &Env) -> Result<Value, ExecError>
+fn column(alloc: Global, level: usize, place: usize, row: &Row, env: &Env) -> Result<Value, ExecError>
     ensures { Gives (Good (column level place row.now env.now)) result }
 {
     if level == 0 {
         return value_at(alloc, row.as_slice(), place);
     }
-    let outer = level as usize - 1;
+    let outer = level - 1;
     if outer < env.len() {
         value_at(alloc, env.get(outer).as_slice(), place)
     } else {

@@ -1,7 +1,7 @@
 use Rattle.std.proofs.Common.{◌≡◌, ◌↔◌, ◌++◌, ◌∙◌, List, Contains, IfOk, IsTrue, ap, subst}
 use Rattle.perm_values.specs.declared.kind.Kind.{Kind}
 use Rattle.bag_algebra.specs.Bags.{Row, Bag, member}
-use Rattle.bag_algebra.specs.Fits.{TablesFit}
+use Rattle.bag_algebra.specs.TablesRead.{ReadsAmong}
 use Rattle.bag_algebra.specs.Kinds.{kinds_of, shape, place_kinds}
 use Rattle.bag_algebra.specs.Meaning.{Database, meaning, witnesses}
 use Rattle.bag_algebra.specs.Means.{Witness, flat}
@@ -51,5 +51,5 @@ returns-clause-plain c =
 
 pub returns-clause-tables : goal.returns-clause-tables
 returns-clause-tables c =
-    of_made (λ p. (db : Database) → TablesFit db c.args.query.now → TablesFit db p)
+    of_made (λ p. ReadsAmong p c.args.query.now)
     c.crossed.result (cross_base_of c.args.query.now) (returns-clause-made c) (tables-cross_base c.args.query.now)

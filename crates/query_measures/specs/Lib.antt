@@ -1,0 +1,5 @@
+pub mod BuiltClosed
+pub mod BuiltFaultFree
+pub mod BuiltMeasures
+pub mod BuiltScopes
+pub mod Sought

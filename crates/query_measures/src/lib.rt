@@ -1,0 +1,16 @@
+//! How large a query is, of which kinds its columns are, and the tests of queries: plain, closed, scoped, free of faults.
+#![tactic(auto)]
+
+mod faults;
+mod kinds;
+mod laws;
+mod measures;
+mod reach;
+mod scopes;
+
+pub use faults::fault_free;
+pub use kinds::{kind_at, width};
+pub use laws::fault_free_queries_meet_no_fault;
+pub use measures::{height, size};
+pub use reach::is_closed;
+pub use scopes::{is_plain, is_scoped};
