@@ -1,10 +1,10 @@
 -- LIKE in the words of its users: literals, the two wildcards, and patterns in a row.
 use Rattle.std.proofs.Common.{◌≡◌, ℕ, Bool, true, false, ◌&&◌, ◌||◌, ◌==◌, List, [], ◌∷◌, ◌++◌, All, refl, sym, ap, ap₂, ◌∙◌}
 use Rattle.std.specs.Bool.{Decides}
-use Rattle.std.proofs.lemmas.Bool.{ne_eqb}
+use Rattle.std.proofs.lemmas.Bool.{ne_eqb, or_right}
 use Rattle.std.proofs.lemmas.Bool.Decides.{Decides-and, Decides-eqb}
 use Rattle.std.proofs.lemmas.List.Elements.{All-head, All-tail}
-use Rattle.null_logic.proofs.Walk.{or_cases, or_right, and_right, some_suffix-whole, like-other, like-taken}
+use Rattle.null_logic.proofs.Walk.{or_cases, and_right, some_suffix-whole, like-other, like-taken}
 use Rattle.null_logic.specs.Like.{any_run, any_one, some_suffix, takes, like, IsLiteral}
 
 and_left : (a b : Bool) → (a && b) ≡ true → a ≡ true

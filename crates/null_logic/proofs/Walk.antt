@@ -1,16 +1,13 @@
 -- The walk of a text behind a `%` along a pattern, of which only the last `%` is tried again.
 use Rattle.std.proofs.Common.{◌≡◌, ℕ, ◌+◌, ◌*◌, ◌<◌, ◌≤◌, Bool, true, false, ◌&&◌, ◌||◌, ◌==◌, List, [], ◌∷◌, length, refl, sym, ap, ◌∙◌, subst, arith}
 use Rattle.std.proofs.Math.Nat.{mul-le-mul_right}
+use Rattle.std.proofs.lemmas.Bool.{or_right}
 use Rattle.null_logic.specs.Like.{any_run, some_suffix, first_then, takes, like}
 use Rattle.null_logic.specs.LikeStep.{Takes}
 
 pub or_cases : {P : Type 0} (a b : Bool) → (a ≡ true → P) → (b ≡ true → P) → (a || b) ≡ true → P
 or_cases true b f g e = f refl
 or_cases false b f g e = g e
-
-pub or_right : (a b : Bool) → b ≡ true → (a || b) ≡ true
-or_right true b e = refl
-or_right false b e = e
 
 or_false : (a : Bool) → a ≡ (a || false)
 or_false true = refl
