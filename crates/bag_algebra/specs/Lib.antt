@@ -22,5 +22,3 @@ pub mod Scoped
 pub mod Sought
 pub mod TableRows
 pub mod WellFormed
-pub mod WorkedRows
-pub mod WorkedTests

@@ -4,4 +4,3 @@ pub mod Contents
 pub mod Lookups
 pub mod Reads
 pub mod Sound
-pub mod WorkedCatalogs
