@@ -18,5 +18,3 @@ pub mod Scoped
 pub mod TableRows
 pub mod TablesRead
 pub mod WellFormed
-pub mod WorkedRows
-pub mod WorkedTests

@@ -9,5 +9,3 @@ pub mod NullRow
 pub mod SameColumns
 pub mod SameMeaning
 pub mod SublinkValues
-pub mod WorkedForms
-pub mod WorkedPlaces

@@ -5,4 +5,3 @@ pub mod Rules
 pub mod InLoop
 pub mod ReadBack
 pub mod Fitting
-mod Samples

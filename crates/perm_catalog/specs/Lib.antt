@@ -3,4 +3,3 @@ pub mod Columns
 pub mod Contents
 pub mod Lookups
 pub mod Sound
-pub mod WorkedCatalogs

@@ -1,5 +1,4 @@
 pub mod CopyAnswers
-mod CopySamples
 pub mod Damaged
 pub mod Ending
 pub mod Misspelling

@@ -3,4 +3,3 @@ pub mod Evaluated
 pub mod Faults
 pub mod Holding
 pub mod Nodes
-pub mod WorkedCounts

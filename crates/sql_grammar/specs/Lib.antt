@@ -11,4 +11,3 @@ pub mod Rules
 pub mod Sorts
 pub mod Symbols
 pub mod Tables
-pub mod Toy

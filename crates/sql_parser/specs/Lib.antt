@@ -6,4 +6,3 @@ pub mod Spells
 pub mod Statements
 pub mod Tails
 pub mod Texts
-pub mod WorkedTrees

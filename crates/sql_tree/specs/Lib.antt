@@ -1,2 +1,1 @@
 pub mod Regular
-pub mod RegularRows

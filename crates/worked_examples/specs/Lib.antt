@@ -1,0 +1,17 @@
+pub mod Catalogs
+pub mod CopyTexts
+pub mod Counts
+pub mod FileRows
+pub mod Forms
+pub mod GroupRows
+pub mod IrregularTrees
+pub mod JoinRows
+pub mod Places
+pub mod Queries
+pub mod QueryTests
+pub mod Rows
+pub mod SetRows
+pub mod SmallGrammar
+pub mod SourceRows
+pub mod Trees
+pub mod Values
