@@ -2,7 +2,7 @@
 ghost use Rattle.std.specs.Prelude.{◌≡◌, ◌++◌, [], ◌∷◌, List as Items, Some, All, IfOk, OnOk, map};
 ghost use Rattle.bag_algebra.specs.Bags.{Row as Cells};
 ghost use Rattle.bag_algebra.specs.Children.{subs_shape};
-ghost use Rattle.bag_algebra.specs.Kinds.{kinds_of, kind_in, kinds_in, shape, place_kinds};
+ghost use Rattle.bag_algebra.specs.Kinds.{kinds_of, kinds_in, shape, place_kinds};
 ghost use Rattle.bag_algebra.specs.Meaning.{Database, witnesses};
 ghost use Rattle.bag_algebra.specs.declared.expr.Item.{Item as Column};
 ghost use Rattle.bag_algebra.specs.declared.query.Aggr.{Aggr as Aggregated};
@@ -10,6 +10,7 @@ ghost use Rattle.contribution.specs.HeldRows.{held_rows, StandAt};
 
 use bag_algebra::{Aggr, Item, Label, Place, Query, Sublink};
 use perm_values::{Copyable, Kind, List, NoMemory};
+use query_parts::kind_or_text;
 use std::alloc::Global;
 
 /// The places of a query's witness lists, in order.
@@ -179,16 +180,6 @@ pub(crate) fn add_picked(
         found.push(kind_or_text(below, *place))?;
     }
     Ok(())
-}
-
-pub(crate) fn kind_or_text(kinds: &[Kind], place: usize) -> Kind
-    ensures { result ≡ kind_in kinds.now place }
-{
-    if place < kinds.len() {
-        kinds[place]
-    } else {
-        Kind::Text
-    }
 }
 
 fn add_item_kinds(found: &mut List<Kind>, items: &[Item]) -> Result<(), NoMemory>
