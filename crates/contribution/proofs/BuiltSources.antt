@@ -63,10 +63,6 @@ pub table_sources-Prov : (input : Query) → table_sources (Prov input) ≡ []
 table_sources-Prov input = ap table_sources (Prov-is input)
 
 -- a join without sublinks
-pub Join_alone-is : (kind : JoinKind) (left right : Query) (condition : Expr) → Join kind left right condition [] ≡ JoinOf kind left right condition [] end_of-Sublink
-unfolding shape-the_row-Query-0 hidden-the_row-Query-0 shape-the_row-Sublink-1 hidden-the_row-Sublink-1 package.denote.Hole.Carrier.hidden
-Join_alone-is kind left right condition = refl
-
 -- ---- loops
 
 subs_table_sources-append : (ss rs : List Sublink) → subs_table_sources (ss ++ rs) ≡ subs_table_sources ss ++ subs_table_sources rs

@@ -4,7 +4,6 @@ pub mod Agreement
 pub mod BagMembers
 pub mod BuiltSources
 pub mod Classes
-pub mod ColumnQueries
 pub mod CrossBases
 pub mod CrossedRows
 pub mod EntriesAtPlaces
@@ -19,6 +18,7 @@ pub mod LongerKinds
 pub mod MembersByIndex
 pub mod NoRowLost
 pub mod NodeKinds
+pub mod NullRows
 pub mod OrderOfGroups
 pub mod OrderOfQueries
 pub mod OrderOfRows

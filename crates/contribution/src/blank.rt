@@ -6,12 +6,12 @@ ghost use Rattle.bag_algebra.specs.Meaning.{Database, meaning};
 ghost use Rattle.bag_algebra.specs.Outcome.{Good};
 ghost use Rattle.bag_algebra.specs.Rewriting.{is_plain};
 ghost use Rattle.bag_algebra.specs.WellFormed.{WellFormed};
-ghost use Rattle.contribution.specs.NullRow.{null_item, null_row_of};
+ghost use Rattle.contribution.specs.NullRow.{null_row_of};
 ghost use Rattle.perm_values.specs.declared.kind.Kind.{Kind as Sort};
 
-use crate::reorder::projection;
-use bag_algebra::{Expr, Item, Query};
-use perm_values::{Kind, List, NoMemory, Value};
+use bag_algebra::Query;
+use perm_values::{Kind, NoMemory};
+use query_parts::{null_items, projection};
 use std::alloc::Global;
 
 /// A query of these kinds that is never bad and has exactly one row, of NULLs: a projection of the empty row, without
@@ -27,24 +27,4 @@ pub fn null_row(alloc: Global, kinds: &[Kind]) -> Result<Query, NoMemory>
 {
     let items = null_items(alloc, kinds)?;
     projection(alloc, Query::Single, items)
-}
-
-fn null_items(alloc: Global, kinds: &[Kind]) -> Result<List<Item>, NoMemory>
-    ensures { IfOk result (λ items. items ≡ map null_item kinds.now) }
-{
-    let mut items = List::new(alloc);
-    for kind in kinds {
-        items.push(null_item(*kind))?;
-    }
-    Ok(items)
-}
-
-fn null_item(kind: Kind) -> Item
-    ensures { result ≡ null_item kind }
-{
-    let expr = Expr::Lit {
-        value: Value::Null,
-        kind,
-    };
-    Item { expr, kind }
 }

@@ -21,9 +21,9 @@ ghost use Rattle.perm_values.specs.declared.kind.Kind.{Kind as Sort};
 
 use crate::blank::null_row;
 use crate::places::add_picked;
-use crate::reorder::{column_items, projection};
 use bag_algebra::{Expr, JoinKind, Query, Sublink};
 use perm_values::{Boxed, Copyable, Kind, List, NoMemory, Value};
+use query_parts::{column_items, joined, projection};
 use std::alloc::Global;
 
 /// A source over a table: the table, and the places of the source.
@@ -168,15 +168,8 @@ fn crossed(alloc: Global, sources: &[TableSource]) -> Result<Query, NoMemory>
 fn beside(alloc: Global, source: &TableSource, rest: Query) -> Result<Query, NoMemory>
     ensures { IfOk result (λ p. p ≡ JoinOf Inner (source_query source.now) rest always [] end_of-Sublink) }
 {
-    let right = Boxed::new(alloc, rest)?;
-    let left = Boxed::new(alloc, source_query(alloc, source)?)?;
-    Ok(Query::Join {
-        kind: JoinKind::Inner,
-        left,
-        right,
-        condition: always(),
-        subs: List::new(alloc),
-    })
+    let left = source_query(alloc, source)?;
+    joined(alloc, JoinKind::Inner, left, rest, always())
 }
 
 fn always() -> Expr

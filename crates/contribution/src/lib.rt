@@ -7,7 +7,6 @@ mod cross;
 mod laws;
 mod names;
 mod places;
-mod reorder;
 #[cfg(test)]
 mod tests;
 
@@ -22,4 +21,4 @@ pub use laws::{
 };
 pub use names::prov_names;
 pub use places::{PlaceList, kinds, shape};
-pub use reorder::regroup;
+pub use query_parts::regroup;

@@ -18,6 +18,7 @@ ghost use Rattle.perm_values.specs.declared.kind.Kind.{Kind as Sort};
 
 use bag_algebra::{Aggr, Item, Label, Place, Query, Sublink};
 use perm_values::{Copyable, Kind, List, NoMemory};
+use query_parts::kind_or_text;
 use std::alloc::Global;
 
 /// The places of a query's witness lists, in order.
@@ -195,16 +196,6 @@ pub(crate) fn add_picked(
         found.push(kind_or_text(below, *place))?;
     }
     Ok(())
-}
-
-pub(crate) fn kind_or_text(kinds: &[Kind], place: usize) -> Kind
-    ensures { result ≡ kind_in kinds.now place }
-{
-    if place < kinds.len() {
-        kinds[place]
-    } else {
-        Kind::Text
-    }
 }
 
 fn add_item_kinds(found: &mut List<Kind>, items: &[Item]) -> Result<(), NoMemory>

@@ -9,12 +9,13 @@ use Rattle.bag_algebra.specs.Rewriting.{is_plain}
 use Rattle.bag_algebra.specs.WellFormed.{WellFormed}
 use Rattle.bag_algebra.specs.declared.query.Query.{end_of-Sublink}
 use Rattle.bag_algebra.specs.declared.query.Query.TheVariants.{Single}
-use Rattle.contribution.proofs.ColumnQueries.{of_made, kinds_of-null_row, meaning-null_row, formed-null_row}
+use Rattle.query_parts.proofs.NodeQueries.{of_made}
+use Rattle.contribution.proofs.NullRows.{kinds_of-null_row, meaning-null_row, formed-null_row}
 use Rattle.contribution.specs.NullRow.{null_row_of}
 use Rattle.contribution.proofs.blank.null_row.Goals as goal
 
 pub returns-clause-made : goal.returns-clause-made
-returns-clause-made c = subst (λ items. IfOk c.projection.result (λ q. q ≡ ProjectOf Single items [] end_of-Sublink)) c.in_ok-items.ensures c.projection.ensures
+returns-clause-made c = subst (λ items. IfOk c.projection.result (λ q. q ≡ ProjectOf Single items [] end_of-Sublink)) c.in_ok-items.ensures.made c.projection.ensures.made
 
 pub returns-clause-kinds : goal.returns-clause-kinds
 returns-clause-kinds c =

@@ -1,10 +1,13 @@
-use Rattle.std.proofs.Common.{◌∙◌}
+use Rattle.std.proofs.Common.{◌≡◌, [], IfOk, subst}
+use Rattle.bag_algebra.specs.Patterns.{JoinOf}
+use Rattle.bag_algebra.specs.declared.expr.Expr.{Expr}
 use Rattle.bag_algebra.specs.declared.query.JoinKind.TheVariants.{Inner}
-use Rattle.bag_algebra.specs.declared.query.Query.TheVariants.{Join}
-use Rattle.contribution.proofs.BuiltSources.{Join_alone-is}
+use Rattle.bag_algebra.specs.declared.query.Query.{Query, end_of-Sublink}
+use Rattle.contribution.specs.CrossBase.{source_query}
 use Rattle.contribution.proofs.cross.beside.Goals as goal
 
 pub returns : goal.returns
 returns c =
-    (λ i. Join Inner ((c.in_ok-left.ensures ∙ c.in_ok-source_query.ensures) i) (c.in_ok-right.ensures i) (c.always.ensures i) (c.new-3.ensures i))
-    ∙ Join_alone-is Inner _ _ _
+    subst (λ (test : Expr). IfOk c.joined.result (λ p. p ≡ JoinOf Inner (source_query c.args.source.now) c.args.rest test [] end_of-Sublink)) c.always.ensures
+    (subst (λ (left : Query). IfOk c.joined.result (λ p. p ≡ JoinOf Inner left c.args.rest c.always.result [] end_of-Sublink)) c.in_ok-left.ensures
+    c.joined.ensures.made)

@@ -2,19 +2,18 @@ use Rattle.std.proofs.Common.{◌≡◌, List, [], map, IfOk, subst}
 use Rattle.perm_values.specs.Rows.{picked}
 use Rattle.perm_values.specs.declared.kind.Kind.{Kind}
 use Rattle.bag_algebra.specs.Bags.{Row}
-use Rattle.bag_algebra.specs.Fits.{TablesFit}
 use Rattle.bag_algebra.specs.Kinds.{kinds_of, kinds_in}
 use Rattle.bag_algebra.specs.Meaning.{Database, meaning}
 use Rattle.bag_algebra.specs.Outcome.{mapped}
 use Rattle.bag_algebra.specs.Patterns.{ProjectOf}
-use Rattle.bag_algebra.specs.Rewriting.{is_plain}
 use Rattle.bag_algebra.specs.WellFormed.{WellFormed}
 use Rattle.bag_algebra.specs.declared.query.Query.{end_of-Sublink}
-use Rattle.contribution.proofs.ColumnQueries.{of_made, kinds_of-columns, meaning-columns, plain-columns, tables-columns, formed-columns}
-use Rattle.contribution.proofs.reorder.regroup.Goals as goal
+use Rattle.query_parts.proofs.ColumnQueries.{kinds_of-columns, meaning-columns, formed-columns}
+use Rattle.query_parts.proofs.NodeQueries.{of_made}
+use Rattle.query_parts.proofs.columns.regroup.Goals as goal
 
 pub returns-clause-made : goal.returns-clause-made
-returns-clause-made c = subst (λ items. IfOk c.projection.result (λ q. q ≡ ProjectOf c.args.query items [] end_of-Sublink)) c.in_ok-items.ensures c.projection.ensures
+returns-clause-made c = subst (λ items. IfOk c.projection.result (λ q. q ≡ ProjectOf c.args.query items [] end_of-Sublink)) c.in_ok-items.ensures c.projection.ensures.made
 
 pub returns-clause-kinds : goal.returns-clause-kinds
 returns-clause-kinds c =
@@ -30,12 +29,3 @@ pub returns-clause-formed : goal.returns-clause-formed
 returns-clause-formed c =
     of_made (λ p. (outer : List (List Kind)) → WellFormed outer c.args.query → WellFormed outer p) c.projection.result _ (returns-clause-made c)
     (formed-columns c.args.query c.args.order.now c.requires)
-
-pub returns-clause-plain : goal.returns-clause-plain
-returns-clause-plain c =
-    of_made (λ p. is_plain p ≡ is_plain c.args.query) c.projection.result _ (returns-clause-made c) (plain-columns c.args.query c.args.order.now)
-
-pub returns-clause-tables : goal.returns-clause-tables
-returns-clause-tables c =
-    of_made (λ p. (db : Database) → TablesFit db c.args.query → TablesFit db p) c.projection.result _ (returns-clause-made c)
-    (tables-columns c.args.query c.args.order.now)

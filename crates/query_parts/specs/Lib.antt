@@ -1,0 +1,3 @@
+pub mod Conjunctions
+pub mod ItemKinds
+pub mod NullItems
