@@ -1,4 +1,5 @@
 pub mod ColumnQueries
+pub mod MovedVariants
 pub mod NodeQueries
 pub mod Padding
 pub mod PartForms

@@ -1,3 +1,4 @@
 pub mod Conjunctions
 pub mod ItemKinds
+pub mod MovedColumns
 pub mod NullItems

@@ -3,11 +3,13 @@
 #![tactic(auto)]
 
 mod columns;
+mod moving;
 mod nodes;
 mod nulls;
 mod same;
 
 pub use columns::{column_items, kind_or_text, regroup};
+pub use moving::moved;
 pub use nodes::{filtered, joined, projection};
 pub use nulls::{null_items, padded};
 pub use same::same_columns;
