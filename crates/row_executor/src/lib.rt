@@ -5,7 +5,6 @@ mod built;
 mod error;
 mod expression;
 mod input;
-mod join;
 mod limit;
 mod marks;
 mod operate;
