@@ -3,5 +3,8 @@ pub mod Taken
 pub mod Outcomes
 pub mod Values
 pub mod Distinct
+pub mod Flags
+pub mod Seeing
+pub mod Spending
 pub mod Queries
-pub mod Kept
+pub mod Sublinks

@@ -1,3 +1,6 @@
 pub mod Answers
+pub mod Built
+pub mod Held
+pub mod Marks
 pub mod Parts
 pub mod Runs

@@ -177,7 +177,7 @@ fn column(alloc: Global, level: usize, place: usize, row: &Row, env: &Env) -> Re
     }
 }
 
-fn value_at(alloc: Global, values: &[Value], place: usize) -> Result<Value, ExecError>
+pub(crate) fn value_at(alloc: Global, values: &[Value], place: usize) -> Result<Value, ExecError>
     ensures { Gives (Good (value_at values.now place)) result }
 {
     match values.get(place) {
