@@ -4,4 +4,5 @@ mod FiniteMap
 pub mod Members
 pub mod SortedBags
 pub mod TablesRead
+pub mod Truths
 pub mod Widths

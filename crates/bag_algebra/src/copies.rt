@@ -2,6 +2,7 @@
 ghost use Rattle.std.specs.Prelude.{◌≡◌, IfOk};
 
 use crate::expr::Expr;
+use crate::place::Place;
 use crate::query::{Aggr, Answer, Label, Query, Sublink};
 use perm_values::{Boxed, Copyable, List, NoMemory};
 use std::alloc::Global;
@@ -45,6 +46,15 @@ impl Copyable for Label {
                 columns: columns.copy(alloc)?,
             }),
         }
+    }
+}
+
+impl Copyable for Place {
+    fn copy(&self, alloc: Global) -> Result<Place, NoMemory> {
+        Ok(Place {
+            label: self.label.copy(alloc)?,
+            kinds: self.kinds.copy(alloc)?,
+        })
     }
 }
 

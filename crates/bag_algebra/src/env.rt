@@ -19,6 +19,14 @@ impl Model for Env {
     ghost view = { λ e. e.rows };
 }
 
+impl Copyable for Env {
+    fn copy(&self, alloc: Global) -> Result<Env, NoMemory> {
+        Ok(Env {
+            rows: self.rows.copy(alloc)?,
+        })
+    }
+}
+
 impl Env {
     /// The environment without rows. It takes no memory.
     pub fn new(alloc: Global) -> Env

@@ -1,6 +1,9 @@
+ghost use Rattle.std.specs.Prelude.{◌≡◌, IfOk};
+
 use crate::column::Column;
 use bag_algebra::{Answer, Query};
-use perm_values::{Chars, List};
+use perm_values::{Chars, Copyable, List, NoMemory};
+use std::alloc::Global;
 
 /// A table that a stored provenance query read: its name, identity and version then.
 #[derive(Debug, Drop)]
@@ -46,5 +49,55 @@ impl ViewEntry {
         ensures { result ≡ uses_name self.now name.now }
     {
         self.names_used.as_slice().iter().any(|used| used == name)
+    }
+}
+
+impl Copyable for Kept {
+    fn copy(&self, alloc: Global) -> Result<Kept, NoMemory> {
+        Ok(Kept {
+            table: self.table.copy(alloc)?,
+            id: self.id,
+            version: self.version,
+        })
+    }
+}
+
+impl Copyable for Mark {
+    fn copy(&self, alloc: Global) -> Result<Mark, NoMemory> {
+        Ok(Mark {
+            places: self.places.copy(alloc)?,
+            query: self.query.copy(alloc)?,
+            kept: self.kept.copy(alloc)?,
+        })
+    }
+}
+
+impl Copyable for TableEntry {
+    fn copy(&self, alloc: Global) -> Result<TableEntry, NoMemory> {
+        Ok(TableEntry {
+            id: self.id,
+            version: self.version,
+            columns: self.columns.copy(alloc)?,
+            mark: copy_option(alloc, &self.mark)?,
+        })
+    }
+}
+
+impl Copyable for ViewEntry {
+    fn copy(&self, alloc: Global) -> Result<ViewEntry, NoMemory> {
+        Ok(ViewEntry {
+            answer: self.answer.copy(alloc)?,
+            places: copy_option(alloc, &self.places)?,
+            names_used: self.names_used.copy(alloc)?,
+        })
+    }
+}
+
+fn copy_option<T: Copyable>(alloc: Global, part: &Option<T>) -> Result<Option<T>, NoMemory>
+    ensures { IfOk result (λ copy. copy ≡ part.now) }
+{
+    match part {
+        Some(part) => Ok(Some(part.copy(alloc)?)),
+        None => Ok(None),
     }
 }

@@ -1,6 +1,6 @@
 pub mod Closing
 pub mod Levels
 pub mod NeverBad
+pub mod OneKind
 pub mod Rest
 pub mod Seeking
-pub mod Truths

@@ -21,7 +21,7 @@ use Rattle.bag_algebra.specs.declared.query.Query.{Query, Row_of-Sublink, more_o
 use Rattle.bag_algebra.specs.declared.query.Query.TheVariants.{Table, Single}
 use Rattle.bag_algebra.specs.declared.query.SubKind.{SubKind}
 use Rattle.bag_algebra.specs.declared.query.SubKind.TheVariants as sub
-use Rattle.query_measures.proofs.Truths.{left-true, right-true}
+use Rattle.bag_algebra.proofs.Truths.{left-true, right-true}
 
 -- ---- outcomes
 

@@ -99,7 +99,7 @@ fn aggregates_faultless(aggregates: &[Aggr]) -> bool
 
 /// Whether the expression holds no chain and no negation of a number.
 #[cycle(faultless)]
-fn faultless(expr: &Expr) -> bool
+pub fn faultless(expr: &Expr) -> bool
     ensures { result ≡ faultless expr.now }
 {
     match expr {

@@ -8,9 +8,12 @@ mod measures;
 mod reach;
 mod scopes;
 
-pub use faults::fault_free;
+pub use faults::{fault_free, faultless};
 pub use kinds::{kind_at, width};
-pub use laws::fault_free_queries_meet_no_fault;
+pub use laws::{
+    expressions_have_one_kind, fault_free_queries_meet_no_fault, faultless_expressions_meet_no_fault,
+    well_formed_queries_read_their_outer_rows_alone,
+};
 pub use measures::{height, size};
 pub use reach::is_closed;
 pub use scopes::{is_plain, is_scoped};

@@ -11,7 +11,7 @@ use Rattle.perm_values.specs.declared.value.Value.{Value}
 use Rattle.perm_values.specs.declared.value.Value.TheVariants.{Boolean}
 use Rattle.bag_algebra.specs.Bags.{Row}
 use Rattle.bag_algebra.specs.Built.{Same-is, value-Op, value-Same, row_of_parts}
-use Rattle.bag_algebra.specs.BuiltFaultFree.{faultless-Op, faultless-Same, all_parts_faultless}
+use Rattle.query_measures.specs.BuiltFaultFree.{faultless-Op, faultless-Same, all_parts_faultless}
 use Rattle.bag_algebra.specs.Children.{part_values}
 use Rattle.bag_algebra.specs.Expressions.{value, all_true, operate}
 use Rattle.bag_algebra.specs.FaultFree.{faultless}

@@ -1,7 +1,7 @@
 use Rattle.std.proofs.Common.{◌≡◌, ◌&&◌, refl, sym, ap, ◌∙◌}
 use Rattle.query_measures.specs.BuiltFaultFree.{all_fault_free, fault_free-Base, fault_free-Filter, fault_free-Project, fault_free-Join, fault_free-Union, fault_free-Intersect, fault_free-Except, fault_free-Distinct, fault_free-Aggregate, fault_free-Limit, fault_free-Prov}
 use Rattle.bag_algebra.specs.FaultFree.{faultless, items_faultless, aggregates_faultless, fault_free}
-use Rattle.query_measures.proofs.Truths.{second-decides, first-decides}
+use Rattle.bag_algebra.proofs.Truths.{second-decides, first-decides}
 use Rattle.query_measures.proofs.faults.+fault_free.Goals as goal
 use Rattle.query_measures.proofs.faults.+fault_free.Goals.{fault_free-then-fault_free, fault_free-else-fault_free, fault_free-then-fault_free-2, fault_free-else-fault_free-2, fault_free-then-fault_free-3, fault_free-else-fault_free-3, fault_free-then-fault_free-4, fault_free-else-fault_free-4}
 

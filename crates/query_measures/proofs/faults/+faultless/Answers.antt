@@ -4,7 +4,7 @@ use Rattle.null_logic.specs.declared.operator.Operator.{Operator}
 use Rattle.null_logic.specs.declared.operator.Operator.TheVariants as op
 use Rattle.query_measures.specs.BuiltFaultFree.{all_parts_faultless, all_arms_faultless, faultless-Op, faultless-Chain, faultless-Case, faultless-IsNull, faultless-IsTruth, faultless-Same}
 use Rattle.bag_algebra.specs.FaultFree.{may_fault, faultless}
-use Rattle.query_measures.proofs.Truths.{second-decides, first-decides}
+use Rattle.bag_algebra.proofs.Truths.{second-decides, first-decides}
 use Rattle.query_measures.proofs.faults.+faultless.Goals as goal
 use Rattle.query_measures.proofs.faults.+faultless.Goals.{faultless-in_default, faultless-in-Negate, faultless-in-Negate-2}
 

@@ -1,7 +1,7 @@
 use Rattle.std.proofs.Common.{◌≡◌, ◌&&◌, refl, sym, ap, ◌∙◌}
 use Rattle.query_measures.specs.BuiltScopes.{all_plain, is_plain-Base, is_plain-Filter, is_plain-Project, is_plain-Join, is_plain-Union, is_plain-Intersect, is_plain-Except, is_plain-Distinct, is_plain-Aggregate, is_plain-Limit, is_plain-Prov}
 use Rattle.bag_algebra.specs.Rewriting.{is_plain}
-use Rattle.query_measures.proofs.Truths.{second-decides, first-decides}
+use Rattle.bag_algebra.proofs.Truths.{second-decides, first-decides}
 use Rattle.query_measures.proofs.scopes.+is_plain.Goals as goal
 use Rattle.query_measures.proofs.scopes.+is_plain.Goals.{is_plain-then-is_plain-3, is_plain-else-is_plain-3}
 

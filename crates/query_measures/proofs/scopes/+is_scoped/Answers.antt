@@ -1,7 +1,7 @@
 use Rattle.std.proofs.Common.{◌≡◌, ◌&&◌, refl, sym, ap, ◌∙◌}
 use Rattle.query_measures.specs.BuiltScopes.{all_scoped, is_scoped-Base, is_scoped-Filter, is_scoped-Project, is_scoped-Join, is_scoped-Union, is_scoped-Intersect, is_scoped-Except, is_scoped-Distinct, is_scoped-Aggregate, is_scoped-Limit, is_scoped-Prov}
 use Rattle.bag_algebra.specs.Scoped.{traceable, is_scoped}
-use Rattle.query_measures.proofs.Truths.{second-decides, first-decides}
+use Rattle.bag_algebra.proofs.Truths.{second-decides, first-decides}
 use Rattle.query_measures.proofs.scopes.+is_scoped.Goals as goal
 use Rattle.query_measures.proofs.scopes.+is_scoped.Goals.{is_scoped-then-is_scoped-3, is_scoped-else-is_scoped-3}
 

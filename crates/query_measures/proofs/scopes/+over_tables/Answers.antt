@@ -5,7 +5,7 @@ use Rattle.bag_algebra.specs.Scoped.{is_table, over_tables}
 use Rattle.bag_algebra.specs.Patterns.{BaseOf, FilterOf, ProjectOf, JoinOf, UnionOf, IntersectOf, ExceptOf, DistinctOf, AggregateOf, LimitOf, ProvOf}
 use Rattle.bag_algebra.specs.declared.query.Query.{Query}
 use Rattle.bag_algebra.specs.declared.query.Query.TheVariants.{Table, Single}
-use Rattle.query_measures.proofs.Truths.{second-decides, first-decides}
+use Rattle.bag_algebra.proofs.Truths.{second-decides, first-decides}
 use Rattle.query_measures.proofs.scopes.+over_tables.Goals as goal
 use Rattle.query_measures.proofs.scopes.+over_tables.Goals.{over_tables-then-over_tables-3, over_tables-else-over_tables-3}
 

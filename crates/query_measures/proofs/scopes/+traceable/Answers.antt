@@ -1,7 +1,7 @@
 use Rattle.std.proofs.Common.{◌≡◌, ◌&&◌, refl, sym, ap, ◌∙◌}
 use Rattle.query_measures.specs.BuiltScopes.{all_traceable, traceable-Base, traceable-Filter, traceable-Project, traceable-Join, traceable-Union, traceable-Intersect, traceable-Except, traceable-Distinct, traceable-Aggregate, traceable-Limit, traceable-Prov}
 use Rattle.bag_algebra.specs.Scoped.{traceable}
-use Rattle.query_measures.proofs.Truths.{second-decides, first-decides}
+use Rattle.bag_algebra.proofs.Truths.{second-decides, first-decides}
 use Rattle.query_measures.proofs.scopes.+traceable.Goals as goal
 use Rattle.query_measures.proofs.scopes.+traceable.Goals.{traceable-then-traceable-3, traceable-else-traceable-3}
 
