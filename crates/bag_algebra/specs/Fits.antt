@@ -1,18 +1,13 @@
 -- Which databases and outer rows a query may meet.
 use Rattle.std.specs.Prelude.{◌≡◌, ⊤, Bool, true, false, ◌&&◌, List, [], ◌∷◌}
-use Rattle.std.specs.List.{list_all}
-use Rattle.perm_values.specs.Rows.{row_fits}
+pub use Rattle.perm_values.specs.Rows.{bag_fits}
 use Rattle.perm_values.specs.Values.{fits}
 use Rattle.perm_values.specs.declared.kind.Kind.{Kind}
-use Rattle.bag_algebra.specs.Bags.{Row, Bag}
+use Rattle.bag_algebra.specs.Bags.{Row}
 use Rattle.bag_algebra.specs.Meaning.{Database}
 use Rattle.bag_algebra.specs.Patterns.{BaseOf, FilterOf, ProjectOf, JoinOf, UnionOf, IntersectOf, ExceptOf, DistinctOf, AggregateOf, LimitOf, ProvOf}
 use Rattle.bag_algebra.specs.declared.query.Query.{Query, Row_of-Sublink, more_of-Sublink, end_of-Sublink}
 use Rattle.bag_algebra.specs.declared.query.Query.TheVariants.{Table, Single}
-
--- every row has exactly these kinds
-abbrev pub bag_fits : Bag → List Kind → Bool
-bag_fits bag kinds = list_all (λ row. row_fits row kinds) bag
 
 -- the first values have these kinds; more may follow
 abbrev pub row_begins : Row → List Kind → Bool
