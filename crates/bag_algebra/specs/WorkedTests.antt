@@ -1,15 +1,16 @@
 -- Worked examples of the measures and tests: queries over one table of one column, with sublinks in sublinks.
-use Rattle.std.specs.Prelude.{◌≡◌, ℕ, true, false, [], ◌∷◌, Some, None, refl, codes}
+use Rattle.std.specs.Prelude.{◌≡◌, ℕ, pos, true, false, [], ◌∷◌, Some, None, refl, codes}
 use Rattle.null_logic.specs.declared.arith.Arith.TheVariants.{Add}
 use Rattle.perm_values.specs.declared.kind.Kind.TheVariants as kind
+use Rattle.perm_values.specs.declared.value.Value.TheVariants.{Integer}
 use Rattle.bag_algebra.specs.Closed.{is_closed}
 use Rattle.bag_algebra.specs.FaultFree.{fault_free}
 use Rattle.bag_algebra.specs.Kinds.{width_of}
 use Rattle.bag_algebra.specs.Measures.{height_of, size_of}
-use Rattle.bag_algebra.specs.Patterns.{ChainOf, BaseOf, FilterOf, ProjectOf, UnionOf, DistinctOf, AggregateOf, ProvOf}
+use Rattle.bag_algebra.specs.Patterns.{Shape, ChainOf, BaseOf, FilterOf, ProjectOf, UnionOf, DistinctOf, AggregateOf, ProvOf}
 use Rattle.bag_algebra.specs.Rewriting.{is_plain}
 use Rattle.bag_algebra.specs.Scoped.{is_scoped}
-use Rattle.bag_algebra.specs.declared.expr.Expr.{more_of-ChainStep, end_of-ChainStep}
+use Rattle.bag_algebra.specs.declared.expr.Expr.{Expr, more_of-ChainStep, end_of-ChainStep}
 use Rattle.bag_algebra.specs.declared.expr.Expr.TheVariants.{Col, Sub}
 use Rattle.bag_algebra.specs.declared.query.AggFn.{AggFn}
 use Rattle.bag_algebra.specs.declared.query.AggFn.TheVariants.{CountRows, Sum}
