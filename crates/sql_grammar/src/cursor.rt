@@ -53,6 +53,13 @@ impl<'a> Cursor<'a> {
         self.alloc
     }
 
+    /// How many tokens are left.
+    pub fn left(&self) -> usize
+        ensures { result ≡ length self.now }
+    {
+        self.tokens.len()
+    }
+
     /// The offset of the next token, or 0 where none is left.
     pub fn place(&self) -> usize
         ensures { result ≡ spec.place self.now }

@@ -1,9 +1,5 @@
-pub mod Connecting
-pub mod Counts
-pub mod Primaries
 pub mod Regularity
 pub mod Stating
 pub mod Tabled
-pub mod Tails
 pub mod Texts
 pub mod Whole

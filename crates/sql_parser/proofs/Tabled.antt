@@ -20,8 +20,41 @@ spelled [] s = tt
 spelled (row ∷ rows) s = (tokens-lex row.1 (token_of row ∷ []) s.0, spelled rows s.1)
 
 made : AllByRecursion (λ row. Makes (token_of row) row.5) operator_table
-unfolding symbol_sort same_sort
-made = (refl, (refl, (tt, (refl, (refl, (refl, (refl, (refl, (refl, (tt, (tt, (tt, (refl, (refl, (refl, (refl, (refl, (tt, tt))))))))))))))))))
+unfolding word_sort symbol_sort same_sort
+made = (
+  refl,
+  (
+    refl,
+    (
+      (refl, refl),
+      (
+        refl,
+        (
+          refl,
+          (
+            refl,
+            (
+              refl,
+              (
+                refl,
+                (
+                  refl,
+                  (
+                    (refl, λ pattern part negated. refl),
+                    (
+                      (refl, λ low high part negated. refl),
+                      ((refl, λ list part negated. refl), (refl, (refl, (refl, (refl, (refl, ((refl, refl), tt))))))),
+                    ),
+                  ),
+                ),
+              ),
+            ),
+          ),
+        ),
+      ),
+    ),
+  ),
+)
 
 pub tabled : AreReadByTable
 unfolding word_sort symbol_sort same_sort

@@ -1,6 +1,7 @@
 -- At which level the grammar reads which operators, beside the table of operators: both are computed, from the rules and
 -- from the rows.
 use Rattle.std.specs.Prelude.{◌≡◌, ℕ, pos, suc, ◌==◌, Bool, true, false, cond, List, [], ◌∷◌, ◌++◌, map, length, Option, Some, None, is_some}
+use Rattle.std.proofs.Common.{inl, inr}
 use Rattle.std.specs.List.{AllByRecursion, filter, flat_map, list_all}
 use Rattle.std.specs.Str.{str_to_ascii_lowercase}
 use Rattle.null_logic.specs.Operators.{Entry, operator_table}
@@ -21,6 +22,8 @@ use Rattle.sql_grammar.specs.Symbols.{Symbol}
 use Rattle.sql_grammar.specs.Tables.{empty, begins}
 use Rattle.sql_grammar.specs.declared.sort.Sort.{Sort}
 use Rattle.sql_grammar.specs.declared.sort.Sort.TheVariants as s
+use Rattle.sql_tree.specs.declared.expression.ExprBody.TheVariants as e
+use Rattle.sql_tree.specs.declared.expression.ExprTree.{ExprTree}
 
 -- ---- the table
 
@@ -125,13 +128,28 @@ are_next level (first ∷ others) = list_all (λ l. l == suc level) (first ∷ o
 
 -- ---- the law
 
--- the token of a row makes the row's operator where it decides on it, and otherwise the level does
+-- the token of a row makes the row's operator where it decides on it, and otherwise the level does, or the alternative that
+-- the token begins
 abbrev pub Makes : Token → Operator → Type 0
 Makes t (op.Arith a) = b.arith_of t ≡ a
 Makes t (op.Compare c) = b.comparison_of t ≡ c
 Makes t op.Or = build n.Expr ≡ b.logic op.Or
 Makes t op.And = build n.Both ≡ b.logic op.And
-Makes t _ = Unit {0}
+Makes t op.Not = (sort_of t ≡ s.Not) × (build n.Negated ≡ b.nots)
+Makes t op.Negate = (sort_of t ≡ s.Minus) × (build n.Sign ≡ b.signs)
+Makes t op.Like =
+    (sort_of t ≡ s.Like)
+    × ((pattern part : ExprTree) (negated : Bool) → build n.Range (inl (tt, pattern)) negated part ≡ b.node part.at (e.Like negated part pattern))
+Makes t op.Between =
+    (sort_of t ≡ s.Between)
+    × ((low high part : ExprTree) (negated : Bool)
+    → build n.Range (inr (inl (tt, (low, (tt, high))))) negated part ≡ b.node part.at (e.Between negated part low high))
+Makes t op.InList =
+    (sort_of t ≡ s.In)
+    × ((list : List ExprTree) (part : ExprTree) (negated : Bool)
+    → build n.Range (inr (inr (tt, build n.Members (tt, (inr list, tt))))) negated part ≡ b.node part.at (e.InList negated part list))
+Makes t op.Coalesce = Unit {0}
+Makes t op.NullIf = Unit {0}
 
 pub record AreReadByTable : Type 0 where
   -- each row is spelled by one token, which makes the row's operator

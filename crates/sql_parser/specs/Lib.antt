@@ -1,8 +1,6 @@
-pub mod Calls
 pub mod Ending
 pub mod Levels
 pub mod Nesting
 pub mod Spells
 pub mod Statements
-pub mod Tails
 pub mod Texts

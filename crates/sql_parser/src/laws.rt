@@ -1,4 +1,4 @@
-ghost use Rattle.std.specs.Prelude.{◌≡◌, ℕ, List, Some};
+ghost use Rattle.std.specs.Prelude.{◌≡◌, ◌⊎◌, ℕ, List, Some};
 ghost use Rattle.sql_lexer.specs.declared.token.Token.{Token};
 ghost use Rattle.sql_lexer.specs.Lexes.{Lexes};
 ghost use Rattle.sql_tree.specs.Regular.{Regular};
@@ -16,6 +16,16 @@ pub fn a_script_has_one_tree()
 /// Tokens of which one is unexpected spell no script.
 pub fn an_unexpected_token_has_no_tree()
     ensures { (tokens : List Token) (length at : ℕ) (script : Script) → IsUnexpected tokens length at → Spells tokens script → ⊥ }
+{}
+
+/// No tokens are unexpected at two offsets.
+pub fn an_unexpected_token_has_one_offset()
+    ensures { (tokens : List Token) (length a b : ℕ) → IsUnexpected tokens length a → IsUnexpected tokens length b → a ≡ b }
+{}
+
+/// Tokens spell a script, or one of them is unexpected, or the end is.
+pub fn tokens_spell_a_script_or_one_is_unexpected()
+    ensures { (tokens : List Token) (length : ℕ) → ((script : Script) × Spells tokens script) ⊎ ((at : ℕ) × IsUnexpected tokens length at) }
 {}
 
 /// Every script that the tokens of some bytes spell is regular.

@@ -2,10 +2,8 @@ ghost use Rattle.std.specs.Prelude.{◌≡◌};
 ghost use Rattle.sql_parser.specs.Ending as ending;
 ghost use Rattle.sql_parser.specs.Spells as spec;
 
-use crate::SyntaxError;
-use crate::grammar::Grammar;
 use crate::nesting::too_deep;
-use crate::recursion::{expr, query};
+use crate::{SyntaxError, statements};
 use perm_values::List;
 use sql_grammar::{Cursor, Fault};
 use sql_lexer::Token;
@@ -42,6 +40,6 @@ pub fn script(alloc: Global, tokens: &List<Token>, length: usize) -> Result<Scri
         return Err(SyntaxError::TooDeep(at));
     }
     let mut cursor = Cursor::new(alloc, tokens.as_slice());
-    let read = Grammar { expr, query }.script(&mut cursor);
+    let read = statements::script(&mut cursor);
     ended(read, &cursor, length)
 }

@@ -1,24 +1,39 @@
 //! Expressions hold queries, and queries expressions.
 
-ghost use Rattle.std.specs.Prelude.{◌≡◌, ◌<◌, length, IfOk};
+ghost use Rattle.std.specs.Prelude.{◌≡◌, ◌<◌, ◌≤◌, length, IfOk};
 ghost use Rattle.sql_grammar.specs.Cursors as spec;
 ghost use Rattle.sql_grammar.specs.Symbols as n;
 
-use crate::grammar::Grammar;
 use perm_values::Boxed;
-use sql_grammar::{Cursor, Fault};
+use sql_grammar::{Cursor, Fault, Nest};
 use sql_tree::{ExprTree, QueryTree};
 
 #[cycle(grammar)]
 pub(crate) fn expr(cursor: &mut Cursor<'_>) -> Result<Boxed<ExprTree>, Fault>
     ensures given { spec.Reads result (spec.reading n.Expr cursor.old) cursor.new }
+    ensures fewer { IfOk result (λ _. length cursor.new < length cursor.old) }
 {
-    Grammar { expr, query }.disjunction(cursor)
+    let most = cursor.left();
+    let nest = Nest { expr, query, most };
+    sql_expressions::Grammar { nest }.disjunction(cursor)
 }
 
 #[cycle(grammar)]
 pub(crate) fn query(cursor: &mut Cursor<'_>) -> Result<Boxed<QueryTree>, Fault>
     ensures given { spec.Reads result (spec.reading n.Query cursor.old) cursor.new }
+    ensures fewer { IfOk result (λ _. length cursor.new < length cursor.old) }
 {
-    sql_queries::Grammar { expr, query }.query_body(cursor)
+    let most = cursor.left();
+    let nest = Nest { expr, query, most };
+    sql_queries::Grammar { nest }.query_body(cursor)
+}
+
+/// WHERE and its condition.
+pub(crate) fn condition(cursor: &mut Cursor<'_>) -> Result<Option<Boxed<ExprTree>>, Fault>
+    ensures given { spec.Reads result (spec.reading n.Condition cursor.old) cursor.new }
+    ensures fewer { IfOk result (λ _. length cursor.new ≤ length cursor.old) }
+{
+    let most = cursor.left();
+    let nest = Nest { expr, query, most };
+    sql_queries::Grammar { nest }.condition(cursor)
 }

@@ -1,20 +1,19 @@
 //! Statements.
 
-ghost use Rattle.std.specs.Prelude.{◌≡◌, ◌<◌, ◌≤◌, suc, [], ◌∷◌, length, IfOk};
+ghost use Rattle.std.specs.Prelude.{◌≡◌, ◌<◌, ◌≤◌, [], ◌∷◌, length, IfOk};
 ghost use Rattle.sql_grammar.specs.Building as b;
 ghost use Rattle.sql_grammar.specs.Cursors as spec;
 ghost use Rattle.sql_grammar.specs.Lists.{listed as list_read};
-ghost use Rattle.sql_grammar.specs.Nests.{Nests};
 ghost use Rattle.sql_parser.specs.Statements as spelled;
 ghost use Rattle.sql_grammar.specs.Symbols as n;
 ghost use Rattle.sql_grammar.specs.declared.sort.Sort.TheVariants as s;
 
-use crate::grammar::Grammar;
-use crate::primary::kind_of;
+use crate::recursion::{condition, expr, query};
 use perm_values::{Boxed, Chars, Copyable, Kind, List, NoMemory};
+use sql_expressions::kind_of;
 use sql_grammar::{Cursor, Fault, Sort, listed};
 use sql_lexer::Token;
-use sql_tree::{ColumnDef, ExprTree, QueryTree, Script, Statement, StatementBody, ValuesRow};
+use sql_tree::{ColumnDef, ExprTree, Script, Statement, StatementBody, ValuesRow};
 use std::alloc::Global;
 
 /// What begins a statement.
@@ -108,7 +107,7 @@ fn null<'a>(cursor: &mut Cursor<'a>) -> Result<Option<&'a Token>, Fault>
     Ok(Some(cursor.one(&[Sort::Literal])?))
 }
 
-#[tactic(auto, using(sql_grammar::proofs::Steps::copy_is, crate::proofs::Tails::is_some_word_if, crate::proofs::Stating::null_mark_is))]
+#[tactic(auto, using(sql_grammar::proofs::Steps::copy_is, sql_grammar::proofs::Queries::is_some_word_if, crate::proofs::Stating::null_mark_is))]
 fn copy(cursor: &mut Cursor<'_>) -> Result<StatementBody, Fault>
     ensures given { spec.Reads result (spec.reading n.Copy cursor.old) cursor.new }
     ensures fewer { IfOk result (λ _. length cursor.new < length cursor.old) }
@@ -160,190 +159,174 @@ fn show(cursor: &mut Cursor<'_>) -> Result<StatementBody, Fault>
     })
 }
 
-impl<
-    F: Fn(&mut Cursor<'_>) -> Result<Boxed<ExprTree>, Fault>,
-    G: Fn(&mut Cursor<'_>) -> Result<Boxed<QueryTree>, Fault>,
-> Grammar<F, G> {
-    #[tactic(auto, using(sql_grammar::proofs::Steps::create_table_is, sql_grammar::proofs::Nested::nests_below))]
-    fn create_table(&self, cursor: &mut Cursor<'_>) -> Result<StatementBody, Fault>
-        requires { Nests (length cursor.old) (F.pre self.now.expr) (G.pre self.now.query) (F.post self.now.expr) (G.post self.now.query) }
-        ensures given { spec.Reads result (spec.reading n.CreateTable cursor.old) cursor.new }
-        ensures fewer { IfOk result (λ _. length cursor.new < length cursor.old) }
-    {
-        cursor.past(Sort::Table)?;
-        let table = cursor.name()?;
-        if cursor.sees(Sort::Opening) {
-            let columns = columns(cursor)?;
-            return Ok(StatementBody::CreateTable { table, columns });
-        }
-        cursor.past(Sort::As)?;
-        let query = self.nested_query(cursor)?.into_inner();
-        Ok(StatementBody::CreateTableAs { table, query })
+#[tactic(auto, using(sql_grammar::proofs::Steps::create_table_is))]
+fn create_table(cursor: &mut Cursor<'_>) -> Result<StatementBody, Fault>
+    ensures given { spec.Reads result (spec.reading n.CreateTable cursor.old) cursor.new }
+    ensures fewer { IfOk result (λ _. length cursor.new < length cursor.old) }
+{
+    cursor.past(Sort::Table)?;
+    let table = cursor.name()?;
+    if cursor.sees(Sort::Opening) {
+        let columns = columns(cursor)?;
+        return Ok(StatementBody::CreateTable { table, columns });
     }
+    cursor.past(Sort::As)?;
+    let query = query(cursor)?.into_inner();
+    Ok(StatementBody::CreateTableAs { table, query })
+}
 
-    #[tactic(auto, using(sql_grammar::proofs::Steps::create_view_is, sql_grammar::proofs::Nested::nests_below))]
-    fn create_view(&self, cursor: &mut Cursor<'_>) -> Result<StatementBody, Fault>
-        requires { Nests (length cursor.old) (F.pre self.now.expr) (G.pre self.now.query) (F.post self.now.expr) (G.post self.now.query) }
-        ensures given { spec.Reads result (spec.reading n.CreateView cursor.old) cursor.new }
-        ensures fewer { IfOk result (λ _. length cursor.new < length cursor.old) }
-    {
-        cursor.past(Sort::View)?;
-        let view = cursor.name()?;
-        cursor.past(Sort::As)?;
-        let query = self.nested_query(cursor)?.into_inner();
-        Ok(StatementBody::CreateView { view, query })
-    }
+#[tactic(auto, using(sql_grammar::proofs::Steps::create_view_is))]
+fn create_view(cursor: &mut Cursor<'_>) -> Result<StatementBody, Fault>
+    ensures given { spec.Reads result (spec.reading n.CreateView cursor.old) cursor.new }
+    ensures fewer { IfOk result (λ _. length cursor.new < length cursor.old) }
+{
+    cursor.past(Sort::View)?;
+    let view = cursor.name()?;
+    cursor.past(Sort::As)?;
+    let query = query(cursor)?.into_inner();
+    Ok(StatementBody::CreateView { view, query })
+}
 
-    #[tactic(auto, using(sql_grammar::proofs::Steps::create_is, sql_grammar::proofs::Nested::nests_below))]
-    fn create(&self, cursor: &mut Cursor<'_>) -> Result<StatementBody, Fault>
-        requires { Nests (length cursor.old) (F.pre self.now.expr) (G.pre self.now.query) (F.post self.now.expr) (G.post self.now.query) }
-        ensures given { spec.Reads result (spec.reading n.Create cursor.old) cursor.new }
-        ensures fewer { IfOk result (λ _. length cursor.new < length cursor.old) }
-    {
-        cursor.past(Sort::Create)?;
-        if cursor.sees(Sort::Table) {
-            self.create_table(cursor)
-        } else {
-            self.create_view(cursor)
-        }
+#[tactic(auto, using(sql_grammar::proofs::Steps::create_is))]
+fn create(cursor: &mut Cursor<'_>) -> Result<StatementBody, Fault>
+    ensures given { spec.Reads result (spec.reading n.Create cursor.old) cursor.new }
+    ensures fewer { IfOk result (λ _. length cursor.new < length cursor.old) }
+{
+    cursor.past(Sort::Create)?;
+    if cursor.sees(Sort::Table) {
+        create_table(cursor)
+    } else {
+        create_view(cursor)
     }
+}
 
-    #[tactic(auto, using(sql_grammar::proofs::Steps::row_is, sql_grammar::proofs::Nested::nests_below))]
-    fn row(&self, cursor: &mut Cursor<'_>) -> Result<ValuesRow, Fault>
-        requires { Nests (length cursor.old) (F.pre self.now.expr) (G.pre self.now.query) (F.post self.now.expr) (G.post self.now.query) }
-        ensures given { spec.Reads result (spec.reading n.Row cursor.old) cursor.new }
-        ensures fewer { IfOk result (λ _. length cursor.new < length cursor.old) }
-    {
-        let at = cursor.place();
-        cursor.past(Sort::Opening)?;
-        let values = self.expressions(cursor)?;
-        cursor.past(Sort::Closing)?;
-        Ok(ValuesRow { at, values })
-    }
+/// Expressions with commas between them.
+fn expressions(cursor: &mut Cursor<'_>) -> Result<List<ExprTree>, Fault>
+    ensures given { spec.Reads result (spec.reading n.Exprs cursor.old) cursor.new }
+    ensures fewer { IfOk result (λ _. length cursor.new ≤ length cursor.old) }
+{
+    listed(cursor, Sort::Comma, |cursor: &mut Cursor<'_>| {
+        Ok(expr(cursor)?.into_inner())
+    })
+}
 
-    #[tactic(auto, using(sql_grammar::proofs::Nested::nests_below))]
-    fn rows(&self, cursor: &mut Cursor<'_>) -> Result<List<ValuesRow>, Fault>
-        requires { Nests (length cursor.old) (F.pre self.now.expr) (G.pre self.now.query) (F.post self.now.expr) (G.post self.now.query) }
-        ensures given { spec.Reads result (list_read s.Comma (spec.reading n.Row) cursor.old) cursor.new }
-        ensures fewer { IfOk result (λ _. length cursor.new ≤ length cursor.old) }
-    {
-        listed(
-            cursor,
-            Sort::Comma,
-            |cursor: &mut Cursor<'_>| self.row(cursor),
-        )
-    }
+#[tactic(auto, using(sql_grammar::proofs::Steps::row_is))]
+fn row(cursor: &mut Cursor<'_>) -> Result<ValuesRow, Fault>
+    ensures given { spec.Reads result (spec.reading n.Row cursor.old) cursor.new }
+    ensures fewer { IfOk result (λ _. length cursor.new < length cursor.old) }
+{
+    let at = cursor.place();
+    cursor.past(Sort::Opening)?;
+    let values = expressions(cursor)?;
+    cursor.past(Sort::Closing)?;
+    Ok(ValuesRow { at, values })
+}
 
-    #[tactic(auto, using(crate::proofs::Stating::insert_is, sql_grammar::proofs::Nested::nests_below))]
-    fn insert(&self, cursor: &mut Cursor<'_>) -> Result<StatementBody, Fault>
-        requires { Nests (length cursor.old) (F.pre self.now.expr) (G.pre self.now.query) (F.post self.now.expr) (G.post self.now.query) }
-        ensures given { spec.Reads result (spec.reading n.Insert cursor.old) cursor.new }
-        ensures fewer { IfOk result (λ _. length cursor.new < length cursor.old) }
-    {
-        cursor.past(Sort::Insert)?;
-        cursor.past(Sort::Into)?;
-        let table = cursor.name()?;
-        cursor.past(Sort::Values)?;
-        let rows = self.rows(cursor)?;
-        Ok(StatementBody::Insert { table, rows })
-    }
+fn rows(cursor: &mut Cursor<'_>) -> Result<List<ValuesRow>, Fault>
+    ensures given { spec.Reads result (list_read s.Comma (spec.reading n.Row) cursor.old) cursor.new }
+    ensures fewer { IfOk result (λ _. length cursor.new ≤ length cursor.old) }
+{
+    listed(cursor, Sort::Comma, |cursor: &mut Cursor<'_>| row(cursor))
+}
 
-    #[tactic(auto, using(sql_grammar::proofs::Steps::explain_is, sql_grammar::proofs::Nested::nests_below))]
-    fn explain(&self, cursor: &mut Cursor<'_>) -> Result<StatementBody, Fault>
-        requires { Nests (length cursor.old) (F.pre self.now.expr) (G.pre self.now.query) (F.post self.now.expr) (G.post self.now.query) }
-        ensures given { spec.Reads result (spec.reading n.Explain cursor.old) cursor.new }
-        ensures fewer { IfOk result (λ _. length cursor.new < length cursor.old) }
-    {
-        cursor.past(Sort::Explain)?;
-        cursor.past(Sort::Rewrite)?;
-        let query = self.nested_query(cursor)?.into_inner();
-        Ok(StatementBody::Explain { query })
-    }
+#[tactic(auto, using(crate::proofs::Stating::insert_is))]
+fn insert(cursor: &mut Cursor<'_>) -> Result<StatementBody, Fault>
+    ensures given { spec.Reads result (spec.reading n.Insert cursor.old) cursor.new }
+    ensures fewer { IfOk result (λ _. length cursor.new < length cursor.old) }
+{
+    cursor.past(Sort::Insert)?;
+    cursor.past(Sort::Into)?;
+    let table = cursor.name()?;
+    cursor.past(Sort::Values)?;
+    let rows = rows(cursor)?;
+    Ok(StatementBody::Insert { table, rows })
+}
 
-    #[tactic(auto, using(sql_grammar::proofs::Steps::delete_is, sql_grammar::proofs::Nested::nests_below))]
-    fn delete(&self, cursor: &mut Cursor<'_>) -> Result<StatementBody, Fault>
-        requires { Nests (length cursor.old) (F.pre self.now.expr) (G.pre self.now.query) (F.post self.now.expr) (G.post self.now.query) }
-        ensures given { spec.Reads result (spec.reading n.Delete cursor.old) cursor.new }
-        ensures fewer { IfOk result (λ _. length cursor.new < length cursor.old) }
-    {
-        cursor.past(Sort::Delete)?;
-        cursor.past(Sort::From)?;
-        let table = cursor.name()?;
-        let condition = self.condition(cursor)?.map(Boxed::into_inner);
-        Ok(StatementBody::Delete { table, condition })
-    }
+#[tactic(auto, using(sql_grammar::proofs::Steps::explain_is))]
+fn explain(cursor: &mut Cursor<'_>) -> Result<StatementBody, Fault>
+    ensures given { spec.Reads result (spec.reading n.Explain cursor.old) cursor.new }
+    ensures fewer { IfOk result (λ _. length cursor.new < length cursor.old) }
+{
+    cursor.past(Sort::Explain)?;
+    cursor.past(Sort::Rewrite)?;
+    let query = query(cursor)?.into_inner();
+    Ok(StatementBody::Explain { query })
+}
 
-    #[tactic(auto, using(sql_grammar::proofs::Nested::nests_below))]
-    fn statement_body(&self, cursor: &mut Cursor<'_>) -> Result<StatementBody, Fault>
-        requires { Nests (suc (length cursor.old)) (F.pre self.now.expr) (G.pre self.now.query) (F.post self.now.expr) (G.post self.now.query) }
-        ensures given { spec.Reads result (spelled.statement_body cursor.old) cursor.new }
-        ensures fewer { IfOk result (λ _. length cursor.new < length cursor.old) }
-    {
-        if cursor.sees(Sort::Create) {
-            self.create(cursor)
-        } else if cursor.sees(Sort::Copy) {
-            copy(cursor)
-        } else if cursor.sees(Sort::Insert) {
-            self.insert(cursor)
-        } else if cursor.sees(Sort::Delete) {
-            self.delete(cursor)
-        } else if cursor.sees(Sort::Drop) {
-            drop_what(cursor)
-        } else if cursor.sees(Sort::Explain) {
-            self.explain(cursor)
-        } else if cursor.sees(Sort::Show) {
-            show(cursor)
-        } else {
-            let query = self.nested_query(cursor)?.into_inner();
-            Ok(StatementBody::Select { query })
-        }
-    }
+#[tactic(auto, using(sql_grammar::proofs::Steps::delete_is))]
+fn delete(cursor: &mut Cursor<'_>) -> Result<StatementBody, Fault>
+    ensures given { spec.Reads result (spec.reading n.Delete cursor.old) cursor.new }
+    ensures fewer { IfOk result (λ _. length cursor.new < length cursor.old) }
+{
+    cursor.past(Sort::Delete)?;
+    cursor.past(Sort::From)?;
+    let table = cursor.name()?;
+    let condition = condition(cursor)?.map(Boxed::into_inner);
+    Ok(StatementBody::Delete { table, condition })
+}
 
-    #[tactic(auto, using(crate::proofs::Stating::statement_is, sql_grammar::proofs::Nested::nests_below))]
-    fn statement(&self, cursor: &mut Cursor<'_>) -> Result<Statement, Fault>
-        requires { Nests (suc (length cursor.old)) (F.pre self.now.expr) (G.pre self.now.query) (F.post self.now.expr) (G.post self.now.query) }
-        ensures given { spec.Reads result (spec.reading n.StatementOf cursor.old) cursor.new }
-        ensures fewer { IfOk result (λ _. length cursor.new < length cursor.old) }
-    {
-        let at = cursor.place();
-        let body = self.statement_body(cursor)?;
-        Ok(Statement { at, body })
+fn statement_body(cursor: &mut Cursor<'_>) -> Result<StatementBody, Fault>
+    ensures given { spec.Reads result (spelled.statement_body cursor.old) cursor.new }
+    ensures fewer { IfOk result (λ _. length cursor.new < length cursor.old) }
+{
+    if cursor.sees(Sort::Create) {
+        create(cursor)
+    } else if cursor.sees(Sort::Copy) {
+        copy(cursor)
+    } else if cursor.sees(Sort::Insert) {
+        insert(cursor)
+    } else if cursor.sees(Sort::Delete) {
+        delete(cursor)
+    } else if cursor.sees(Sort::Drop) {
+        drop_what(cursor)
+    } else if cursor.sees(Sort::Explain) {
+        explain(cursor)
+    } else if cursor.sees(Sort::Show) {
+        show(cursor)
+    } else {
+        let query = query(cursor)?.into_inner();
+        Ok(StatementBody::Select { query })
     }
+}
 
-    #[tactic(auto, using(sql_grammar::proofs::Nested::nests_below))]
-    fn optional_statement(&self, cursor: &mut Cursor<'_>) -> Result<Option<Statement>, Fault>
-        requires { Nests (suc (length cursor.old)) (F.pre self.now.expr) (G.pre self.now.query) (F.post self.now.expr) (G.post self.now.query) }
-        ensures given { spec.Reads result (spelled.optional_statement cursor.old) cursor.new }
-        ensures fewer { IfOk result (λ _. length cursor.new ≤ length cursor.old) }
-    {
-        if cursor.sees_any(&STATEMENTS) {
-            Ok(Some(self.statement(cursor)?))
-        } else {
-            Ok(None)
-        }
-    }
+#[tactic(auto, using(crate::proofs::Stating::statement_is))]
+fn statement(cursor: &mut Cursor<'_>) -> Result<Statement, Fault>
+    ensures given { spec.Reads result (spec.reading n.StatementOf cursor.old) cursor.new }
+    ensures fewer { IfOk result (λ _. length cursor.new < length cursor.old) }
+{
+    let at = cursor.place();
+    let body = statement_body(cursor)?;
+    Ok(Statement { at, body })
+}
 
-    #[tactic(auto, using(sql_grammar::proofs::Nested::nests_below))]
-    fn optional_statements(&self, cursor: &mut Cursor<'_>) -> Result<List<Option<Statement>>, Fault>
-        requires { Nests (suc (length cursor.old)) (F.pre self.now.expr) (G.pre self.now.query) (F.post self.now.expr) (G.post self.now.query) }
-        ensures given { spec.Reads result (list_read s.Semicolon spelled.optional_statement cursor.old) cursor.new }
-        ensures fewer { IfOk result (λ _. length cursor.new ≤ length cursor.old) }
-    {
-        listed(cursor, Sort::Semicolon, |cursor: &mut Cursor<'_>| {
-            self.optional_statement(cursor)
-        })
+fn optional_statement(cursor: &mut Cursor<'_>) -> Result<Option<Statement>, Fault>
+    ensures given { spec.Reads result (spelled.optional_statement cursor.old) cursor.new }
+    ensures fewer { IfOk result (λ _. length cursor.new ≤ length cursor.old) }
+{
+    if cursor.sees_any(&STATEMENTS) {
+        Ok(Some(statement(cursor)?))
+    } else {
+        Ok(None)
     }
+}
 
-    /// A whole script.
-    #[tactic(auto, using(crate::proofs::Stating::script_is, sql_grammar::proofs::Nested::nests_below))]
-    pub(crate) fn script(&self, cursor: &mut Cursor<'_>) -> Result<Script, Fault>
-        requires { Nests (suc (length cursor.old)) (F.pre self.now.expr) (G.pre self.now.query) (F.post self.now.expr) (G.post self.now.query) }
-        ensures given { spec.Reads result (spec.reading n.ScriptOf cursor.old) cursor.new }
-        ensures fewer { IfOk result (λ _. length cursor.new ≤ length cursor.old) }
-    {
-        let found = self.optional_statements(cursor)?;
-        Ok(Script {
-            statements: present(cursor.alloc(), found)?,
-        })
-    }
+fn optional_statements(cursor: &mut Cursor<'_>) -> Result<List<Option<Statement>>, Fault>
+    ensures given { spec.Reads result (list_read s.Semicolon spelled.optional_statement cursor.old) cursor.new }
+    ensures fewer { IfOk result (λ _. length cursor.new ≤ length cursor.old) }
+{
+    listed(cursor, Sort::Semicolon, |cursor: &mut Cursor<'_>| {
+        optional_statement(cursor)
+    })
+}
+
+/// A whole script.
+#[tactic(auto, using(crate::proofs::Stating::script_is))]
+pub(crate) fn script(cursor: &mut Cursor<'_>) -> Result<Script, Fault>
+    ensures given { spec.Reads result (spec.reading n.ScriptOf cursor.old) cursor.new }
+    ensures fewer { IfOk result (λ _. length cursor.new ≤ length cursor.old) }
+{
+    let found = optional_statements(cursor)?;
+    Ok(Script {
+        statements: present(cursor.alloc(), found)?,
+    })
 }

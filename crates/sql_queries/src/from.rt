@@ -1,6 +1,6 @@
 //! FROM and its joins (ISO/IEC 9075-2, 'table reference').
 
-ghost use Rattle.std.specs.Prelude.{◌≡◌, ◌<◌, ◌≤◌, suc, length, IfOk};
+ghost use Rattle.std.specs.Prelude.{◌≡◌, ◌<◌, ◌≤◌, length, IfOk};
 ghost use Rattle.sql_grammar.specs.Building as b;
 ghost use Rattle.sql_grammar.specs.Cursors as spec;
 ghost use Rattle.sql_grammar.specs.Nests.{Nests};
@@ -19,14 +19,14 @@ impl<
     F: Fn(&mut Cursor<'_>) -> Result<Boxed<ExprTree>, Fault>,
     G: Fn(&mut Cursor<'_>) -> Result<Boxed<QueryTree>, Fault>,
 > Grammar<F, G> {
-    #[tactic(auto, using(sql_grammar::proofs::Nested::nests_below))]
     fn inner_source(&self, cursor: &mut Cursor<'_>) -> Result<(FromSource, Option<Name>), Fault>
-        requires { Nests (length cursor.old) (F.pre self.now.expr) (G.pre self.now.query) (F.post self.now.expr) (G.post self.now.query) }
+        requires sound { Nests self.now.nest.most (F.pre self.now.nest.expr) (G.pre self.now.nest.query) (F.post self.now.nest.expr) (G.post self.now.nest.query) }
+        requires below { length cursor.old ≤ self.now.nest.most }
         ensures given { spec.Reads result (piece.inner_source cursor.old) cursor.new }
         ensures fewer { IfOk result (λ _. length cursor.new < length cursor.old) }
     {
         cursor.past(Sort::Opening)?;
-        let query = self.nested_query(cursor)?;
+        let query = self.nest.nested_query(cursor)?;
         cursor.past(Sort::Closing)?;
         cursor.option(Sort::As)?;
         let name = cursor.name()?;
@@ -35,7 +35,8 @@ impl<
 
     #[tactic(auto, using(sql_grammar::proofs::Queries::aliased_is))]
     fn aliased(&self, cursor: &mut Cursor<'_>) -> Result<(FromSource, Option<Name>), Fault>
-        requires { Nests (length cursor.old) (F.pre self.now.expr) (G.pre self.now.query) (F.post self.now.expr) (G.post self.now.query) }
+        requires sound { Nests self.now.nest.most (F.pre self.now.nest.expr) (G.pre self.now.nest.query) (F.post self.now.nest.expr) (G.post self.now.nest.query) }
+        requires below { length cursor.old ≤ self.now.nest.most }
         ensures given { spec.Reads result (spec.reading n.Aliased cursor.old) cursor.new }
         ensures fewer { IfOk result (λ _. length cursor.new < length cursor.old) }
     {
@@ -46,9 +47,10 @@ impl<
         }
     }
 
-    #[tactic(auto, using(sql_grammar::proofs::Nested::reading_is, sql_grammar::proofs::Nested::nests_below))]
+    #[tactic(auto, using(sql_grammar::proofs::Nested::reading_is))]
     fn from_item(&self, cursor: &mut Cursor<'_>) -> Result<Boxed<FromItem>, Fault>
-        requires { Nests (length cursor.old) (F.pre self.now.expr) (G.pre self.now.query) (F.post self.now.expr) (G.post self.now.query) }
+        requires sound { Nests self.now.nest.most (F.pre self.now.nest.expr) (G.pre self.now.nest.query) (F.post self.now.nest.expr) (G.post self.now.nest.query) }
+        requires below { length cursor.old ≤ self.now.nest.most }
         ensures given { spec.Reads result (spec.reading n.Source cursor.old) cursor.new }
         ensures fewer { IfOk result (λ _. length cursor.new < length cursor.old) }
     {
@@ -64,16 +66,16 @@ impl<
         Ok(Boxed::new(cursor.alloc(), item)?)
     }
 
-    #[tactic(auto, using(sql_grammar::proofs::Nested::nests_below))]
     fn joined_on(&self, cursor: &mut Cursor<'_>) -> Result<JoinStep, Fault>
-        requires { Nests (length cursor.old) (F.pre self.now.expr) (G.pre self.now.query) (F.post self.now.expr) (G.post self.now.query) }
+        requires sound { Nests self.now.nest.most (F.pre self.now.nest.expr) (G.pre self.now.nest.query) (F.post self.now.nest.expr) (G.post self.now.nest.query) }
+        requires below { length cursor.old ≤ self.now.nest.most }
         ensures given { spec.Reads result (piece.joined_on cursor.old) cursor.new }
         ensures fewer { IfOk result (λ _. length cursor.new < length cursor.old) }
     {
         let word = cursor.join_kind()?;
         let item = self.from_item(cursor)?;
         cursor.past(Sort::On)?;
-        let condition = self.expression(cursor)?;
+        let condition = self.nest.expression(cursor)?;
         Ok(JoinStep {
             word,
             item: item.into_inner(),
@@ -81,9 +83,9 @@ impl<
         })
     }
 
-    #[tactic(auto, using(sql_grammar::proofs::Nested::nests_below))]
     fn crossed(&self, cursor: &mut Cursor<'_>) -> Result<JoinStep, Fault>
-        requires { Nests (length cursor.old) (F.pre self.now.expr) (G.pre self.now.query) (F.post self.now.expr) (G.post self.now.query) }
+        requires sound { Nests self.now.nest.most (F.pre self.now.nest.expr) (G.pre self.now.nest.query) (F.post self.now.nest.expr) (G.post self.now.nest.query) }
+        requires below { length cursor.old ≤ self.now.nest.most }
         ensures given { spec.Reads result (piece.crossed cursor.old) cursor.new }
         ensures fewer { IfOk result (λ _. length cursor.new < length cursor.old) }
     {
@@ -99,7 +101,8 @@ impl<
 
     #[tactic(auto, using(sql_grammar::proofs::Queries::join_is))]
     fn join(&self, cursor: &mut Cursor<'_>) -> Result<JoinStep, Fault>
-        requires { Nests (length cursor.old) (F.pre self.now.expr) (G.pre self.now.query) (F.post self.now.expr) (G.post self.now.query) }
+        requires sound { Nests self.now.nest.most (F.pre self.now.nest.expr) (G.pre self.now.nest.query) (F.post self.now.nest.expr) (G.post self.now.nest.query) }
+        requires below { length cursor.old ≤ self.now.nest.most }
         ensures given { spec.Reads result (spec.reading n.Join cursor.old) cursor.new }
         ensures fewer { IfOk result (λ _. length cursor.new < length cursor.old) }
     {
@@ -110,9 +113,9 @@ impl<
         }
     }
 
-    #[tactic(auto, using(sql_grammar::proofs::Nested::nests_below))]
     fn joins(&self, cursor: &mut Cursor<'_>) -> Result<List<JoinStep>, Fault>
-        requires { Nests (length cursor.old) (F.pre self.now.expr) (G.pre self.now.query) (F.post self.now.expr) (G.post self.now.query) }
+        requires sound { Nests self.now.nest.most (F.pre self.now.nest.expr) (G.pre self.now.nest.query) (F.post self.now.nest.expr) (G.post self.now.nest.query) }
+        requires below { length cursor.old ≤ self.now.nest.most }
         ensures given { spec.Reads result (piece.joins cursor.old) cursor.new }
         ensures fewer { IfOk result (λ _. length cursor.new ≤ length cursor.old) }
     {
@@ -130,9 +133,10 @@ impl<
         )
     }
 
-    #[tactic(auto, using(sql_grammar::proofs::Queries::from_is, sql_grammar::proofs::Nested::nests_below))]
+    #[tactic(auto, using(sql_grammar::proofs::Queries::from_is))]
     fn from_tree(&self, cursor: &mut Cursor<'_>) -> Result<FromTree, Fault>
-        requires { Nests (length cursor.old) (F.pre self.now.expr) (G.pre self.now.query) (F.post self.now.expr) (G.post self.now.query) }
+        requires sound { Nests self.now.nest.most (F.pre self.now.nest.expr) (G.pre self.now.nest.query) (F.post self.now.nest.expr) (G.post self.now.nest.query) }
+        requires below { length cursor.old ≤ self.now.nest.most }
         ensures given { spec.Reads result (spec.reading n.From cursor.old) cursor.new }
         ensures fewer { IfOk result (λ _. length cursor.new < length cursor.old) }
     {
@@ -144,9 +148,9 @@ impl<
         })
     }
 
-    #[tactic(auto, using(sql_grammar::proofs::Nested::nests_below))]
     fn from_list(&self, cursor: &mut Cursor<'_>) -> Result<List<FromTree>, Fault>
-        requires { Nests (length cursor.old) (F.pre self.now.expr) (G.pre self.now.query) (F.post self.now.expr) (G.post self.now.query) }
+        requires sound { Nests self.now.nest.most (F.pre self.now.nest.expr) (G.pre self.now.nest.query) (F.post self.now.nest.expr) (G.post self.now.nest.query) }
+        requires below { length cursor.old ≤ self.now.nest.most }
         ensures given { spec.Reads result (piece.from_list cursor.old) cursor.new }
         ensures fewer { IfOk result (λ _. length cursor.new ≤ length cursor.old) }
     {
@@ -157,9 +161,10 @@ impl<
         )
     }
 
-    #[tactic(auto, using(sql_grammar::proofs::Queries::sources_is, sql_grammar::proofs::Nested::nests_below))]
+    #[tactic(auto, using(sql_grammar::proofs::Queries::sources_is))]
     pub(crate) fn sources(&self, cursor: &mut Cursor<'_>) -> Result<List<FromTree>, Fault>
-        requires { Nests (length cursor.old) (F.pre self.now.expr) (G.pre self.now.query) (F.post self.now.expr) (G.post self.now.query) }
+        requires sound { Nests self.now.nest.most (F.pre self.now.nest.expr) (G.pre self.now.nest.query) (F.post self.now.nest.expr) (G.post self.now.nest.query) }
+        requires below { length cursor.old ≤ self.now.nest.most }
         ensures given { spec.Reads result (spec.reading n.Sources cursor.old) cursor.new }
         ensures fewer { IfOk result (λ _. length cursor.new ≤ length cursor.old) }
     {

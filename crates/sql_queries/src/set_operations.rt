@@ -1,6 +1,6 @@
 //! Queries and their set operations (ISO/IEC 9075-2, 'query expression').
 
-ghost use Rattle.std.specs.Prelude.{◌≡◌, ◌<◌, ◌≤◌, suc, length, IfOk};
+ghost use Rattle.std.specs.Prelude.{◌≡◌, ◌<◌, ◌≤◌, length, IfOk};
 ghost use Rattle.sql_grammar.specs.Building as b;
 ghost use Rattle.sql_grammar.specs.Cursors as spec;
 ghost use Rattle.sql_grammar.specs.Nests.{Nests};
@@ -66,21 +66,22 @@ impl<
     F: Fn(&mut Cursor<'_>) -> Result<Boxed<ExprTree>, Fault>,
     G: Fn(&mut Cursor<'_>) -> Result<Boxed<QueryTree>, Fault>,
 > Grammar<F, G> {
-    #[tactic(auto, using(sql_grammar::proofs::Nested::nests_below))]
     fn parenthesised(&self, cursor: &mut Cursor<'_>) -> Result<Boxed<SetTree>, Fault>
-        requires { Nests (length cursor.old) (F.pre self.now.expr) (G.pre self.now.query) (F.post self.now.expr) (G.post self.now.query) }
+        requires sound { Nests self.now.nest.most (F.pre self.now.nest.expr) (G.pre self.now.nest.query) (F.post self.now.nest.expr) (G.post self.now.nest.query) }
+        requires below { length cursor.old ≤ self.now.nest.most }
         ensures given { spec.Reads result (piece.parenthesised cursor.old) cursor.new }
         ensures fewer { IfOk result (λ _. length cursor.new < length cursor.old) }
     {
         cursor.past(Sort::Opening)?;
-        let query = self.nested_query(cursor)?;
+        let query = self.nest.nested_query(cursor)?;
         cursor.past(Sort::Closing)?;
         Ok(Boxed::new(cursor.alloc(), SetTree::Paren(query))?)
     }
 
     #[tactic(auto, using(sql_grammar::proofs::Queries::operand_is))]
     fn operand(&self, cursor: &mut Cursor<'_>) -> Result<Boxed<SetTree>, Fault>
-        requires { Nests (length cursor.old) (F.pre self.now.expr) (G.pre self.now.query) (F.post self.now.expr) (G.post self.now.query) }
+        requires sound { Nests self.now.nest.most (F.pre self.now.nest.expr) (G.pre self.now.nest.query) (F.post self.now.nest.expr) (G.post self.now.nest.query) }
+        requires below { length cursor.old ≤ self.now.nest.most }
         ensures given { spec.Reads result (spec.reading n.Operand cursor.old) cursor.new }
         ensures fewer { IfOk result (λ _. length cursor.new < length cursor.old) }
     {
@@ -92,9 +93,10 @@ impl<
         }
     }
 
-    #[tactic(auto, using(sql_grammar::proofs::Queries::intersect_is, sql_grammar::proofs::Nested::nests_below))]
+    #[tactic(auto, using(sql_grammar::proofs::Queries::intersect_is))]
     fn intersect_step(&self, cursor: &mut Cursor<'_>) -> Result<SetStep, Fault>
-        requires { Nests (length cursor.old) (F.pre self.now.expr) (G.pre self.now.query) (F.post self.now.expr) (G.post self.now.query) }
+        requires sound { Nests self.now.nest.most (F.pre self.now.nest.expr) (G.pre self.now.nest.query) (F.post self.now.nest.expr) (G.post self.now.nest.query) }
+        requires below { length cursor.old ≤ self.now.nest.most }
         ensures given { spec.Reads result (spec.reading n.IntersectStep cursor.old) cursor.new }
         ensures fewer { IfOk result (λ _. length cursor.new < length cursor.old) }
     {
@@ -110,9 +112,9 @@ impl<
         })
     }
 
-    #[tactic(auto, using(sql_grammar::proofs::Nested::nests_below))]
     fn intersections(&self, cursor: &mut Cursor<'_>) -> Result<List<SetStep>, Fault>
-        requires { Nests (length cursor.old) (F.pre self.now.expr) (G.pre self.now.query) (F.post self.now.expr) (G.post self.now.query) }
+        requires sound { Nests self.now.nest.most (F.pre self.now.nest.expr) (G.pre self.now.nest.query) (F.post self.now.nest.expr) (G.post self.now.nest.query) }
+        requires below { length cursor.old ≤ self.now.nest.most }
         ensures given { spec.Reads result (piece.intersections cursor.old) cursor.new }
         ensures fewer { IfOk result (λ _. length cursor.new ≤ length cursor.old) }
     {
@@ -123,9 +125,10 @@ impl<
         )
     }
 
-    #[tactic(auto, using(sql_grammar::proofs::Queries::term_is, sql_grammar::proofs::Nested::nests_below))]
+    #[tactic(auto, using(sql_grammar::proofs::Queries::term_is))]
     fn term(&self, cursor: &mut Cursor<'_>) -> Result<Boxed<SetTree>, Fault>
-        requires { Nests (length cursor.old) (F.pre self.now.expr) (G.pre self.now.query) (F.post self.now.expr) (G.post self.now.query) }
+        requires sound { Nests self.now.nest.most (F.pre self.now.nest.expr) (G.pre self.now.nest.query) (F.post self.now.nest.expr) (G.post self.now.nest.query) }
+        requires below { length cursor.old ≤ self.now.nest.most }
         ensures given { spec.Reads result (spec.reading n.Term cursor.old) cursor.new }
         ensures fewer { IfOk result (λ _. length cursor.new < length cursor.old) }
     {
@@ -134,9 +137,10 @@ impl<
         Ok(set_chain(cursor.alloc(), first, steps)?)
     }
 
-    #[tactic(auto, using(sql_grammar::proofs::Queries::union_is, sql_grammar::proofs::Nested::nests_below))]
+    #[tactic(auto, using(sql_grammar::proofs::Queries::union_is))]
     fn union_step(&self, cursor: &mut Cursor<'_>) -> Result<SetStep, Fault>
-        requires { Nests (length cursor.old) (F.pre self.now.expr) (G.pre self.now.query) (F.post self.now.expr) (G.post self.now.query) }
+        requires sound { Nests self.now.nest.most (F.pre self.now.nest.expr) (G.pre self.now.nest.query) (F.post self.now.nest.expr) (G.post self.now.nest.query) }
+        requires below { length cursor.old ≤ self.now.nest.most }
         ensures given { spec.Reads result (spec.reading n.UnionStep cursor.old) cursor.new }
         ensures fewer { IfOk result (λ _. length cursor.new < length cursor.old) }
     {
@@ -153,9 +157,9 @@ impl<
         })
     }
 
-    #[tactic(auto, using(sql_grammar::proofs::Nested::nests_below))]
     fn unions(&self, cursor: &mut Cursor<'_>) -> Result<List<SetStep>, Fault>
-        requires { Nests (length cursor.old) (F.pre self.now.expr) (G.pre self.now.query) (F.post self.now.expr) (G.post self.now.query) }
+        requires sound { Nests self.now.nest.most (F.pre self.now.nest.expr) (G.pre self.now.nest.query) (F.post self.now.nest.expr) (G.post self.now.nest.query) }
+        requires below { length cursor.old ≤ self.now.nest.most }
         ensures given { spec.Reads result (piece.unions cursor.old) cursor.new }
         ensures fewer { IfOk result (λ _. length cursor.new ≤ length cursor.old) }
     {
@@ -166,12 +170,12 @@ impl<
         )
     }
 
-    #[tactic(auto, using(sql_grammar::proofs::Nested::nests_below))]
     fn unions_on(
         &self,
         cursor: &mut Cursor<'_>,
     ) -> Result<(List<SetStep>, (List<OrderTree>, Option<i64>)), Fault>
-        requires { Nests (length cursor.old) (F.pre self.now.expr) (G.pre self.now.query) (F.post self.now.expr) (G.post self.now.query) }
+        requires sound { Nests self.now.nest.most (F.pre self.now.nest.expr) (G.pre self.now.nest.query) (F.post self.now.nest.expr) (G.post self.now.nest.query) }
+        requires below { length cursor.old ≤ self.now.nest.most }
         ensures given { spec.Reads result (piece.unions_on cursor.old) cursor.new }
         ensures fewer { IfOk result (λ _. length cursor.new ≤ length cursor.old) }
     {
@@ -180,7 +184,6 @@ impl<
         Ok((steps, rest))
     }
 
-    #[tactic(auto, using(sql_grammar::proofs::Nested::nests_below))]
     fn query_rest(
         &self,
         cursor: &mut Cursor<'_>,
@@ -191,7 +194,8 @@ impl<
         ),
         Fault,
     >
-        requires { Nests (length cursor.old) (F.pre self.now.expr) (G.pre self.now.query) (F.post self.now.expr) (G.post self.now.query) }
+        requires sound { Nests self.now.nest.most (F.pre self.now.nest.expr) (G.pre self.now.nest.query) (F.post self.now.nest.expr) (G.post self.now.nest.query) }
+        requires below { length cursor.old ≤ self.now.nest.most }
         ensures given { spec.Reads result (piece.query_rest cursor.old) cursor.new }
         ensures fewer { IfOk result (λ _. length cursor.new ≤ length cursor.old) }
     {
@@ -201,9 +205,10 @@ impl<
     }
 
     /// A query, whose inner queries are read by another function.
-    #[tactic(auto, using(sql_grammar::proofs::Queries::query_is, sql_grammar::proofs::Nested::nests_below))]
+    #[tactic(auto, using(sql_grammar::proofs::Queries::query_is))]
     pub fn query_body(&self, cursor: &mut Cursor<'_>) -> Result<Boxed<QueryTree>, Fault>
-        requires { Nests (length cursor.old) (F.pre self.now.expr) (G.pre self.now.query) (F.post self.now.expr) (G.post self.now.query) }
+        requires sound { Nests self.now.nest.most (F.pre self.now.nest.expr) (G.pre self.now.nest.query) (F.post self.now.nest.expr) (G.post self.now.nest.query) }
+        requires below { length cursor.old ≤ self.now.nest.most }
         ensures given { spec.Reads result (spec.reading n.Query cursor.old) cursor.new }
         ensures fewer { IfOk result (λ _. length cursor.new < length cursor.old) }
     {

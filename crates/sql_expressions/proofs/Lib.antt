@@ -1,0 +1,4 @@
+pub mod Connecting
+pub mod Counts
+pub mod Primaries
+pub mod Comparing

@@ -1,0 +1,73 @@
+//! Expressions hold queries, and queries expressions: a rule that holds either gets what reads them, and is proved by itself.
+
+ghost use Rattle.std.specs.Prelude.{◌≡◌, ◌<◌, ◌≤◌, length, IfOk};
+ghost use Rattle.sql_grammar.specs.Cursors as spec;
+ghost use Rattle.sql_grammar.specs.Nests.{Nests};
+ghost use Rattle.sql_grammar.specs.Symbols as n;
+
+use crate::cursor::Cursor;
+use crate::fault::Fault;
+use crate::sort::Sort;
+use perm_values::Boxed;
+use sql_tree::{ExprTree, QueryTree};
+
+/// What reads an expression and what reads a query, where fewer than `most` tokens are left.
+#[derive(Clone, Copy)]
+pub struct Nest<F, G> {
+    pub expr: F,
+    pub query: G,
+    pub most: usize,
+}
+
+impl<
+    F: Fn(&mut Cursor<'_>) -> Result<Boxed<ExprTree>, Fault>,
+    G: Fn(&mut Cursor<'_>) -> Result<Boxed<QueryTree>, Fault>,
+> Nest<F, G> {
+    #[tactic(auto, using(crate::proofs::Nested::expr_takes))]
+    pub fn expression(&self, cursor: &mut Cursor<'_>) -> Result<Boxed<ExprTree>, Fault>
+        requires sound { Nests self.now.most (F.pre self.now.expr) (G.pre self.now.query) (F.post self.now.expr) (G.post self.now.query) }
+        requires below { length cursor.old < self.now.most }
+        ensures given { spec.Reads result (spec.reading n.Expr cursor.old) cursor.new }
+        ensures fewer { IfOk result (λ _. length cursor.new < length cursor.old) }
+    {
+        (self.expr)(cursor)
+    }
+
+    #[tactic(auto, using(crate::proofs::Nested::query_takes))]
+    pub fn nested_query(&self, cursor: &mut Cursor<'_>) -> Result<Boxed<QueryTree>, Fault>
+        requires sound { Nests self.now.most (F.pre self.now.expr) (G.pre self.now.query) (F.post self.now.expr) (G.post self.now.query) }
+        requires below { length cursor.old < self.now.most }
+        ensures given { spec.Reads result (spec.reading n.Query cursor.old) cursor.new }
+        ensures fewer { IfOk result (λ _. length cursor.new < length cursor.old) }
+    {
+        (self.query)(cursor)
+    }
+
+    /// A query that begins with the word SELECT: it is read as any query is.
+    #[tactic(auto, using(crate::proofs::Inner::inner_by_query))]
+    pub fn inner(&self, cursor: &mut Cursor<'_>) -> Result<Boxed<QueryTree>, Fault>
+        requires sound { Nests self.now.most (F.pre self.now.expr) (G.pre self.now.query) (F.post self.now.expr) (G.post self.now.query) }
+        requires below { length cursor.old < self.now.most }
+        ensures given { spec.Reads result (spec.reading n.Inner cursor.old) cursor.new }
+        ensures fewer { IfOk result (λ _. length cursor.new < length cursor.old) }
+    {
+        if cursor.sees(Sort::Select) {
+            self.nested_query(cursor)
+        } else {
+            Err(Fault::Unexpected)
+        }
+    }
+
+    #[tactic(auto, using(crate::proofs::Nested::reading_is))]
+    pub fn in_parentheses(&self, cursor: &mut Cursor<'_>) -> Result<Boxed<QueryTree>, Fault>
+        requires sound { Nests self.now.most (F.pre self.now.expr) (G.pre self.now.query) (F.post self.now.expr) (G.post self.now.query) }
+        requires below { length cursor.old ≤ self.now.most }
+        ensures given { spec.Reads result (spec.reading n.InParentheses cursor.old) cursor.new }
+        ensures fewer { IfOk result (λ _. length cursor.new < length cursor.old) }
+    {
+        cursor.past(Sort::Opening)?;
+        let query = self.inner(cursor)?;
+        cursor.past(Sort::Closing)?;
+        Ok(query)
+    }
+}

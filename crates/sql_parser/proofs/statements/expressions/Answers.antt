@@ -1,0 +1,9 @@
+use Rattle.std.proofs.Common.{rules}
+use Rattle.sql_grammar.specs.Cursors.{reading}
+use Rattle.sql_grammar.specs.Symbols as n
+use Rattle.sql_grammar.proofs.Steps.{reading-keeps, exprs_is}
+use Rattle.sql_parser.proofs.statements.expressions.Goals as goal
+
+pub returns-clause-given : goal.returns-clause-given
+returns-clause-given c = rw (exprs_is c.args.cursor.now)
+    (c.listed.ensures.given (reading n.Expr) (record { reads = λ old new r met. search rules; fewer = reading-keeps n.Expr }))
