@@ -1,12 +1,10 @@
 -- What is well formed under some outer kinds is well formed under outer kinds that name the same columns and more.
 use Rattle.std.proofs.Common.{◌≡◌, ℕ, zero, suc, List, [], ◌∷◌, ◌++◌, slice_get, All, Option, Some, None}
-use Rattle.null_logic.specs.declared.operator.Operator.{Operator}
-use Rattle.null_logic.specs.declared.operator.Operator.TheVariants as op
 use Rattle.perm_values.specs.declared.kind.Kind.{Kind}
-use Rattle.perm_values.specs.declared.kind.Kind.TheVariants.{Integer, Text, Boolean}
+use Rattle.perm_values.specs.declared.kind.Kind.TheVariants.{Integer, Boolean}
 use Rattle.bag_algebra.specs.Kinds.{kinds_of}
 use Rattle.bag_algebra.specs.Patterns.{OpOf, ChainOf, CaseOf, IsNullOf, IsTruthOf, SameOf, BaseOf, FilterOf, ProjectOf, JoinOf, UnionOf, IntersectOf, ExceptOf, DistinctOf, AggregateOf, LimitOf, ProvOf}
-use Rattle.bag_algebra.specs.WellFormed.{column_kind, Alike, OpForm, op_form, HasKind, PartsHave, StepsHave, ArmsHave, number_of_parts, aggr_form, sub_form, sub_kinds, WellFormed, SubsForm}
+use Rattle.bag_algebra.specs.WellFormed.{column_kind, HasKind, PartsHave, StepsHave, ArmsHave, number_of_parts, aggr_form, sub_form, sub_kinds, WellFormed, SubsForm}
 use Rattle.bag_algebra.specs.declared.expr.Expr.{Expr, Row_of-Expr, Row_of-Arm, Row_of-ChainStep, more_of-Expr, end_of-Expr, more_of-Arm, end_of-Arm, more_of-ChainStep, end_of-ChainStep}
 use Rattle.bag_algebra.specs.declared.expr.Expr.TheVariants.{Col, Lit, Sub}
 use Rattle.bag_algebra.specs.declared.expr.Item.{Item}
@@ -17,6 +15,7 @@ use Rattle.bag_algebra.specs.declared.query.Query.{Query, Row_of-Sublink, more_o
 use Rattle.bag_algebra.specs.declared.query.Query.TheVariants.{Table, Single}
 use Rattle.bag_algebra.specs.declared.query.SubKind.{SubKind}
 use Rattle.bag_algebra.specs.declared.query.SubKind.TheVariants as sub
+use Rattle.query_parts.proofs.PartForms.{alike-kept, op_form-kept}
 use Rattle.contribution.specs.Longer.{Longer, more_lists, more_items}
 
 -- each column of the first is named, with its kind, by the second
@@ -45,29 +44,6 @@ names-own kinds {outer} {longer} n = record { named = at } where
   at (suc level) place kind e = n.named level place kind e
 
 -- ---- expressions
-
-module _ {P Q : Kind → Type 0} (keep : (k : Kind) → P k → Q k) where
-  pub alike-kept : Alike P → Alike Q
-  alike-kept a = record { shared = a.shared; parts = keep a.shared a.parts }
-
-  form_kept : {Number : Type 0} (needed given kind : Kind) → OpForm Number (P needed) given kind → OpForm Number (Q needed) given kind
-  form_kept needed given kind f = record { number = f.number; parts = keep needed f.parts; gives = f.gives }
-
-  alike_form_kept : {Number : Type 0} (given kind : Kind) → OpForm Number (Alike P) given kind → OpForm Number (Alike Q) given kind
-  alike_form_kept given kind f = record { number = f.number; parts = alike-kept f.parts; gives = f.gives }
-
-  pub op_form-kept : (o : Operator) (n : ℕ) (kind : Kind) → op_form o n P kind → op_form o n Q kind
-  op_form-kept op.And n kind f = form_kept Boolean Boolean kind f
-  op_form-kept op.Or n kind f = form_kept Boolean Boolean kind f
-  op_form-kept op.Not n kind f = form_kept Boolean Boolean kind f
-  op_form-kept op.Negate n kind f = form_kept Integer Integer kind f
-  op_form-kept (op.Compare c) n kind f = alike_form_kept Boolean kind f
-  op_form-kept (op.Arith c) n kind f = f
-  op_form-kept op.Like n kind f = form_kept Text Boolean kind f
-  op_form-kept op.Between n kind f = alike_form_kept Boolean kind f
-  op_form-kept op.InList n kind f = alike_form_kept Boolean kind f
-  op_form-kept op.Coalesce n kind f = form_kept kind kind kind f
-  op_form-kept op.NullIf n kind f = form_kept kind kind kind f
 
 module _ {scopes longer : List (List Kind)} (n : NamesAlso scopes longer) (subs : List Kind) where
   mutual

@@ -1,5 +1,5 @@
 -- The query of one row of NULLs.
-use Rattle.std.proofs.Common.{◌≡◌, List, [], ◌∷◌, map, length, refl, ap, ◌∙◌}
+use Rattle.std.proofs.Common.{◌≡◌, List, [], ◌∷◌, length, ap, ◌∙◌}
 use Rattle.perm_values.specs.declared.kind.Kind.{Kind}
 use Rattle.bag_algebra.proofs.Columns.{with_lists-rows}
 use Rattle.bag_algebra.specs.Bags.{Row, nulls}

@@ -1,12 +1,11 @@
 -- Each variant of an expression is moved where its parts are.
 use Rattle.std.proofs.Common.{◌≡◌, ℕ, zero, suc, ◌≤◌, ◌+◌, ◌<◌, Bool, not, ◌&&◌, List, [], ◌∷◌, ◌++◌, length, Option, Some, None, refl, sym, ap, ◌∙◌, subst, arith, take, get_or}
-use Rattle.std.specs.Prelude.{slice_get, slice_index_or}
+use Rattle.std.specs.Prelude.{slice_get}
 use Rattle.std.proofs.lemmas.List.{take_more}
 use mathlib.Core.Bool.{beq}
 use Rattle.null_logic.specs.Comparison.{is_null}
 use Rattle.null_logic.specs.declared.arith.Arith.{Arith}
 use Rattle.null_logic.specs.declared.operator.Operator.{Operator}
-use Rattle.null_logic.specs.declared.operator.Operator.TheVariants as op
 use Rattle.null_logic.specs.declared.truth.Truth.{Truth}
 use Rattle.perm_values.specs.Rows.{picked, value_at}
 use Rattle.perm_values.specs.Values.{same_value}
@@ -18,16 +17,16 @@ use Rattle.bag_algebra.specs.Bags.{Row}
 use Rattle.bag_algebra.specs.Built.{row_of_parts, row_of_steps, row_of_arms, shape_of_steps, shape_of_arms, Chain-is, Case-is, IsNull-is, IsTruth-is, Same-is}
 use Rattle.bag_algebra.specs.Expressions.{values, step_values, arm_value, Step, operate, chain, has_truth, chosen_arm}
 use Rattle.bag_algebra.specs.FaultFree.{may_fault, parts_faultless, arms_faultless}
-use Rattle.bag_algebra.specs.Kinds.{kind_in, kinds_in}
+use Rattle.bag_algebra.specs.Kinds.{kinds_in}
 use Rattle.bag_algebra.specs.Outcome.{Outcome, Good, and_then, mapped, both, both_then}
 use Rattle.bag_algebra.specs.Patterns.{ChainOf, CaseOf, IsNullOf, IsTruthOf, SameOf}
-use Rattle.bag_algebra.specs.WellFormed.{PartsHave, StepsHave, ArmsHave, PlacesIn, Alike, OpForm, op_form, is_additive, steps_are, number_of_parts, number_of_steps, number_of_arms}
+use Rattle.bag_algebra.specs.WellFormed.{PartsHave, StepsHave, ArmsHave, PlacesIn, op_form, is_additive, steps_are, number_of_parts, number_of_steps, number_of_arms}
 use Rattle.bag_algebra.specs.declared.expr.Arm.{Arm}
 use Rattle.bag_algebra.specs.declared.expr.ChainStep.{ChainStep}
 use Rattle.bag_algebra.specs.declared.expr.Expr.{Expr}
 use Rattle.bag_algebra.specs.declared.expr.Expr.TheBlock.{shape-the_row-Expr-0, hidden-the_row-Expr-0, shape-the_row-ChainStep-2, hidden-the_row-ChainStep-2, shape-the_row-Arm-3, hidden-the_row-Arm-3}
-use Rattle.bag_algebra.specs.declared.expr.Expr.TheVariants.{Col, Lit, Sub, Op, Chain, Case, IsNull, IsTruth, Same}
-use Rattle.query_parts.proofs.ColumnQueries.{kind_there}
+use Rattle.bag_algebra.specs.declared.expr.Expr.TheVariants.{Col, Lit, Op, Chain, Case, IsNull, IsTruth, Same}
+use Rattle.query_parts.proofs.PartForms.{alike-kept, op_form-kept}
 use Rattle.query_parts.specs.MovedColumns.{IsMoved, Along, PartsMoved, StepsMoved, ArmsMoved}
 
 -- ---- lists
@@ -47,21 +46,10 @@ along-next R xs ys more i x y within is a r e =
 
 -- ---- columns
 
-picked-at : (order : List ℕ) (place : ℕ) (u : Row) → place < length order → value_at u (slice_index_or order place 0) ≡ value_at (picked order u) place
-picked-at [] place u within = absurd (omega (arith, within))
-picked-at (o ∷ order) zero u within = refl
-picked-at (o ∷ order) (suc place) u within = picked-at order place u (omega (arith, within))
-
 picked-beyond : (order : List ℕ) (place : ℕ) (u : Row) → length order ≤ place → value.Null ≡ value_at (picked order u) place
 picked-beyond [] place u beyond = refl
 picked-beyond (o ∷ order) zero u beyond = absurd (omega (arith, beyond))
 picked-beyond (o ∷ order) (suc place) u beyond = picked-beyond order place u (omega (arith, beyond))
-
-kinds-at : (kinds : List Kind) (order : List ℕ) (place : ℕ) → place < length order →
-    slice_get (kinds_in kinds order) place ≡ Some (kind_in kinds (slice_index_or order place 0))
-kinds-at kinds [] place within = absurd (omega (arith, within))
-kinds-at kinds (o ∷ order) zero within = refl
-kinds-at kinds (o ∷ order) (suc place) within = kinds-at kinds order place (omega (arith, within))
 
 abbrev given : Option Kind → Type 0
 given None = Unit
@@ -73,55 +61,12 @@ kinds-beyond kinds (o ∷ order) zero kind beyond e = absurd (omega (arith, beyo
 kinds-beyond kinds (o ∷ order) (suc place) kind beyond e = kinds-beyond kinds order place kind (omega (arith, beyond)) e
 
 module _ (order : List ℕ) where
-  pub moved-outer : (level place : ℕ) → 0 < level → IsMoved order (Col level place) (Col level place)
-  moved-outer zero place above = absurd (omega (arith, above))
-  moved-outer (suc level) place above = record { value = λ u env subs. refl; kind = λ kinds outer subs kind within h. h; faultless = refl }
-
-  pub moved-own : (place : ℕ) → place < length order → IsMoved order (Col 0 place) (Col 0 (slice_index_or order place 0))
-  moved-own place inside = record {
-    value = λ u env subs. ap Good (picked-at order place u inside);
-    kind = λ kinds outer subs kind within h.
-        kind_there kinds (slice_index_or order place 0) (within place 0 inside) ∙ sym (kinds-at kinds order place inside) ∙ h;
-    faultless = refl;
-  }
-
   pub moved-none : (place : ℕ) → length order ≤ place → IsMoved order (Col 0 place) (Lit value.Null Text)
   moved-none place beyond = record {
     value = λ u env subs. ap Good (picked-beyond order place u beyond);
     kind = λ kinds outer subs kind within h. absurd (kinds-beyond kinds order place kind beyond h);
     faultless = refl;
   }
-
-  pub moved-Lit : (v : Value) (own : Kind) → IsMoved order (Lit v own) (Lit v own)
-  moved-Lit v own = record { value = λ u env subs. refl; kind = λ kinds outer subs kind within h. h; faultless = refl }
-
-  pub moved-Sub : (number : ℕ) → IsMoved order (Sub number) (Sub number)
-  moved-Sub number = record { value = λ u env subs. refl; kind = λ kinds outer subs kind within h. h; faultless = refl }
-
--- ---- parts of one kind
-
-module _ {P Q : Kind → Type 0} (keep : (k : Kind) → P k → Q k) where
-  alike-moved : Alike P → Alike Q
-  alike-moved a = record { shared = a.shared; parts = keep a.shared a.parts }
-
-  form-moved : {Number : Type 0} (given asked kind : Kind) → OpForm Number (P asked) given kind → OpForm Number (Q asked) given kind
-  form-moved given asked kind f = record { number = f.number; parts = keep asked f.parts; gives = f.gives }
-
-  alike_form-moved : {Number : Type 0} (given kind : Kind) → OpForm Number (Alike P) given kind → OpForm Number (Alike Q) given kind
-  alike_form-moved given kind f = record { number = f.number; parts = alike-moved f.parts; gives = f.gives }
-
-  op_form-moved : (o : Operator) (n : ℕ) (kind : Kind) → op_form o n P kind → op_form o n Q kind
-  op_form-moved op.And n kind f = form-moved Boolean Boolean kind f
-  op_form-moved op.Or n kind f = form-moved Boolean Boolean kind f
-  op_form-moved op.Not n kind f = form-moved Boolean Boolean kind f
-  op_form-moved op.Negate n kind f = form-moved Integer Integer kind f
-  op_form-moved (op.Compare c) n kind f = alike_form-moved Boolean kind f
-  op_form-moved (op.Arith c) n kind f = f
-  op_form-moved op.Like n kind f = form-moved Boolean Text kind f
-  op_form-moved op.Between n kind f = alike_form-moved Boolean kind f
-  op_form-moved op.InList n kind f = alike_form-moved Boolean kind f
-  op_form-moved op.Coalesce n kind f = form-moved kind kind kind f
-  op_form-moved op.NullIf n kind f = form-moved kind kind kind f
 
 -- ---- variants without lists
 
@@ -130,7 +75,7 @@ module _ (order : List ℕ) where
   moved-IsNull e p m =
       subst (IsMoved order (IsNull e)) (sym (IsNull-is p)) (subst (λ x. IsMoved order x (IsNullOf p)) (sym (IsNull-is e)) (record {
         value = λ u env subs. ap (mapped (λ v. value.Boolean (is_null v))) (m.value u env subs);
-        kind = λ kinds outer subs kind within h. record { parts = alike-moved (λ l g. m.kind kinds outer subs l within g) h.parts; gives = h.gives };
+        kind = λ kinds outer subs kind within h. record { parts = alike-kept (λ l g. m.kind kinds outer subs l within g) h.parts; gives = h.gives };
         faultless = m.faultless;
       }))
 
@@ -147,7 +92,7 @@ module _ (order : List ℕ) where
       subst (IsMoved order (Same e f)) (sym (Same-is p r)) (subst (λ x. IsMoved order x (SameOf p r)) (sym (Same-is e f)) (record {
         value = λ u env subs i. both (λ v w. value.Boolean (same_value v w)) (m.value u env subs i) (n.value u env subs i);
         kind = λ kinds outer subs kind within h. record {
-          parts = alike-moved (λ l g. (m.kind kinds outer subs l within g.0, n.kind kinds outer subs l within g.1)) h.parts;
+          parts = alike-kept (λ l g. (m.kind kinds outer subs l within g.0, n.kind kinds outer subs l within g.1)) h.parts;
           gives = h.gives;
         };
         faultless = λ i. m.faultless i && n.faultless i;
@@ -192,7 +137,7 @@ module _ (order : List ℕ) where
     value = λ u env subs. ap (λ vs. and_then vs (operate o)) (parts-values u env subs es ps m);
     kind = λ kinds outer subs kind within h.
         subst (λ n. op_form o n (PartsHave (kinds ∷ outer) subs (row_of_parts ps)) kind) (parts-number es ps m)
-        (op_form-moved (λ k g. parts-have kinds outer subs within k es ps m g) o (number_of_parts (row_of_parts es)) kind h);
+        (op_form-kept (λ k g. parts-have kinds outer subs within k es ps m g) o (number_of_parts (row_of_parts es)) kind h);
     faultless = ap (λ b. not (may_fault o) && b) (parts-faultless es ps m);
   }
 
