@@ -13,8 +13,6 @@ mod query;
 mod reach;
 mod scopes;
 mod tables;
-#[cfg(test)]
-mod tests;
 
 pub use env::Env;
 pub use expr::{Arm, ChainStep, Expr, Item};

@@ -8,8 +8,6 @@ mod laws;
 mod names;
 mod places;
 mod reorder;
-#[cfg(test)]
-mod tests;
 
 pub use blank::null_row;
 pub use cross::{TableSource, cross_base};

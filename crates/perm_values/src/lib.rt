@@ -11,8 +11,6 @@ mod laws;
 mod list;
 mod no_memory;
 mod row;
-#[cfg(test)]
-mod tests;
 mod value;
 
 pub use boxed::Boxed;

@@ -6,8 +6,6 @@ mod expression;
 mod operate;
 mod query;
 mod step;
-#[cfg(test)]
-mod tests;
 
 pub use error::ExecError;
 pub use expression::eval;
