@@ -7,8 +7,6 @@ mod cross;
 mod laws;
 mod names;
 mod places;
-#[cfg(test)]
-mod tests;
 
 pub use blank::null_row;
 pub use cross::{TableSource, cross_base};

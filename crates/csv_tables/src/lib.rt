@@ -10,6 +10,3 @@ pub use answer::answer_text;
 pub use data_error::DataError;
 pub use laws::answers_read_back;
 pub use loading::load;
-
-#[cfg(test)]
-mod tests;

@@ -7,8 +7,6 @@ mod laws;
 mod operator;
 mod pattern;
 mod run_fault;
-#[cfg(test)]
-mod tests;
 mod truth;
 
 pub use arith::{Arith, calculate, negate};

@@ -8,8 +8,6 @@ mod entries;
 mod last;
 mod laws;
 mod renew;
-#[cfg(test)]
-mod tests;
 
 pub use catalog::{Catalog, CatalogRefusal};
 pub use column::Column;

@@ -29,6 +29,3 @@ pub use reading::{ReadError, read_all};
 pub use sink::Sink;
 pub use std_sink::StdSink;
 pub use writing::{WriteFault, write_all};
-
-#[cfg(test)]
-mod tests;

@@ -12,8 +12,6 @@ mod list;
 mod no_memory;
 mod room;
 mod row;
-#[cfg(test)]
-mod tests;
 mod text;
 mod value;
 
