@@ -1,5 +1,6 @@
 pub mod Bags
 pub mod Built
+pub mod BuiltForms
 pub mod Children
 pub mod Closed
 pub mod ColumnItems

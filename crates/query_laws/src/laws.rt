@@ -1,5 +1,5 @@
 //! The law of each node: the contract of a function that does nothing.
-ghost use Rattle.std.specs.Prelude.{◌≡◌, ◌≢◌, ℕ, pos, ◌+◌, ◌-◌, min, Bool, cond, not, List, [], ◌∷◌, map, length, count_by, IsTrue, IsFalse};
+ghost use Rattle.std.specs.Prelude.{◌≡◌, ◌≢◌, ◌↔◌, ℕ, pos, ◌+◌, ◌-◌, min, Bool, cond, not, List, [], ◌∷◌, map, length, count_by, IsTrue, IsFalse};
 ghost use Rattle.null_logic.specs.Arithmetic.{fits_64};
 ghost use Rattle.null_logic.specs.Comparison.{is_null};
 ghost use Rattle.null_logic.specs.declared.run_fault.RunFault.TheVariants.{OutOfRange};
@@ -9,7 +9,7 @@ ghost use Rattle.perm_values.specs.declared.key.Key.{Key};
 ghost use Rattle.perm_values.specs.declared.kind.Kind.{Kind};
 ghost use Rattle.perm_values.specs.declared.value.Value.TheVariants.{Null, Integer};
 ghost use Rattle.perm_values.specs.declared.value.Value.{Value as Cell};
-ghost use Rattle.bag_algebra.specs.Bags.{Row, Bag, count};
+ghost use Rattle.bag_algebra.specs.Bags.{Row, Bag, count, member};
 ghost use Rattle.bag_algebra.specs.Children.{subs_denote};
 ghost use Rattle.bag_algebra.specs.Expressions.{value};
 ghost use Rattle.bag_algebra.specs.Kinds.{width_of};
@@ -28,7 +28,7 @@ ghost use Rattle.bag_algebra.specs.declared.query.Query.{Query};
 ghost use Rattle.bag_algebra.specs.declared.query.Sublink.{Sublink};
 ghost use Rattle.query_laws.specs.Aggregated.{occurrences, ListsValues, IsLeast, IsGreatest};
 ghost use Rattle.bag_algebra.specs.Rewriting.{SameRows};
-ghost use Rattle.query_laws.specs.Holding.{Lists};
+ghost use Rattle.query_laws.specs.Holding.{InBag, Lists};
 ghost use Rattle.query_laws.specs.Nodes.{IsFiltered, IsProjected, IsJoined, IsCombined, in_either, in_both, in_left_alone, IsDistinct, IsGrouped, IsLimited, IsProvenance};
 
 /// A table has the rows that the database has for it.
@@ -116,6 +116,11 @@ pub fn provenance_is_each_row_beside_its_witnesses()
 pub fn every_row_is_in_one_class()
     ensures { (groups : List ℕ) (us : Bag) (key u : Row) →
         count u (class_of groups key us) ≡ cond (same_row (picked groups u) key) (count u us) 0 }
+{}
+
+/// A row is in a bag, by its count, exactly where it is the same as a row that the list has.
+pub fn what_counts_is_a_member()
+    ensures { (t : Row) (us : Bag) → InBag t us ↔ IsTrue (member t us) }
 {}
 
 /// Every bag has a list of its rows, each once, to sum over.

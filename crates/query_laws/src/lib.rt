@@ -10,6 +10,7 @@ pub use laws::{
     every_row_is_in_one_class, except_takes_counts_away, filter_keeps_what_is_true,
     intersect_has_the_smaller_count, join_multiplies_counts, laws_leave_no_choice,
     limit_takes_the_first_rows, project_adds_counts, provenance_is_each_row_beside_its_witnesses,
-    single_has_the_empty_row, table_has_its_rows, union_adds_counts, what_is_bad_meets_a_fault,
+    single_has_the_empty_row, table_has_its_rows, union_adds_counts, what_counts_is_a_member,
+    what_is_bad_meets_a_fault,
 };
 pub use sublinks::{sublinks_come_first, sublinks_have_their_values};

@@ -1,5 +1,5 @@
 //! Laws of the tests of queries: each is the contract of a function that does nothing.
-ghost use Rattle.std.specs.Prelude.{◌≡◌, IsTrue, List, length};
+ghost use Rattle.std.specs.Prelude.{◌≡◌, ◌++◌, IsTrue, List, length};
 ghost use Rattle.bag_algebra.specs.Bags.{Row};
 ghost use Rattle.bag_algebra.specs.Closed.{reads_within};
 ghost use Rattle.bag_algebra.specs.Expressions.{value};
@@ -28,6 +28,13 @@ pub fn faultless_expressions_meet_no_fault()
 pub fn expressions_have_one_kind()
     ensures { (scopes : List (List Kind)) (subs : List Kind) (e : Expr) (k l : Kind) →
         HasKind scopes subs e k → HasKind scopes subs e l → k ≡ l }
+{}
+
+/// An expression reads no sublink behind those with whose kinds it is well formed: values of more of them change nothing.
+pub fn more_sublinks_change_nothing()
+    ensures { (scopes : List (List Kind)) (kinds : List Kind) (u : Row) (env : List Row) (subs more : List Value) →
+        length subs ≡ length kinds → (e : Expr) (kind : Kind) → HasKind scopes kinds e kind →
+        value e u env (subs ++ more) ≡ value e u env subs }
 {}
 
 /// A query that is well formed under so many outer rows reads no others.

@@ -11,7 +11,8 @@ mod scopes;
 pub use faults::{fault_free, faultless};
 pub use kinds::{kind_at, width};
 pub use laws::{
-    expressions_have_one_kind, fault_free_queries_meet_no_fault, faultless_expressions_meet_no_fault,
+    expressions_have_one_kind, fault_free_queries_meet_no_fault,
+    faultless_expressions_meet_no_fault, more_sublinks_change_nothing,
     well_formed_queries_read_their_outer_rows_alone,
 };
 pub use measures::{height, size};

@@ -1,0 +1,7 @@
+//! Congruence: what stands in the places of a node's inputs and of its sublinks' queries, and has the same rows or faults,
+//! gives a node that has.
+#![tactic(auto)]
+
+mod laws;
+
+pub use laws::nodes_see_rows_alone;
