@@ -1,12 +1,12 @@
 -- Every symbol of the grammar and every sort of token stands in some worked text: those of `LongTexts.antt`, and some of
 -- `Trees.antt`.
-use Rattle.std.specs.Prelude.{◌≡◌, ℕ, not, nat_eq, List, [], ◌∷◌, ◌++◌, map, filter, Option, Some, None, codes, refl, ◌⊎◌}
+use Rattle.std.specs.Prelude.{◌≡◌, ℕ, not, nat_eq, List, [], ◌∷◌, ◌++◌, map, filter, Option, Some, None, codes, refl}
 use Rattle.std.specs.List.{flat_map, range_with_len}
 use Rattle.std.proofs.Common.{inl, inr}
 use Rattle.sql_lexer.specs.declared.token.Token.{Token}
 use Rattle.sql_grammar.specs.Descent.{Tables, read, reading_to, repeated}
 use Rattle.sql_grammar.specs.Grammar.{SqlRule, body}
-use Rattle.sql_grammar.specs.Rules.{Rule, word, token, ◌then◌, ◌or◌, front, optional, many, placed, symbol, Value, Grammar}
+use Rattle.sql_grammar.specs.Rules.{word, token, ◌then◌, ◌or◌, front, optional, many, placed, symbol, Value, Grammar}
 use Rattle.sql_grammar.specs.Sorts.{reserved, free, symbols, sort_of, same_sort, word_sort, symbol_sort}
 use Rattle.sql_grammar.specs.Symbols as n
 use Rattle.sql_grammar.specs.Symbols.{Symbol}
