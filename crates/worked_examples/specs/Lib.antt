@@ -6,9 +6,11 @@ pub mod Forms
 pub mod GroupRows
 pub mod IrregularTrees
 pub mod JoinRows
+pub mod LongTexts
 pub mod Places
 pub mod Queries
 pub mod QueryTests
+pub mod Reached
 pub mod Rows
 pub mod SetRows
 pub mod SmallGrammar

@@ -31,31 +31,31 @@ use Rattle.sql_parser.specs.Texts.{tree_in}
 
 -- ---- nodes, each at its offset
 
-abbrev expr : ℕ → ExprBody → ExprTree
+abbrev pub expr : ℕ → ExprBody → ExprTree
 expr at body = record { at = at; body = body }
 
-abbrev int : ℕ → ℕ → ExprTree
+abbrev pub int : ℕ → ℕ → ExprTree
 int at value = expr at (e.Integer (pos value))
 
-abbrev name : ℕ → List ℕ → Name
+abbrev pub name : ℕ → List ℕ → Name
 name at text = record { text = text; at = at }
 
-abbrev column : ℕ → List ℕ → ExprTree
+abbrev pub column : ℕ → List ℕ → ExprTree
 column at text = expr at (e.Column (record { at = at; table = None; name = name at text }))
 
-abbrev a : ℕ → ExprTree
+abbrev pub a : ℕ → ExprTree
 a at = column at (codes "a")
 
-abbrev b : ℕ → ExprTree
+abbrev pub b : ℕ → ExprTree
 b at = column at (codes "b")
 
-abbrev c : ℕ → ExprTree
+abbrev pub c : ℕ → ExprTree
 c at = column at (codes "c")
 
-abbrev query : ℕ → SetTree → QueryTree
+abbrev pub query : ℕ → SetTree → QueryTree
 query at body = record { at = at; body = body; order = []; limit = None }
 
-abbrev selecting : ℕ → SelectItem → List FromTree → SetTree
+abbrev pub selecting : ℕ → SelectItem → List FromTree → SetTree
 selecting at one sources = set.Core (roll-Core (record {
   at = at;
   provenance = None;
@@ -68,13 +68,13 @@ selecting at one sources = set.Core (roll-Core (record {
 }))
 
 -- SELECT and a number
-abbrev select : ℕ → ExprTree → SetTree
+abbrev pub select : ℕ → ExprTree → SetTree
 select at part = selecting at (item.Value part None) []
 
-abbrev step : SetWord → Bool → ℕ → SetTree → SetStep
+abbrev pub step : SetWord → Bool → ℕ → SetTree → SetStep
 step operation all at operand = record { word = operation; all = all; at = at; operand = operand }
 
-abbrev source_at : ℕ → List ℕ → Option Name → FromItem
+abbrev pub source_at : ℕ → List ℕ → Option Name → FromItem
 source_at at table alias = record { at = at; source = source.Named (name at table); alias = alias; mark = Plain }
 
 -- ---- expressions
