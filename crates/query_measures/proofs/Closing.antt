@@ -37,7 +37,7 @@ nearest (scope ∷ scopes) outer (suc level) h = nearest scopes outer level (ome
 
 -- ---- operators: what is asked of the parts, and that nothing else is
 
-op_parts : (operator : Operator) (n : ℕ) (all_have : Kind → Type 0) (kind : Kind) → op_form operator n all_have kind → (shared : Kind) × all_have shared
+pub op_parts : (operator : Operator) (n : ℕ) (all_have : Kind → Type 0) (kind : Kind) → op_form operator n all_have kind → (shared : Kind) × all_have shared
 op_parts op.And n all_have kind h = (Boolean, h.parts)
 op_parts op.Or n all_have kind h = (Boolean, h.parts)
 op_parts op.Not n all_have kind h = (Boolean, h.parts)
