@@ -1,10 +1,9 @@
 //! Copies of queries and of their parts (`bag_algebra`), and the rows of tables.
 use crate::queries::{column, distinct, exists, pair, provenance, source, table, where_exists};
-use bag_algebra::{
-    AggFn, Aggr, Answer, Arm, ChainStep, Env, Expr, Item, Label, Query, Tables, size,
-};
+use bag_algebra::{AggFn, Aggr, Answer, Arm, ChainStep, Env, Expr, Item, Label, Query, Tables};
 use null_logic::{Arith, Compare, Operator, Truth};
 use perm_values::{Boxed, Chars, Copyable, Key, Kind, List, NoMemory, Row, Rows, Value};
+use query_measures::size;
 use std::alloc::Global;
 use std::test::Fail;
 

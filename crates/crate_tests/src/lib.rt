@@ -16,3 +16,7 @@ mod owners;
 mod places;
 #[cfg(test)]
 mod queries;
+#[cfg(test)]
+mod runs;
+#[cfg(test)]
+mod scripts;

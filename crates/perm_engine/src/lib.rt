@@ -9,8 +9,6 @@ mod script;
 mod session;
 mod status;
 mod step_refusal;
-#[cfg(test)]
-mod tests;
 
 pub use laws::{a_run_has_numbers_left, bytes_are_one_script};
 pub use run::perm;

@@ -163,7 +163,13 @@ fn chosen(
     Ok(None)
 }
 
-fn column(alloc: Global, level: usize, place: usize, row: &Row, env: &Env) -> Result<Value, ExecError>
+fn column(
+    alloc: Global,
+    level: usize,
+    place: usize,
+    row: &Row,
+    env: &Env,
+) -> Result<Value, ExecError>
     ensures { Gives (Good (column level place row.now env.now)) result }
 {
     if level == 0 {

@@ -17,6 +17,3 @@ pub use lex_error::LexError;
 pub use reserved::is_reserved;
 pub use split::tokens;
 pub use token::{Token, TokenKind};
-
-#[cfg(test)]
-mod tests;

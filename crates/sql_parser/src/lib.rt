@@ -16,6 +16,3 @@ pub use laws::{
 pub use nesting::too_deep;
 pub use parser::script;
 pub use syntax_error::SyntaxError;
-
-#[cfg(test)]
-mod tests;

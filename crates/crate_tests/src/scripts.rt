@@ -1,28 +1,17 @@
-use crate::{
-    a_script_has_one_tree, a_spelled_script_is_regular, an_unexpected_token_has_no_tree,
-    computed_trees_are_spelled, operators_are_read_by_their_table, script,
-};
+//! Which texts are scripts, or the offset of the first token with which they begin none (`sql_lexer`, `sql_parser`).
 use sql_lexer::tokens;
+use sql_parser::script;
 use std::alloc::Global;
 use std::test::Fail;
 
 /// How many statements a text has, or why it has no tree.
 fn outcome(alloc: Global, text: &str) -> Result<String, Fail> {
     let tokens = tokens(alloc, text.as_bytes())?;
-    Ok(match script(alloc, &tokens, text.len()) {
-        Ok(tree) => {
-            let count = tree.statements.len();
-            format!(in alloc; "{count}")?
-        }
+    let found = script(alloc, &tokens, text.len()).map(|tree| tree.statements.len());
+    Ok(match found {
+        Ok(count) => format!(in alloc; "{count}")?,
         Err(error) => format!(in alloc; "{error:?}")?,
     })
-}
-
-/// A number in so many parentheses.
-fn nested(alloc: Global, depth: usize) -> Result<String, Fail> {
-    let opening = "(".repeat(alloc, depth)?;
-    let closing = ")".repeat(alloc, depth)?;
-    Ok(format!(in alloc; "SELECT {opening}1{closing}")?)
 }
 
 /// Texts with the number of their statements, or the offset of the first token with which they begin no script.
@@ -78,7 +67,7 @@ const CASES: [(&str, &str); 48] = [
 ];
 
 #[test]
-fn reads_scripts(rt: HostRuntime) -> Result<(), Fail> {
+fn scripts_are_told_from_texts(rt: HostRuntime) -> Result<(), Fail> {
     for (text, want) in CASES {
         let found = outcome(rt.alloc(), text)?;
         assert_eq!(rt; found.as_str(), want, "{text}");
@@ -86,21 +75,19 @@ fn reads_scripts(rt: HostRuntime) -> Result<(), Fail> {
     Ok(())
 }
 
+/// A number in so many parentheses.
+fn nested(alloc: Global, depth: usize) -> Result<String, Fail> {
+    let opening = "(".repeat(alloc, depth)?;
+    let closing = ")".repeat(alloc, depth)?;
+    Ok(format!(in alloc; "SELECT {opening}1{closing}")?)
+}
+
 #[test]
-fn bounds_nesting(rt: HostRuntime) -> Result<(), Fail> {
+fn nesting_has_a_bound(rt: HostRuntime) -> Result<(), Fail> {
     for (depth, want) in [(64, "1"), (65, "TooDeep(71)")] {
         let text = nested(rt.alloc(), depth)?;
         let found = outcome(rt.alloc(), text.as_str())?;
         assert_eq!(rt; found.as_str(), want, "{depth}");
     }
     Ok(())
-}
-
-#[test]
-fn has_laws() {
-    a_script_has_one_tree();
-    a_spelled_script_is_regular();
-    an_unexpected_token_has_no_tree();
-    computed_trees_are_spelled();
-    operators_are_read_by_their_table();
 }

@@ -1,10 +1,11 @@
-use super::*;
+//! Runs of whole scripts (`perm_engine`): those that are refused, and those where a file, a write or a number fails.
 use perm_catalog::Catalog;
+use perm_engine::{Session, Status, perm};
 use perm_io::{MemoryFiles, MemorySink, NamedFile, NeverFiles};
 use perm_values::{Bytes, Chars, List, NoMemory};
 use sql_lexer::tokens;
 use std::alloc::Global;
-use std::test::*;
+use std::test::Fail;
 
 const SCRIPT: &[u8] =
     b"CREATE TABLE r (a INTEGER, b TEXT); INSERT INTO r VALUES (1,'x'), (2,'x'); SELECT PROVENANCE b FROM r;";
@@ -26,29 +27,42 @@ fn file(alloc: Global, name: &str, content: &[u8]) -> Result<NamedFile, NoMemory
     Ok(NamedFile { name, bytes })
 }
 
-/// Runs the words over the files `s`, a script, and `c`, where these calls on files fail and the output is as given.
-fn run(
-    alloc: Global,
-    words: &[&str],
-    script: &[u8],
-    rows: &[u8],
-    failing: &[u64],
-    mut out: MemorySink,
-) -> Result<Ended, NoMemory> {
+/// The words, the files `s`, a script, and `c`, the calls on files and on the output that fail, and the output's room.
+#[derive(Clone, Copy)]
+struct Given<'a> {
+    words: &'a [&'a str],
+    script: &'a [u8],
+    rows: &'a [u8],
+    reads: &'a [u64],
+    writes: &'a [u64],
+    room: usize,
+}
+
+fn files_of(alloc: Global, given: &Given<'_>) -> Result<MemoryFiles, NoMemory> {
     let mut held = List::new(alloc);
-    held.push(file(alloc, "s", script)?)?;
-    held.push(file(alloc, "c", rows)?)?;
-    let mut files = MemoryFiles::new(alloc, held, failing)?;
-    let mut list = List::new(alloc);
-    for word in words {
-        list.push(Chars::from_text(alloc, word)?)?;
+    held.push(file(alloc, "s", given.script)?)?;
+    held.push(file(alloc, "c", given.rows)?)?;
+    MemoryFiles::new(alloc, held, given.reads)
+}
+
+fn words_of(alloc: Global, given: &Given<'_>) -> Result<List<Chars>, NoMemory> {
+    let mut words = List::new(alloc);
+    for word in given.words {
+        words.push(Chars::from_text(alloc, word)?)?;
     }
-    let status = perm(alloc, list.as_slice(), &mut files, &mut out);
+    Ok(words)
+}
+
+fn run(alloc: Global, given: &Given<'_>) -> Result<Ended, NoMemory> {
+    let words = words_of(alloc, given)?;
+    let mut files = files_of(alloc, given)?;
+    let mut out = MemorySink::new(alloc, given.room, given.writes)?;
+    let status = perm(alloc, words.as_slice(), &mut files, &mut out);
     Ok(Ended { status, out })
 }
 
 /// Scripts with what they write and how they end: those that are none, then statements that can't stand.
-const SCRIPTS: [(&[u8], &str, Status); 12] = [
+const SCRIPTS: [(&[u8], &str, Status); 11] = [
     (b"", "", Status::Done),
     (b"SELECT \xff", "error E01 at 7\n", Status::Syntax),
     (b"SELECT ?", "error E02 at 7\n", Status::Syntax),
@@ -76,25 +90,21 @@ const SCRIPTS: [(&[u8], &str, Status); 12] = [
         "CREATE TABLE\nerror E10 at 0\n",
         Status::Refused,
     ),
-    (
-        b"CREATE TABLE \"T\" (a INT, b BIGINT); INSERT INTO \"T\" VALUES (1, NULL); SELECT b, a FROM \"T\"; DELETE FROM \"T\"; DROP TABLE \"T\"; SELECT a FROM \"T\"",
-        "CREATE TABLE\nINSERT 1\n\"b\",\"a\"\n,1\n(1 rows)\nDELETE 1\nDROP TABLE\nerror E10 at 0\n",
-        Status::Refused,
-    ),
 ];
 
 #[test]
 fn scripts_and_their_answers(rt: HostRuntime) -> Result<(), Fail> {
     let alloc = rt.alloc();
     for (script, text, status) in SCRIPTS {
-        let ended = run(
-            alloc,
-            &["s"],
+        let given = Given {
+            words: &["s"],
             script,
-            b"",
-            &[],
-            MemorySink::new(alloc, 200, &[])?,
-        )?;
+            rows: b"",
+            reads: &[],
+            writes: &[],
+            room: 200,
+        };
+        let ended = run(alloc, &given)?;
         assert_eq!(rt; ended.status, status, "{text}");
         assert_eq!(rt; ended.out.written(), text.as_bytes(), "{text}");
     }
@@ -148,26 +158,34 @@ fn words_files_and_failures(rt: HostRuntime) -> Result<(), Fail> {
         (&["s"], &[], &[5], ANSWER, Status::Done),
     ];
     for (words, reads, writes, text, status) in cases {
-        let ended = run(
-            alloc,
+        let given = Given {
             words,
-            SCRIPT,
-            b"",
+            script: SCRIPT,
+            rows: b"",
             reads,
-            MemorySink::new(alloc, 200, writes)?,
-        )?;
+            writes,
+            room: 200,
+        };
+        let ended = run(alloc, &given)?;
         assert_eq!(rt; ended.status, status, "{text}");
         assert_eq!(rt; ended.out.written(), text.as_bytes(), "{text}");
     }
+    Ok(())
+}
+
+#[test]
+fn outputs_without_room(rt: HostRuntime) -> Result<(), Fail> {
+    let alloc = rt.alloc();
     for room in 0..ANSWER.len() {
-        let ended = run(
-            alloc,
-            &["s"],
-            SCRIPT,
-            b"",
-            &[],
-            MemorySink::new(alloc, room, &[])?,
-        )?;
+        let given = Given {
+            words: &["s"],
+            script: SCRIPT,
+            rows: b"",
+            reads: &[],
+            writes: &[],
+            room,
+        };
+        let ended = run(alloc, &given)?;
         assert_eq!(rt; ended.status, Status::WriteFault, "room {room}");
         assert_eq!(rt;
             ended.out.written(),
@@ -180,31 +198,11 @@ fn words_files_and_failures(rt: HostRuntime) -> Result<(), Fail> {
 
 const COPY: &[u8] = b"CREATE TABLE t (a INTEGER, b TEXT); COPY t FROM 'c'; SELECT a, b FROM t";
 
-const MARKED: &[u8] =
-    b"CREATE TABLE t (a INTEGER, b TEXT); COPY t FROM 'c' NULL '-'; SELECT PROVENANCE b FROM t;";
-
-const HEADED: &[u8] =
-    b"CREATE TABLE t (a INTEGER, b TEXT); COPY t FROM 'c' HEADER NULL '-'; SELECT a, b FROM t;";
-
 const COPIED: &str = "CREATE TABLE\nCOPY 1\n\"a\",\"b\"\n5,\"x\"\n(1 rows)\n";
 
 /// Scripts that copy, the bytes of the file `c`, and the failing calls on files, with what is written and how the run ends.
 /// The calls on the script are the first three, those on the file the next.
-const COPIES: [(&[u8], &[u8], &[u64], &str, Status); 11] = [
-    (
-        MARKED,
-        b"1,\"a\nb\"\r\n-,x\r\n+5,-",
-        &[],
-        "CREATE TABLE\nCOPY 3\n\"b\",\"prov_t_a\",\"prov_t_b\"\n\"a\nb\",1,\"a\nb\"\n\"x\",,\"x\"\n,5,\n(3 rows)\n",
-        Status::Done,
-    ),
-    (
-        HEADED,
-        b"a,b\n1,-\n-,\"\"\n",
-        &[],
-        "CREATE TABLE\nCOPY 2\n\"a\",\"b\"\n1,\n,\"\"\n(2 rows)\n",
-        Status::Done,
-    ),
+const COPIES: [(&[u8], &[u8], &[u64], &str, Status); 9] = [
     (
         b"CREATE TABLE t (a INTEGER, b TEXT); COPY t FROM 'd'",
         b"",
@@ -268,14 +266,15 @@ const COPIES: [(&[u8], &[u8], &[u64], &str, Status); 11] = [
 fn files_are_copied(rt: HostRuntime) -> Result<(), Fail> {
     let alloc = rt.alloc();
     for (script, rows, failing, text, status) in COPIES {
-        let ended = run(
-            alloc,
-            &["s"],
+        let given = Given {
+            words: &["s"],
             script,
             rows,
-            failing,
-            MemorySink::new(alloc, 300, &[])?,
-        )?;
+            reads: failing,
+            writes: &[],
+            room: 300,
+        };
+        let ended = run(alloc, &given)?;
         assert_eq!(rt; ended.status, status, "{text}");
         assert_eq!(rt; ended.out.written(), text.as_bytes(), "{text}");
     }
