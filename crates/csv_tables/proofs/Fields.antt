@@ -78,3 +78,19 @@ text-broken mark row place k field found marked e unmarked tested valid is =
     let binary : is_utf8 field ≡ false = is_utf8-none field found valid is in
     let none : bytes_eq field mark ≡ false = sym tested ∙ unmarked in
     rw (e, none, binary) refl
+
+-- ---- the rule that a field of a text column breaks, by its test alone
+
+pub text-whole : (mark : List ℕ) (row place : ℕ) (k : Kind) (field : List ℕ) (marked : Bool) → k ≡ kind.Text → marked ≡ false → marked ≡ bytes_eq field mark →
+    IsUtf8 field → None ≡ first_of (field_breaks mark row place k field)
+text-whole mark row place k field marked e unmarked tested valid =
+    let utf8 : is_utf8 field ≡ true = is_utf8-from_IsUtf8 field valid in
+    let none : bytes_eq field mark ≡ false = sym tested ∙ unmarked in
+    rw (e, none, utf8) refl
+
+pub text-faulty : (mark : List ℕ) (row place : ℕ) (k : Kind) (field : List ℕ) (marked : Bool) → k ≡ kind.Text → marked ≡ false → marked ≡ bytes_eq field mark →
+    ¬ (IsUtf8 field) → Some (NotText row place) ≡ first_of (field_breaks mark row place k field)
+text-faulty mark row place k field marked e unmarked tested faulty =
+    let binary : is_utf8 field ≡ false = false_from (is_utf8 field) (λ yes. faulty (IsUtf8-from_is_utf8 field yes)) in
+    let none : bytes_eq field mark ≡ false = sym tested ∙ unmarked in
+    rw (e, none, binary) refl

@@ -3,12 +3,12 @@ use Rattle.std.proofs.Common.{◌≡◌, ℕ, ◌+◌, Bool, true, false, List, 
 use Rattle.std.proofs.lemmas.Bool.{cases_Bool, eqb-true}
 use Rattle.std.specs.Prelude.{◌==◌, if◌then◌else◌}
 use Rattle.std.specs.Str.{bytes_eq}
-use Rattle.perm_values.specs.Rows.{row_fits}
+use Rattle.perm_values.specs.Rows.{bag_fits, row_fits}
 use Rattle.perm_values.specs.Values.{fits}
 use Rattle.perm_values.specs.declared.kind.Kind.{Kind}
 use Rattle.perm_values.specs.declared.kind.Kind.TheVariants as kind
 use Rattle.perm_values.specs.declared.value.Value.TheVariants.{Null}
-use Rattle.csv_tables.specs.Loading.{all_fit, broken_rules, field_value, record_breaks, records_breaks, row_records, row_values, skipped, spelled, spelled_rows, width_breaks}
+use Rattle.csv_tables.specs.Loading.{broken_rules, field_value, record_breaks, records_breaks, row_records, row_values, skipped, spelled, spelled_rows, width_breaks}
 
 front-none : {X : Type 0} (xs ys : List X) → xs ++ ys ≡ [] → xs ≡ []
 front-none [] ys e = refl
@@ -45,7 +45,7 @@ wide-of row kinds fields e = elim (cases_Bool (length fields == length kinds)) [
   | inr other ↦ let broken = rw other at e in cc broken
 ]
 
-records-fit : (mark : List ℕ) (kinds : List Kind) (row : ℕ) (records : List (List (List ℕ))) → records_breaks mark kinds row records ≡ [] → all_fit kinds (map (row_values mark kinds) records) ≡ true
+records-fit : (mark : List ℕ) (kinds : List Kind) (row : ℕ) (records : List (List (List ℕ))) → records_breaks mark kinds row records ≡ [] → bag_fits (map (row_values mark kinds) records) kinds ≡ true
 records-fit mark kinds row [] e = refl
 records-fit mark kinds row (fields ∷ more) e =
     let here : record_breaks mark kinds row fields ≡ [] = front-none _ _ e in
@@ -53,5 +53,5 @@ records-fit mark kinds row (fields ∷ more) e =
     rw (row_values-fits mark kinds fields wide) (records-fit mark kinds (row + 1) more (back-none _ _ e))
 
 -- where a file breaks no rule, the rows that it spells fit
-pub all_fit-spelled : (mark : List ℕ) (kinds : List Kind) (header : Bool) (bytes : List ℕ) → broken_rules mark kinds header bytes ≡ [] → all_fit kinds (spelled_rows mark kinds header bytes) ≡ true
-all_fit-spelled mark kinds header bytes e = records-fit mark kinds (skipped header + 1) (row_records header bytes) e
+pub bag_fits-spelled : (mark : List ℕ) (kinds : List Kind) (header : Bool) (bytes : List ℕ) → broken_rules mark kinds header bytes ≡ [] → bag_fits (spelled_rows mark kinds header bytes) kinds ≡ true
+bag_fits-spelled mark kinds header bytes e = records-fit mark kinds (skipped header + 1) (row_records header bytes) e

@@ -1,11 +1,9 @@
 -- The rows that a file of comma-separated values spells for columns of given kinds, and the rules that its records
 -- break. What a record is, is the csv crate's own definition, with its defaults: commas, double quotes, any line end.
 use Rattle.std.specs.Prelude.{◌≡◌, ℕ, ◌+◌, ◌^◌, ℤ, pos, negsuc, Bool, true, false, ◌==◌, ◌&&◌, nat_lt, if◌then◌else◌, List, [], ◌∷◌, ◌++◌, map, drop, length, Option, Some, None, ⊤}
-use Rattle.std.specs.List.{list_all}
 use Rattle.std.specs.Str.{all_ascii_digits, bytes_eq, is_utf8}
 use Rattle.std.specs.Str.Parse.{signed_digits_value, without_leading_sign}
 use Rattle.csv.specs.Reading.{default_config, records, strip_bom}
-use Rattle.perm_values.specs.Rows.{row_fits}
 use Rattle.perm_values.specs.declared.kind.Kind.{Kind}
 use Rattle.perm_values.specs.declared.kind.Kind.TheVariants as kind
 use Rattle.perm_values.specs.declared.value.Value.{Value}
@@ -89,10 +87,6 @@ broken_rules mark kinds header bytes = records_breaks mark kinds (skipped header
 -- the rows that a file spells
 abbrev pub spelled_rows : List ℕ → List Kind → Bool → List ℕ → List (List Value)
 spelled_rows mark kinds header bytes = map (row_values mark kinds) (row_records header bytes)
-
--- each row has a value for each column, which is NULL or of the column's kind
-abbrev pub all_fit : List Kind → List (List Value) → Bool
-all_fit kinds rows = list_all (λ row. row_fits row kinds) rows
 
 abbrev pub first_of : {X : Type 0} → List X → Option X
 first_of [] = None

@@ -1,6 +1,8 @@
-ghost use Rattle.std.specs.Prelude.{◌≡◌, [], IfOk, IfErr, IsTrue};
+ghost use Rattle.std.specs.Prelude.{◌≡◌, [], Err, IfOk, IfErr, IsTrue};
 ghost use Rattle.csv.specs.Records.{fields_of};
-ghost use Rattle.csv_tables.specs.Loading.{all_fit, broken_rules, field_breaks, field_value, integer_of, IsFirstBroken, record_breaks, row_values, spelled_rows};
+ghost use Rattle.csv_tables.specs.Loading.{broken_rules, field_breaks, field_value, first_of, integer_of, IsFirstBroken, record_breaks, row_values, spelled_rows};
+ghost use Rattle.csv_tables.specs.declared.data_error.DataError.TheVariants as fault;
+ghost use Rattle.perm_values.specs.Rows.{bag_fits};
 
 use crate::DataError;
 use csv::{ByteRecord, ReaderBuilder};
@@ -48,8 +50,47 @@ impl Columns<'_> {
         }
     }
 
-    /// The row that a record spells, or the first rule that it breaks.
-    fn row(&self, fields: &ByteRecord, number: u64) -> Result<Row, DataError>
+    /// The rule that a field breaks, if it breaks one. It takes no memory.
+    fn broken_by(&self, kind: Kind, field: &[u8], row: u64, place: u64) -> Option<DataError>
+        ensures { result ≡ first_of (field_breaks self.now.mark.now row place kind field.now) }
+    {
+        if field == self.mark {
+            return None;
+        }
+        match kind {
+            Kind::Integer => match integer(field) {
+                Some(_) => None,
+                None => Some(DataError::NotInteger { row, field: place }),
+            },
+            Kind::Text => match std::str::from_utf8(field) {
+                Ok(_) => None,
+                Err(_) => Some(DataError::NotText { row, field: place }),
+            },
+            Kind::Boolean => None,
+        }
+    }
+
+    /// The first rule that a record breaks, if it breaks one. It takes no memory.
+    fn first_broken(&self, fields: &ByteRecord, number: u64) -> Option<DataError>
+        ensures { result ≡ first_of (record_breaks self.now.mark.now self.now.kinds.now number (fields_of fields.now)) }
+    {
+        if fields.len() != self.kinds.len() {
+            return Some(DataError::Width { row: number });
+        }
+        for (place, kind) in self.kinds.iter().enumerate() {
+            let Some(field) = fields.get(place) else {
+                unreachable!()
+            };
+            let broken = self.broken_by(*kind, field, number, place as u64 + 1);
+            if broken.is_some() {
+                return broken;
+            }
+        }
+        None
+    }
+
+    /// The row that a record spells, or the first rule that it breaks, where there is memory to read so far.
+    fn read(&self, fields: &ByteRecord, number: u64) -> Result<Row, DataError>
         ensures ok { IfOk result (λ row. (record_breaks self.now.mark.now self.now.kinds.now number (fields_of fields.now) ≡ [])
             × (row ≡ row_values self.now.mark.now self.now.kinds.now (fields_of fields.now))) }
         ensures err { IfErr result
@@ -58,7 +99,7 @@ impl Columns<'_> {
         if fields.len() != self.kinds.len() {
             return Err(DataError::Width { row: number });
         }
-        let mut row = Row::new(self.alloc);
+        let mut row = Row::with_room(self.alloc, self.kinds.len())?;
         for (place, kind) in self.kinds.iter().enumerate() {
             let Some(field) = fields.get(place) else {
                 unreachable!()
@@ -66,6 +107,25 @@ impl Columns<'_> {
             row.push(self.value(*kind, field, number, place as u64 + 1)?)?;
         }
         Ok(row)
+    }
+
+    /// The row that a record spells, or the first rule that it breaks. Want of memory hides no broken rule of the record.
+    fn row(&self, fields: &ByteRecord, number: u64) -> Result<Row, DataError>
+        ensures ok { IfOk result (λ row. (record_breaks self.now.mark.now self.now.kinds.now number (fields_of fields.now) ≡ [])
+            × (row ≡ row_values self.now.mark.now self.now.kinds.now (fields_of fields.now))) }
+        ensures err { IfErr result
+            (IsFirstBroken (record_breaks self.now.mark.now self.now.kinds.now number (fields_of fields.now))) }
+        ensures memory { result ≡ Err fault.NoMemory
+            → record_breaks self.now.mark.now self.now.kinds.now number (fields_of fields.now) ≡ [] }
+    {
+        match self.read(fields, number) {
+            Ok(row) => Ok(row),
+            Err(DataError::NoMemory) => match self.first_broken(fields, number) {
+                Some(broken) => Err(broken),
+                None => Err(DataError::NoMemory),
+            },
+            Err(broken) => Err(broken),
+        }
     }
 }
 
@@ -88,7 +148,7 @@ pub fn load(
 ) -> Result<Rows, DataError>
     ensures ok { IfOk result (λ rows. (broken_rules mark.now kinds.now header bytes.now ≡ [])
         × (rows ≡ spelled_rows mark.now kinds.now header bytes.now)) }
-    ensures fit { IfOk result (λ rows. IsTrue (all_fit kinds.now rows)) }
+    ensures fit { IfOk result (λ rows. IsTrue (bag_fits rows kinds.now)) }
     ensures err { IfErr result (IsFirstBroken (broken_rules mark.now kinds.now header bytes.now)) }
 {
     let columns = Columns { alloc, kinds, mark };
@@ -107,5 +167,6 @@ pub fn load(
             rows.push(columns.row(&fields, number)?)?;
         }
     }
+    rows.tighten();
     Ok(rows)
 }

@@ -3,5 +3,6 @@ pub mod Hashes
 pub mod Marked
 pub mod RowLaws
 pub mod Rows
+pub mod Texts
 pub mod ValueLaws
 pub mod Values

@@ -1,6 +1,7 @@
 -- Rows: lists of values, with the order by which answers are printed.
 use Rattle.std.specs.Prelude.{ℕ, Bool, true, false, ◌&&◌, ◌<◌, cond, List, [], ◌∷◌, map, slice_index_or, All}
 use Rattle.std.specs.Cmp.Lexicographic.{pointwise, slice_cmp}
+use Rattle.std.specs.List.{list_all}
 use Rattle.std.specs.Ordering.{ordering_then, ordering_reverse}
 use Rattle.std.specs.declared.cmp.Ordering.{Ordering}
 use Rattle.perm_values.specs.Values.{same_value, value_cmp, fits}
@@ -43,6 +44,10 @@ row_fits [] [] = true
 row_fits [] (k ∷ ks) = false
 row_fits (v ∷ vs) [] = false
 row_fits (v ∷ vs) (k ∷ ks) = fits v k && row_fits vs ks
+
+-- each row has exactly these kinds
+abbrev pub bag_fits : List (List Value) → List Kind → Bool
+bag_fits rows kinds = list_all (λ row. row_fits row kinds) rows
 
 -- each place is one of the row's
 abbrev pub PlacesWithin : ℕ → List ℕ → Type 0

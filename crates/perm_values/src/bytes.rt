@@ -28,6 +28,15 @@ impl Bytes {
         }
     }
 
+    /// No bytes, with room for as many. It fails only for want of memory.
+    pub fn with_room(alloc: Global, room: usize) -> Result<Bytes, NoMemory>
+        ensures { IfOk result (λ bytes. bytes ≡ []) }
+    {
+        Ok(Bytes {
+            items: Vec::with_capacity(alloc, room)?,
+        })
+    }
+
     /// Adds bytes at the end. It fails only for want of memory, and then the bytes are as before.
     pub fn add(&mut self, more: &[u8]) -> Result<(), NoMemory>
         ensures ok { OnOk result (self.new ≡ self.old ++ more.now) }

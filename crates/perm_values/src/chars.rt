@@ -5,6 +5,7 @@ ghost use Rattle.std.specs.Hash as fed;
 ghost use Rattle.std.specs.Ordering.{nat_cmp};
 ghost use Rattle.std.specs.Str.{IsUtf8};
 
+use crate::text::Text;
 use crate::{Copyable, NoMemory};
 use std::alloc::Global;
 use std::hash::{Hash, Hasher};
@@ -13,16 +14,16 @@ use std::marker::Model;
 /// A text, seen as its list of bytes, which are always UTF-8.
 #[derive(Debug, Drop)]
 pub struct Chars {
-    text: String,
+    text: Text,
 }
 
 impl Model for Chars {
     ghost use Rattle.std.specs.Prelude.{ℕ, List};
-    ghost use Rattle.std.specs.String.{string_bytes};
+    ghost use Rattle.perm_values.specs.Texts.{text_bytes};
 
     ghost Value = { List ℕ };
 
-    ghost view = { λ c. string_bytes c.text };
+    ghost view = { λ c. text_bytes c.text };
 }
 
 impl Chars {
@@ -42,7 +43,7 @@ impl Chars {
         ensures { IfOk result (λ made. made ≡ text.now) }
     {
         Ok(Chars {
-            text: String::from_str(alloc, text)?,
+            text: Text::new(alloc, text)?,
         })
     }
 
@@ -51,7 +52,7 @@ impl Chars {
         ensures value { result.now ≡ self.now }
         ensures utf8 { IsUtf8 self.now }
     {
-        self.text.as_bytes()
+        self.text.as_str().as_bytes()
     }
 
     /// The text itself.

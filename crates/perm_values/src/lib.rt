@@ -10,9 +10,11 @@ mod kind;
 mod laws;
 mod list;
 mod no_memory;
+mod room;
 mod row;
 #[cfg(test)]
 mod tests;
+mod text;
 mod value;
 
 pub use boxed::Boxed;

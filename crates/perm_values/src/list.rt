@@ -3,6 +3,7 @@ ghost use Rattle.std.specs.Option.{option_copied};
 ghost use Rattle.perm_values.specs.Marked.{unmarked};
 
 use crate::copyable::add_copies;
+use crate::room::push_tightly;
 use crate::{Copyable, NoMemory};
 use std::alloc::Global;
 use std::marker::Model;
@@ -32,6 +33,15 @@ impl<T> List<T> {
         List {
             items: Vec::new(alloc),
         }
+    }
+
+    /// The empty list, with room for as many items. It fails only for want of memory.
+    pub fn with_room(alloc: Global, room: usize) -> Result<List<T>, NoMemory>
+        ensures { IfOk result (λ list. list ≡ []) }
+    {
+        Ok(List {
+            items: Vec::with_capacity(alloc, room)?,
+        })
     }
 
     /// The items of a `Vec`. It takes no memory.
@@ -79,6 +89,13 @@ impl<T> List<T> {
         self.items.as_slice()
     }
 
+    /// Gives back the room that no item fills, where the allocator takes it. It takes no memory.
+    pub fn tighten(&mut self)
+        ensures { self.new ≡ self.old }
+    {
+        self.items.shrink_to_fit();
+    }
+
     /// Takes the last item off; `None` exactly where the list is empty. It takes no memory.
     pub fn pop(&mut self) -> Option<T>
         ensures { MatchOption result ((self.old ≡ []) × (self.new ≡ [])) (λ last. self.old ≡ self.new ++ last ∷ []) }
@@ -93,8 +110,7 @@ impl<T: Drop> List<T> {
         ensures ok { OnOk result (self.new ≡ self.old ++ item ∷ []) }
         ensures err { OnErr result (self.new ≡ self.old) }
     {
-        self.items.push(item)?;
-        Ok(())
+        push_tightly(&mut self.items, item)
     }
 
     /// Moves the items of `more` to the end. It fails only for want of memory, and then the list is as before.
@@ -103,6 +119,10 @@ impl<T: Drop> List<T> {
         ensures err { OnErr result (self.new ≡ self.old) }
     {
         let List { mut items } = more;
+        if self.items.is_empty() {
+            self.items = items;
+            return Ok(());
+        }
         self.items.append(&mut items)?;
         Ok(())
     }
@@ -138,7 +158,7 @@ fn keep_in_front<T>(items: &mut [T], doomed: &[bool]) -> usize
 
 impl<T: Copyable> Copyable for List<T> {
     fn copy(&self, alloc: Global) -> Result<List<T>, NoMemory> {
-        let mut items = Vec::new(alloc);
+        let mut items = Vec::with_capacity(alloc, self.items.len())?;
         add_copies(alloc, &mut items, self.items.as_slice())?;
         Ok(List { items })
     }

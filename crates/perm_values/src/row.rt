@@ -10,6 +10,7 @@ ghost use Rattle.perm_values.specs.ValueLaws.{row_decides, value_cmp_total, valu
 ghost use Rattle.perm_values.specs.Values.{value_cmp};
 
 use crate::copyable::add_copies;
+use crate::room::push_tightly;
 use crate::{Copyable, Key, List, NoMemory, Value};
 use std::alloc::Global;
 use std::cmp::Ordering;
@@ -44,13 +45,21 @@ impl Row {
         }
     }
 
+    /// The row without columns, with room for as many values. It fails only for want of memory.
+    pub fn with_room(alloc: Global, room: usize) -> Result<Row, NoMemory>
+        ensures { IfOk result (λ row. row ≡ []) }
+    {
+        Ok(Row {
+            values: Vec::with_capacity(alloc, room)?,
+        })
+    }
+
     /// Adds a value at the right. It fails only for want of memory, and then the row is as before.
     pub fn push(&mut self, value: Value) -> Result<(), NoMemory>
         ensures ok { OnOk result (self.new ≡ self.old ++ value ∷ []) }
         ensures err { OnErr result (self.new ≡ self.old) }
     {
-        self.values.push(value)?;
-        Ok(())
+        push_tightly(&mut self.values, value)
     }
 
     /// The number of values.
@@ -119,7 +128,7 @@ impl Row {
         ensures { IfOk result (λ row. row ≡ self.now ++ other.now) }
     {
         let alloc = *self.values.allocator();
-        let mut values = Vec::new(alloc);
+        let mut values = Vec::with_capacity(alloc, self.len() + other.len())?;
         add_copies(alloc, &mut values, self.values.as_slice())?;
         add_copies(alloc, &mut values, other.values.as_slice())?;
         Ok(Row { values })
@@ -131,7 +140,7 @@ impl Row {
         ensures { IfOk result (λ row. row ≡ picked places.now self.now) }
     {
         let alloc = *self.values.allocator();
-        let mut values = Vec::new(alloc);
+        let mut values = Vec::with_capacity(alloc, places.len())?;
         for place in places {
             values.push(self.values[*place].copy(alloc)?)?;
         }
@@ -141,7 +150,7 @@ impl Row {
 
 impl Copyable for Row {
     fn copy(&self, alloc: Global) -> Result<Row, NoMemory> {
-        let mut values = Vec::new(alloc);
+        let mut values = Vec::with_capacity(alloc, self.len())?;
         add_copies(alloc, &mut values, self.values.as_slice())?;
         Ok(Row { values })
     }

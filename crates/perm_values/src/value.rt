@@ -9,6 +9,7 @@ use crate::{Chars, Copyable, Kind, NoMemory};
 use std::alloc::Global;
 use std::cmp::Ordering;
 use std::hash::{Hash, Hasher};
+use std::mem::size_of;
 
 /// A value of SQL: NULL, a 64-bit integer, a text or a boolean.
 #[derive(Debug, Drop)]
@@ -18,6 +19,9 @@ pub enum Value {
     Text(Chars),
     Boolean(bool),
 }
+
+// Tables hold little else, so a value stays small.
+const _: () = prove!(size_of::<Value>() == 24);
 
 impl Value {
     /// Whether the values are equal and of one kind, or both NULL (ISO/IEC 9075-2, 'IS NOT DISTINCT FROM').

@@ -1,6 +1,6 @@
 use Rattle.std.proofs.Common.{Bor, List, ℕ, ◌≡◌, ◌+◌, ◌∙◌, refl, inr, Some, length}
 use Rattle.csv.specs.Records.{fields_of}
-use Rattle.csv_tables.proofs.Fitting.{all_fit-spelled}
+use Rattle.csv_tables.proofs.Fitting.{bag_fits-spelled}
 use Rattle.csv_tables.proofs.InLoop.{InLoop-broken, InLoop-end, InLoop-header, InLoop-row, InLoop-start}
 use Rattle.csv_tables.proofs.Rules.{kept-error}
 use Rattle.csv_tables.specs.Loading.{skipped}
@@ -49,10 +49,10 @@ pub returns-clause-ok : goal.returns-clause-ok
 returns-clause-ok c =
     let inv = c.loop-entry.invariant in
     let s = rw c.in-None.is at ((c.next.ensures.steps inv.more_turns inv.untrimmed).0 inv.ready) in
-    InLoop-end (λ (s : Bor (List ℕ)). Some s.now) c.args.mark.now c.args.kinds.now c.args.header c.args.bytes.now c.loop-entry.entry-iterator.rdr c.next.new.self.rdr c.loop-entry.entry-iterator.left
-    c.loop-entry.skip c.loop-entry.rows inv s
+    rw c.tighten.ensures (InLoop-end (λ (s : Bor (List ℕ)). Some s.now) c.args.mark.now c.args.kinds.now c.args.header c.args.bytes.now c.loop-entry.entry-iterator.rdr c.next.new.self.rdr c.loop-entry.entry-iterator.left
+    c.loop-entry.skip c.loop-entry.rows inv s)
 
 pub returns-clause-fit : goal.returns-clause-fit
 returns-clause-fit c =
     let read = returns-clause-ok c in
-    rw read.1 (all_fit-spelled c.args.mark.now c.args.kinds.now c.args.header c.args.bytes.now read.0)
+    rw read.1 (bag_fits-spelled c.args.mark.now c.args.kinds.now c.args.header c.args.bytes.now read.0)

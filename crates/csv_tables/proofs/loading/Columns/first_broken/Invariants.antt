@@ -1,0 +1,6 @@
+use Rattle.csv.specs.Records.{fields_of}
+use Rattle.csv_tables.proofs.Rules.{Unbroken}
+use Rattle.csv_tables.proofs.loading.Columns.first_broken.Given as goal
+
+abbrev pub invariant-loop-place : goal.invariant-loop-place
+invariant-loop-place l = Unbroken l.self.mark.now l.self.kinds.now l.number (fields_of l.fields) l.place
