@@ -2,7 +2,7 @@ use super::*;
 use perm_values::{Bytes, Chars, List, NoMemory};
 use std::alloc::Global;
 use std::test::*;
-use std::{env, fs, process};
+use std::{env, fs, io, process};
 
 /// A file of one name and `length` equal bytes.
 fn one_file(alloc: Global, name: &str, length: usize) -> Result<List<NamedFile>, NoMemory> {
@@ -121,7 +121,7 @@ fn reading_the_disk(rt: HostRuntime) -> Result<(), Fail> {
 
 #[test]
 fn writing_standard_output(rt: HostRuntime) {
-    let mut out = StdSink::new(&rt);
+    let mut out = StdSink::new(io::writer(&rt));
     assert!(rt; write_two(&mut out).is_ok());
     assert!(rt; out.flush().is_ok());
 }
