@@ -48,7 +48,7 @@ fn main(rt: HostRuntime) -> ExitCode {
             alloc,
             words.as_slice(),
             &mut DiskFiles::new(&rt),
-            &mut StdSink::new(&rt),
+            &mut StdSink::new(rt.stdout()),
         ),
         Err(error) => error.status(),
     };

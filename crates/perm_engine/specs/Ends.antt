@@ -101,7 +101,7 @@ EndsSome IsRun w before after s = (ran : Ran) × IsRun ran × Ends ran w s × Op
 abbrev pub EndsOne : ℕ → (Ran → Type 0) → Written → ℕ → ℕ → Status → Type 0
 EndsOne files IsRun w before after s = EndsSome IsRun w before after s ⊎ (IsSilent w s × (after ≡ opened files before))
 
--- ---- why a run ends with a status, also where the bytes of files and outputs aren't told
+-- ---- why a run ends with a status, also where the bytes of files aren't told; a line is named where the output is told
 
 -- the line written last names a rule that a record of a file breaks
 abbrev pub EndsUnfit : Option (List ℕ) → Option (List ℕ) → Type 0

@@ -6,3 +6,4 @@ pub mod Named
 pub mod NeverFiles
 pub mod NeverSink
 pub mod Shelves
+pub mod Told

@@ -7,8 +7,9 @@ use std::alloc::Global;
 use std::io::{ErrorKind, Read};
 use std::{fs, rt};
 
-/// The files of the system, by their paths. What they hold isn't told. A file that the system doesn't find is absent,
-/// want of memory to open one is `NoMemory`, and every other failure is a fault, as that to read a folder.
+/// The files of the system, by their paths. What is left of one is told as far as the
+/// system's files tell it. A file that the system doesn't find is absent, want of memory to open one is `NoMemory`, and
+/// every other failure is a fault, as that to read a folder.
 #[derive(Drop)]
 pub struct DiskFiles<'a, R: rt::Files> {
     rt: &'a R,
@@ -39,11 +40,14 @@ impl<'a, R: rt::Files> DiskFiles<'a, R> {
 }
 
 impl<'a, R: rt::Files> Files for DiskFiles<'a, R> {
-    ghost use Rattle.std.specs.Prelude.{None};
+    ghost use Rattle.std.specs.Prelude.{None, ◌≡◌, take, length, ◌<◌, ◌≤◌, IfOk, OnErr, is_err};
+    ghost use Rattle.std.specs.Io.KnownBytes.{prepend_known, IsAtEnd, ReadConsumes};
+    ghost use Rattle.perm_io.specs.Counts.{raised, CountsFault};
+    ghost use Rattle.perm_io.specs.Told.{left_in, untold};
 
     ghost held = { λ _. None };
 
-    ghost rest = { λ _. None };
+    ghost rest = { λ _. untold };
 
     ghost faults = { λ f. f.faults };
 
@@ -71,7 +75,18 @@ impl<'a, R: rt::Files> Files for DiskFiles<'a, R> {
         answer
     }
 
-    fn read(&mut self, into: &mut [u8]) -> Result<usize, Failed> {
+    fn read(&mut self, into: &mut [u8]) -> Result<usize, Failed>
+        ensures begun { self.new.begun ≡ self.old.begun }
+        ensures absent { self.new.absent ≡ self.old.absent }
+        ensures faults { CountsFault self.old.faults self.new.faults (is_err result) }
+        ensures bound { IfOk result (λ count. count ≤ length into.new) }
+        ensures taken { IfOk result (λ count. self.new.taken ≡ raised self.old.taken count) }
+        ensures moved { IfOk result (λ count. untold ≡ prepend_known (take count into.new) untold) }
+        ensures end { IfOk result (λ count. count ≡ 0 → 0 < length into.new → IsAtEnd untold) }
+        ensures failed { OnErr result ((untold ≡ untold) × (self.new.taken ≡ self.old.taken)) }
+        ensures bytes { ReadConsumes (left_in ⟦<R::File as Read>⟧.remaining self.old.file)
+            (left_in ⟦<R::File as Read>⟧.remaining self.new.file) result into.new }
+    {
         let answer = match &mut self.file {
             Some(file) => file.read(into),
             None => Ok(0),
