@@ -207,4 +207,4 @@ each_table-cross_base q P f = each_table-crossed (table_sources q) P (had q P f)
 
 -- the cross base reads the query's tables alone
 pub tables-cross_base : (q : Query) → ReadsAmong (cross_base_of q) q
-tables-cross_base q = each_table-cross_base (λ id kinds. Contains (tables_read q) (record { id = id; kinds = kinds })) q (reads_among-itself q)
+tables-cross_base q = each_table-cross_base q (λ id kinds. Contains (tables_read q) (record { id = id; kinds = kinds })) (reads_among-itself q)
