@@ -16,12 +16,13 @@ use Rattle.statement_steps.specs.declared.refusal.Break.{Break}
 use Rattle.perm_engine.specs.declared.step_refusal.StepRefusal.{StepRefusal}
 use Rattle.perm_engine.specs.declared.step_refusal.StepRefusal.TheVariants as refusal
 use Rattle.perm_engine.specs.declared.step_refusal.StepRefusal.TheVariants.{Break as Broken, Unfit, ReadFault, NoMemory}
+use Rattle.perm_engine.specs.declared.run.TheConstants.{SCRIPT_LIMIT}
 use Rattle.perm_engine.specs.declared.status.Status.{Status}
 use Rattle.perm_engine.specs.declared.status.Status.TheVariants as status
 
 -- the greatest length of a script, in bytes
 abbrev pub script_limit : ℕ
-script_limit = 1048576
+script_limit = SCRIPT_LIMIT
 
 -- a run: the texts of the statements, the line that follows, the status, and how many files are begun
 pub record Ran : Type 0 where

@@ -22,7 +22,7 @@ use statement_steps::{Break, CommandRefusal};
 use std::alloc::Global;
 
 /// The greatest length of a script, in bytes.
-const SCRIPT_LIMIT: usize = 1 << 20;
+pub(crate) const SCRIPT_LIMIT: usize = 1 << 20;
 
 /// Writes a line and flushes the output; the status is the one given, unless the output fails.
 fn finish<K: Sink>(out: &mut K, line: &[u8], status: Status) -> Status

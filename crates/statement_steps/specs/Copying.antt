@@ -18,11 +18,12 @@ use Rattle.statement_steps.specs.Step.{Stepped, last_number}
 use Rattle.statement_steps.specs.declared.copy.CopyBreak.{CopyBreak}
 use Rattle.statement_steps.specs.declared.copy.CopyBreak.TheVariants.{UnknownTable, VersionsSpent, File}
 use Rattle.statement_steps.specs.declared.copying.CopyRefusal.{CopyRefusal}
+use Rattle.statement_steps.specs.declared.copying.TheConstants.{FILE_LIMIT}
 use Rattle.statement_steps.specs.declared.copying.CopyRefusal.TheVariants.{Missing, TooLarge, Unfit, ReadFault, NoMemory}
 
 -- the greatest length of a file of rows, in bytes
 abbrev pub file_limit : ℕ
-file_limit = 67108864
+file_limit = FILE_LIMIT
 
 -- the rows, unless a rule is broken: then the first one is named
 abbrev pub unless_broken : List DataError → Bag → Result Bag CopyRefusal

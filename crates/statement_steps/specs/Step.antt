@@ -29,6 +29,8 @@ use Rattle.sql_commands.specs.Lists.{all_of}
 use Rattle.sql_commands.specs.declared.command.Command.{Command}
 use Rattle.sql_commands.specs.declared.command.Command.TheVariants.{CreateTable, Insert, Select, Delete, DropTable}
 use Rattle.statement_steps.specs.declared.refusal.Break.{Break}
+use Rattle.statement_steps.specs.declared.create.TheConstants.{MOST_COLUMNS}
+use Rattle.statement_steps.specs.declared.select.TheConstants.{MOST_ANSWERED}
 
 -- what a statement that stands answers: its text, and what the catalog holds then
 pub record Stepped : Type 0 where
@@ -59,7 +61,7 @@ all_differ [] = true
 all_differ (name ∷ names) = not (list_any (pointwise nat_eq name) names) && all_differ names
 
 abbrev pub can_create : Contents → List ℕ → List Column → Bool
-can_create c table columns = is_free c table && nat_le (length columns) 256 && all_differ (column_names columns)
+can_create c table columns = is_free c table && nat_le (length columns) MOST_COLUMNS && all_differ (column_names columns)
 
 abbrev pub create : Contents → List ℕ → List Column → ℕ → Turn
 create c table columns at = cond (can_create c table columns)
@@ -123,7 +125,7 @@ answer_rows c query = sorted row_cmp (good_rows (meaning query (rows_in c.rows) 
 abbrev pub answer : Contents → Bool → List ℕ → TableEntry → List (List ℕ) → List ℕ → Turn
 answer c provenance table entry names places =
     let header = answer_names provenance table entry names places in
-    cond (nat_le (length header) 1024)
+    cond (nat_le (length header) MOST_ANSWERED)
     (Stands (record { text = answer_bytes header (answer_rows c (query_of provenance table entry places)); contents = c })) unfit
 
 abbrev pub select_places : Contents → Bool → List ℕ → TableEntry → List (List ℕ) → Option (List ℕ) → Turn

@@ -11,7 +11,7 @@ use perm_values::{Chars, Kind, Rows};
 use std::alloc::Global;
 
 /// The greatest length of a file of rows, in bytes.
-const FILE_LIMIT: usize = 1 << 26;
+pub(crate) const FILE_LIMIT: usize = 1 << 26;
 
 /// Why a file gives no rows.
 #[derive(Clone, Copy, Debug, PartialEq, Eq)]

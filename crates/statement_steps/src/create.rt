@@ -13,7 +13,7 @@ use perm_values::{Bytes, Chars, Copyable, List};
 use std::alloc::Global;
 
 /// How many columns a table may have.
-const MOST_COLUMNS: usize = 256;
+pub(crate) const MOST_COLUMNS: usize = 256;
 
 /// CREATE TABLE, which stands at an offset: the name is free, there are at most 256 columns, and their names differ.
 pub(crate) fn create_table(

@@ -13,7 +13,7 @@ use perm_values::{Bytes, Chars, Copyable, List, NoMemory};
 use std::alloc::Global;
 
 /// How many columns an answer may have.
-const MOST_ANSWERED: usize = 1024;
+pub(crate) const MOST_ANSWERED: usize = 1024;
 
 /// SELECT: the table and its columns are known, and the answer has at most 1,024 columns.
 pub(crate) fn select(

@@ -60,7 +60,7 @@ collected (optional r) None = []
 collected (optional r) (Some v) = collected r v
 collected (many r) vs = flat_map (collected r) vs
 collected (placed r) v = collected r v.1
-collected (symbol name) v = v
+collected (symbol _) v = v
 
 -- the grammar with its rules, whose trees are the symbols that were read
 abbrev traced : Grammar
@@ -73,7 +73,7 @@ traced = record {
   same = same_sort;
   Tree = λ _. List Symbol;
   body = body;
-  build = λ name v. name ∷ collected (body name) v;
+  build = λ one v. one ∷ collected (body one) v;
 }
 
 abbrev traced_tables : Tables traced
@@ -84,8 +84,8 @@ taken None = []
 taken (Some names) = names
 
 abbrev read_in : Symbol → Option (List Token) → List Symbol
-read_in name None = []
-read_in name (Some tokens) = taken (whole (read traced traced_tables name tokens))
+read_in one None = []
+read_in one (Some tokens) = taken (whole (read traced traced_tables one tokens))
 
 -- each symbol has a number of its own, from 0
 abbrev number : Symbol → ℕ
