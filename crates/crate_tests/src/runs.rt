@@ -1,9 +1,7 @@
 //! Runs of whole scripts (`perm_engine`): those that are refused, and those where a file, a write or a number fails.
-use perm_catalog::Catalog;
-use perm_engine::{Session, Status, perm};
-use perm_io::{MemoryFiles, MemorySink, NamedFile, NeverFiles};
+use perm_engine::{Status, perm};
+use perm_io::{MemoryFiles, MemorySink, NamedFile};
 use perm_values::{Bytes, Chars, List, NoMemory};
-use sql_lexer::tokens;
 use std::alloc::Global;
 use std::test::Fail;
 
@@ -15,9 +13,9 @@ const ANSWER: &str =
 
 /// How a run ended, and the output with what it took.
 #[derive(Drop)]
-struct Ended {
-    status: Status,
-    out: MemorySink,
+pub(crate) struct Ended {
+    pub(crate) status: Status,
+    pub(crate) out: MemorySink,
 }
 
 fn file(alloc: Global, name: &str, content: &[u8]) -> Result<NamedFile, NoMemory> {
@@ -29,13 +27,13 @@ fn file(alloc: Global, name: &str, content: &[u8]) -> Result<NamedFile, NoMemory
 
 /// The words, the files `s`, a script, and `c`, the calls on files and on the output that fail, and the output's room.
 #[derive(Clone, Copy)]
-struct Given<'a> {
-    words: &'a [&'a str],
-    script: &'a [u8],
-    rows: &'a [u8],
-    reads: &'a [u64],
-    writes: &'a [u64],
-    room: usize,
+pub(crate) struct Given<'a> {
+    pub(crate) words: &'a [&'a str],
+    pub(crate) script: &'a [u8],
+    pub(crate) rows: &'a [u8],
+    pub(crate) reads: &'a [u64],
+    pub(crate) writes: &'a [u64],
+    pub(crate) room: usize,
 }
 
 fn files_of(alloc: Global, given: &Given<'_>) -> Result<MemoryFiles, NoMemory> {
@@ -53,7 +51,7 @@ fn words_of(alloc: Global, given: &Given<'_>) -> Result<List<Chars>, NoMemory> {
     Ok(words)
 }
 
-fn run(alloc: Global, given: &Given<'_>) -> Result<Ended, NoMemory> {
+pub(crate) fn run(alloc: Global, given: &Given<'_>) -> Result<Ended, NoMemory> {
     let words = words_of(alloc, given)?;
     let mut files = files_of(alloc, given)?;
     let mut out = MemorySink::new(alloc, given.room, given.writes)?;
@@ -108,29 +106,6 @@ fn scripts_and_their_answers(rt: HostRuntime) -> Result<(), Fail> {
         assert_eq!(rt; ended.status, status, "{text}");
         assert_eq!(rt; ended.out.written(), text.as_bytes(), "{text}");
     }
-    Ok(())
-}
-
-/// What a session that can draw no number answers to a statement.
-fn answer_spent(alloc: Global, script: &[u8]) -> Result<String, Fail> {
-    let tokens = tokens(alloc, script)?;
-    let script = sql_parser::script(alloc, &tokens, script.len())?;
-    let mut files = NeverFiles::new(List::new(alloc));
-    let mut session = Session::with(alloc, Catalog::new(alloc, u64::MAX));
-    let mut text = String::new(alloc);
-    for statement in script.statements.as_slice() {
-        match session.step(statement, &mut files) {
-            Ok(_) => text.push_str("stands")?,
-            Err(refusal) => write!(text, "{refusal:?}")?,
-        }
-    }
-    Ok(text)
-}
-
-#[test]
-fn no_number_is_left(rt: HostRuntime) -> Result<(), Fail> {
-    let text = answer_spent(rt.alloc(), b"; CREATE TABLE r (a INTEGER)")?;
-    assert_eq!(rt; text.as_str(), "Break(Break { code: 17, at: 2 })");
     Ok(())
 }
 

@@ -1,76 +1,96 @@
-//! Which texts are scripts, or the offset of the first token with which they begin none (`sql_lexer`, `sql_parser`).
-use sql_lexer::tokens;
-use sql_parser::script;
+//! Which texts are scripts, or the offset of the first token with which they begin none: what runs of them answer
+//! (`sql_lexer`, `sql_parser`, by `perm_engine`).
+use crate::runs::{Ended, Given, run};
+use perm_engine::Status;
+use perm_values::NoMemory;
 use std::alloc::Global;
 use std::test::Fail;
 
-/// How many statements a text has, or why it has no tree.
-fn outcome(alloc: Global, text: &str) -> Result<String, Fail> {
-    let tokens = tokens(alloc, text.as_bytes())?;
-    let found = script(alloc, &tokens, text.len()).map(|tree| tree.statements.len());
-    Ok(match found {
-        Ok(count) => format!(in alloc; "{count}")?,
-        Err(error) => format!(in alloc; "{error:?}")?,
-    })
+fn answered(alloc: Global, text: &str) -> Result<Ended, NoMemory> {
+    let given = Given {
+        words: &["s"],
+        script: text.as_bytes(),
+        rows: b"",
+        reads: &[],
+        writes: &[],
+        room: 200,
+    };
+    run(alloc, &given)
 }
 
-/// Texts with the number of their statements, or the offset of the first token with which they begin no script.
-const CASES: [(&str, &str); 48] = [
-    ("", "0"),
-    (";;", "0"),
-    ("SELECT 1; SELECT 2;", "2"),
-    (";SELECT 1;;SELECT 2", "2"),
-    ("SELECT 1a", "1"),
-    ("SELECT 1.5", "Unexpected(8)"),
-    ("select \"\" FROM \"order\"", "1"),
-    ("SELECT --1", "Unexpected(10)"),
-    ("SELECT - -1", "1"),
-    ("VALUES (1)", "Unexpected(0)"),
-    ("SELECT 1 SELECT 2", "Unexpected(9)"),
-    ("SELECT a FROM r UNION", "Unexpected(21)"),
-    ("SELECT a FROM t LIMIT 1 ORDER BY a", "Unexpected(24)"),
-    ("SELECT a FROM t LIMIT -1", "Unexpected(22)"),
-    ("CREATE TABLE t ()", "Unexpected(16)"),
-    ("CREATE TABLE t (a BOOLEAN)", "Unexpected(18)"),
-    ("SELECT DISTINCT PROVENANCE a FROM t", "Unexpected(16)"),
-    ("SELECT PROVENANCE DISTINCT a FROM t", "1"),
-    ("SELECT count, sum.a, coalesce FROM count, sum", "1"),
-    ("SELECT COUNT (*), SUM(a) FROM view", "1"),
-    ("SELECT COUNT(DISTINCT *)", "Unexpected(22)"),
-    ("SELECT a FROM order", "Unexpected(14)"),
-    ("SELECT a AS select FROM t", "Unexpected(12)"),
-    ("SELECT a select FROM t", "Unexpected(9)"),
-    ("SELECT a FROM t AS where", "Unexpected(19)"),
-    ("SELECT a FROM r JOIN s WHERE a", "Unexpected(23)"),
-    ("SELECT a FROM r CROSS JOIN s ON a", "Unexpected(29)"),
-    ("SELECT a FROM (SELECT 1)", "Unexpected(24)"),
-    ("SELECT a FROM (SELECT 1) x", "1"),
-    ("SELECT EXISTS ((SELECT 1))", "Unexpected(15)"),
-    ("SELECT COUNT(SELECT 1)", "Unexpected(13)"),
-    ("INSERT INTO t VALUES (SELECT 1)", "Unexpected(22)"),
-    ("INSERT INTO t VALUES ((SELECT 1))", "1"),
-    ("SELECT a IN ((SELECT 1)) FROM t", "1"),
-    ("SELECT a IN () FROM t", "Unexpected(13)"),
-    ("SELECT ((SELECT 1) UNION SELECT 2)", "Unexpected(19)"),
-    ("(SELECT 1) UNION SELECT 2", "1"),
-    ("SELECT a = ANY (1) FROM t", "Unexpected(16)"),
-    ("SELECT a NOT NULL FROM t", "Unexpected(13)"),
-    ("SELECT a = NOT b FROM t", "Unexpected(11)"),
-    ("SELECT NOT NOT a = b FROM t", "1"),
-    ("SELECT a < b < c FROM t", "Unexpected(13)"),
-    ("SELECT a LIKE b LIKE c FROM t", "Unexpected(16)"),
-    ("SELECT a IS NULL IS NULL FROM t", "Unexpected(17)"),
-    ("SELECT a.b.c FROM t", "Unexpected(10)"),
-    ("SELECT CAST(1 AS TEXT)", "Unexpected(12)"),
-    ("SELECT CASE a WHEN 1 THEN 2 END FROM t", "Unexpected(12)"),
-    ("SELECT (1, 2)", "Unexpected(9)"),
+/// Texts that are scripts, whatever becomes of their statements.
+const SCRIPTS: [&str; 15] = [
+    "",
+    ";;",
+    "SELECT 1; SELECT 2;",
+    ";SELECT 1;;SELECT 2",
+    "SELECT 1a",
+    "select \"\" FROM \"order\"",
+    "SELECT - -1",
+    "SELECT PROVENANCE DISTINCT a FROM t",
+    "SELECT count, sum.a, coalesce FROM count, sum",
+    "SELECT COUNT (*), SUM(a) FROM view",
+    "SELECT a FROM (SELECT 1) x",
+    "INSERT INTO t VALUES ((SELECT 1))",
+    "SELECT a IN ((SELECT 1)) FROM t",
+    "(SELECT 1) UNION SELECT 2",
+    "SELECT NOT NOT a = b FROM t",
 ];
 
 #[test]
-fn scripts_are_told_from_texts(rt: HostRuntime) -> Result<(), Fail> {
-    for (text, want) in CASES {
-        let found = outcome(rt.alloc(), text)?;
-        assert_eq!(rt; found.as_str(), want, "{text}");
+fn scripts_are_read(rt: HostRuntime) -> Result<(), Fail> {
+    for text in SCRIPTS {
+        let ended = answered(rt.alloc(), text)?;
+        assert_ne!(rt; ended.status, Status::Syntax, "{text}");
+    }
+    Ok(())
+}
+
+/// Texts with the line that names the first token with which they begin no script.
+const MISSPELLED: [(&str, &str); 33] = [
+    ("SELECT 1.5", "error E05 at 8\n"),
+    ("SELECT --1", "error E05 at 10\n"),
+    ("VALUES (1)", "error E05 at 0\n"),
+    ("SELECT 1 SELECT 2", "error E05 at 9\n"),
+    ("SELECT a FROM r UNION", "error E05 at 21\n"),
+    ("SELECT a FROM t LIMIT 1 ORDER BY a", "error E05 at 24\n"),
+    ("SELECT a FROM t LIMIT -1", "error E05 at 22\n"),
+    ("CREATE TABLE t ()", "error E05 at 16\n"),
+    ("CREATE TABLE t (a BOOLEAN)", "error E05 at 18\n"),
+    ("SELECT DISTINCT PROVENANCE a FROM t", "error E05 at 16\n"),
+    ("SELECT COUNT(DISTINCT *)", "error E05 at 22\n"),
+    ("SELECT a FROM order", "error E05 at 14\n"),
+    ("SELECT a AS select FROM t", "error E05 at 12\n"),
+    ("SELECT a select FROM t", "error E05 at 9\n"),
+    ("SELECT a FROM t AS where", "error E05 at 19\n"),
+    ("SELECT a FROM r JOIN s WHERE a", "error E05 at 23\n"),
+    ("SELECT a FROM r CROSS JOIN s ON a", "error E05 at 29\n"),
+    ("SELECT a FROM (SELECT 1)", "error E05 at 24\n"),
+    ("SELECT EXISTS ((SELECT 1))", "error E05 at 15\n"),
+    ("SELECT COUNT(SELECT 1)", "error E05 at 13\n"),
+    ("INSERT INTO t VALUES (SELECT 1)", "error E05 at 22\n"),
+    ("SELECT a IN () FROM t", "error E05 at 13\n"),
+    ("SELECT ((SELECT 1) UNION SELECT 2)", "error E05 at 19\n"),
+    ("SELECT a = ANY (1) FROM t", "error E05 at 16\n"),
+    ("SELECT a NOT NULL FROM t", "error E05 at 13\n"),
+    ("SELECT a = NOT b FROM t", "error E05 at 11\n"),
+    ("SELECT a < b < c FROM t", "error E05 at 13\n"),
+    ("SELECT a LIKE b LIKE c FROM t", "error E05 at 16\n"),
+    ("SELECT a IS NULL IS NULL FROM t", "error E05 at 17\n"),
+    ("SELECT a.b.c FROM t", "error E05 at 10\n"),
+    ("SELECT CAST(1 AS TEXT)", "error E05 at 12\n"),
+    (
+        "SELECT CASE a WHEN 1 THEN 2 END FROM t",
+        "error E05 at 12\n",
+    ),
+    ("SELECT (1, 2)", "error E05 at 9\n"),
+];
+
+#[test]
+fn misspelled_texts_are_refused(rt: HostRuntime) -> Result<(), Fail> {
+    for (text, line) in MISSPELLED {
+        let ended = answered(rt.alloc(), text)?;
+        assert_eq!(rt; ended.out.written(), line.as_bytes(), "{text}");
     }
     Ok(())
 }
@@ -84,10 +104,10 @@ fn nested(alloc: Global, depth: usize) -> Result<String, Fail> {
 
 #[test]
 fn nesting_has_a_bound(rt: HostRuntime) -> Result<(), Fail> {
-    for (depth, want) in [(64, "1"), (65, "TooDeep(71)")] {
+    for (depth, line) in [(64, "error E29 at 0\n"), (65, "error E06 at 71\n")] {
         let text = nested(rt.alloc(), depth)?;
-        let found = outcome(rt.alloc(), text.as_str())?;
-        assert_eq!(rt; found.as_str(), want, "{depth}");
+        let ended = answered(rt.alloc(), text.as_str())?;
+        assert_eq!(rt; ended.out.written(), line.as_bytes(), "{depth}");
     }
     Ok(())
 }

@@ -8,3 +8,4 @@ pub mod Seeing
 pub mod Spending
 pub mod Queries
 pub mod Sublinks
+pub mod Joining

@@ -1,4 +1,4 @@
--- Which queries the executor runs: those without PROVENANCE, joins and groups, in sublinks too.
+-- Which queries the executor runs: those without PROVENANCE and groups, in sublinks too.
 use Rattle.std.specs.Prelude.{◌≡◌, ℕ, Bool, true, false, ◌&&◌, List, [], ◌∷◌}
 use Rattle.std.proofs.Common.{refl, ap, ◌∙◌}
 use Rattle.perm_values.specs.declared.key.Key.{Key}
@@ -21,7 +21,7 @@ abbrev mutual
   is_built (BaseOf input places label) = is_built input
   is_built (FilterOf input condition _ subs) = is_built input && subs_built subs
   is_built (ProjectOf input items _ subs) = is_built input && subs_built subs
-  is_built (JoinOf kind left right condition _ subs) = false
+  is_built (JoinOf kind left right condition _ subs) = is_built left && is_built right && subs_built subs
   is_built (UnionOf all left right) = is_built left && is_built right
   is_built (IntersectOf all left right) = is_built left && is_built right
   is_built (ExceptOf all left right) = is_built left && is_built right
@@ -55,8 +55,8 @@ is_built-Filter input condition subs = ap is_built (Filter-is input condition su
 pub is_built-Project : (input : Query) (items : List Item) (subs : List Sublink) → is_built (Project input items subs) ≡ (is_built input && all_built subs)
 is_built-Project input items subs = ap is_built (Project_with-is input items subs) ∙ ap (λ b. is_built input && b) (subs_built-row_of_subs subs)
 
-pub is_built-Join : (kind : JoinKind) (left right : Query) (condition : Expr) (subs : List Sublink) → is_built (Join kind left right condition subs) ≡ false
-is_built-Join kind left right condition subs = ap is_built (Join-is kind left right condition subs)
+pub is_built-Join : (kind : JoinKind) (left right : Query) (condition : Expr) (subs : List Sublink) → is_built (Join kind left right condition subs) ≡ (is_built left && is_built right && all_built subs)
+is_built-Join kind left right condition subs = ap is_built (Join-is kind left right condition subs) ∙ ap (λ b. is_built left && is_built right && b) (subs_built-row_of_subs subs)
 
 pub is_built-Union : (all : Bool) (left right : Query) → is_built (Union all left right) ≡ (is_built left && is_built right)
 is_built-Union all left right = ap is_built (Union-is all left right)

@@ -4,7 +4,7 @@ ghost use Rattle.row_executor.specs.Built.{is_built, all_built};
 
 use bag_algebra::{Query, Sublink};
 
-/// Whether `run_plain` runs the query: neither PROVENANCE nor a join nor groups stand anywhere in it, sublinks included.
+/// Whether `run_plain` runs the query: neither PROVENANCE nor groups stand anywhere in it, sublinks included.
 #[cycle(is_built)]
 pub fn is_built(query: &Query) -> bool
     ensures { result ≡ is_built query.now }
@@ -15,7 +15,12 @@ pub fn is_built(query: &Query) -> bool
         Query::Base { input, .. } => is_built(input.get()),
         Query::Filter { input, subs, .. } => is_built(input.get()) && all_built(subs.as_slice()),
         Query::Project { input, subs, .. } => is_built(input.get()) && all_built(subs.as_slice()),
-        Query::Join { .. } => false,
+        Query::Join {
+            left,
+            right,
+            subs,
+            ..
+        } => is_built(left.get()) && is_built(right.get()) && all_built(subs.as_slice()),
         Query::Union { left, right, .. } => is_built(left.get()) && is_built(right.get()),
         Query::Intersect { left, right, .. } => is_built(left.get()) && is_built(right.get()),
         Query::Except { left, right, .. } => is_built(left.get()) && is_built(right.get()),

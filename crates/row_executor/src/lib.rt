@@ -5,6 +5,7 @@ mod built;
 mod error;
 mod expression;
 mod input;
+mod join;
 mod limit;
 mod marks;
 mod operate;
