@@ -1,0 +1,11 @@
+pub mod Cores
+pub mod Expressions
+pub mod Froms
+pub mod Items
+pub mod Meanings
+pub mod Operands
+pub mod Queries
+pub mod Scopes
+pub mod Statements
+pub mod Sublinks
+pub mod Trees

@@ -1,0 +1,61 @@
+use bag_algebra::{Answer, Expr};
+use perm_catalog::{Column, ViewEntry};
+use perm_values::{Chars, Kind, List};
+
+/// A rule of names and kinds that a statement breaks: the number of its error code, and the offset where it is broken.
+#[derive(Clone, Copy, Debug, PartialEq, Eq)]
+pub struct Break {
+    pub code: u8,
+    pub at: usize,
+}
+
+/// A statement with its names looked up and its kinds settled.
+#[derive(Debug, Drop)]
+pub enum Resolved {
+    CreateTable {
+        name: Chars,
+        columns: List<Column>,
+    },
+    /// `places`: those of the provenance columns, present exactly where the query asks for provenance.
+    CreateTableAs {
+        name: Chars,
+        columns: List<Column>,
+        answer: Answer,
+        places: Option<List<usize>>,
+    },
+    CreateView {
+        name: Chars,
+        entry: ViewEntry,
+    },
+    /// `header`: whether the first record is none of the rows; `mark`: the field that stands for NULL.
+    Copy {
+        name: Chars,
+        kinds: List<Kind>,
+        file: Chars,
+        mark: Chars,
+        header: bool,
+    },
+    Insert {
+        name: Chars,
+        rows: List<List<Expr>>,
+    },
+    Delete {
+        name: Chars,
+        condition: Option<Expr>,
+    },
+    DropTable {
+        name: Chars,
+    },
+    DropView {
+        name: Chars,
+    },
+    Select {
+        answer: Answer,
+    },
+    Explain {
+        answer: Answer,
+    },
+    ShowFresh {
+        name: Chars,
+    },
+}
