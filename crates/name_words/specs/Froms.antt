@@ -29,7 +29,7 @@ use Rattle.sql_tree.specs.declared.source.JoinWord.{JoinWord}
 use Rattle.sql_tree.specs.declared.source.JoinWord.TheVariants as word
 use Rattle.sql_tree.specs.declared.source.ScopeMark.{ScopeMark}
 use Rattle.sql_tree.specs.declared.source.ScopeMark.TheVariants as mark
-use Rattle.name_words.specs.Meanings.{Trace, untraced, traced, traced_sublink, Inside, nothing_inside, both_inside, Surroundings, Meant, seen_kind, Part, Around, OutColumn, QueryMeant, QueryPart, broken, broken_if, is_whole, settled, unites}
+use Rattle.name_words.specs.Meanings.{Trace, untraced, in_provenance, traced_sublink, Inside, nothing_inside, both_inside, Surroundings, Meant, seen_kind, Part, Around, OutColumn, QueryMeant, QueryPart, broken, broken_if, is_whole, settled, unites}
 use Rattle.name_words.specs.Scopes.{KnownColumn, ScopeItem, Scope}
 use Rattle.name_words.specs.Sublinks.{nothing_before}
 use Rattle.name_words.specs.declared.answer.Break.{Break}
@@ -164,7 +164,7 @@ trace_under (mark.External attributes) trace = untraced
 -- sources are not all over tables
 abbrev pub is_out_of_scope : Trace → Bool → Query → Bool
 is_out_of_scope untraced viewed query = false
-is_out_of_scope traced viewed query = viewed && not (traceable query)
+is_out_of_scope in_provenance viewed query = viewed && not (traceable query)
 is_out_of_scope traced_sublink viewed query = not (over_tables query) || (viewed && not (traceable query))
 
 -- ---- items

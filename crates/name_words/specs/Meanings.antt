@@ -24,12 +24,12 @@ is_whole (first ∷ more) = false
 -- whether the provenance of what stands here is asked for, and whether it stands in a sublink of what is asked for
 pub data Trace : Type 0 where
   untraced : Trace
-  traced : Trace
+  in_provenance : Trace
   traced_sublink : Trace
 
 abbrev pub trace_below : Trace → Trace
 trace_below untraced = untraced
-trace_below traced = traced_sublink
+trace_below in_provenance = traced_sublink
 trace_below traced_sublink = traced_sublink
 
 -- the queries in the order of their first tokens, each with its number of columns; the tables and views that are named

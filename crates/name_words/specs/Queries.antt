@@ -18,7 +18,7 @@ use Rattle.sql_tree.specs.declared.query.SetWord.{SetWord}
 use Rattle.sql_tree.specs.declared.query.SetWord.TheVariants as word
 use Rattle.name_words.specs.Cores.{BodyPart, settle_known}
 use Rattle.name_words.specs.Froms.{named_columns, named_so}
-use Rattle.name_words.specs.Meanings.{Trace, traced, Inside, both_inside, Around, OutColumn, QueryMeant, QueryPart, broken, broken_if, is_whole, unites, united_kind}
+use Rattle.name_words.specs.Meanings.{Trace, in_provenance, Inside, both_inside, Around, OutColumn, QueryMeant, QueryPart, broken, broken_if, is_whole, unites, united_kind}
 use Rattle.name_words.specs.Scopes.{KnownColumn}
 use Rattle.name_words.specs.declared.answer.Break.{Break}
 
@@ -173,7 +173,7 @@ is_proving around body = around.provable && is_some body.word
 
 abbrev pub query_seen : Around → ℕ → BodyPart → List OrderTree → Option ℤ → QueryMeant
 query_seen around at body order limit = cond (is_proving around body)
-    (let m = body.means (record around { trace = traced }) in
+    (let m = body.means (record around { trace = in_provenance }) in
     proved_query at m order limit (limited limit (keys_of m.columns order) (m.make [])))
     (plain_query at (body.means around) order limit)
 
