@@ -1,5 +1,5 @@
 //! The rules of single nodes.
-ghost use Rattle.std.specs.Prelude.{IfOk};
+ghost use Rattle.std.specs.Prelude.{◌≡◌, IfOk};
 ghost use Rattle.bag_algebra.specs.Rewriting.{IsRewrite};
 ghost use Rattle.bag_algebra.specs.declared.query.Query.TheVariants.{Distinct};
 
@@ -10,7 +10,8 @@ use perm_values::NoMemory;
 /// takes no memory.
 pub fn distinct(input: &Query, rewriting: Query) -> Result<Query, NoMemory>
     requires { IsRewrite input.now rewriting }
-    ensures { IfOk result (λ p. IsRewrite (Distinct input.now) p) }
+    ensures rewrites { IfOk result (λ p. IsRewrite (Distinct input.now) p) }
+    ensures itself { IfOk result (λ p. p ≡ rewriting) }
 {
     Ok(rewriting)
 }
