@@ -1,0 +1,2 @@
+pub mod DistinctRows
+pub mod RuleRows
