@@ -2,5 +2,7 @@
 #![tactic(auto)]
 
 mod answer;
+mod laws;
 
 pub use answer::{Break, Resolved};
+pub use laws::broken_queries_have_their_breaks;
