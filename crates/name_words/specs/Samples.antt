@@ -2,6 +2,10 @@
 use Rattle.std.specs.Prelude.{ℕ, pos, false, List, [], ◌∷◌, Option, None, codes}
 use Rattle.std.specs.FinMap as map
 use Rattle.perm_catalog.specs.Contents.{Contents}
+use Rattle.bag_algebra.specs.declared.expr.Expr.TheVariants.{Col}
+use Rattle.bag_algebra.specs.declared.query.Label.TheVariants.{Relation}
+use Rattle.bag_algebra.specs.declared.query.Query.{Query}
+use Rattle.bag_algebra.specs.declared.query.Query.TheVariants.{Table, Base, Project}
 use Rattle.null_logic.specs.declared.compare.Compare.TheVariants.{Equal}
 use Rattle.perm_values.specs.declared.kind.Kind.TheVariants as kind
 use Rattle.sql_tree.specs.declared.name.Name.{Name}
@@ -57,3 +61,12 @@ unknown_table = query (select (item (expr 7 (e.Integer (pos 1))) ∷ []) (reads 
 -- SELECT 1 = 'a'
 abbrev pub unlike_kinds : QueryTree
 unlike_kinds = query (select (item (expr 7 (e.Compared Equal (expr 7 (e.Integer (pos 1))) (expr 11 (e.Text (codes "a"))))) ∷ []) [] None)
+
+-- SELECT a FROM r
+abbrev pub one_column : QueryTree
+one_column = query (select (item (column 7 (codes "a")) ∷ []) (reads 14 (codes "r") ∷ []) None)
+
+-- r as a source of all its columns, and of them the first
+abbrev pub first_of_r : Query
+first_of_r = Project (Base (Table 1 (kind.Integer ∷ kind.Text ∷ [])) (0 ∷ 1 ∷ []) (Relation (codes "r") (codes "a" ∷ codes "b" ∷ [])))
+    (record { expr = Col 0 0; kind = kind.Integer } ∷ []) []

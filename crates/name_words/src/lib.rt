@@ -5,4 +5,4 @@ mod answer;
 mod laws;
 
 pub use answer::{Break, Resolved};
-pub use laws::broken_queries_have_their_breaks;
+pub use laws::{a_table_is_a_source_of_its_columns, broken_queries_have_their_breaks};
