@@ -1,5 +1,5 @@
 -- What a core means: FROM, WHERE, GROUP BY, HAVING and the SELECT list, in this order.
-use Rattle.std.specs.Prelude.{ℕ, suc, Bool, true, false, cond, not, ◌&&◌, ◌||◌, List, [], ◌∷◌, ◌++◌, map, flat_map, filter_map, length, is_some, Option, Some, None, option_map}
+use Rattle.std.specs.Prelude.{ℕ, Bool, true, false, cond, not, ◌&&◌, ◌||◌, List, [], ◌∷◌, ◌++◌, map, flat_map, filter_map, is_some, Option, Some, None, option_map}
 use Rattle.std.specs.List.{list_any}
 use Rattle.std.specs.Option.{option_map_or}
 use Rattle.perm_values.specs.declared.kind.Kind.{Kind}
@@ -11,9 +11,9 @@ use Rattle.sql_tree.specs.declared.expression.ExprBody.TheOpen.{Core-F}
 use Rattle.sql_tree.specs.declared.name.ColRef.{ColRef}
 use Rattle.name_words.specs.Froms.{FromMeant, FromPart, from_all, condition_breaks}
 use Rattle.name_words.specs.Items.{SelectMeant, SelectPart, Made, all_known, made_items, named_from, items_breaks, items_inside}
-use Rattle.name_words.specs.Meanings.{Trace, untraced, Inside, nothing_inside, both_inside, Surroundings, Before, Built, Meant, Part, Around, OutColumn, QueryMeant, broken, broken_if, is_whole, settled}
+use Rattle.name_words.specs.Meanings.{Trace, untraced, Inside, nothing_inside, both_inside, Surroundings, Before, Built, Meant, Part, Around, OutColumn, QueryMeant, broken, is_whole, settled}
 use Rattle.name_words.specs.Operands.{behind}
-use Rattle.name_words.specs.Scopes.{ScopeItem, Scope, FoundColumn, Found, absent, ambiguous, found, look_up}
+use Rattle.name_words.specs.Scopes.{ScopeItem, Scope, Found, absent, ambiguous, found, look_up}
 use Rattle.name_words.specs.Sublinks.{nothing_before, built_alone, null_at}
 use Rattle.name_words.specs.declared.answer.Break.{Break}
 

@@ -1,7 +1,6 @@
 -- What an expression means: one step for each of its forms, its parts already seen as what they mean.
-use Rattle.std.specs.Prelude.{ℕ, zero, suc, ℤ, Bool, true, false, cond, not, ◌||◌, List, [], ◌∷◌, ◌++◌, map, flat_map, Option, Some, None, codes}
+use Rattle.std.specs.Prelude.{ℕ, zero, suc, Bool, true, false, cond, not, List, [], ◌∷◌, ◌++◌, map, flat_map, Option, Some, None}
 use Rattle.std.specs.List.{list_any}
-use Rattle.std.specs.Option.{option_map_or}
 use Rattle.null_logic.specs.declared.arith.Arith.{Arith}
 use Rattle.null_logic.specs.declared.compare.Compare.{Compare}
 use Rattle.null_logic.specs.declared.compare.Compare.TheVariants.{Equal, NotEqual}
@@ -18,7 +17,7 @@ use Rattle.bag_algebra.specs.declared.query.SubKind.{SubKind}
 use Rattle.bag_algebra.specs.declared.query.SubKind.TheVariants.{Any, All}
 use Rattle.sql_tree.specs.declared.expression.ExprBody.TheOpen.{ExprBody-F, ExprTree-F, ArmTree-F, ExprStep-F}
 use Rattle.name_words.specs.Meanings.{Surroundings, Meant, Part, QueryPart}
-use Rattle.name_words.specs.Meanings.{nothing_inside, settled}
+use Rattle.name_words.specs.Meanings.{nothing_inside}
 use Rattle.name_words.specs.Operands.{Need, of_kind, alike, free, Gives, always, common, Operand, operand, node, need_of, gives_of, operated}
 use Rattle.name_words.specs.Scopes.{look_up}
 use Rattle.name_words.specs.Sublinks.{built_alone, null_at, column_meant, aggregate_meant, aggregate_name, around_of, exists_meant, scalar_meant, tested_meant, if_standing}

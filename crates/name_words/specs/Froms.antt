@@ -1,5 +1,5 @@
 -- What FROM means: its items with their marks, and its joins.
-use Rattle.std.specs.Prelude.{ℕ, suc, Bool, true, false, cond, not, ◌&&◌, ◌||◌, List, [], ◌∷◌, ◌++◌, map, length, is_some, nat_eq, nat_lt, filter_map, position, slice_index_or, Option, Some, None, option_map}
+use Rattle.std.specs.Prelude.{ℕ, Bool, true, false, cond, not, ◌&&◌, ◌||◌, List, [], ◌∷◌, ◌++◌, map, length, nat_eq, nat_lt, position, slice_index_or, Option, Some, None, option_map}
 use Rattle.std.specs.Cmp.Lexicographic.{pointwise}
 use Rattle.std.specs.List.{list_any, count_by, range_with_len}
 use Rattle.std.specs.Option.{option_map_or}
@@ -11,7 +11,6 @@ use Rattle.bag_algebra.specs.declared.expr.Expr.{Expr}
 use Rattle.bag_algebra.specs.declared.expr.Expr.TheVariants.{Lit}
 use Rattle.bag_algebra.specs.declared.query.JoinKind.{JoinKind}
 use Rattle.bag_algebra.specs.declared.query.JoinKind.TheVariants as join
-use Rattle.bag_algebra.specs.declared.query.Label.{Label}
 use Rattle.bag_algebra.specs.declared.query.Label.TheVariants.{Relation, External}
 use Rattle.bag_algebra.specs.declared.query.Query.{Query}
 use Rattle.bag_algebra.specs.declared.query.Query.TheVariants.{Table, Single, Base, Join}
@@ -29,7 +28,7 @@ use Rattle.sql_tree.specs.declared.source.JoinWord.{JoinWord}
 use Rattle.sql_tree.specs.declared.source.JoinWord.TheVariants as word
 use Rattle.sql_tree.specs.declared.source.ScopeMark.{ScopeMark}
 use Rattle.sql_tree.specs.declared.source.ScopeMark.TheVariants as mark
-use Rattle.name_words.specs.Meanings.{Trace, untraced, in_provenance, traced_sublink, Inside, nothing_inside, both_inside, Surroundings, Meant, seen_kind, Part, Around, OutColumn, QueryMeant, QueryPart, broken, broken_if, is_whole, settled, unites}
+use Rattle.name_words.specs.Meanings.{Trace, untraced, in_provenance, traced_sublink, Inside, nothing_inside, both_inside, Surroundings, Meant, seen_kind, Part, OutColumn, QueryMeant, QueryPart, broken, broken_if, is_whole, settled, unites}
 use Rattle.name_words.specs.Scopes.{KnownColumn, ScopeItem, Scope}
 use Rattle.name_words.specs.Sublinks.{nothing_before}
 use Rattle.name_words.specs.declared.answer.Break.{Break}

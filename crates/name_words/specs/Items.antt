@@ -1,5 +1,5 @@
 -- What a SELECT list means: its columns, with `*` and `x.*` expanded.
-use Rattle.std.specs.Prelude.{ℕ, suc, Bool, true, false, cond, not, List, [], ◌∷◌, ◌++◌, map, flat_map, length, take, drop, is_none, Option, Some, None, option_map, codes, decimal}
+use Rattle.std.specs.Prelude.{ℕ, suc, Bool, false, cond, List, [], ◌∷◌, ◌++◌, map, flat_map, length, take, drop, is_none, Option, Some, None, option_map, codes, decimal}
 use Rattle.std.specs.List.{list_any, enumerate_from}
 use Rattle.std.specs.Option.{option_map_or}
 use Rattle.perm_values.specs.declared.kind.Kind.{Kind}
@@ -12,7 +12,7 @@ use Rattle.sql_tree.specs.declared.expression.ExprBody.TheOpen.{SelectItem-F}
 use Rattle.sql_tree.specs.declared.name.Name.{Name}
 use Rattle.name_words.specs.Meanings.{Inside, nothing_inside, both_inside, Surroundings, Before, Built, Meant, seen_kind, Part, OutColumn, broken, broken_if, settled}
 use Rattle.name_words.specs.Operands.{behind}
-use Rattle.name_words.specs.Scopes.{KnownColumn, Scope, Placed, scope_columns, item_columns, place_among}
+use Rattle.name_words.specs.Scopes.{Scope, Placed, scope_columns, item_columns, place_among}
 use Rattle.name_words.specs.Sublinks.{null_at}
 use Rattle.name_words.specs.declared.answer.Break.{Break}
 

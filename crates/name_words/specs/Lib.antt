@@ -5,6 +5,7 @@ pub mod Items
 pub mod Meanings
 pub mod Operands
 pub mod Queries
+pub mod Samples
 pub mod Scopes
 pub mod Statements
 pub mod Sublinks

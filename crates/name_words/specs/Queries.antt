@@ -1,15 +1,12 @@
 -- What a query means: set operations from the left, ORDER BY and LIMIT, and the provenance of all of it.
-use Rattle.std.specs.Prelude.{ℕ, suc, pred, ◌+◌, Bool, true, false, cond, not, ◌&&◌, List, [], ◌∷◌, ◌++◌, map, flat_map, filter_map, length, is_some, nat_eq, nat_lt, nat_le, position, ℤ, pos, negsuc, nat_abs, Option, Some, None, option_map}
-use Rattle.std.specs.List.{list_any, count_by, range_with_len}
+use Rattle.std.specs.Prelude.{ℕ, pred, Bool, true, false, cond, not, ◌&&◌, List, [], ◌∷◌, ◌++◌, map, flat_map, length, is_some, nat_eq, nat_lt, nat_le, position, ℤ, pos, negsuc, nat_abs, Option, Some, None, option_map}
+use Rattle.std.specs.List.{count_by, range_with_len}
 use Rattle.std.specs.Option.{option_map_or}
 use Rattle.perm_values.specs.declared.key.Key.{Key}
-use Rattle.perm_values.specs.declared.kind.Kind.{Kind}
 use Rattle.bag_algebra.specs.Kinds.{shape, place_kinds}
 use Rattle.bag_algebra.specs.PlaceNames.{place_names}
 use Rattle.bag_algebra.specs.declared.query.Query.{Query}
 use Rattle.bag_algebra.specs.declared.query.Query.TheVariants.{Union, Except, Intersect, Limit, Prov}
-use Rattle.perm_catalog.specs.Contents.{Contents}
-use Rattle.sql_tree.specs.declared.expression.ExprBody.TheFolds.{fold-ExprTree}
 use Rattle.sql_tree.specs.declared.expression.ExprBody.TheOpen.{SetTree-F, SetStep-F, QueryTree-F}
 use Rattle.sql_tree.specs.declared.query.OrderKey.{OrderKey}
 use Rattle.sql_tree.specs.declared.query.OrderKey.TheVariants.{Named as named_key, Position}
@@ -18,7 +15,7 @@ use Rattle.sql_tree.specs.declared.query.SetWord.{SetWord}
 use Rattle.sql_tree.specs.declared.query.SetWord.TheVariants as word
 use Rattle.name_words.specs.Cores.{BodyPart, settle_known}
 use Rattle.name_words.specs.Froms.{named_columns, named_so}
-use Rattle.name_words.specs.Meanings.{Trace, in_provenance, Inside, both_inside, Around, OutColumn, QueryMeant, QueryPart, broken, broken_if, is_whole, unites, united_kind}
+use Rattle.name_words.specs.Meanings.{in_provenance, both_inside, Around, OutColumn, QueryMeant, QueryPart, broken, broken_if, is_whole, unites, united_kind}
 use Rattle.name_words.specs.Scopes.{KnownColumn}
 use Rattle.name_words.specs.declared.answer.Break.{Break}
 

@@ -1,11 +1,10 @@
 -- What names name: the columns of the items in scope, looked up from the inside out.
-use Rattle.std.specs.Prelude.{ℕ, suc, ◌+◌, Bool, cond, List, [], ◌∷◌, length, nat_eq, filter, flat_map, position, Option, Some, None, option_map}
+use Rattle.std.specs.Prelude.{ℕ, suc, ◌+◌, cond, List, [], ◌∷◌, length, nat_eq, filter, flat_map, position, Option, Some, None, option_map}
 use Rattle.std.specs.Cmp.Lexicographic.{pointwise}
 use Rattle.std.specs.List.{enumerate_from}
 use Rattle.std.specs.Option.{option_map_or}
 use Rattle.perm_values.specs.declared.kind.Kind.{Kind}
 use Rattle.sql_tree.specs.declared.name.ColRef.{ColRef}
-use Rattle.sql_tree.specs.declared.name.Name.{Name}
 
 pub record KnownColumn : Type 0 where
   pub name : List ℕ

@@ -1,6 +1,6 @@
 -- The breaks of a statement, all of them in their order, and the statement with its names looked up and its kinds settled.
-use Rattle.std.specs.Prelude.{ℕ, suc, ◌+◌, Bool, true, false, cond, not, ◌&&◌, ◌||◌, List, [], ◌∷◌, ◌++◌, map, flat_map, length, is_none, is_some, nat_eq, nat_lt, find, Option, Some, None, option_map}
-use Rattle.std.specs.Cmp.Lexicographic.{pointwise, slice_cmp}
+use Rattle.std.specs.Prelude.{ℕ, Bool, true, false, cond, not, ◌||◌, List, [], ◌∷◌, ◌++◌, map, flat_map, length, is_none, is_some, nat_eq, nat_lt, find, Option, Some, None, option_map}
+use Rattle.std.specs.Cmp.Lexicographic.{slice_cmp}
 use Rattle.std.specs.List.{list_any}
 use Rattle.std.specs.Option.{option_map_or}
 use Rattle.std.specs.Ordering.{nat_cmp}
@@ -27,7 +27,7 @@ use Rattle.sql_tree.specs.declared.statement.StatementBody.{StatementBody}
 use Rattle.sql_tree.specs.declared.statement.StatementBody.TheVariants as st
 use Rattle.sql_tree.specs.declared.statement.ValuesRow.{ValuesRow}
 use Rattle.name_words.specs.Froms.{condition_breaks, names_of, named_so, settled_columns, table_columns}
-use Rattle.name_words.specs.Meanings.{untraced, Surroundings, Meant, Around, OutColumn, QueryMeant, broken, broken_if, is_whole, seen_kind, settled, unites}
+use Rattle.name_words.specs.Meanings.{untraced, Surroundings, Meant, Around, QueryMeant, broken, broken_if, is_whole, seen_kind, unites}
 use Rattle.name_words.specs.Scopes.{KnownColumn, Scope}
 use Rattle.name_words.specs.Sublinks.{nothing_before}
 use Rattle.name_words.specs.Trees.{part_of, query_of}

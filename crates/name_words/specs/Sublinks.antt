@@ -1,5 +1,5 @@
 -- Sublinks and aggregates: what stands in an expression and is no operator.
-use Rattle.std.specs.Prelude.{ℕ, ◌+◌, Bool, true, false, cond, not, ◌&&◌, List, [], ◌∷◌, ◌++◌, length, is_some, Option, Some, None, option_map, codes, nat_eq, nat_lt}
+use Rattle.std.specs.Prelude.{ℕ, ◌+◌, Bool, true, false, cond, not, ◌&&◌, List, [], ◌∷◌, ◌++◌, length, is_some, Option, Some, None, codes, nat_eq, nat_lt}
 use Rattle.std.specs.Option.{option_map_or}
 use Rattle.perm_values.specs.declared.kind.Kind.{Kind}
 use Rattle.perm_values.specs.declared.kind.Kind.TheVariants as kind
@@ -12,9 +12,8 @@ use Rattle.bag_algebra.specs.declared.query.SubKind.{SubKind}
 use Rattle.bag_algebra.specs.declared.query.SubKind.TheVariants.{Exists, Scalar}
 use Rattle.sql_tree.specs.declared.expression.AggWord.{AggWord}
 use Rattle.sql_tree.specs.declared.expression.AggWord.TheVariants as word
-use Rattle.sql_tree.specs.declared.name.ColRef.{ColRef}
-use Rattle.name_words.specs.Meanings.{Trace, Inside, nothing_inside, both_inside, Surroundings, Before, Built, Meant, seen_kind, Part, Around, OutColumn, QueryMeant, QueryPart, broken, broken_if, is_whole, trace_below, unites, united_kind, settled, is_same_kind}
-use Rattle.name_words.specs.Scopes.{FoundColumn, Found, absent, ambiguous, found, look_up, ungrouped, group_count}
+use Rattle.name_words.specs.Meanings.{nothing_inside, both_inside, Surroundings, Before, Built, Meant, seen_kind, Part, Around, OutColumn, QueryMeant, QueryPart, broken, broken_if, is_whole, trace_below, unites, united_kind, settled, is_same_kind}
+use Rattle.name_words.specs.Scopes.{Found, absent, ambiguous, found, ungrouped, group_count}
 use Rattle.name_words.specs.declared.answer.Break.{Break}
 
 -- ---- what needs no operand
