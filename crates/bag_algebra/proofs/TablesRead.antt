@@ -1,5 +1,5 @@
 -- What holds of each table that a query reads, table by table and as a list; what fits a query fits what reads its tables alone.
-use Rattle.std.proofs.Common.{◌≡◌, ℕ, ◌<◌, true, List, [], ◌∷◌, ◌++◌, ◌⊎◌, ⊎_elim, subst, arith}
+use Rattle.std.proofs.Common.{◌≡◌, ℕ, true, List, [], ◌∷◌, ◌++◌, ⊎_elim, subst, arith}
 use Rattle.std.proofs.lemmas.List.Elements.{Contains-append_left, Contains-append_right, Contains-append_cases, Contains-push_cases, Contains-push}
 use Rattle.std.specs.List.{Contains}
 use Rattle.perm_values.specs.declared.kind.Kind.{Kind}

@@ -1,9 +1,11 @@
 pub mod Bags
 pub mod Built
+pub mod BuiltEvery
 pub mod BuiltForms
 pub mod Children
 pub mod Closed
 pub mod ColumnItems
+pub mod EveryNode
 pub mod Expressions
 pub mod FaultFree
 pub mod Fits

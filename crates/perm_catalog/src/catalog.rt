@@ -1,5 +1,6 @@
-ghost use Rattle.std.specs.Prelude.{◌≡◌, ◌-◌, ◌^◌, ◌<◌, ◌↔◌, OnOk, OnErr, IsErrOf, IsTrue, true, None, is_some, IsSome, IfSome, IfOk, length, count_by};
+ghost use Rattle.std.specs.Prelude.{◌≡◌, ◌<◌, ◌↔◌, OnOk, OnErr, IsErrOf, IsTrue, true, None, is_some, IsSome, IfSome, IfOk, length, count_by};
 ghost use Rattle.std.specs.Option.{option_copied};
+ghost use Rattle.perm_values.specs.Numbers.{last_number};
 ghost use Rattle.perm_catalog.specs.Lookups.{declared_places, first_user, name_of_id};
 ghost use Rattle.perm_catalog.specs.Changes.{table_named, view_named, is_free, with_table, with_entry, with_more_rows, with_more_rows_undrawn, nothing_held, rows_at, with_fewer_rows, with_fewer_rows_undrawn, with_view, without_table, without_view};
 
@@ -136,7 +137,7 @@ impl Catalog {
     ) -> Result<(), CatalogRefusal>
         requires { IsTrue (is_free self.old name.now) }
         ensures ok { OnOk result (self.new ≡ with_table self.old name.now columns rows mark) }
-        ensures spent { IsErrOf result CatalogRefusal.VersionsSpent ↔ (self.old.next ≡ 2 ^ 64 - 1) }
+        ensures spent { IsErrOf result CatalogRefusal.VersionsSpent ↔ (self.old.next ≡ last_number) }
         ensures err { OnErr result (self.new ≡ self.old) }
     {
         if self.next == u64::MAX {
@@ -176,7 +177,7 @@ impl Catalog {
     pub fn insert_rows(&mut self, name: &Chars, rows: Rows) -> Result<(), CatalogRefusal>
         requires { IsSome (table_named self.old name.now) }
         ensures ok { OnOk result (IfSome (table_named self.old name.now) (λ entry. self.new ≡ with_more_rows self.old name.now entry.id rows)) }
-        ensures spent { IsErrOf result CatalogRefusal.VersionsSpent ↔ (self.old.next ≡ 2 ^ 64 - 1) }
+        ensures spent { IsErrOf result CatalogRefusal.VersionsSpent ↔ (self.old.next ≡ last_number) }
         ensures err { OnErr result (self.new ≡ self.old) }
     {
         if self.next == u64::MAX {
@@ -209,7 +210,7 @@ impl Catalog {
         requires flags { IfSome (table_named self.old name.now) (λ entry. length doomed.now ≡ length (rows_at self.old entry.id)) }
         ensures ok { OnOk result (IfSome (table_named self.old name.now) (λ entry. self.new ≡ with_fewer_rows self.old name.now entry.id doomed.now)) }
         ensures counted { IfOk result (λ removed. removed ≡ count_by (λ flag. flag) doomed.now) }
-        ensures spent { IsErrOf result CatalogRefusal.VersionsSpent ↔ (self.old.next ≡ 2 ^ 64 - 1) }
+        ensures spent { IsErrOf result CatalogRefusal.VersionsSpent ↔ (self.old.next ≡ last_number) }
         ensures err { OnErr result ((result ≡ Err CatalogRefusal.VersionsSpent) × (self.new ≡ self.old)) }
     {
         if self.next == u64::MAX {

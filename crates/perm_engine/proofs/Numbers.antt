@@ -10,7 +10,8 @@ use Rattle.sql_tree.specs.declared.statement.Statement.{Statement}
 use Rattle.sql_commands.specs.Commands.{command_of}
 use Rattle.sql_commands.specs.Lists.{all_of}
 use Rattle.perm_engine.specs.Run.{StopsBy, StopsAsked, StopsAt}
-use Rattle.statement_steps.specs.Step.{Stepped, Turn, Stands, Refuses, unfit, last_number, drawing, with_entry, can_create, insert_into, delete_from, drop_unused, select_places, place_from, step, step_of, turn}
+use Rattle.perm_values.specs.Numbers.{last_number}
+use Rattle.statement_steps.specs.Step.{Stepped, Turn, Stands, Refuses, unfit, drawing, with_entry, can_create, insert_into, delete_from, drop_unused, select_places, place_from, step, step_of, turn}
 use Rattle.sql_commands.specs.declared.command.Command.{Command}
 use Rattle.sql_commands.specs.declared.command.Command.TheVariants.{CreateTable, Insert, Select, Delete, DropTable}
 use Rattle.statement_steps.specs.declared.refusal.Break.{Break}

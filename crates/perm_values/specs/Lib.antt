@@ -1,6 +1,7 @@
 pub mod formers
 pub mod Hashes
 pub mod Marked
+pub mod Numbers
 pub mod RowLaws
 pub mod Rows
 pub mod Texts

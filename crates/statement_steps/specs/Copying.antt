@@ -14,7 +14,8 @@ use Rattle.perm_catalog.specs.declared.catalog.CatalogRefusal.TheVariants as cha
 use Rattle.perm_catalog.specs.declared.entries.TableEntry.{TableEntry}
 use Rattle.statement_steps.specs.Found.{Found}
 use Rattle.statement_steps.specs.Found as found
-use Rattle.statement_steps.specs.Step.{Stepped, last_number}
+use Rattle.perm_values.specs.Numbers.{last_number}
+use Rattle.statement_steps.specs.Step.{Stepped}
 use Rattle.statement_steps.specs.declared.copy.CopyBreak.{CopyBreak}
 use Rattle.statement_steps.specs.declared.copy.CopyBreak.TheVariants.{UnknownTable, VersionsSpent, File}
 use Rattle.statement_steps.specs.declared.copying.CopyRefusal.{CopyRefusal}

@@ -1,8 +1,9 @@
 -- What a statement does to what the catalog holds, and the text that it answers.
-use Rattle.std.specs.Prelude.{ℕ, suc, ◌-◌, ◌^◌, Bool, true, cond, not, ◌&&◌, nat_le, nat_eq, List, [], ◌∷◌, ◌++◌, map, length, replicate, Option, Some, None, codes}
+use Rattle.std.specs.Prelude.{ℕ, suc, Bool, true, cond, not, ◌&&◌, nat_le, nat_eq, List, [], ◌∷◌, ◌++◌, map, length, replicate, Option, Some, None, codes}
 use Rattle.std.specs.Cmp.Lexicographic.{pointwise}
 use Rattle.std.specs.Fmt.{decimal}
 use Rattle.std.specs.List.{list_any, range_with_len}
+use Rattle.perm_values.specs.Numbers.{last_number}
 use Rattle.perm_values.specs.Rows.{row_cmp}
 use Rattle.bag_algebra.specs.Bags.{Bag, sorted}
 use Rattle.bag_algebra.specs.ColumnItems.{column_items}
@@ -46,11 +47,7 @@ pub data Turn : Type 0 where
 abbrev pub unfit : Turn
 unfit = Refuses (record { code = 10; at = 0 })
 
--- the last number, which is never drawn
-abbrev pub last_number : ℕ
-last_number = 2 ^ 64 - 1
-
--- a statement at an offset that draws a number
+-- a statement at an offset that draws a number; the last one is never drawn
 abbrev pub drawing : Contents → ℕ → Stepped → Turn
 drawing c at stepped = cond (nat_eq c.next last_number) (Refuses (record { code = 17; at = at })) (Stands stepped)
 

@@ -1,6 +1,7 @@
-ghost use Rattle.std.specs.Prelude.{◌≡◌, ◌≢◌, ◌⊎◌, ◌<◌, ◌-◌, ◌^◌, None, Err, length, IfOk, IsErrOf, IsOk, IsSome, IsTrue, IfSome, OnErr};
+ghost use Rattle.std.specs.Prelude.{◌≡◌, ◌≢◌, ◌⊎◌, ◌<◌, None, Err, length, IfOk, IsErrOf, IsOk, IsSome, IsTrue, IfSome, OnErr};
 ghost use Rattle.csv_tables.specs.declared.data_error.DataError.TheVariants as broken;
 ghost use Rattle.perm_catalog.specs.Changes.{table_named, with_more_rows};
+ghost use Rattle.perm_values.specs.Numbers.{last_number};
 ghost use Rattle.perm_io.specs.Counts.{next_count, HasRisen, CountsFault};
 ghost use Rattle.statement_steps.specs.Found.{CanBe};
 ghost use Rattle.statement_steps.specs.Copying.{copy, copy_text, file_limit, has_failed, is_short, IsCopy};
@@ -107,8 +108,8 @@ fn add_rows(
     requires { IsSome (table_named catalog.old table.now) }
     ensures ok { IfOk result (λ text. (text ≡ copy_text (length rows))
         × IfSome (table_named catalog.old table.now) (λ entry. catalog.new ≡ with_more_rows catalog.old table.now entry.id rows)) }
-    ensures spent { IsErrOf result CatalogRefusal.VersionsSpent → catalog.old.next ≡ 2 ^ 64 - 1 }
-    ensures drawn { IsOk result → catalog.old.next ≢ 2 ^ 64 - 1 }
+    ensures spent { IsErrOf result CatalogRefusal.VersionsSpent → catalog.old.next ≡ last_number }
+    ensures drawn { IsOk result → catalog.old.next ≢ last_number }
     ensures err { OnErr result (catalog.new ≡ catalog.old) }
 {
     let text = counted(alloc, b"COPY ", rows.len())?;
