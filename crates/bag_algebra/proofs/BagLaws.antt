@@ -7,6 +7,7 @@ use Rattle.std.specs.List.{list_any}
 use Rattle.perm_values.specs.Rows.{same_row}
 use Rattle.perm_values.specs.ValueLaws.{row_decides}
 use Rattle.bag_algebra.specs.Bags.{Row, Bag, count, member, SameBag, others, once, without_first}
+use Rattle.bag_algebra.proofs.Truths.{or_associates}
 
 pub same_row-refl : (t : Row) → same_row t t ≡ true
 same_row-refl t = (row_decides t t).1 refl
@@ -97,13 +98,9 @@ count-of_none t us e = none_counted (member t us) (count t us) (member_decides t
 pub member-head : (t : Row) (us : Bag) → member t (t ∷ us) ≡ true
 member-head t us = rw (same_row-refl t)
 
-or_assoc : (a b c : Bool) → ((a || b) || c) ≡ (a || (b || c))
-or_assoc true b c = refl
-or_assoc false b c = refl
-
 pub any-append : {X : Type 0} (test : X → Bool) (us vs : List X) → list_any test (us ++ vs) ≡ (list_any test us || list_any test vs)
 any-append test [] vs = refl
-any-append test (u ∷ us) vs = ap (λ b. test u || b) (any-append test us vs) ∙ sym (or_assoc (test u) (list_any test us) (list_any test vs))
+any-append test (u ∷ us) vs = ap (λ b. test u || b) (any-append test us vs) ∙ sym (or_associates (test u) (list_any test us) (list_any test vs))
 
 pub member-append : (t : Row) (us vs : Bag) → member t (us ++ vs) ≡ (member t us || member t vs)
 member-append t us vs = any-append (λ u. same_row u t) us vs

@@ -6,6 +6,7 @@ use mathlib.Core.Bool.{true≢false}
 use Rattle.perm_values.specs.Rows.{same_row}
 use Rattle.perm_values.specs.ValueLaws.{row_decides}
 use Rattle.bag_algebra.specs.Bags.{Row, Bag, member}
+use Rattle.std.proofs.lemmas.Bool.{or_right}
 
 abbrev pub IsIn : {X : Type 0} → X → List X → Type 0
 IsIn x [] = ⊥
@@ -75,10 +76,6 @@ pub one_of : (a b : Bool) → (a || b) ≡ true → (a ≡ true) ⊎ (b ≡ true
 one_of true b h = inl refl
 one_of false b h = inr h
 
-pub or-second : (a b : Bool) → b ≡ true → (a || b) ≡ true
-or-second true b h = refl
-or-second false b h = h
-
 pub or-first : (a b : Bool) → a ≡ true → (a || b) ≡ true
 or-first true b h = refl
 or-first false b h = absurd (true≢false (sym h))
@@ -94,7 +91,7 @@ member-in t (u ∷ us) h = elim (one_of (same_row u t) (member t us) h) [
 pub in-member : (t : Row) (us : Bag) → IsIn t us → member t us ≡ true
 in-member t [] h = absurd h
 in-member t (u ∷ us) (inl e) = or-first (same_row u t) (member t us) ((row_decides u t).1 e)
-in-member t (u ∷ us) (inr h) = or-second (same_row u t) (member t us) (in-member t us h)
+in-member t (u ∷ us) (inr h) = or_right (same_row u t) (member t us) (in-member t us h)
 
 -- bags with the same rows have the same members
 pub same_members : (us vs : Bag) → ((t : Row) → IsIn t us → IsIn t vs) → ((t : Row) → IsIn t vs → IsIn t us) → (t : Row) → member t us ≡ member t vs

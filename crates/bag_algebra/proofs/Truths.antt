@@ -1,5 +1,5 @@
--- Two tests that both hold, and both of two tests, one after the other, as code makes them.
-use Rattle.std.proofs.Common.{◌≡◌, Bool, true, false, ◌&&◌, refl, sym, ap, ◌∙◌, true≢false}
+-- The laws of tests, and both of two tests, one after the other, as code makes them.
+use Rattle.std.proofs.Common.{◌≡◌, Bool, true, false, ◌&&◌, ◌||◌, refl, sym, ap, ◌∙◌, true≢false}
 
 pub both-true : (a b : Bool) → a ≡ true → b ≡ true → (a && b) ≡ true
 both-true a b e f = λ i. e i && f i
@@ -11,6 +11,23 @@ left-true false b h = h
 pub right-true : (a b : Bool) → (a && b) ≡ true → b ≡ true
 right-true true b h = h
 right-true false b h = absurd (true≢false (sym h))
+
+pub and_true : (b : Bool) → (b && true) ≡ b
+and_true true = refl
+and_true false = refl
+
+pub and_associates : (a b c : Bool) → ((a && b) && c) ≡ (a && (b && c))
+and_associates true b c = refl
+and_associates false b c = refl
+
+pub or_associates : (a b c : Bool) → ((a || b) || c) ≡ (a || (b || c))
+or_associates true b c = refl
+or_associates false b c = refl
+
+pub or_turn : (a b c : Bool) → (a || (b || c)) ≡ (b || (a || c))
+or_turn true true c = refl
+or_turn true false c = refl
+or_turn false b c = refl
 
 module _ (whole a b x : Bool) (is_both : whole ≡ (a && b)) (first : x ≡ a) where
   -- the first holds, and the second decides

@@ -4,9 +4,9 @@ use Rattle.perm_values.specs.declared.value.Value.{Value}
 use Rattle.bag_algebra.specs.Bags.{Row}
 use Rattle.bag_algebra.specs.Expressions.{value, Step, chosen_arm}
 use Rattle.bag_algebra.specs.Kinds.{shape}
-use Rattle.bag_algebra.specs.Meaning.{Database, denote, optional_value}
-use Rattle.bag_algebra.specs.Means.{SubMeans, no_subs, with_sub, all_empty}
-use Rattle.bag_algebra.specs.Outcome.{Outcome, mapped, each}
+use Rattle.bag_algebra.specs.Meaning.{Database, denote, meaning, optional_value}
+use Rattle.bag_algebra.specs.Means.{SubMeans, no_subs, with_sub, all_empty, sub_value}
+use Rattle.bag_algebra.specs.Outcome.{Outcome, mapped, both_then, each}
 use Rattle.bag_algebra.specs.declared.expr.Arm.{Arm}
 use Rattle.bag_algebra.specs.declared.expr.ChainStep.{ChainStep}
 use Rattle.bag_algebra.specs.declared.expr.Expr.{Expr}
@@ -33,6 +33,11 @@ subs_denote [] db env = no_subs
 subs_denote (sub ∷ subs) db env =
     with_sub sub.kind (optional_value sub.tested env) (λ u. denote sub.query db (u ∷ env)) (all_empty (shape sub.query))
     (subs_denote subs db env)
+
+-- the value of a sublink on a row: its left operand and its query are both evaluated, the query with the row as the nearest
+-- outer one
+abbrev pub sublink_value : Database → List Row → Row → Sublink → Outcome Value
+sublink_value db env u sub = both_then (optional_value sub.tested env u) (meaning sub.query db (u ∷ env)) (sub_value sub.kind)
 
 -- the places of the sublinks' queries, in the order of their numbers
 abbrev pub subs_shape : List Sublink → List Place

@@ -2,6 +2,7 @@
 use Rattle.std.proofs.Common.{◌≡◌, Bool, true, false, ◌||◌, List, [], ◌∷◌, ◌++◌, refl, ap, ◌∙◌, subst}
 use Rattle.bag_algebra.proofs.BagLaws.{Permuted, nothing, onward, turn, joined, permuted-refl, permuted-sym, permuted-append_left, permuted-append_right}
 use Rattle.bag_algebra.specs.Outcome.{Faults, union, Outcome, Good, Bad, and_then, mapped, both, both_then, gather, each}
+use Rattle.bag_algebra.proofs.Truths.{or_turn}
 
 pub data Agree {X : Type 0} : Outcome (List X) → Outcome (List X) → Type 0 where
   agree_good : {xs ys : List X} → Permuted xs ys → Agree (Good xs) (Good ys)
@@ -47,12 +48,6 @@ permuted-turn (u ∷ us) vs ws = joined (onward u (permuted-turn us vs ws)) (pas
   past u [] ws = permuted-refl (u ∷ ws)
   past u (v ∷ vs) ws = joined (turn u v (vs ++ ws)) (onward v (past u vs ws))
 
-pub or-turn : (a b c : Bool) → (a || (b || c)) ≡ (b || (a || c))
-or-turn true true c = refl
-or-turn true false c = refl
-or-turn false true c = refl
-or-turn false false c = refl
-
 or_comm : (a b : Bool) → (a || b) ≡ (b || a)
 or_comm true true = refl
 or_comm true false = refl
@@ -61,9 +56,9 @@ or_comm false false = refl
 
 pub union-turn : (f g h : Faults) → union f (union g h) ≡ union g (union f h)
 union-turn f g h = λ i. record {
-  divides = or-turn f.divides g.divides h.divides i;
-  range = or-turn f.range g.range h.range i;
-  several = or-turn f.several g.several h.several i;
+  divides = or_turn f.divides g.divides h.divides i;
+  range = or_turn f.range g.range h.range i;
+  several = or_turn f.several g.several h.several i;
 }
 
 pub union-comm : (f g : Faults) → union f g ≡ union g f

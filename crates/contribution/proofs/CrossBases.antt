@@ -1,5 +1,5 @@
 -- The cross base of a query whose sources are over tables.
-use Rattle.std.proofs.Common.{◌≡◌, ◌↔◌, ℕ, Bool, true, false, ◌&&◌, List, [], ◌∷◌, ◌++◌, length, None, IsTrue, refl, sym, ap, ◌∙◌, subst, true≢false}
+use Rattle.std.proofs.Common.{◌≡◌, ◌↔◌, ℕ, Bool, true, ◌&&◌, List, [], ◌∷◌, ◌++◌, length, None, IsTrue, refl, sym, ap, ◌∙◌, subst, true≢false}
 use Rattle.perm_values.specs.declared.kind.Kind.{Kind}
 use Rattle.std.specs.List.{Contains}
 use Rattle.bag_algebra.proofs.TablesRead.{reads_among-itself}
@@ -24,6 +24,7 @@ use Rattle.contribution.proofs.EntriesAtPlaces.{Rows}
 use Rattle.contribution.specs.CrossBase.{base_source, table_sources, sub_table_sources, source_query, crossed, cross_base_of}
 use Rattle.contribution.specs.HeldRows.{table_rows, restricted, held_rows, sub_held_rows}
 use Rattle.contribution.specs.declared.cross.TableSource.{TableSource}
+use Rattle.bag_algebra.proofs.Truths.{left-true, right-true}
 
 -- ---- each place is that of a source over a table
 
@@ -47,28 +48,20 @@ sourced-base (AggregateOf input groups aggregates) places label db e = absurd (t
 sourced-base (LimitOf input keys count) places label db e = absurd (true≢false (sym e))
 sourced-base (ProvOf input) places label db e = absurd (true≢false (sym e))
 
-first_true : (a b : Bool) → (a && b) ≡ true → a ≡ true
-first_true true b e = refl
-first_true false b e = absurd (true≢false (sym e))
-
-second_true : (a b : Bool) → (a && b) ≡ true → b ≡ true
-second_true true b e = e
-second_true false b e = absurd (true≢false (sym e))
-
 mutual
   pub sourced : (q : Query) (db : Database) → over_tables q ≡ true → Sourced db (shape q) (held_rows q db None) (table_sources q)
   sourced (Table id kinds) db e = no_source
   sourced Single db e = no_source
   sourced (BaseOf input places label) db e = sourced-base input places label db e
-  sourced (FilterOf input condition _ subs) db e = sourced-append (sourced input db (first_true _ _ e)) (sourced-subs subs db (second_true _ _ e))
-  sourced (ProjectOf input items _ subs) db e = sourced-append (sourced input db (first_true _ _ e)) (sourced-subs subs db (second_true _ _ e))
+  sourced (FilterOf input condition _ subs) db e = sourced-append (sourced input db (left-true _ _ e)) (sourced-subs subs db (right-true _ _ e))
+  sourced (ProjectOf input items _ subs) db e = sourced-append (sourced input db (left-true _ _ e)) (sourced-subs subs db (right-true _ _ e))
   sourced (JoinOf kind left right condition _ subs) db e =
-      let inputs = first_true (over_tables left && over_tables right) (subs_over_tables subs) e in
-      sourced-append (sourced-append (sourced left db (first_true _ _ inputs)) (sourced right db (second_true _ _ inputs)))
-      (sourced-subs subs db (second_true (over_tables left && over_tables right) (subs_over_tables subs) e))
-  sourced (UnionOf all left right) db e = sourced-append (sourced left db (first_true _ _ e)) (sourced right db (second_true _ _ e))
-  sourced (IntersectOf all left right) db e = sourced-append (sourced left db (first_true _ _ e)) (sourced right db (second_true _ _ e))
-  sourced (ExceptOf all left right) db e = sourced-append (sourced left db (first_true _ _ e)) (sourced right db (second_true _ _ e))
+      let inputs = left-true (over_tables left && over_tables right) (subs_over_tables subs) e in
+      sourced-append (sourced-append (sourced left db (left-true _ _ inputs)) (sourced right db (right-true _ _ inputs)))
+      (sourced-subs subs db (right-true (over_tables left && over_tables right) (subs_over_tables subs) e))
+  sourced (UnionOf all left right) db e = sourced-append (sourced left db (left-true _ _ e)) (sourced right db (right-true _ _ e))
+  sourced (IntersectOf all left right) db e = sourced-append (sourced left db (left-true _ _ e)) (sourced right db (right-true _ _ e))
+  sourced (ExceptOf all left right) db e = sourced-append (sourced left db (left-true _ _ e)) (sourced right db (right-true _ _ e))
   sourced (DistinctOf input) db e = sourced input db e
   sourced (AggregateOf input groups aggregates) db e = sourced input db e
   sourced (LimitOf input keys count) db e = sourced input db e
@@ -77,7 +70,7 @@ mutual
   pub sourced-subs : {m : _} (subs : Row_of-Sublink m) (db : Database) → subs_over_tables subs ≡ true → Sourced db (sub_shape subs) (sub_held_rows subs db) (sub_table_sources subs)
   sourced-subs end_of-Sublink db e = no_source
   sourced-subs (more_of-Sublink kind tested query subs) db e =
-      sourced-append (sourced query db (first_true _ _ e)) (sourced-subs subs db (second_true _ _ e))
+      sourced-append (sourced query db (left-true _ _ e)) (sourced-subs subs db (right-true _ _ e))
 
 pub meaning-cross_base : (q : Query) → over_tables q ≡ true → (db : Database) (env : List Row) →
     (found : Bag) × (meaning (cross_base_of q) db env ≡ Good found) × ((u : Row) → IsTrue (member u found) ↔ FlatAt (shape q) (held_rows q db None) u)

@@ -11,7 +11,7 @@ use Rattle.bag_algebra.specs.Outcome.{Good}
 use Rattle.bag_algebra.specs.Patterns.{ProvOf}
 use Rattle.bag_algebra.specs.declared.query.Query.{Query}
 use Rattle.contribution.proofs.ListedRows.{row-listed, some-in, provenance-pairs}
-use Rattle.contribution.proofs.MembersByIndex.{contains-from_in}
+use Rattle.bag_algebra.proofs.MembersByIndex.{contains-from_in}
 use Rattle.contribution.proofs.QueryKinds.{rows_have-width}
 use Rattle.contribution.specs.Fitting.{Fitting}
 

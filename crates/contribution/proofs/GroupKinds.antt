@@ -21,9 +21,10 @@ use Rattle.bag_algebra.specs.declared.query.AggFn.TheVariants.{CountRows, Count,
 use Rattle.bag_algebra.specs.declared.query.Aggr.{Aggr}
 use Rattle.contribution.proofs.NodeKinds.{with_lists-fit}
 use Rattle.contribution.proofs.RowKinds.{RowFits, BagFits, ListsFit, MeansFit, row_fits-append, picked-fits, each-filter, each-sorted, each-map, each-once, one-fits, lists_fit-flat_map}
-use Rattle.contribution.proofs.ValueKinds.{Fits, GoodFits, null-fits, integer-fits, and-true}
+use Rattle.contribution.proofs.ValueKinds.{Fits, GoodFits, null-fits, integer-fits}
 use Rattle.contribution.proofs.WhereGood.{WhereGood, Each, any_value, each-in, each-of, good-mapped, good-and_then, good-both, good-each}
 use Rattle.contribution.specs.FitsPlaces.{FitsPlaces}
+use Rattle.std.proofs.lemmas.Bool.{and_from}
 
 -- what counts or adds gives integers
 abbrev pub GivesNumber : AggFn → Kind → Type 0
@@ -110,7 +111,7 @@ aggregates_of-fits (aggregate ∷ aggregates) place rows e h =
     (aggregated-fits aggregate.function aggregate.kind (map (λ a. value_at a place) rows) e.0
     (each-map (ArgumentsFrom (aggregate ∷ aggregates) place) (ArgumentFits aggregate.function aggregate.kind) (λ a. value_at a place) rows h (λ row g. g.0)))
     (aggregates_of-fits aggregates (suc place) rows e.1 (each-of (ArgumentsFrom aggregates (suc place)) rows (λ row i. (each-in (ArgumentsFrom (aggregate ∷ aggregates) place) row rows h i).1)))
-    (λ v vs f g. record { fit = and-true _ _ f.fit g.fit })
+    (λ v vs f g. record { fit = and_from _ _ f.fit g.fit })
 
 -- ---- classes
 

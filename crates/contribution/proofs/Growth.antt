@@ -29,10 +29,10 @@ use Rattle.bag_algebra.specs.declared.query.Query.TheVariants.{Table, Single}
 use Rattle.bag_algebra.specs.declared.query.SubKind.{SubKind}
 use Rattle.bag_algebra.specs.declared.query.SubKind.TheVariants as sub
 use Rattle.contribution.proofs.QueryKinds.{each-all}
-use Rattle.contribution.proofs.ValueKinds.{and-true, and-parts}
 use Rattle.contribution.proofs.WhereGood.{Each}
 use Rattle.contribution.specs.Longer.{Longer, more_lists, more_items}
 use Rattle.contribution.specs.SameColumns.{SameColumns}
+use Rattle.std.proofs.lemmas.Bool.{and_parts, and_from}
 
 -- beside one own row
 pub columns-own : (kinds : List Kind) (u : Row) {outer : List (List Kind)} {env other : List Row} → SameColumns outer env other →
@@ -199,7 +199,7 @@ pub value_at-longer : (row more : Row) (kinds : List Kind) (place : ℕ) (kind :
 value_at-longer row more [] place kind b e = cc
 value_at-longer [] more (k ∷ kinds) place kind b e = absurd (true≢false (sym b))
 value_at-longer (v ∷ row) more (k ∷ kinds) zero kind b e = refl
-value_at-longer (v ∷ row) more (k ∷ kinds) (suc place) kind b e = value_at-longer row more kinds place kind (and-parts (fits v k) (row_begins row kinds) b).1 e
+value_at-longer (v ∷ row) more (k ∷ kinds) (suc place) kind b e = value_at-longer row more kinds place kind (and_parts (fits v k) (row_begins row kinds) b).1 e
 
 pub longer-same_columns : (outer : List (List Kind)) {env other : List Row} → Longer env other → env_fits env outer ≡ true →
     SameColumns outer env other
@@ -208,30 +208,30 @@ longer-same_columns outer l f = record { same = at outer l f } where
       (level place : ℕ) (kind : Kind) → column_kind outer level place ≡ Some kind → value_at (row_at env level) place ≡ value_at (row_at other level) place
   at [] l f level place kind e = cc
   at (kinds ∷ outer) (more_lists further) f level place kind e = absurd (true≢false (sym f))
-  at (kinds ∷ outer) (more_items {lists = env} row more l) f zero place kind e = value_at-longer row more kinds place kind (and-parts (row_begins row kinds) (env_fits env outer) f).0 e
-  at (kinds ∷ outer) (more_items {lists = env} row more l) f (suc level) place kind e = at outer l (and-parts (row_begins row kinds) (env_fits env outer) f).1 level place kind e
+  at (kinds ∷ outer) (more_items {lists = env} row more l) f zero place kind e = value_at-longer row more kinds place kind (and_parts (row_begins row kinds) (env_fits env outer) f).0 e
+  at (kinds ∷ outer) (more_items {lists = env} row more l) f (suc level) place kind e = at outer l (and_parts (row_begins row kinds) (env_fits env outer) f).1 level place kind e
 
 pub row_begins-longer : (row more : Row) (kinds : List Kind) → row_begins row kinds ≡ true → row_begins (row ++ more) kinds ≡ true
 row_begins-longer row more [] b = refl
 row_begins-longer [] more (k ∷ kinds) b = absurd (true≢false (sym b))
 row_begins-longer (v ∷ row) more (k ∷ kinds) b =
-    let parts = and-parts (fits v k) (row_begins row kinds) b in
-    and-true (fits v k) (row_begins (row ++ more) kinds) parts.0 (row_begins-longer row more kinds parts.1)
+    let parts = and_parts (fits v k) (row_begins row kinds) b in
+    and_from (fits v k) (row_begins (row ++ more) kinds) parts.0 (row_begins-longer row more kinds parts.1)
 
 -- longer rows fit too
 pub env_fits-longer : (outer : List (List Kind)) {env other : List Row} → Longer env other → env_fits env outer ≡ true → env_fits other outer ≡ true
 env_fits-longer [] l f = refl
 env_fits-longer (kinds ∷ outer) (more_lists further) f = absurd (true≢false (sym f))
 env_fits-longer (kinds ∷ outer) (more_items {lists = env} {longer = other} row more l) f =
-    let parts = and-parts (row_begins row kinds) (env_fits env outer) f in
-    and-true (row_begins (row ++ more) kinds) (env_fits other outer) (row_begins-longer row more kinds parts.0) (env_fits-longer outer l parts.1)
+    let parts = and_parts (row_begins row kinds) (env_fits env outer) f in
+    and_from (row_begins (row ++ more) kinds) (env_fits other outer) (row_begins-longer row more kinds parts.0) (env_fits-longer outer l parts.1)
 
 row_begins-shorter : (row : Row) (kinds more : List Kind) → row_begins row (kinds ++ more) ≡ true → row_begins row kinds ≡ true
 row_begins-shorter row [] more b = refl
 row_begins-shorter [] (k ∷ kinds) more b = b
 row_begins-shorter (v ∷ row) (k ∷ kinds) more b =
-    let parts = and-parts (fits v k) (row_begins row (kinds ++ more)) b in
-    and-true (fits v k) (row_begins row kinds) parts.0 (row_begins-shorter row kinds more parts.1)
+    let parts = and_parts (fits v k) (row_begins row (kinds ++ more)) b in
+    and_from (fits v k) (row_begins row kinds) parts.0 (row_begins-shorter row kinds more parts.1)
 
 -- rows that fit longer kinds fit the kinds
 pub env_fits-shorter : {outer longer : List (List Kind)} (env : List Row) → Longer outer longer → env_fits env longer ≡ true →
@@ -239,8 +239,8 @@ pub env_fits-shorter : {outer longer : List (List Kind)} (env : List Row) → Lo
 env_fits-shorter env (more_lists further) f = refl
 env_fits-shorter [] (more_items kinds more l) f = f
 env_fits-shorter (row ∷ env) (more_items {lists = outer} {longer = longer} kinds more l) f =
-    let parts = and-parts (row_begins row (kinds ++ more)) (env_fits env longer) f in
-    and-true (row_begins row kinds) (env_fits env outer) (row_begins-shorter row kinds more parts.0) (env_fits-shorter env l parts.1)
+    let parts = and_parts (row_begins row (kinds ++ more)) (env_fits env longer) f in
+    and_from (row_begins row kinds) (env_fits env outer) (row_begins-shorter row kinds more parts.0) (env_fits-shorter env l parts.1)
 
 -- ---- as the laws say it
 

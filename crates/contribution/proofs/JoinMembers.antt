@@ -4,31 +4,17 @@ use Rattle.perm_values.specs.declared.value.Value.{Value}
 use Rattle.bag_algebra.proofs.Members.{IsIn, in-map, in-append_left, in-append_right}
 use Rattle.bag_algebra.specs.Bags.{Row, Bag, nulls}
 use Rattle.bag_algebra.specs.Means.{good_rows, is_met, holds_of, kept, met_pairs, keeps_left, keeps_right, unmatched_left, unmatched_right, joined_rows}
-use Rattle.bag_algebra.specs.Outcome.{Outcome, Good, Bad, mapped, both, both_then, gather}
+use Rattle.bag_algebra.specs.Outcome.{Outcome, Good, Bad, mapped, both, gather}
 use Rattle.bag_algebra.specs.declared.query.JoinKind.{JoinKind}
 use Rattle.contribution.proofs.NoRowLost.{MadeBy, Joined, pair, left_alone, right_alone}
-
--- where what is made of two outcomes is good, both are
-pub both-parts : {X Y Z : Type 0} (f : X → Y → Z) (a : Outcome X) (b : Outcome Y) (z : Z) → both f a b ≡ Good z →
-    (x : X) × (y : Y) × (a ≡ Good x) × (b ≡ Good y)
-both-parts f (Good x) (Good y) z e = (x, y, refl, refl)
-both-parts f (Good x) (Bad h) z e = absurd (cc e)
-both-parts f (Bad g) (Good y) z e = absurd (cc e)
-both-parts f (Bad g) (Bad h) z e = absurd (cc e)
-
-pub both_then-parts : {X Y Z : Type 0} (a : Outcome X) (b : Outcome Y) (next : X → Y → Outcome Z) (z : Z) → both_then a b next ≡ Good z →
-    (x : X) × (y : Y) × (a ≡ Good x) × (b ≡ Good y)
-both_then-parts (Good x) (Good y) next z e = (x, y, refl, refl)
-both_then-parts (Good x) (Bad h) next z e = absurd (cc e)
-both_then-parts (Bad g) (Good y) next z e = absurd (cc e)
-both_then-parts (Bad g) (Bad h) next z e = absurd (cc e)
+use Rattle.bag_algebra.proofs.Outcomes.{both-is}
 
 -- a good gathering has the rows of each item
 pub in-gather : {X : Type 0} (f : X → Outcome Bag) (t : Row) (x : X) (xs : List X) (all : Bag) → gather f xs ≡ Good all → IsIn x xs →
     IsIn t (good_rows (f x)) → IsIn t all
 in-gather f t x [] all e h g = absurd h
 in-gather f t x (y ∷ ys) all e h g =
-    let parts = both-parts (λ us vs. us ++ vs) (f y) (gather f ys) all e in
+    let parts = both-is (λ us vs. us ++ vs) (f y) (gather f ys) all e in
     let whole : parts.0 ++ parts.1 ≡ all = ap good_rows ((λ i. both (λ us vs. us ++ vs) (sym parts.2 i) (sym parts.3 i)) ∙ e) in
     subst (IsIn t) whole (elim h [
       | inl same ↦ in-append_left t parts.0 parts.1 (subst (λ o. IsIn t (good_rows o)) parts.2 (subst (λ z. IsIn t (good_rows (f z))) (sym same) g))
@@ -59,7 +45,7 @@ module _ (condition : Row → Outcome Value) (us vs : Bag) (t : Row) where
       good-item : (f : Row → Outcome Bag) (xs : Bag) (all : Bag) (x : Row) → IsIn x xs → gather f xs ≡ Good all → (bag : Bag) × (f x ≡ Good bag)
       good-item f [] all x h e = absurd h
       good-item f (y ∷ ys) all x h e =
-          let parts = both-parts (λ us vs. us ++ vs) (f y) (gather f ys) all e in
+          let parts = both-is (λ us vs. us ++ vs) (f y) (gather f ys) all e in
           elim h [
             | inl same ↦ (parts.0, ap f (sym same) ∙ parts.2)
             | inr later ↦ good-item f ys parts.1 x later parts.3

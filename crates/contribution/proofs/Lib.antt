@@ -15,7 +15,6 @@ pub mod JoinMembers
 pub mod ListedRows
 pub mod ListsInBases
 pub mod LongerKinds
-pub mod MembersByIndex
 pub mod NoRowLost
 pub mod NodeKinds
 pub mod NullRows

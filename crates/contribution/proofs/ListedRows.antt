@@ -5,7 +5,7 @@ use Rattle.bag_algebra.proofs.BagLaws.{count-once}
 use Rattle.bag_algebra.proofs.Members.{IsIn, in-map, from-map, in-flat_map, from-flat_map, in-member, member-in}
 use Rattle.bag_algebra.specs.Bags.{Row, Bag, member, count, once}
 use Rattle.bag_algebra.specs.Built.{rows-with_lists}
-use Rattle.bag_algebra.specs.Children.{subs_denote}
+use Rattle.bag_algebra.specs.Children.{subs_denote, sublink_value}
 use Rattle.bag_algebra.specs.Meaning.{Database, denote, meaning, witnesses, optional_value}
 use Rattle.bag_algebra.specs.Means.{Means, Witness, with_lists, good_rows, flat, with_witnesses}
 use Rattle.bag_algebra.specs.Outcome.{Outcome, Good, Bad, Faults, mapped, both_then, both, each}
@@ -16,10 +16,11 @@ use Rattle.bag_algebra.specs.declared.query.Sublink.{Sublink}
 use Rattle.contribution.proofs.BagMembers.{from-once, in-once}
 use Rattle.contribution.proofs.EntriesAtPlaces.{from-lists}
 use Rattle.contribution.proofs.GoodRows.{good_rows-with_lists}
-use Rattle.contribution.proofs.MembersByIndex.{in-from_contains, contains-from_in}
+use Rattle.bag_algebra.proofs.MembersByIndex.{in-from_contains, contains-from_in}
 use Rattle.contribution.proofs.NoRowLost.{none_lost}
 use Rattle.contribution.proofs.TruthKept.{chosen-keeps_value}
-use Rattle.contribution.specs.SublinkValues.{sublink_value, contributing_value}
+use Rattle.contribution.specs.SublinkValues.{contributing_value}
+use Rattle.bag_algebra.proofs.Outcomes.{answers-each}
 
 pub record OnlyRows (m : Means) : Type 0 where
   pub row : (t : Row) (w : Witness) → IsIn w (m.lists t) → IsIn t (good_rows m.rows)
@@ -69,10 +70,6 @@ no_list-where_bad q db env faults t e =
 
 -- ---- sublinks
 
-pub answers-of_all_rows : (subs : List Sublink) (db : Database) (env : List Row) (u : Row) → (subs_denote subs db env).answers u ≡ each (sublink_value db env u) subs
-answers-of_all_rows [] db env u = refl
-answers-of_all_rows (sub ∷ subs) db env u = ap (both (λ v vs. v ∷ vs) (sublink_value db env u sub)) (answers-of_all_rows subs db env u)
-
 contributing-same : (sub : Sublink) (db : Database) (env : List Row) (u : Row) → sublink_value db env u sub ≡ contributing_value db env u sub
 contributing-same sub db env u =
     λ i. both_then (optional_value sub.tested env u) (meaning sub.query db (u ∷ env)) (λ x bag. sym (chosen-keeps_value sub.kind x bag) i)
@@ -85,7 +82,7 @@ answers-of_contributing_rows (sub ∷ subs) db env u =
 -- each sublink has its value over the contributing rows alone
 pub contributing_rows-suffice : (subs : List Sublink) (db : Database) (env : List Row) (u : Row) →
     each (contributing_value db env u) subs ≡ each (sublink_value db env u) subs
-contributing_rows-suffice subs db env u = sym (answers-of_contributing_rows subs db env u) ∙ answers-of_all_rows subs db env u
+contributing_rows-suffice subs db env u = sym (answers-of_contributing_rows subs db env u) ∙ answers-each subs db env u
 
 -- ---- PROVENANCE
 

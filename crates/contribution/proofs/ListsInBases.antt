@@ -8,7 +8,7 @@ use Rattle.bag_algebra.specs.Scoped.{over_tables}
 use Rattle.bag_algebra.specs.declared.query.Query.{Query}
 use Rattle.contribution.proofs.CrossBases.{meaning-cross_base}
 use Rattle.contribution.proofs.EntriesAtPlaces.{all-at}
-use Rattle.contribution.proofs.MembersByIndex.{in-from_contains}
+use Rattle.bag_algebra.proofs.MembersByIndex.{in-from_contains}
 use Rattle.contribution.specs.CrossBase.{cross_base_of}
 
 pub lists-in_cross_base : (q : Query) → over_tables q ≡ true → (db : Database) (env other : List Row) (t : Row) (w : Witness) → Contains (witnesses q db env t) w →

@@ -24,7 +24,7 @@ use Rattle.bag_algebra.specs.declared.query.Query.TheVariants.{Table, Single}
 use Rattle.bag_algebra.specs.declared.query.SubKind.{SubKind}
 use Rattle.bag_algebra.specs.declared.query.SubKind.TheVariants.{Exists, Any, All, Scalar}
 use Rattle.contribution.proofs.Agreement.{Agree, agree_good, agree_bad, agree-refl}
-use Rattle.contribution.proofs.MembersByIndex.{in-from_contains, contains-from_in}
+use Rattle.bag_algebra.proofs.MembersByIndex.{in-from_contains, contains-from_in}
 use Rattle.contribution.proofs.OrderOfGroups.{aggregate_means-alike}
 use Rattle.contribution.proofs.OrderOfRows.{Alike, any-permuted, permuted-good_rows, unlisted_means-alike, base_means-alike, SameContributions, filter_means-alike, project_means-alike, join_means-alike}
 use Rattle.contribution.proofs.OrderOfSets.{shared-either, union_means-alike, intersect_means-alike, except_means-alike, distinct_means-alike, limit_means-alike, provenance_means-alike}

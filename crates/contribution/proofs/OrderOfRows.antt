@@ -8,8 +8,9 @@ use Rattle.bag_algebra.specs.Bags.{Row, Bag, member, nulls}
 use Rattle.bag_algebra.specs.Means.{Means, Witness, Held, with_lists, beside, unlisted_means, base_means, kept, filter_means, gives, good_rows, project_means, keeps_left, keeps_right, is_met, unmatched_left, unmatched_right, met_pairs, joined_rows, Blanks, pair_lists, left_lists, right_lists, join_means}
 use Rattle.bag_algebra.specs.Outcome.{Outcome, gather, each}
 use Rattle.bag_algebra.specs.declared.query.JoinKind.{JoinKind}
-use Rattle.contribution.proofs.Agreement.{or-turn, Agree, agree_good, agree_bad, agree-trans, permuted-append, gather-permuted, gather-agree, each-permuted, and_then-agree, mapped-agree, both_then-agree}
+use Rattle.contribution.proofs.Agreement.{Agree, agree_good, agree_bad, agree-trans, permuted-append, gather-permuted, gather-agree, each-permuted, and_then-agree, mapped-agree, both_then-agree}
 use Rattle.contribution.proofs.SharedMembers.{Shared, shared-refl, shared-permuted, shared-map, shared-flat_map, shared-append, shared-where, shared-paired, SharedEach, shared-beside}
+use Rattle.bag_algebra.proofs.Truths.{or_turn}
 
 -- the same rows in some order, and the same lists of each row
 pub record Alike (m n : Means) : Type 0 where
@@ -66,7 +67,7 @@ project_means-alike items {c} {d} {m} {n} s a =
 pub any-permuted : {X : Type 0} (test : X → Bool) {us vs : List X} → Permuted us vs → list_any test us ≡ list_any test vs
 any-permuted test nothing = refl
 any-permuted test (onward u p) = ap (λ b. test u || b) (any-permuted test p)
-any-permuted test (turn u v us) = or-turn (test u) (test v) (list_any test us)
+any-permuted test (turn u v us) = or_turn (test u) (test v) (list_any test us)
 any-permuted test (joined p q) = any-permuted test p ∙ any-permuted test q
 
 module _ (condition : Row → Outcome Value) where

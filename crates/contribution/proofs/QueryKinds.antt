@@ -29,11 +29,12 @@ use Rattle.bag_algebra.specs.declared.query.SubKind.TheVariants as sub
 use Rattle.contribution.proofs.GroupKinds.{GivesNumber, ArgumentFits, ArgumentsFrom, arguments-behind, NumbersGiven, aggregate_means-fit}
 use Rattle.contribution.proofs.NodeKinds.{ContributionsOn, unlisted_means-fit, base_means-fit, filter_means-fit, project_means-fit, join_means-fit, union_means-fit, intersect_means-fit, except_means-fit, distinct_means-fit, limit_means-fit, provenance_means-fit}
 use Rattle.contribution.proofs.RowKinds.{RowFits, BagFits, ListsFit, MeansFit, row_fits-length, value_at-fits, all_empty-fits, fits_places-append, one-fits, lists_fit-flat_map, lists_fit-where, no_sublink, next_sublink}
-use Rattle.contribution.proofs.MembersByIndex.{in-from_contains, all-from_in}
-use Rattle.contribution.proofs.ValueKinds.{Fits, GoodFits, null-fits, truth-fits, boolean-fits, fits-begins, and-true, and-parts, value-fits}
+use Rattle.bag_algebra.proofs.MembersByIndex.{in-from_contains, all-from_in}
+use Rattle.contribution.proofs.ValueKinds.{Fits, GoodFits, null-fits, truth-fits, boolean-fits, fits-begins, value-fits}
 use Rattle.contribution.proofs.WhereGood.{WhereGood, Each, any_value, each-in, good-and_then, good-both, good-both_then}
 use Rattle.contribution.specs.Fitting.{Fitting}
 use Rattle.contribution.specs.FitsPlaces.{FitsPlaces, no_place}
+use Rattle.std.proofs.lemmas.Bool.{and_parts, and_from}
 
 -- ---- std's words
 
@@ -49,7 +50,7 @@ pub record Seen (kinds : List Kind) (outer : List (List Kind)) (env : List Row) 
 
 pub seen-row : (kinds : List Kind) (outer : List (List Kind)) (env : List Row) (u : Row) → env_fits env outer ≡ true → RowFits kinds u →
     Seen kinds outer env u
-seen-row kinds outer env u e f = record { fitting = and-true (row_begins u kinds) (env_fits env outer) (fits-begins u kinds f.fit) e }
+seen-row kinds outer env u e f = record { fitting = and_from (row_begins u kinds) (env_fits env outer) (fits-begins u kinds f.fit) e }
 
 optional_value-fits : (part : Expr) (k : Kind) (kinds : List Kind) (outer : List (List Kind)) (env : List Row) (u : Row) → Seen kinds outer env u →
     HasKind (kinds ∷ outer) [] part k →
@@ -95,7 +96,7 @@ with_sub-fit {kinds} {query_kinds} {answer_kinds} kind tested m blank s b f more
       (both_then (tested u) (m u).rows (sub_value kind)) (s.answers u)
       (good-both_then (λ x. ⊤) (BagFits query_kinds) (Fits (sub_kind kind query_kinds)) (tested u) (m u).rows (sub_value kind) (any_value (tested u)) (f u g).rows
       (λ x bag _ h. sub_value-fits kind x query_kinds bag h))
-      (more.answers u g) (λ v vs h i. record { fit = and-true (fits v (sub_kind kind query_kinds)) (row_fits vs answer_kinds) h.fit i.fit });
+      (more.answers u g) (λ v vs h i. record { fit = and_from (fits v (sub_kind kind query_kinds)) (row_fits vs answer_kinds) h.fit i.fit });
   contributions = record { on = λ u g. next_sublink (contribution_of-fits blank kind (good_value (tested u)) (m u) b (f u g)) (more.contributions.on u g) };
   blank = fits_places-append b more.blank;
 }
@@ -111,7 +112,7 @@ items-fit scopes answer_kinds u env answers e a (item ∷ items) h =
     good-both (Fits item.kind) (RowFits (map (λ (item : Item). item.kind) items)) (RowFits (item.kind ∷ map (λ (item : Item). item.kind) items)) (λ v vs. v ∷ vs)
     (value item.expr u env answers) (each (λ (item : Item). value item.expr u env answers) items)
     (value-fits scopes answer_kinds u env answers e a item.expr item.kind h.0) (items-fit scopes answer_kinds u env answers e a items h.1)
-    (λ v vs f g. record { fit = and-true (fits v item.kind) (row_fits vs (map (λ (item : Item). item.kind) items)) f.fit g.fit })
+    (λ v vs f g. record { fit = and_from (fits v item.kind) (row_fits vs (map (λ (item : Item). item.kind) items)) f.fit g.fit })
 
 items_on-fit : {places : List Place} (items : List Item) (kinds : List Kind) (outer : List (List Kind)) (answer_kinds : List Kind) (env : List Row) (s : SubMeans) →
     ItemsForm (kinds ∷ outer) answer_kinds items → env_fits env outer ≡ true → SubsFit kinds places answer_kinds s →
@@ -167,12 +168,12 @@ module _ (kinds : List Kind) (outer : List (List Kind)) (env : List Row) (u : Ro
 bag-fits : (bag : Bag) (kinds : List Kind) → bag_fits bag kinds ≡ true → BagFits kinds bag
 bag-fits [] kinds e = tt
 bag-fits (row ∷ bag) kinds e =
-    let parts = and-parts (row_fits row kinds) (bag_fits bag kinds) e in
+    let parts = and_parts (row_fits row kinds) (bag_fits bag kinds) e in
     (record { fit = parts.0 }, bag-fits bag kinds parts.1)
 
 fits-bag : (bag : Bag) (kinds : List Kind) → BagFits kinds bag → bag_fits bag kinds ≡ true
 fits-bag [] kinds h = refl
-fits-bag (row ∷ bag) kinds h = and-true (row_fits row kinds) (bag_fits bag kinds) (h.0).fit (fits-bag bag kinds h.1)
+fits-bag (row ∷ bag) kinds h = and_from (row_fits row kinds) (bag_fits bag kinds) (h.0).fit (fits-bag bag kinds h.1)
 
 -- ---- queries
 

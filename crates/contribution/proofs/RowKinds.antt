@@ -12,9 +12,10 @@ use Rattle.bag_algebra.specs.Means.{Witness, Means, flat, all_empty, paired, bes
 use Rattle.bag_algebra.specs.Outcome.{Outcome, Good, Bad}
 use Rattle.bag_algebra.specs.declared.place.Place.{Place}
 use Rattle.contribution.proofs.BagMembers.{from-once, from-union, from-intersect, from-except, from-take, from-sorted}
-use Rattle.contribution.proofs.ValueKinds.{Fits, null-fits, and-true, and-parts}
+use Rattle.contribution.proofs.ValueKinds.{Fits, null-fits}
 use Rattle.contribution.proofs.WhereGood.{WhereGood, Each, each-in, each-of}
 use Rattle.contribution.specs.FitsPlaces.{FitsPlaces, no_place, held, empty}
+use Rattle.std.proofs.lemmas.Bool.{and_parts, and_from}
 
 pub record RowFits (kinds : List Kind) (row : Row) : Type 0 where
   pub fit : row_fits row kinds ≡ true
@@ -39,34 +40,34 @@ row_fits-append u v kinds more f g = record { fit = at u kinds f.fit } where
   at [] (k ∷ kinds) e = absurd (true≢false (sym e))
   at (a ∷ u) [] e = absurd (true≢false (sym e))
   at (a ∷ u) (k ∷ kinds) e =
-      let both_fit = and-parts (fits a k) (row_fits u kinds) e in
-      and-true (fits a k) (row_fits (u ++ v) (kinds ++ more)) both_fit.0 (at u kinds both_fit.1)
+      let both_fit = and_parts (fits a k) (row_fits u kinds) e in
+      and_from (fits a k) (row_fits (u ++ v) (kinds ++ more)) both_fit.0 (at u kinds both_fit.1)
 
 pub nulls-fit : (kinds : List Kind) → RowFits kinds (nulls (length kinds))
 nulls-fit kinds = record { fit = at kinds } where
   at : (kinds : List Kind) → row_fits (nulls (length kinds)) kinds ≡ true
   at [] = refl
-  at (k ∷ kinds) = and-true (fits Null k) (row_fits (nulls (length kinds)) kinds) (null-fits k).fit (at kinds)
+  at (k ∷ kinds) = and_from (fits Null k) (row_fits (nulls (length kinds)) kinds) (null-fits k).fit (at kinds)
 
 -- a value at any place fits the kind there; out of range it is NULL
 pub value_at-fits : (row : Row) (kinds : List Kind) (place : ℕ) → row_fits row kinds ≡ true → Fits (kind_in kinds place) (value_at row place)
 value_at-fits [] kinds place e = null-fits (kind_in kinds place)
 value_at-fits (v ∷ row) [] place e = absurd (true≢false (sym e))
-value_at-fits (v ∷ row) (k ∷ kinds) zero e = record { fit = (and-parts (fits v k) (row_fits row kinds) e).0 }
-value_at-fits (v ∷ row) (k ∷ kinds) (suc place) e = value_at-fits row kinds place (and-parts (fits v k) (row_fits row kinds) e).1
+value_at-fits (v ∷ row) (k ∷ kinds) zero e = record { fit = (and_parts (fits v k) (row_fits row kinds) e).0 }
+value_at-fits (v ∷ row) (k ∷ kinds) (suc place) e = value_at-fits row kinds place (and_parts (fits v k) (row_fits row kinds) e).1
 
 pub picked-fits : (places : List ℕ) (row : Row) (kinds : List Kind) → RowFits kinds row → RowFits (kinds_in kinds places) (picked places row)
 picked-fits places row kinds f = record { fit = at places } where
   at : (places : List ℕ) → row_fits (picked places row) (kinds_in kinds places) ≡ true
   at [] = refl
   at (place ∷ places) =
-      and-true (fits (value_at row place) (kind_in kinds place)) (row_fits (picked places row) (kinds_in kinds places)) (value_at-fits row kinds place f.fit).fit (at places)
+      and_from (fits (value_at row place) (kind_in kinds place)) (row_fits (picked places row) (kinds_in kinds places)) (value_at-fits row kinds place f.fit).fit (at places)
 
 pub row_fits-length : (row : Row) (kinds : List Kind) → row_fits row kinds ≡ true → length row ≡ length kinds
 row_fits-length [] [] e = refl
 row_fits-length [] (k ∷ kinds) e = absurd (true≢false (sym e))
 row_fits-length (v ∷ row) [] e = absurd (true≢false (sym e))
-row_fits-length (v ∷ row) (k ∷ kinds) e = ap suc (row_fits-length row kinds (and-parts (fits v k) (row_fits row kinds) e).1)
+row_fits-length (v ∷ row) (k ∷ kinds) e = ap suc (row_fits-length row kinds (and_parts (fits v k) (row_fits row kinds) e).1)
 
 -- ---- bags
 

@@ -4,7 +4,7 @@ use Rattle.bag_algebra.proofs.BagLaws.{member_decides}
 use Rattle.bag_algebra.proofs.Members.{IsIn, in-append_left, in-append_right, in-filter, from-filter, in-member, member-in}
 use Rattle.bag_algebra.specs.Bags.{Row, Bag, member, count, in_both, beyond, union_of, intersect_of, except_of}
 use Rattle.contribution.proofs.BagMembers.{from-once, in-once}
-use Rattle.contribution.proofs.OrderOfSets.{count-in_both, count-beyond}
+use Rattle.bag_algebra.proofs.SetCounts.{count-in_both, count-beyond}
 
 -- a row is in a bag exactly where it is counted
 pub in-counted : (t : Row) (us : Bag) → 0 < count t us → IsIn t us

@@ -3,7 +3,7 @@ use Rattle.std.proofs.Common.{◌≡◌, ℕ, inl, inr, Bool, true, false, cond,
 use Rattle.std.specs.List.{list_any}
 use Rattle.std.specs.Cmp.{both_ways}
 use Rattle.perm_values.specs.declared.value.Value.{Value}
-use Rattle.bag_algebra.proofs.Members.{IsIn, in-filter, from-filter, one_of, or-first, or-second, in-member, member-in}
+use Rattle.bag_algebra.proofs.Members.{IsIn, in-filter, from-filter, one_of, or-first, in-member, member-in}
 use Rattle.bag_algebra.specs.Bags.{Row, Bag, member, once, union_of, intersect_of, except_of, nulls}
 use Rattle.bag_algebra.specs.Built.{meaning-Filter, meaning-Project, meaning-Join, meaning-Union, meaning-Intersect, meaning-Except, meaning-Distinct}
 use Rattle.bag_algebra.specs.Children.{subs_denote}
@@ -22,13 +22,14 @@ use Rattle.contribution.proofs.BagMembers.{from-once, in-once, from-intersect}
 use Rattle.contribution.proofs.SetMembers.{in-intersect}
 use Rattle.contribution.proofs.SetsOfRows.{SetAgree, set_good, set_bad, set_agree-refl, same_set-agrees, set_agree-same_set, gather-set, each-set, and_then-set, mapped-set, both_then-set, both-set}
 use Rattle.contribution.proofs.SharedMembers.{Within, Shared, shared-map, shared-append, shared-where}
+use Rattle.std.proofs.lemmas.Bool.{or_right}
 
 -- ---- lists with the same members
 
 pub any_in : {X : Type 0} (test : X → Bool) (x : X) (xs : List X) → IsIn x xs → test x ≡ true → list_any test xs ≡ true
 any_in test x [] h e = absurd h
 any_in test x (y ∷ ys) (inl same) e = or-first (test y) (list_any test ys) (ap test same ∙ e)
-any_in test x (y ∷ ys) (inr h) e = or-second (test y) (list_any test ys) (any_in test x ys h e)
+any_in test x (y ∷ ys) (inr h) e = or_right (test y) (list_any test ys) (any_in test x ys h e)
 
 pub from_any : {X : Type 0} (test : X → Bool) (xs : List X) → list_any test xs ≡ true → (x : X) × IsIn x xs × (test x ≡ true)
 from_any test [] e = cc

@@ -8,6 +8,7 @@ use Rattle.bag_algebra.specs.Outcome.{Faults, union, Outcome, Good, Bad, and_the
 use Rattle.bag_algebra.specs.Rewriting.{SameSet}
 use Rattle.contribution.proofs.Agreement.{joined_lists, union-comm, each-gather}
 use Rattle.contribution.proofs.SharedMembers.{Within, Shared, shared-refl, shared-sym, shared-trans}
+use Rattle.bag_algebra.proofs.Truths.{or_associates}
 
 -- ---- sets of faults
 
@@ -15,19 +16,15 @@ use Rattle.contribution.proofs.SharedMembers.{Within, Shared, shared-refl, share
 pub record Included (f g : Faults) : Type 0 where
   pub whole : union f g ≡ g
 
-or_assoc : (a b c : Bool) → ((a || b) || c) ≡ (a || (b || c))
-or_assoc true b c = refl
-or_assoc false b c = refl
-
 or_same : (a : Bool) → (a || a) ≡ a
 or_same true = refl
 or_same false = refl
 
 pub union-assoc : (f g h : Faults) → union (union f g) h ≡ union f (union g h)
 union-assoc f g h = λ i. record {
-  divides = or_assoc f.divides g.divides h.divides i;
-  range = or_assoc f.range g.range h.range i;
-  several = or_assoc f.several g.several h.several i;
+  divides = or_associates f.divides g.divides h.divides i;
+  range = or_associates f.range g.range h.range i;
+  several = or_associates f.several g.several h.several i;
 }
 
 pub union-same : (f : Faults) → union f f ≡ f

@@ -1,5 +1,5 @@
 -- A query reads its own tables alone, and the order of their rows decides nothing of what fits it.
-use Rattle.std.proofs.Common.{◌≡◌, ℕ, Bool, true, false, ◌&&◌, List, ◌∷◌, map, refl, sym, ap, ◌∙◌}
+use Rattle.std.proofs.Common.{◌≡◌, Bool, true, false, ◌&&◌, List, ◌∷◌, map, refl, sym, ap, ◌∙◌}
 use Rattle.std.specs.List.{list_all}
 use Rattle.perm_values.specs.Rows.{row_fits}
 use Rattle.perm_values.specs.declared.kind.Kind.{Kind}

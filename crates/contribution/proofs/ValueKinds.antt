@@ -1,5 +1,5 @@
 -- The value of a well formed expression fits its kind.
-use Rattle.std.proofs.Common.{◌≡◌, ℕ, zero, suc, Bool, true, false, cond, ◌&&◌, List, [], ◌∷◌, slice_get, Some, None, refl, sym, subst, true≢false}
+use Rattle.std.proofs.Common.{◌≡◌, ℕ, zero, suc, Bool, true, false, cond, List, [], ◌∷◌, slice_get, Some, None, refl, sym, subst, true≢false}
 use Rattle.std.specs.Prelude.{⊤}
 use Rattle.std.specs.Prelude.{ℤ, Result, Ok, Err}
 use Rattle.null_logic.specs.Arithmetic.{calculate, negate}
@@ -26,6 +26,7 @@ use Rattle.bag_algebra.specs.WellFormed.{column_kind, OpForm, op_form, HasKind, 
 use Rattle.bag_algebra.specs.declared.expr.Expr.{Expr, Row_of-Expr, Row_of-Arm, more_of-Expr, end_of-Expr, more_of-Arm, end_of-Arm}
 use Rattle.bag_algebra.specs.declared.expr.Expr.TheVariants.{Col, Lit, Sub}
 use Rattle.contribution.proofs.WhereGood.{WhereGood, Each, any_value, good-mapped, good-and_then, good-both, good-both_then}
+use Rattle.std.proofs.lemmas.Bool.{and_parts, and_from}
 
 pub record Fits (kind : Kind) (v : Value) : Type 0 where
   pub fit : fits v kind ≡ true
@@ -40,14 +41,6 @@ null-fits kind.Boolean = record { fit = refl }
 
 -- ---- columns
 
-pub and-parts : (a b : Bool) → (a && b) ≡ true → (a ≡ true) × (b ≡ true)
-and-parts true b e = (refl, e)
-and-parts false b e = absurd (true≢false (sym e))
-
-pub and-true : (a b : Bool) → a ≡ true → b ≡ true → (a && b) ≡ true
-and-true true b e f = f
-and-true false b e f = e
-
 module _ {A : Type 0} where
   nothing_there : {a : A} {P : Type 0} → None ≡ Some a → P
   nothing_there e = cc
@@ -59,16 +52,16 @@ pub begins-fits : (row : Row) (kinds : List Kind) (place : ℕ) (kind : Kind) �
     Fits kind (value_at row place)
 begins-fits row [] place kind b e = nothing_there e
 begins-fits [] (k ∷ kinds) place kind b e = absurd (true≢false (sym b))
-begins-fits (v ∷ row) (k ∷ kinds) zero kind b e = record { fit = subst (λ l. fits v l ≡ true) (the_one e) (and-parts (fits v k) (row_begins row kinds) b).0 }
-begins-fits (v ∷ row) (k ∷ kinds) (suc place) kind b e = begins-fits row kinds place kind (and-parts (fits v k) (row_begins row kinds) b).1 e
+begins-fits (v ∷ row) (k ∷ kinds) zero kind b e = record { fit = subst (λ l. fits v l ≡ true) (the_one e) (and_parts (fits v k) (row_begins row kinds) b).0 }
+begins-fits (v ∷ row) (k ∷ kinds) (suc place) kind b e = begins-fits row kinds place kind (and_parts (fits v k) (row_begins row kinds) b).1 e
 
 pub fits-begins : (row : Row) (kinds : List Kind) → row_fits row kinds ≡ true → row_begins row kinds ≡ true
 fits-begins [] [] f = refl
 fits-begins [] (k ∷ kinds) f = f
 fits-begins (v ∷ row) [] f = refl
 fits-begins (v ∷ row) (k ∷ kinds) f =
-    let parts = and-parts (fits v k) (row_fits row kinds) f in
-    and-true (fits v k) (row_begins row kinds) parts.0 (fits-begins row kinds parts.1)
+    let parts = and_parts (fits v k) (row_fits row kinds) f in
+    and_from (fits v k) (row_begins row kinds) parts.0 (fits-begins row kinds parts.1)
 
 -- a column of rows that fit
 pub column-fits : (env : List Row) (scopes : List (List Kind)) (level place : ℕ) (kind : Kind) → env_fits env scopes ≡ true →
@@ -76,8 +69,8 @@ pub column-fits : (env : List Row) (scopes : List (List Kind)) (level place : �
     Fits kind (value_at (row_at env level) place)
 column-fits env [] level place kind f e = nothing_there e
 column-fits [] (kinds ∷ scopes) level place kind f e = absurd (true≢false (sym f))
-column-fits (row ∷ env) (kinds ∷ scopes) zero place kind f e = begins-fits row kinds place kind (and-parts (row_begins row kinds) (env_fits env scopes) f).0 e
-column-fits (row ∷ env) (kinds ∷ scopes) (suc level) place kind f e = column-fits env scopes level place kind (and-parts (row_begins row kinds) (env_fits env scopes) f).1 e
+column-fits (row ∷ env) (kinds ∷ scopes) zero place kind f e = begins-fits row kinds place kind (and_parts (row_begins row kinds) (env_fits env scopes) f).0 e
+column-fits (row ∷ env) (kinds ∷ scopes) (suc level) place kind f e = column-fits env scopes level place kind (and_parts (row_begins row kinds) (env_fits env scopes) f).1 e
 
 -- ---- operators
 

@@ -7,10 +7,6 @@ use Rattle.bag_algebra.specs.Means.{sub_value, chosen}
 use Rattle.bag_algebra.specs.Outcome.{Outcome, both_then}
 use Rattle.bag_algebra.specs.declared.query.Sublink.{Sublink}
 
-abbrev pub sublink_value : Database → List Row → Row → Sublink → Outcome Value
-sublink_value db env u sub =
-    both_then (optional_value sub.tested env u) (meaning sub.query db (u ∷ env)) (sub_value sub.kind)
-
 abbrev pub contributing_value : Database → List Row → Row → Sublink → Outcome Value
 contributing_value db env u sub =
     both_then (optional_value sub.tested env u) (meaning sub.query db (u ∷ env)) (λ x bag. sub_value sub.kind x (chosen sub.kind x bag))

@@ -1,7 +1,7 @@
 //! The places of a query's witness lists, and the kinds of its columns.
 ghost use Rattle.std.specs.Prelude.{◌≡◌, ◌≢◌, ◌↔◌, ◌++◌, [], ◌∷◌, List as Items, Some, All, IfOk, OnOk, IsTrue, map};
 ghost use Rattle.bag_algebra.specs.Bags.{Row as Cells, Bag, member};
-ghost use Rattle.bag_algebra.specs.Children.{subs_shape};
+ghost use Rattle.bag_algebra.specs.Children.{subs_shape, sublink_value};
 ghost use Rattle.bag_algebra.specs.Fits.{env_fits};
 ghost use Rattle.bag_algebra.specs.Kinds.{kinds_of, kind_in, kinds_in, shape, place_kinds};
 ghost use Rattle.bag_algebra.specs.Meaning.{Database, denote, meaning, witnesses};
@@ -13,7 +13,7 @@ ghost use Rattle.bag_algebra.specs.declared.query.Sublink.{Sublink as Tested};
 ghost use Rattle.contribution.specs.HasSublinks.{HasSublinks};
 ghost use Rattle.contribution.specs.HeldRows.{held_rows, StandAt};
 ghost use Rattle.contribution.specs.Longer.{Longer};
-ghost use Rattle.contribution.specs.SublinkValues.{sublink_value, contributing_value};
+ghost use Rattle.contribution.specs.SublinkValues.{contributing_value};
 ghost use Rattle.perm_values.specs.declared.kind.Kind.{Kind as Sort};
 
 use bag_algebra::{Aggr, Item, Label, Place, Query, Sublink};
@@ -25,6 +25,14 @@ use std::alloc::Global;
 #[derive(Debug, Drop)]
 pub struct PlaceList {
     pub places: List<Place>,
+}
+
+impl Copyable for PlaceList {
+    fn copy(&self, alloc: Global) -> Result<PlaceList, NoMemory> {
+        Ok(PlaceList {
+            places: self.places.copy(alloc)?,
+        })
+    }
 }
 
 /// The places of the query's witness lists: one for each source. Each entry of a witness list stands at its place: it is

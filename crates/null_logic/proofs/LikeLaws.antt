@@ -1,15 +1,11 @@
 -- LIKE in the words of its users: literals, the two wildcards, and patterns in a row.
 use Rattle.std.proofs.Common.{◌≡◌, ℕ, Bool, true, false, ◌&&◌, ◌||◌, ◌==◌, List, [], ◌∷◌, ◌++◌, All, refl, sym, ap, ap₂, ◌∙◌}
 use Rattle.std.specs.Bool.{Decides}
-use Rattle.std.proofs.lemmas.Bool.{ne_eqb, or_right}
+use Rattle.std.proofs.lemmas.Bool.{ne_eqb, or_right, and_parts}
 use Rattle.std.proofs.lemmas.Bool.Decides.{Decides-and, Decides-eqb}
 use Rattle.std.proofs.lemmas.List.Elements.{All-head, All-tail}
-use Rattle.null_logic.proofs.Walk.{or_cases, and_right, some_suffix-whole, like-other, like-taken}
+use Rattle.null_logic.proofs.Walk.{or_cases, some_suffix-whole, like-other, like-taken}
 use Rattle.null_logic.specs.Like.{any_run, any_one, some_suffix, takes, like, IsLiteral}
-
-and_left : (a b : Bool) → (a && b) ≡ true → a ≡ true
-and_left true b e = refl
-and_left false b e = cc
 
 along : {P Q : Type 0} (a b : Bool) → a ≡ b → (P → Q) → (Q → P) → Decides b P → Decides a Q
 along a b e there back d = (λ q. there (d.0 (sym e ∙ q)), λ q. e ∙ d.1 (back q))
@@ -63,8 +59,8 @@ module _ (further : List ℕ) where
       cc
   joined-other more p pattern e next (c ∷ text) q =
       let both : (takes p c && like text pattern) ≡ true = sym (like-other p pattern e (c ∷ text)) ∙ q in
-      like-taken c (text ++ more) p (pattern ++ further) e (and_left (takes p c) (like text pattern) both)
-      ∙ next text (and_right (takes p c) (like text pattern) both)
+      like-taken c (text ++ more) p (pattern ++ further) e (and_parts (takes p c) (like text pattern) both).0
+      ∙ next text (and_parts (takes p c) (like text pattern) both).1
 
   joined-cons : (more : List ℕ) (p : ℕ) (pattern : List ℕ) (b : Bool) → (p == any_run) ≡ b → Joins more pattern → Joins more (p ∷ pattern)
   joined-cons more p pattern true e next text q =
@@ -127,12 +123,12 @@ module _ (further : List ℕ) where
       cc
   parted-other p pattern e next (c ∷ text) q =
       let both : (takes p c && like text (pattern ++ further)) ≡ true = sym (like-other p (pattern ++ further) e (c ∷ text)) ∙ q in
-      let part : Parts (λ front. like front pattern) further text = next text (and_right (takes p c) (like text (pattern ++ further)) both) in
+      let part : Parts (λ front. like front pattern) further text = next text (and_parts (takes p c) (like text (pattern ++ further)) both).1 in
       record {
         front = c ∷ part.front;
         back = part.back;
         whole = ap (λ xs. c ∷ xs) part.whole;
-        first = like-taken c part.front p pattern e (and_left (takes p c) (like text (pattern ++ further)) both) ∙ part.first;
+        first = like-taken c part.front p pattern e (and_parts (takes p c) (like text (pattern ++ further)) both).0 ∙ part.first;
         second = part.second;
       }
 

@@ -1,7 +1,7 @@
 -- The walk of a text behind a `%` along a pattern, of which only the last `%` is tried again.
 use Rattle.std.proofs.Common.{◌≡◌, ℕ, ◌+◌, ◌*◌, ◌<◌, ◌≤◌, Bool, true, false, ◌&&◌, ◌||◌, ◌==◌, List, [], ◌∷◌, length, refl, sym, ap, ◌∙◌, subst, arith}
 use Rattle.std.proofs.Math.Nat.{mul-le-mul_right}
-use Rattle.std.proofs.lemmas.Bool.{or_right}
+use Rattle.std.proofs.lemmas.Bool.{or_right, and_parts}
 use Rattle.null_logic.specs.Like.{any_run, some_suffix, first_then, takes, like}
 use Rattle.null_logic.specs.LikeStep.{Takes}
 
@@ -17,10 +17,6 @@ or_absorbed : (a b : Bool) → (b ≡ true → a ≡ true) → (a || b) ≡ a
 or_absorbed true b h = refl
 or_absorbed false true h = sym (h refl)
 or_absorbed false false h = refl
-
-pub and_right : (a b : Bool) → (a && b) ≡ true → b ≡ true
-and_right true b e = e
-and_right false b e = cc
 
 -- ---- suffixes
 
@@ -49,10 +45,10 @@ some_suffix-twice f (c ∷ cs) e =
 
 -- what passes behind one more character passes further on
 some_suffix-past : (one : ℕ → Bool) (f : List ℕ → Bool) (c : ℕ) (t : List ℕ) → some_suffix (first_then one f) (c ∷ t) ≡ true → some_suffix f t ≡ true
-some_suffix-past one f c [] e = or_cases (one c && f []) false (λ q. and_right (one c) (f []) q) (λ q. cc) e
+some_suffix-past one f c [] e = or_cases (one c && f []) false (λ q. (and_parts (one c) (f []) q).1) (λ q. cc) e
 some_suffix-past one f c (d ∷ t) e =
     or_cases (one c && f (d ∷ t)) (some_suffix (first_then one f) (d ∷ t))
-    (λ q. some_suffix-whole f (d ∷ t) (and_right (one c) (f (d ∷ t)) q))
+    (λ q. some_suffix-whole f (d ∷ t) (and_parts (one c) (f (d ∷ t)) q).1)
     (λ q. or_right (f (d ∷ t)) (some_suffix f t) (some_suffix-past one f d t q)) e
 
 -- ---- characters other than `%`

@@ -11,6 +11,7 @@ use Rattle.perm_values.specs.Rows.{row_fits}
 use Rattle.perm_values.specs.declared.kind.Kind.{Kind}
 use Rattle.bag_algebra.specs.Bags.{Bag, Row}
 use Rattle.bag_algebra.specs.Fits.{bag_fits}
+use Rattle.bag_algebra.proofs.Truths.{left-true, right-true}
 
 differ-by : (q k : ℕ) (b : Bool) → eq_by_cmp nat_cmp q k ≡ b → q ≢ k → b ≡ false
 differ-by q k true e apart = absurd (apart (nat_cmp-IsAntisymmetric q k ((Equal-is (nat_cmp q k)).0 e)))
@@ -36,14 +37,6 @@ fitting kinds row = row_fits row kinds
 pub fits-append : (us vs : Bag) (kinds : List Kind) → bag_fits us kinds ≡ true → bag_fits vs kinds ≡ true → bag_fits (us ++ vs) kinds ≡ true
 fits-append us vs kinds f g = list_all-append (fitting kinds) us vs ∙ (λ i. f i && g i)
 
-first-fits : (a b : Bool) → (a && b) ≡ true → a ≡ true
-first-fits true b h = refl
-first-fits false b h = absurd (true≢false (sym h))
-
-rest-fits : (a b : Bool) → (a && b) ≡ true → b ≡ true
-rest-fits true b h = h
-rest-fits false b h = absurd (true≢false (sym h))
-
 fits-pick : (flag : Bool) (us vs : Bag) (kinds : List Kind) → bag_fits us kinds ≡ true → bag_fits vs kinds ≡ true →
     bag_fits (cond flag us vs) kinds ≡ true
 fits-pick true us vs kinds f g = f
@@ -53,6 +46,6 @@ pub fits-unmarked : (flags : List Bool) (us : Bag) (kinds : List Kind) → bag_f
 fits-unmarked [] us kinds f = refl
 fits-unmarked (flag ∷ flags) [] kinds f = refl
 fits-unmarked (flag ∷ flags) (u ∷ us) kinds f =
-    let first = first-fits (row_fits u kinds) (bag_fits us kinds) f in
-    let rest = fits-unmarked flags us kinds (rest-fits (row_fits u kinds) (bag_fits us kinds) f) in
+    let first = left-true (row_fits u kinds) (bag_fits us kinds) f in
+    let rest = fits-unmarked flags us kinds (right-true (row_fits u kinds) (bag_fits us kinds) f) in
     fits-pick flag (unmarked flags us) (u ∷ unmarked flags us) kinds rest (λ i. first i && rest i)

@@ -5,7 +5,7 @@ use Rattle.perm_catalog.specs.Contents.{Contents}
 use Rattle.perm_catalog.specs.declared.entries.TableEntry.{TableEntry}
 use Rattle.perm_engine.specs.Asking.{copy_asks, copy_outcome, copy_refusal, IsAnswered, IsOutcome}
 use Rattle.statement_steps.specs.Copying.{copy, copy_to, IsAdded, IsCopy}
-use Rattle.statement_steps.specs.Found.{Found}
+use Rattle.perm_io.specs.Found.{Found}
 use Rattle.statement_steps.specs.Step.{Stepped}
 use Rattle.statement_steps.specs.declared.copy.CopyBreak.{CopyBreak}
 use Rattle.statement_steps.specs.declared.copy.CopyBreak.TheVariants.{UnknownTable, VersionsSpent, File}

@@ -12,7 +12,7 @@ use Rattle.sql_tree.specs.declared.statement.StatementBody.{StatementBody}
 use Rattle.sql_tree.specs.declared.statement.StatementBody.TheVariants as st
 use Rattle.perm_engine.specs.Asking.{Outcome, Asked, Settled, Begins, asked, asks, begins, copy_asks, settled, is_missing, is_short, is_too_large, IsAnswered, IsOutcome}
 use Rattle.statement_steps.specs.Copying.{file_limit}
-use Rattle.statement_steps.specs.Found.{Found}
+use Rattle.perm_io.specs.Found.{Found}
 use Rattle.perm_values.specs.Numbers.{last_number}
 use Rattle.statement_steps.specs.Step.{Turn, Stands, Refuses, turn}
 use Rattle.statement_steps.specs.declared.refusal.Break.{Break}

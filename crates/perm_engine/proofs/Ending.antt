@@ -14,7 +14,7 @@ use Rattle.perm_io.specs.declared.named_file.NamedFile.{NamedFile}
 use Rattle.perm_engine.specs.Asking.{asked, begins, is_short, IsAnswered}
 use Rattle.statement_steps.specs.Copying.{file_limit}
 use Rattle.perm_engine.specs.Ends.{Written, IsSaid, IsSilent, Ends, EndsSome, EndsStopped, Opens, joined, opened}
-use Rattle.statement_steps.specs.Found.{Found, Read, Missing, TooLong, Failed, CanBe}
+use Rattle.perm_io.specs.Found.{Found, Read, Missing, TooLong, Failed, CanBe}
 use Rattle.perm_engine.specs.Run.{Ran, RunsFrom, text_of, line_alone, after_text, after_files, refusal_line, refusal_status}
 use Rattle.perm_engine.proofs.Turns.{files_of, is_told, asks-stands, asks-ends, some_run, some_run-asking, begun-told, begun-short}
 use Rattle.perm_engine.specs.declared.step_refusal.StepRefusal.{StepRefusal}

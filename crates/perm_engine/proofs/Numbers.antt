@@ -21,7 +21,7 @@ use Rattle.sql_tree.specs.declared.statement.StatementBody.{StatementBody}
 use Rattle.sql_tree.specs.declared.statement.StatementBody.TheVariants as st
 use Rattle.perm_engine.specs.Asking.{Outcome, Asked, Settled, Begins, settled, copy_outcome, copy_asks, asks, asked, IsAnswered}
 use Rattle.statement_steps.specs.Copying.{copied, copy_into, copy_to, copy_text}
-use Rattle.statement_steps.specs.Found.{Found}
+use Rattle.perm_io.specs.Found.{Found}
 use Rattle.statement_steps.specs.declared.copy.CopyBreak.TheVariants.{VersionsSpent}
 use Rattle.statement_steps.specs.declared.copying.CopyRefusal.{CopyRefusal}
 use Rattle.statement_steps.specs.declared.copying.CopyRefusal.TheVariants as file

@@ -6,7 +6,7 @@ use Rattle.perm_catalog.specs.Changes.{nothing_held}
 use Rattle.sql_tree.specs.declared.statement.Script.{Script}
 use Rattle.statement_steps.specs.Copying.{file_limit}
 use Rattle.perm_engine.specs.Ends.{Written, EndsOne, EndsSome, EndsRefused, Opens, opened}
-use Rattle.statement_steps.specs.Found.{Found, CanBe}
+use Rattle.perm_io.specs.Found.{Found, CanBe}
 use Rattle.perm_engine.specs.Lines.{error_line}
 use Rattle.perm_engine.specs.Run.{Runs, RunsFrom, RunsScript, RunsFile, is_one, usage, IsOfScript, line_alone, after_files, script_limit}
 use Rattle.perm_engine.specs.Scripts.{IsReading, IsScriptOf}

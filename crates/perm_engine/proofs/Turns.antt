@@ -8,7 +8,7 @@ use Rattle.perm_engine.specs.Asking.{Outcome, Asked, Settled, Begins, asked, beg
 use Rattle.statement_steps.specs.Copying.{file_limit}
 use Rattle.perm_engine.specs.Ends.{opened}
 use Rattle.statement_steps.proofs.CopiedInto.{some_found}
-use Rattle.statement_steps.specs.Found.{Found, CanBe}
+use Rattle.perm_io.specs.Found.{Found, CanBe}
 use Rattle.perm_engine.specs.Run.{Ran, line_alone, after_text, after_files, refusal_line, refusal_status, is_failed, GoesOn, Asks, RunsFrom}
 use Rattle.perm_engine.specs.declared.step_refusal.StepRefusal.{StepRefusal}
 use Rattle.perm_engine.specs.declared.step_refusal.StepRefusal.TheVariants as r

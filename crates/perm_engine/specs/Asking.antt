@@ -7,7 +7,7 @@ use Rattle.sql_tree.specs.declared.statement.Statement.{Statement}
 use Rattle.sql_tree.specs.declared.statement.StatementBody.{StatementBody}
 use Rattle.sql_tree.specs.declared.statement.StatementBody.TheVariants as st
 use Rattle.statement_steps.specs.Copying.{copy}
-use Rattle.statement_steps.specs.Found.{Found}
+use Rattle.perm_io.specs.Found.{Found}
 use Rattle.statement_steps.specs.Step.{Stepped, Turn, Stands, Refuses, turn}
 use Rattle.statement_steps.specs.declared.copy.CopyBreak.{CopyBreak}
 use Rattle.statement_steps.specs.declared.copy.CopyBreak.TheVariants.{UnknownTable, VersionsSpent, File}

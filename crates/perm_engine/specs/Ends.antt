@@ -26,6 +26,16 @@ pub record Written : Type 0 where
   pub faults_after : ℕ
   pub unflushed : Bool
 
+-- the same by the words that tell of an output
+abbrev pub over : {Output : Type 0} → (Output → Option (List ℕ)) → (Output → ℕ) → (Output → Bool) → Output → Output → Written
+over written faults unflushed old new = record {
+  before = written old;
+  after = written new;
+  faults_before = faults old;
+  faults_after = faults new;
+  unflushed = unflushed new;
+}
+
 abbrev pub joined : List (List ℕ) → List ℕ
 joined texts = flat_map (λ text. text) texts
 

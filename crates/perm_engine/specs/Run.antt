@@ -9,7 +9,7 @@ use Rattle.sql_tree.specs.declared.statement.Statement.{Statement}
 use Rattle.perm_engine.specs.Asking.{Outcome, Asked, Settled, Begins, asked}
 use Rattle.statement_steps.specs.Copying.{file_limit}
 use Rattle.perm_engine.specs.DataLines.{data_line}
-use Rattle.statement_steps.specs.Found.{Found, Read, Missing, TooLong, Failed, CanBe}
+use Rattle.perm_io.specs.Found.{Found, Read, Missing, TooLong, Failed, CanBe}
 use Rattle.perm_engine.specs.Lines.{error_line}
 use Rattle.perm_engine.specs.Scripts.{IsScriptOf, IsMisspelled}
 use Rattle.statement_steps.specs.declared.refusal.Break.{Break}

@@ -3,8 +3,8 @@ ghost use Rattle.perm_io.specs.Counts.{HasRisen};
 ghost use Rattle.perm_catalog.specs.Changes.{nothing_held};
 ghost use Rattle.statement_steps.specs.Copying.{file_limit};
 ghost use Rattle.perm_engine.specs.DataLines.{data_line};
-ghost use Rattle.perm_engine.specs.Ends.{Ends, EndsOne, EndsSome, EndsBroken, EndsRefused, EndsStopped, IsBadFile, IsBadScript};
-ghost use Rattle.statement_steps.specs.Found.{CanBe};
+ghost use Rattle.perm_engine.specs.Ends.{Ends, EndsOne, EndsSome, EndsBroken, EndsRefused, EndsStopped, IsBadFile, IsBadScript, over};
+ghost use Rattle.perm_io.specs.Found.{CanBe};
 ghost use Rattle.perm_engine.specs.Lines.{error_line};
 ghost use Rattle.perm_engine.specs.Run.{Runs, RunsFrom, RunsScript, line_alone, is_failed, is_one, IsWhole, IsSteady, IsOfScript};
 
@@ -27,13 +27,7 @@ pub(crate) const SCRIPT_LIMIT: usize = 1 << 20;
 /// Writes a line and flushes the output; the status is the one given, unless the output fails.
 fn finish<K: Sink>(out: &mut K, line: &[u8], status: Status) -> Status
     requires { IsWhole status }
-    ensures ends { Ends (line_alone line.now status) (record {
-      before = K.written out.old;
-      after = K.written out.new;
-      faults_before = K.faults out.old;
-      faults_after = K.faults out.new;
-      unflushed = K.unflushed out.new;
-    }) result }
+    ensures ends { Ends (line_alone line.now status) (over K.written K.faults K.unflushed out.old out.new) result }
     ensures status { (result ≡ status) ⊎ (result ≡ Status.WriteFault) }
 {
     match write_all(out, line) {
@@ -51,13 +45,7 @@ fn end_broken<K: Sink>(alloc: Global, found: Break, status: Status, out: &mut K)
     requires whole { IsWhole status }
     requires script { IsOfScript status }
     requires data { status ≡ Status.ReadFault → ⊥ }
-    ensures ends { Ends (line_alone (error_line found) status) (record {
-      before = K.written out.old;
-      after = K.written out.new;
-      faults_before = K.faults out.old;
-      faults_after = K.faults out.new;
-      unflushed = K.unflushed out.new;
-    }) result }
+    ensures ends { Ends (line_alone (error_line found) status) (over K.written K.faults K.unflushed out.old out.new) result }
     ensures status { IsOfScript result }
     ensures data { result ≡ Status.ReadFault → ⊥ }
     ensures given { (result ≡ status) ⊎ ((result ≡ Status.WriteFault) ⊎ (result ≡ Status.NoMemory)) }
@@ -70,13 +58,7 @@ fn end_broken<K: Sink>(alloc: Global, found: Break, status: Status, out: &mut K)
 
 /// Ends the output with the line of a rule that a file's record breaks.
 fn end_unfit<K: Sink>(alloc: Global, rule: DataError, out: &mut K) -> Status
-    ensures ends { Ends (line_alone (data_line rule) Status.BadData) (record {
-      before = K.written out.old;
-      after = K.written out.new;
-      faults_before = K.faults out.old;
-      faults_after = K.faults out.new;
-      unflushed = K.unflushed out.new;
-    }) result }
+    ensures ends { Ends (line_alone (data_line rule) Status.BadData) (over K.written K.faults K.unflushed out.old out.new) result }
     ensures status { IsOfScript result }
     ensures data { result ≡ Status.ReadFault → ⊥ }
 {
@@ -88,13 +70,7 @@ fn end_unfit<K: Sink>(alloc: Global, rule: DataError, out: &mut K) -> Status
 
 /// Ends the output with what the refusal of a script says.
 fn refuse<K: Sink>(alloc: Global, refusal: CommandRefusal, out: &mut K) -> Status
-    ensures ends { EndsRefused refusal (record {
-      before = K.written out.old;
-      after = K.written out.new;
-      faults_before = K.faults out.old;
-      faults_after = K.faults out.new;
-      unflushed = K.unflushed out.new;
-    }) result }
+    ensures ends { EndsRefused refusal (over K.written K.faults K.unflushed out.old out.new) result }
     ensures status { IsOfScript result }
     ensures data { (result ≡ Status.ReadFault → ⊥) × (result ≡ Status.BadData → ⊥) × (result ≡ Status.Refused → ⊥) }
 {
@@ -106,13 +82,7 @@ fn refuse<K: Sink>(alloc: Global, refusal: CommandRefusal, out: &mut K) -> Statu
 
 /// Ends the output with what the refusal of a statement says.
 fn stop<K: Sink>(alloc: Global, refusal: StepRefusal, out: &mut K) -> Status
-    ensures ends { EndsStopped refusal (record {
-      before = K.written out.old;
-      after = K.written out.new;
-      faults_before = K.faults out.old;
-      faults_after = K.faults out.new;
-      unflushed = K.unflushed out.new;
-    }) result }
+    ensures ends { EndsStopped refusal (over K.written K.faults K.unflushed out.old out.new) result }
     ensures status { IsOfScript result }
     ensures failed { result ≡ Status.ReadFault → is_failed refusal ≡ true }
     ensures steady { IsSteady result → is_failed refusal ≡ false }
@@ -139,13 +109,7 @@ fn run_statements<F: Files, K: Sink>(
     out: &mut K,
 ) -> Status
     ensures ends { EndsSome (RunsFrom (CanBe file_limit (F.held files.old) (HasRisen (F.faults files.old) (F.faults files.new))) (nothing_held 1) statements.now)
-        (record {
-          before = K.written out.old;
-          after = K.written out.new;
-          faults_before = K.faults out.old;
-          faults_after = K.faults out.new;
-          unflushed = K.unflushed out.new;
-        }) (F.begun files.old) (F.begun files.new) result }
+        (over K.written K.faults K.unflushed out.old out.new) (F.begun files.old) (F.begun files.new) result }
     ensures status { IsOfScript result }
     ensures refused { result ≡ Status.Refused → EndsBroken (K.written out.old) (K.written out.new) }
     ensures bad_data { result ≡ Status.BadData → IsBadFile 0 (F.begun files.old) (F.begun files.new) (F.absent files.new) (F.taken files.new)
@@ -170,13 +134,7 @@ fn run_statements<F: Files, K: Sink>(
 /// Runs the script that the bytes spell, or refuses it as a whole.
 fn run_script<F: Files, K: Sink>(alloc: Global, bytes: &[u8], files: &mut F, out: &mut K) -> Status
     ensures ends { EndsOne 0 (RunsScript (CanBe file_limit (F.held files.old) (HasRisen (F.faults files.old) (F.faults files.new))) bytes.now)
-        (record {
-          before = K.written out.old;
-          after = K.written out.new;
-          faults_before = K.faults out.old;
-          faults_after = K.faults out.new;
-          unflushed = K.unflushed out.new;
-        }) (F.begun files.old) (F.begun files.new) result }
+        (over K.written K.faults K.unflushed out.old out.new) (F.begun files.old) (F.begun files.new) result }
     ensures status { IsOfScript result }
     ensures refused { result ≡ Status.Refused → EndsBroken (K.written out.old) (K.written out.new) }
     ensures bad_data { result ≡ Status.BadData → IsBadFile 0 (F.begun files.old) (F.begun files.new) (F.absent files.new) (F.taken files.new)
@@ -195,13 +153,7 @@ fn run_script<F: Files, K: Sink>(alloc: Global, bytes: &[u8], files: &mut F, out
 pub fn perm<F: Files, K: Sink>(alloc: Global, words: &[Chars], files: &mut F, out: &mut K) -> Status
     // The run that the words and files stand for is what is written, and its status is answered.
     ensures run { EndsOne 1 (Runs words.now (F.held files.old) (HasRisen (F.faults files.old) (F.faults files.new)))
-        (record {
-          before = K.written out.old;
-          after = K.written out.new;
-          faults_before = K.faults out.old;
-          faults_after = K.faults out.new;
-          unflushed = K.unflushed out.new;
-        }) (F.begun files.old) (F.begun files.new) result }
+        (over K.written K.faults K.unflushed out.old out.new) (F.begun files.old) (F.begun files.new) result }
 
     // When each status comes.
     ensures usage { result ≡ Status.Usage → is_one words.now ≡ false }

@@ -5,7 +5,7 @@ ghost use Rattle.perm_io.specs.Counts.{next_count, CountsFault, HasRisen};
 ghost use Rattle.statement_steps.specs.Answers.{IsTurn};
 ghost use Rattle.perm_engine.specs.Asking.{asked, begins, copy_asks, has_failed, is_missing, is_short, is_too_large, settled, IsAnswered, IsOutcome};
 ghost use Rattle.statement_steps.specs.Copying.{file_limit};
-ghost use Rattle.statement_steps.specs.Found.{CanBe};
+ghost use Rattle.perm_io.specs.Found.{CanBe};
 ghost use Rattle.statement_steps.specs.Step.{turn};
 
 use crate::step_refusal::StepRefusal;

@@ -1,5 +1,6 @@
 pub mod Answers
 pub mod Counts
+pub mod Found
 pub mod MemoryFiles
 pub mod MemorySink
 pub mod Named

@@ -1,2 +1,4 @@
 pub mod Inputs
+pub mod RowsAlone
+pub mod StandingNodes
 pub mod Sublinks

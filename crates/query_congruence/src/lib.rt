@@ -4,4 +4,4 @@
 
 mod laws;
 
-pub use laws::nodes_see_rows_alone;
+pub use laws::{nodes_over_what_stands_stand, nodes_see_rows_alone};

@@ -1,5 +1,5 @@
 -- What the aggregate functions give.
-use Rattle.std.proofs.Common.{◌≡◌, ◌≢◌, ◌↔◌, inl, inr, ◌<◌, ◌≤◌, ℤ, pos, Bool, true, false, cond, not, ◌&&◌, List, [], ◌∷◌, map, filter, length, count_by, sum_by, Ordering, Less, Equal, Greater, is_gt, is_lt, refl, sym, ap, subst, ◌∙◌, arith, true≢false}
+use Rattle.std.proofs.Common.{◌≡◌, ◌≢◌, ◌↔◌, inl, inr, ◌<◌, ◌≤◌, ℤ, pos, Bool, true, false, cond, not, List, [], ◌∷◌, map, filter, length, count_by, sum_by, Ordering, Less, Equal, Greater, is_gt, is_lt, refl, sym, ap, subst, ◌∙◌, arith, true≢false}
 use Rattle.std.proofs.lemmas.List.{length-map}
 use Rattle.std.proofs.lemmas.List.Sums.{length-filter}
 use Rattle.std.specs.Cmp.{IsTotalOrder, upto, back_total}
@@ -23,21 +23,15 @@ use Rattle.query_laws.specs.Aggregated.{occurrences, ListsValues, IsLeast, IsGre
 use Rattle.query_laws.specs.Holding.{Lists}
 use Rattle.query_laws.proofs.Once.{listed, one_count}
 use Rattle.query_laws.proofs.Limited.{rises, rises-sorted}
-use Rattle.query_laws.proofs.Items.{contains-in, in-contains}
 use Rattle.query_laws.proofs.Sums.{one_if, count-map, sum_by-same, sum_by-none, sum_by-filter}
+use Rattle.bag_algebra.proofs.Truths.{and_true}
+use Rattle.std.proofs.lemmas.Bool.{and_right}
+use Rattle.bag_algebra.proofs.MembersByIndex.{in-from_contains, contains-from_in}
 
 -- ---- values as rows of one column
 
 abbrev pub single : Value → Row
 single v = v ∷ []
-
-and_true : (b : Bool) → (b && true) ≡ b
-and_true true = refl
-and_true false = refl
-
-and_false : (b : Bool) → (b && false) ≡ false
-and_false true = refl
-and_false false = refl
 
 pub count-single : (v : Value) (vs : List Value) → count (single v) (map single vs) ≡ occurrences v vs
 count-single v vs =
@@ -51,7 +45,7 @@ count-no_single vs = count-map [] single vs ∙ sum_by-none (λ w. one_if (same_
 count-longer : (v x : Value) (row : Row) (vs : List Value) → count (v ∷ x ∷ row) (map single vs) ≡ 0
 count-longer v x row vs =
     count-map (v ∷ x ∷ row) single vs
-    ∙ sum_by-none (λ w. one_if (same_row (single w) (v ∷ x ∷ row))) vs (λ w. ap one_if (and_false (same_value w v)))
+    ∙ sum_by-none (λ w. one_if (same_row (single w) (v ∷ x ∷ row))) vs (λ w. ap one_if (and_right (same_value w v) false refl))
 
 pub singles_counts : (vs ws : List Value) → ((v : Value) → occurrences v vs ≡ occurrences v ws) → (t : Row) → count t (map single vs) ≡ count t (map single ws)
 singles_counts vs ws e [] = count-no_single vs ∙ sym (count-no_single ws)
@@ -224,7 +218,7 @@ turned_total =
 pub min-least : (vs : List Value) → present vs ≢ [] → (v : Value) × IsLeast v (present vs) × (aggregated Min vs ≡ Good v)
 min-least vs some =
     let found = first-of value_cmp value_cmp_total (present vs) some in
-    (found.0, record { among = in-contains found.0 (present vs) found.2; first = λ w h. found.3 w (contains-in w (present vs) h) }, ap Good found.1)
+    (found.0, record { among = contains-from_in found.0 (present vs) found.2; first = λ w h. found.3 w (in-from_contains w (present vs) h) }, ap Good found.1)
 
 turned_back : (a : Ordering) → is_gt (ordering_reverse a) ≡ false → is_lt a ≡ false
 turned_back Less e = e
@@ -236,8 +230,8 @@ max-greatest vs some =
     let found = first-of (λ a b. ordering_reverse (value_cmp a b)) turned_total (present vs) some in (
       found.0,
       record {
-        among = in-contains found.0 (present vs) found.2;
-        last = λ w h. turned_back (value_cmp found.0 w) (found.3 w (contains-in w (present vs) h));
+        among = contains-from_in found.0 (present vs) found.2;
+        last = λ w h. turned_back (value_cmp found.0 w) (found.3 w (in-from_contains w (present vs) h));
       },
       ap Good found.1,
     )

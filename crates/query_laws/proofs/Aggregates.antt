@@ -14,7 +14,8 @@ use Rattle.bag_algebra.specs.declared.query.AggFn.{AggFn}
 use Rattle.bag_algebra.specs.declared.query.AggFn.TheVariants.{CountRows, Count, CountDistinct, Sum, Min, Max}
 use Rattle.query_laws.specs.Faults.{IsGood, Meets}
 use Rattle.query_laws.proofs.Items.{none_some, same_some}
-use Rattle.query_laws.proofs.Outcomes.{both-is, both-good, both-meets, meets-both}
+use Rattle.query_laws.proofs.Outcomes.{both-good, both-meets, meets-both}
+use Rattle.bag_algebra.proofs.Outcomes.{both-is}
 
 pub good-meets : {X : Type 0} (o : Outcome X) (fault : RunFault) → IsGood o → Meets o fault → ⊥
 good-meets (Good x) fault g m = m

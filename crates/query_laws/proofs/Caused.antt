@@ -6,7 +6,7 @@ use Rattle.null_logic.specs.declared.arith.Arith.{Arith}
 use Rattle.null_logic.specs.declared.operator.Operator.{Operator}
 use Rattle.null_logic.specs.declared.operator.Operator.TheVariants as op
 use Rattle.null_logic.specs.declared.run_fault.RunFault.{RunFault}
-use Rattle.null_logic.specs.declared.run_fault.RunFault.TheVariants.{DivideByZero, OutOfRange, SeveralRows}
+use Rattle.null_logic.specs.declared.run_fault.RunFault.TheVariants.{OutOfRange, SeveralRows}
 use Rattle.perm_values.specs.Rows.{value_at}
 use Rattle.perm_values.specs.declared.value.Value.{Value}
 use Rattle.perm_values.specs.declared.value.Value.TheVariants.{Null, Integer, Text, Boolean}
@@ -27,7 +27,7 @@ use Rattle.bag_algebra.specs.declared.query.Query.{Query, Row_of-Sublink, more_o
 use Rattle.bag_algebra.specs.declared.query.Query.TheVariants.{Table, Single}
 use Rattle.bag_algebra.specs.declared.query.SubKind.{SubKind}
 use Rattle.bag_algebra.specs.declared.query.SubKind.TheVariants.{Exists, Any, All, Scalar}
-use Rattle.query_laws.proofs.Outcomes.{union-first}
+use Rattle.bag_algebra.proofs.Outcomes.{union-first, has_only}
 
 -- the set has a kind
 abbrev pub Causes : Faults → Type 0
@@ -37,16 +37,11 @@ abbrev pub Caused : {X : Type 0} → Outcome X → Type 0
 Caused (Good x) = Unit {0}
 Caused (Bad faults) = Causes faults
 
-one_kind : (fault : RunFault) → has (only fault) fault ≡ true
-one_kind DivideByZero = refl
-one_kind OutOfRange = refl
-one_kind SeveralRows = refl
-
 -- ---- by the words of outcomes
 
 caused-of_result : {X : Type 0} (r : Result X RunFault) → Caused (of_result r)
 caused-of_result (Ok x) = tt
-caused-of_result (Err fault) = (fault, one_kind fault)
+caused-of_result (Err fault) = (fault, has_only fault)
 
 caused-and_then : {X Y : Type 0} (o : Outcome X) (next : X → Outcome Y) → Caused o → ((x : X) → Caused (next x)) → Caused (and_then o next)
 caused-and_then (Good x) next c d = d x

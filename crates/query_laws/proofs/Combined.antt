@@ -1,64 +1,15 @@
 -- The laws of set operations and Distinct.
-use Rattle.std.proofs.Common.{◌≡◌, ℕ, zero, suc, ◌+◌, ◌-◌, ◌<◌, min, Bool, true, false, cond, not, ◌&&◌, Decides, [], ◌∷◌, ◌++◌, filter, refl, sym, ap, subst, ◌∙◌, arith, true≢false}
-use Rattle.perm_values.specs.Rows.{same_row}
-use Rattle.bag_algebra.proofs.BagLaws.{same_row-is, count-append, count-of_none, member_decides, member-filter, permuted-to_front, permuted-counts}
-use Rattle.bag_algebra.specs.Bags.{Row, Bag, count, member, once, without_first, in_both, beyond, union_of, intersect_of, except_of}
+use Rattle.std.proofs.Common.{◌≡◌, ℕ, zero, suc, ◌+◌, ◌-◌, ◌<◌, min, Bool, true, false, not, ◌&&◌, Decides, ◌++◌, filter, refl, sym, ap, subst, ◌∙◌, arith, true≢false}
+use Rattle.bag_algebra.proofs.BagLaws.{count-append, member_decides, member-filter}
+use Rattle.bag_algebra.specs.Bags.{Row, Bag, count, member, once, union_of, intersect_of, except_of}
 use Rattle.bag_algebra.specs.Outcome.{Outcome, Good, mapped, both}
 use Rattle.query_laws.specs.Holding.{InBag, HoldsOnce}
 use Rattle.query_laws.specs.Nodes.{IsCombined, IsDistinct, in_either, in_left_alone}
 use Rattle.query_laws.specs.Nodes as node
 use Rattle.query_laws.proofs.Once.{holds_once-once}
-use Rattle.query_laws.proofs.Outcomes.{same_good, good-good, both-unites, mapped-passes}
-
--- ---- counts
-
--- a row of the bag is taken out once
-count-taken_out : (t u : Row) (vs : Bag) → member u vs ≡ true → count t vs ≡ cond (same_row u t) (suc (count t (without_first u vs))) (count t (without_first u vs))
-count-taken_out t u vs m = permuted-counts (permuted-to_front u vs m) t
-
--- a row that isn't in the bag has no count there, also under the name of an equal one
-none_there : (t u : Row) (vs : Bag) → member u vs ≡ false → same_row u t ≡ true → count t vs ≡ 0
-none_there t u vs m s = count-of_none t vs (ap (λ w. member w vs) (sym (same_row-is u t s)) ∙ m)
-
-less_both : (s : Bool) (x c w v : ℕ) → x ≡ min c w → v ≡ cond s (suc w) w → cond s (suc x) x ≡ min (cond s (suc c) c) v
-less_both true x c w v e f = omega arith
-less_both false x c w v e f = omega arith
-
-less_left : (s : Bool) (x c v : ℕ) → x ≡ min c v → (s ≡ true → v ≡ 0) → x ≡ min (cond s (suc c) c) v
-less_left true x c v e f = let none : v ≡ 0 = f refl in omega arith
-less_left false x c v e f = e
-
-step-in_both : (b : Bool) (t u : Row) (us vs : Bag) → member u vs ≡ b → ((ws : Bag) → count t (in_both us ws) ≡ min (count t us) (count t ws)) →
-    count t (in_both (u ∷ us) vs) ≡ min (count t (u ∷ us)) (count t vs)
-step-in_both true t u us vs m further =
-    rw m (less_both (same_row u t) (count t (in_both us (without_first u vs))) (count t us) (count t (without_first u vs)) (count t vs)
-    (further (without_first u vs)) (count-taken_out t u vs m))
-step-in_both false t u us vs m further =
-    rw m (less_left (same_row u t) (count t (in_both us vs)) (count t us) (count t vs) (further vs) (none_there t u vs m))
-
-pub count-in_both : (t : Row) (us vs : Bag) → count t (in_both us vs) ≡ min (count t us) (count t vs)
-count-in_both t [] vs = omega arith
-count-in_both t (u ∷ us) vs = step-in_both (member u vs) t u us vs refl (count-in_both t us)
-
-more_left : (s : Bool) (x c v : ℕ) → x ≡ c - v → (s ≡ true → v ≡ 0) → cond s (suc x) x ≡ cond s (suc c) c - v
-more_left true x c v e f = let none : v ≡ 0 = f refl in omega arith
-more_left false x c v e f = e
-
-less_right : (s : Bool) (x c w v : ℕ) → x ≡ c - w → v ≡ cond s (suc w) w → x ≡ cond s (suc c) c - v
-less_right true x c w v e f = omega arith
-less_right false x c w v e f = omega arith
-
-step-beyond : (b : Bool) (t u : Row) (us vs : Bag) → member u vs ≡ b → ((ws : Bag) → count t (beyond us ws) ≡ count t us - count t ws) →
-    count t (beyond (u ∷ us) vs) ≡ count t (u ∷ us) - count t vs
-step-beyond true t u us vs m further =
-    rw m (less_right (same_row u t) (count t (beyond us (without_first u vs))) (count t us) (count t (without_first u vs)) (count t vs)
-    (further (without_first u vs)) (count-taken_out t u vs m))
-step-beyond false t u us vs m further =
-    rw m (more_left (same_row u t) (count t (beyond us vs)) (count t us) (count t vs) (further vs) (none_there t u vs m))
-
-pub count-beyond : (t : Row) (us vs : Bag) → count t (beyond us vs) ≡ count t us - count t vs
-count-beyond t [] vs = omega arith
-count-beyond t (u ∷ us) vs = step-beyond (member u vs) t u us vs refl (count-beyond t us)
+use Rattle.query_laws.proofs.Outcomes.{good-good, both-unites, mapped-passes}
+use Rattle.bag_algebra.proofs.SetCounts.{count-in_both, count-beyond}
+use Rattle.bag_algebra.proofs.Outcomes.{same_good}
 
 -- ---- set operations
 

@@ -19,9 +19,10 @@ use Rattle.query_laws.specs.Nodes.{IsKey, class_values, IsClassRow, SumOverflows
 use Rattle.query_laws.proofs.Aggregates.{each_of, aggregates_of-is, each_of-good, each_of-meets, meets-each_of, each_of-gives, gives-each_of, good-meets}
 use Rattle.query_laws.proofs.Items.{each-in, from-each, each-long}
 use Rattle.query_laws.proofs.Once.{at_most_one}
-use Rattle.query_laws.proofs.Outcomes.{Over, over-each, over_rows, in_bag-in, in-in_bag, mapped-is, mapped-good, mapped-meets, meets-mapped, and_then-passes, bad-not_good}
+use Rattle.query_laws.proofs.Outcomes.{Over, over-each, over_rows, in_bag-in, in-in_bag, mapped-good, mapped-meets, meets-mapped, and_then-passes}
 use Rattle.query_laws.proofs.Projected.{given}
 use Rattle.query_laws.proofs.Sums.{count-sum, one_if}
+use Rattle.bag_algebra.proofs.Outcomes.{bad-not_good, mapped-is}
 
 -- ---- keys
 

@@ -1,24 +1,11 @@
 -- What is in a list, and what evaluating each item of a list gives.
-use Rattle.std.proofs.Common.{◌≡◌, inl, inr, ℕ, zero, suc, ◌<◌, Some, None, List, [], ◌∷◌, length, refl, sym, ap, subst, ◌∙◌, arith}
-use Rattle.std.specs.List.{slice_get, slice_index_or, Contains}
+use Rattle.std.proofs.Common.{◌≡◌, inl, inr, ℕ, zero, suc, Some, None, List, [], ◌∷◌, length, refl, sym, ap, subst, ◌∙◌}
+use Rattle.std.specs.List.{slice_get}
 use Rattle.bag_algebra.proofs.Members.{IsIn}
 use Rattle.bag_algebra.specs.Outcome.{Outcome, Good, each}
-use Rattle.query_laws.proofs.Outcomes.{both-is, same_good}
+use Rattle.bag_algebra.proofs.Outcomes.{same_good, both-is}
 
 -- ---- what a list contains
-
-pub in-at : {X : Type 0} (xs : List X) (k : ℕ) (d : X) → k < length xs → IsIn (slice_index_or xs k d) xs
-in-at [] k d h = absurd (omega arith)
-in-at (x ∷ xs) zero d h = inl refl
-in-at (x ∷ xs) (suc k) d h = inr (in-at xs k d (omega arith))
-
-pub contains-in : {X : Type 0} (x : X) (xs : List X) → Contains xs x → IsIn x xs
-contains-in x xs c = subst (λ y. IsIn y xs) c.2 (in-at xs c.0 x c.1)
-
-pub in-contains : {X : Type 0} (x : X) (xs : List X) → IsIn x xs → Contains xs x
-in-contains x [] h = absurd h
-in-contains x (y ∷ ys) (inl e) = (0, omega arith, e)
-in-contains x (y ∷ ys) (inr h) = let found = in-contains x ys h in (suc found.0, omega (arith, found.1), found.2)
 
 -- ---- good evaluations of lists
 

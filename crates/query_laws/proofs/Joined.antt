@@ -15,8 +15,10 @@ use Rattle.query_laws.specs.Holding.{InBag, HasWidth, Lists}
 use Rattle.query_laws.specs.Nodes.{IsJoined, makes, pairs_count, is_unmatched_left, is_unmatched_right, left_count, right_count}
 use Rattle.query_laws.proofs.Filtered.{kept-rows}
 use Rattle.query_laws.proofs.Once.{in_bag-behind, in_bag-front}
-use Rattle.query_laws.proofs.Outcomes.{over-gather, over-part, over-mapped, over_pairs, gather-is, both-is, mapped-is, same_good, both_then-unites}
+use Rattle.query_laws.proofs.Outcomes.{over-gather, over-part, over-mapped, over_pairs, gather-is, both_then-unites}
 use Rattle.query_laws.proofs.Sums.{one_if, sum_by-same, sum_by-filter, sum_by-scaled, count-flat_map, count-map, sum_by-listed, sum_by-passing}
+use Rattle.bag_algebra.proofs.Truths.{and_associates}
+use Rattle.bag_algebra.proofs.Outcomes.{same_good, both-is, mapped-is}
 
 -- ---- pairs as they come
 
@@ -130,11 +132,7 @@ same_parts [] [] v x e = refl
 same_parts [] (b ∷ w) v x e = absurd (omega arith)
 same_parts (a ∷ u) [] v x e = absurd (omega arith)
 same_parts (a ∷ u) (b ∷ w) v x e =
-    ap (λ c. same_value a b && c) (same_parts u w v x (omega arith)) ∙ and_associates (same_value a b) (same_row u w) (same_row v x)
-  where
-    and_associates : (p q r : Bool) → (p && (q && r)) ≡ ((p && q) && r)
-    and_associates true q r = refl
-    and_associates false q r = refl
+    ap (λ c. same_value a b && c) (same_parts u w v x (omega arith)) ∙ sym (and_associates (same_value a b) (same_row u w) (same_row v x))
 
 by_row : (s : Bool) (u w : Row) (g : ℕ) (k : ℕ) (n : ℕ) → same_row w u ≡ s → (s ≡ true → g ≡ k) → (s ≡ false → g ≡ 0) →
     g + n * k ≡ cond (same_row w u) (suc n) n * k

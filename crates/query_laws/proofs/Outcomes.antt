@@ -4,12 +4,13 @@ use Rattle.std.specs.List.{flat_map}
 use Rattle.null_logic.specs.declared.run_fault.RunFault.{RunFault}
 use Rattle.null_logic.specs.declared.run_fault.RunFault.TheVariants.{DivideByZero, OutOfRange, SeveralRows}
 use Rattle.bag_algebra.proofs.BagLaws.{member_decides}
-use Rattle.bag_algebra.proofs.Members.{IsIn, in-member, member-in, one_of, or-first, or-second}
+use Rattle.bag_algebra.proofs.Members.{IsIn, in-member, member-in, one_of}
 use Rattle.bag_algebra.specs.Bags.{Row, Bag}
 use Rattle.bag_algebra.specs.Means.{good_rows}
 use Rattle.bag_algebra.specs.Outcome.{Outcome, Good, Bad, Faults, union, has, and_then, mapped, both, both_then, gather, each}
 use Rattle.query_laws.specs.Faults.{IsGood, Meets, PassesFaults, UnitesFaults, OverRows, OverPairs}
 use Rattle.query_laws.specs.Holding.{InBag}
+use Rattle.bag_algebra.proofs.Outcomes.{same_good, both-is, union-first, union-second}
 
 -- ---- rows of a bag
 
@@ -28,40 +29,12 @@ pub good-is : {X : Type 0} (o : Outcome X) → IsGood o → (x : X) × (o ≡ Go
 good-is (Good x) g = (x, refl)
 good-is (Bad faults) g = absurd g
 
-pub same_good : {X : Type 0} (x y : X) → Good x ≡ Good y → x ≡ y
-same_good x y e = cc
-
-pub bad-not_good : {X : Type 0} (faults : Faults) (x : X) → Bad faults ≡ Good x → ⊥
-bad-not_good faults x e = cc
-
--- a good answer of two parts has them both good
-pub both-is : {X Y Z : Type 0} (f : X → Y → Z) (a : Outcome X) (b : Outcome Y) (z : Z) → both f a b ≡ Good z →
-    (x : X) × (y : Y) × (a ≡ Good x) × (b ≡ Good y) × (f x y ≡ z)
-both-is f (Good x) (Good y) z e = (x, y, refl, refl, same_good (f x y) z e)
-both-is f (Good x) (Bad h) z e = absurd (bad-not_good h z e)
-both-is f (Bad g) (Good y) z e = absurd (bad-not_good g z e)
-both-is f (Bad g) (Bad h) z e = absurd (bad-not_good (union g h) z e)
-
-pub mapped-is : {X Y : Type 0} (f : X → Y) (a : Outcome X) (y : Y) → mapped f a ≡ Good y → (x : X) × (a ≡ Good x) × (f x ≡ y)
-mapped-is f (Good x) y e = (x, refl, same_good (f x) y e)
-mapped-is f (Bad g) y e = absurd (bad-not_good g y e)
-
 -- ---- faults of a union
 
 pub from-union : (f g : Faults) (fault : RunFault) → has (union f g) fault ≡ true → (has f fault ≡ true) ⊎ (has g fault ≡ true)
 from-union f g DivideByZero e = one_of f.divides g.divides e
 from-union f g OutOfRange e = one_of f.range g.range e
 from-union f g SeveralRows e = one_of f.several g.several e
-
-pub union-first : (f g : Faults) (fault : RunFault) → has f fault ≡ true → has (union f g) fault ≡ true
-union-first f g DivideByZero e = or-first f.divides g.divides e
-union-first f g OutOfRange e = or-first f.range g.range e
-union-first f g SeveralRows e = or-first f.several g.several e
-
-pub union-second : (f g : Faults) (fault : RunFault) → has g fault ≡ true → has (union f g) fault ≡ true
-union-second f g DivideByZero e = or-second f.divides g.divides e
-union-second f g OutOfRange e = or-second f.range g.range e
-union-second f g SeveralRows e = or-second f.several g.several e
 
 -- ---- two parts
 

@@ -6,8 +6,9 @@ use Rattle.bag_algebra.specs.Bags.{Row, Bag, count}
 use Rattle.bag_algebra.specs.Means.{gives}
 use Rattle.bag_algebra.specs.Outcome.{Outcome, Good, and_then, each}
 use Rattle.query_laws.specs.Nodes.{IsProjected}
-use Rattle.query_laws.proofs.Outcomes.{Over, over-each, over_rows, and_then-passes, same_good, both-is}
+use Rattle.query_laws.proofs.Outcomes.{Over, over-each, over_rows, and_then-passes}
 use Rattle.query_laws.proofs.Sums.{one_if, sum_by-passing, one_more}
+use Rattle.bag_algebra.proofs.Outcomes.{same_good, both-is}
 
 -- what the items give, row by row
 pub given : (t : Row) (items : Row → Outcome Row) (us ts : Bag) → each items us ≡ Good ts → count t ts ≡ sum_by (λ u. one_if (gives t (items u))) us

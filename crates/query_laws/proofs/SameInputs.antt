@@ -1,5 +1,5 @@
 -- The laws see bags: what a node's law says of an answer stays true where the input's rows come in another order.
-use Rattle.std.proofs.Common.{◌≡◌, ◌↔◌, inl, inr, ℕ, ◌+◌, ◌*◌, ◌<◌, Bool, true, false, cond, not, ◌&&◌, ◌||◌, List, ◌++◌, filter, sum_by, refl, sym, ap, subst, ◌∙◌}
+use Rattle.std.proofs.Common.{◌≡◌, ◌↔◌, inl, inr, ℕ, ◌+◌, ◌*◌, ◌<◌, Bool, cond, not, ◌&&◌, ◌||◌, List, ◌++◌, filter, sum_by, refl, sym, ap, subst, ◌∙◌}
 use Rattle.std.specs.List.{list_any}
 use Rattle.null_logic.specs.Arithmetic.{fits_64}
 use Rattle.perm_values.specs.Rows.{same_row, value_at, picked}
@@ -15,9 +15,10 @@ use Rattle.bag_algebra.specs.Rewriting.{SameRows}
 use Rattle.query_laws.specs.Faults.{PassesFaults, UnitesFaults, OverRows, OverPairs}
 use Rattle.query_laws.specs.Holding.{InBag, HoldsOnce, Lists, counted_where}
 use Rattle.query_laws.specs.Nodes.{IsFiltered, IsProjected, makes, pairs_count, is_unmatched_left, is_unmatched_right, left_count, right_count, IsJoined, IsCombined, IsDistinct, IsKey, class_values, IsClassRow, SumOverflows, IsGrouped, IsLimited, IsProvenance}
-use Rattle.query_laws.proofs.AggregateOrder.{total-permuted, aggregated-permuted}
-use Rattle.query_laws.proofs.Outcomes.{same_good, bad-not_good}
 use Rattle.query_laws.proofs.Sums.{sum_by-same}
+use Rattle.bag_algebra.proofs.Truths.{or_turn}
+use Rattle.bag_algebra.proofs.AggregateOrder.{total-permuted, aggregated-permuted}
+use Rattle.bag_algebra.proofs.Outcomes.{same_good, bad-not_good}
 
 -- ---- inputs
 
@@ -85,11 +86,6 @@ counted_where-same : (test other : Row → Bool) (us vs : Bag) (rows : List Row)
     counted_where test us rows ≡ counted_where other vs rows
 counted_where-same test other us vs rows e s =
     (λ i. sum_by (λ u. count u us) (filter (λ u. e u i) rows)) ∙ sum_by-same (λ u. count u us) (λ u. count u vs) (filter other rows) s.counts
-
-or_turn : (a b c : Bool) → (a || (b || c)) ≡ (b || (a || c))
-or_turn true true c = refl
-or_turn true false c = refl
-or_turn false b c = refl
 
 any-permuted : {us vs : Bag} (test : Row → Bool) → Permuted us vs → list_any test us ≡ list_any test vs
 any-permuted test nothing = refl
@@ -256,7 +252,7 @@ module _ (groups : List ℕ) (functions : List AggFn) (arguments : Row → Outco
     is = c.is;
     long = c.long;
     each = λ place function h.
-        sym (aggregated-permuted function (class_values groups arguments us key place) (class_values groups arguments vs key place) (values_along key place)) ∙ c.each place function h;
+        sym (aggregated-permuted function (values_along key place)) ∙ c.each place function h;
   }
 
 pub group_along : (groups : List ℕ) (functions : List AggFn) (arguments : Row → Outcome Row) (i j a : Outcome Bag) → SameRows i j →

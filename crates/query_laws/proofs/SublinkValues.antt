@@ -1,5 +1,5 @@
 -- The laws of sublinks and of what is evaluated on a row.
-use Rattle.std.proofs.Common.{◌≡◌, ◌≢◌, inl, inr, ◌<◌, Bool, true, false, cond, ◌||◌, List, [], ◌∷◌, map, length, refl, ap, ◌∙◌, arith, true≢false}
+use Rattle.std.proofs.Common.{◌≡◌, ◌≢◌, inl, inr, ◌<◌, Bool, true, false, cond, ◌||◌, List, [], ◌∷◌, map, length, refl, ap, ◌∙◌, arith}
 use Rattle.std.specs.List.{list_any}
 use Rattle.null_logic.specs.Comparison.{compare_values, is_null}
 use Rattle.null_logic.specs.Logic.{is_true, truth_not, value_of}
@@ -9,50 +9,41 @@ use Rattle.null_logic.specs.declared.truth.Truth.{Truth}
 use Rattle.null_logic.specs.declared.truth.Truth.TheVariants.{True, False, Unknown}
 use Rattle.perm_values.specs.declared.value.Value.{Value}
 use Rattle.perm_values.specs.declared.value.Value.TheVariants.{Null, Boolean}
-use Rattle.bag_algebra.proofs.Members.{IsIn, or-first, or-second}
+use Rattle.bag_algebra.proofs.Members.{IsIn, or-first}
 use Rattle.bag_algebra.specs.Bags.{Row, Bag}
-use Rattle.bag_algebra.specs.Children.{subs_denote}
-use Rattle.bag_algebra.specs.Meaning.{Database}
 use Rattle.bag_algebra.specs.Means.{cell, comparisons, sub_value}
-use Rattle.bag_algebra.specs.Outcome.{Outcome, Good, Bad, both, each, only}
+use Rattle.bag_algebra.specs.Outcome.{Outcome, Good, Bad, each, only}
 use Rattle.bag_algebra.specs.declared.query.SubKind.TheVariants.{Exists, Any, All, Scalar}
-use Rattle.bag_algebra.specs.declared.query.Sublink.{Sublink}
-use Rattle.query_laws.specs.Evaluated.{IsEvaluated, sublink_value}
+use Rattle.query_laws.specs.Evaluated.{IsEvaluated}
 use Rattle.query_laws.specs.Holding.{InBag}
-use Rattle.query_laws.proofs.Items.{contains-in, in-contains, each-long, each-at}
+use Rattle.query_laws.proofs.Items.{each-long, each-at}
 use Rattle.query_laws.proofs.Outcomes.{over-each, in_bag-in, in-in_bag}
+use Rattle.std.proofs.lemmas.Bool.{or_right, or_from}
+use Rattle.bag_algebra.proofs.MembersByIndex.{in-from_contains, contains-from_in}
 
 pub each-evaluated : {X Y : Type 0} (f : X → Outcome Y) (xs : List X) → IsEvaluated f xs (each f xs)
 each-evaluated f xs =
     let o = over-each f xs in
     record {
-      good = (λ g x c. o.each_good g x (contains-in x xs c), λ g. o.is_good (λ x i. g x (in-contains x xs i)));
+      good = (λ g x c. o.each_good g x (in-from_contains x xs c), λ g. o.is_good (λ x i. g x (contains-from_in x xs i)));
       faults = λ fault. (
-        λ m. let found = o.met fault m in (found.0, in-contains found.0 xs found.1, found.2),
-        λ found. o.meets fault found.0 (contains-in found.0 xs found.1) found.2,
+        λ m. let found = o.met fault m in (found.0, contains-from_in found.0 xs found.1, found.2),
+        λ found. o.meets fault found.0 (in-from_contains found.0 xs found.1) found.2,
       );
       long = λ ys e. each-long f xs ys e;
       values = λ ys e. each-at f xs ys e;
     }
-
-pub subs-each : (subs : List Sublink) (db : Database) (env : List Row) (u : Row) → (subs_denote subs db env).answers u ≡ each (sublink_value db env u) subs
-subs-each [] db env u = refl
-subs-each (sub ∷ subs) db env u = ap (both (λ v vs. v ∷ vs) (sublink_value db env u sub)) (subs-each subs db env u)
 
 -- ---- lists of comparisons
 
 some-in : {X : Type 0} (test : X → Bool) (x : X) (xs : List X) → IsIn x xs → test x ≡ true → list_any test xs ≡ true
 some-in test x [] h e = absurd h
 some-in test x (y ∷ xs) (inl same) e = or-first (test y) (list_any test xs) (ap test same ∙ e)
-some-in test x (y ∷ xs) (inr h) e = or-second (test y) (list_any test xs) (some-in test x xs h e)
-
-either_false : (a b : Bool) → a ≡ false → b ≡ false → (a || b) ≡ false
-either_false true b e f = absurd (true≢false e)
-either_false false b e f = f
+some-in test x (y ∷ xs) (inr h) e = or_right (test y) (list_any test xs) (some-in test x xs h e)
 
 none-in : {X : Type 0} (test : X → Bool) (xs : List X) → ((x : X) → IsIn x xs → test x ≡ false) → list_any test xs ≡ false
 none-in test [] h = refl
-none-in test (x ∷ xs) h = either_false (test x) (list_any test xs) (h x (inl refl)) (none-in test xs (λ y i. h y (inr i)))
+none-in test (x ∷ xs) h = or_from (test x) (list_any test xs) (h x (inl refl)) (none-in test xs (λ y i. h y (inr i)))
 
 any-map : {X Y : Type 0} (test : Y → Bool) (f : X → Y) (xs : List X) → list_any test (map f xs) ≡ list_any (λ x. test (f x)) xs
 any-map test f [] = refl

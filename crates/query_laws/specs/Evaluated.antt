@@ -1,13 +1,8 @@
 -- Evaluations of lists item by item, and the value of a sublink on a row.
-use Rattle.std.specs.Prelude.{◌≡◌, ◌↔◌, ℕ, List, ◌∷◌, length, Some, Contains}
+use Rattle.std.specs.Prelude.{◌≡◌, ◌↔◌, ℕ, List, length, Some, Contains}
 use Rattle.std.specs.List.{slice_get}
 use Rattle.null_logic.specs.declared.run_fault.RunFault.{RunFault}
-use Rattle.perm_values.specs.declared.value.Value.{Value}
-use Rattle.bag_algebra.specs.Bags.{Row}
-use Rattle.bag_algebra.specs.Meaning.{Database, meaning, optional_value}
-use Rattle.bag_algebra.specs.Means.{sub_value}
-use Rattle.bag_algebra.specs.Outcome.{Outcome, Good, both_then}
-use Rattle.bag_algebra.specs.declared.query.Sublink.{Sublink}
+use Rattle.bag_algebra.specs.Outcome.{Outcome, Good}
 use Rattle.query_laws.specs.Faults.{IsGood, Meets}
 
 -- each item is evaluated: good where each of them is, with their values in order, and meeting what they meet
@@ -17,8 +12,3 @@ pub record IsEvaluated {X Y : Type 0} (f : X → Outcome Y) (xs : List X) (answe
   pub long : (ys : List Y) → answer ≡ Good ys → length ys ≡ length xs
   pub values : (ys : List Y) → answer ≡ Good ys → (place : ℕ) (x : X) → slice_get xs place ≡ Some x →
       (y : Y) × (slice_get ys place ≡ Some y) × (f x ≡ Good y)
-
--- the value of a sublink on a row: its left operand and its query are both evaluated, the query with the row as the
--- nearest outer one
-abbrev pub sublink_value : Database → List Row → Row → Sublink → Outcome Value
-sublink_value db env u sub = both_then (optional_value sub.tested env u) (meaning sub.query db (u ∷ env)) (sub_value sub.kind)

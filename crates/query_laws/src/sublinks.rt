@@ -7,7 +7,7 @@ ghost use Rattle.null_logic.specs.declared.truth.Truth.TheVariants.{True, False,
 ghost use Rattle.perm_values.specs.declared.value.Value.TheVariants.{Null, Boolean};
 ghost use Rattle.perm_values.specs.declared.value.Value.{Value as Cell};
 ghost use Rattle.bag_algebra.specs.Bags.{Row, Bag};
-ghost use Rattle.bag_algebra.specs.Children.{subs_denote};
+ghost use Rattle.bag_algebra.specs.Children.{subs_denote, sublink_value};
 ghost use Rattle.bag_algebra.specs.Expressions.{value};
 ghost use Rattle.bag_algebra.specs.Meaning.{Database, condition_on, items_on, arguments_on, optional_value};
 ghost use Rattle.bag_algebra.specs.Means.{sub_value, cell};
@@ -17,7 +17,7 @@ ghost use Rattle.bag_algebra.specs.declared.expr.Item.{Item};
 ghost use Rattle.bag_algebra.specs.declared.query.Aggr.{Aggr};
 ghost use Rattle.bag_algebra.specs.declared.query.SubKind.TheVariants.{Exists, Any, All, Scalar};
 ghost use Rattle.bag_algebra.specs.declared.query.Sublink.{Sublink};
-ghost use Rattle.query_laws.specs.Evaluated.{IsEvaluated, sublink_value};
+ghost use Rattle.query_laws.specs.Evaluated.{IsEvaluated};
 ghost use Rattle.query_laws.specs.Holding.{InBag};
 
 /// On each row all sublinks are evaluated first, with the row as the nearest outer one. Where one is bad, the row is, with

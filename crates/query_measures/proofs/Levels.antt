@@ -1,11 +1,12 @@
 -- How many outer rows are needed, and whether so many are enough.
-use Rattle.std.proofs.Common.{◌≡◌, ℕ, suc, ◌+◌, ◌-◌, ◌<◌, ◌≤◌, max, Bool, true, false, ◌&&◌, List, length, get_or, drop, sym, refl, ap, ◌∙◌, arith}
+use Rattle.std.proofs.Common.{◌≡◌, ℕ, suc, ◌+◌, ◌-◌, ◌<◌, ◌≤◌, max, Bool, true, ◌&&◌, List, length, get_or, drop, sym, refl, ap, ◌∙◌, arith}
 use Rattle.std.specs.Prelude.{nat_eq, nat_le}
 use Rattle.std.specs.List.{list_all}
 use Rattle.std.proofs.Math.Dec.{leb-zero}
 use Rattle.std.proofs.lemmas.Bool.Decides.{nat_tests}
 use Rattle.std.proofs.lemmas.List.{at_drop_all}
 use Rattle.query_measures.proofs.Rest.{from_here}
+use Rattle.bag_algebra.proofs.Truths.{and_associates, and_true}
 
 pub none-needed : (n : ℕ) → nat_le 0 n ≡ true
 none-needed n = leb-zero n
@@ -20,14 +21,6 @@ both-within r a b x y n e f g = ap (λ k. nat_le k n) e ∙ greater-within a b n
 pub inside-within : (a n : ℕ) → nat_le (a - 1) n ≡ nat_le a (suc n)
 inside-within a n = grind (arith, nat_tests)
 
-and-regroup : (a b c : Bool) → ((a && b) && c) ≡ (a && (b && c))
-and-regroup true b c = refl
-and-regroup false b c = refl
-
-and-true : (a : Bool) → (a && true) ≡ a
-and-true true = refl
-and-true false = refl
-
 -- what a loop has so far is enough, and so it is for the items that are left
 abbrev pub SoFar : {X : Type 0} → (X → ℕ → Bool) → List X → ℕ → ℕ → Type 0
 SoFar within xs i level = (n : ℕ) → (nat_le level n && list_all (λ x. within x n) (drop i xs)) ≡ list_all (λ x. within x n) xs
@@ -40,13 +33,13 @@ module _ {X : Type 0} (within : X → ℕ → Bool) (xs : List X) (i level : ℕ
       SoFar within xs (i + 1) next
   one-more x more next in_range item needs e n =
       ap (λ b. b && list_all (λ y. within y n) (drop (i + 1) xs)) (both-within next level more _ _ n e refl (needs n))
-      ∙ and-regroup (nat_le level n) (within x n) (list_all (λ y. within y n) (drop (i + 1) xs))
+      ∙ and_associates (nat_le level n) (within x n) (list_all (λ y. within y n) (drop (i + 1) xs))
       ∙ ap (λ b. nat_le level n && b) (sym (from_here (list_all (λ y. within y n)) xs i x in_range item))
       ∙ so_far n
 
   pub all-done : length xs ≤ i → (n : ℕ) → nat_le level n ≡ list_all (λ x. within x n) xs
   all-done h n =
-      sym (and-true (nat_le level n))
+      sym (and_true (nat_le level n))
       ∙ ap (λ b. nat_le level n && b) (sym (at_drop_all (list_all (λ y. within y n)) xs i h))
       ∙ so_far n
 

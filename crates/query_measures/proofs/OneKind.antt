@@ -1,5 +1,5 @@
 -- An expression has one kind at most, and reads no sublink behind those that it is well formed with.
-use Rattle.std.proofs.Common.{◌≡◌, ℕ, zero, suc, ◌<◌, ◌≤◌, List, [], ◌∷◌, ◌++◌, length, Some, refl, sym, ap, ◌∙◌, arith}
+use Rattle.std.proofs.Common.{◌≡◌, ℕ, zero, suc, ◌≤◌, List, [], ◌∷◌, ◌++◌, length, Some, refl, sym, ap, ◌∙◌, arith}
 use Rattle.std.specs.Prelude.{slice_get}
 use Rattle.null_logic.specs.declared.operator.Operator.{Operator}
 use Rattle.null_logic.specs.declared.operator.Operator.TheVariants as op

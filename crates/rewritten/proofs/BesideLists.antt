@@ -12,7 +12,7 @@ use Rattle.bag_algebra.specs.Outcome.{Outcome, Good, Bad, mapped}
 use Rattle.bag_algebra.specs.Rewriting.{SameSet}
 use Rattle.bag_algebra.specs.declared.query.Query.{Query}
 use Rattle.bag_algebra.specs.declared.query.Query.TheVariants.{Prov}
-use Rattle.contribution.proofs.MembersByIndex.{in-from_contains, contains-from_in}
+use Rattle.bag_algebra.proofs.MembersByIndex.{in-from_contains, contains-from_in}
 use Rattle.contribution.proofs.NoRowLost.{Listed, none_lost}
 use Rattle.rewritten.specs.Rewritten.{RowBeside, SomeList, Rewritten}
 

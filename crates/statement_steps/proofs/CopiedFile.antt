@@ -7,7 +7,7 @@ use Rattle.csv_tables.specs.declared.data_error.DataError.{DataError}
 use Rattle.csv_tables.specs.declared.data_error.DataError.TheVariants as broken
 use Rattle.perm_values.specs.declared.kind.Kind.{Kind}
 use Rattle.statement_steps.specs.Copying.{Gives, IsCopied, unless_broken, unloaded}
-use Rattle.statement_steps.specs.Found.{Found, Read}
+use Rattle.perm_io.specs.Found.{Found, Read}
 use Rattle.statement_steps.specs.declared.copying.CopyRefusal.TheVariants.{Unfit}
 
 named : (rules : List DataError) (rule : DataError) (rows : Bag) → first_of rules ≡ Some rule → unless_broken rules rows ≡ Err (Unfit rule)

@@ -8,7 +8,7 @@ use Rattle.perm_catalog.specs.Columns.{column_kinds}
 use Rattle.perm_catalog.specs.Contents.{Contents}
 use Rattle.perm_catalog.specs.declared.entries.TableEntry.{TableEntry}
 use Rattle.statement_steps.specs.Copying.{copied, copy, copy_into, copy_to, IsCopied, IsCopy}
-use Rattle.statement_steps.specs.Found.{Found, CanBe, Read, Missing, TooLong}
+use Rattle.perm_io.specs.Found.{Found, CanBe, Read, Missing, TooLong}
 use Rattle.statement_steps.specs.declared.copy.CopyBreak.TheVariants.{UnknownTable, File}
 use Rattle.statement_steps.specs.declared.copying.CopyRefusal.{CopyRefusal}
 use Rattle.statement_steps.specs.declared.copying.CopyRefusal.TheVariants as refusal

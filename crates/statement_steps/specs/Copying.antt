@@ -12,8 +12,8 @@ use Rattle.perm_catalog.specs.Contents.{Contents}
 use Rattle.perm_catalog.specs.declared.catalog.CatalogRefusal.{CatalogRefusal}
 use Rattle.perm_catalog.specs.declared.catalog.CatalogRefusal.TheVariants as change
 use Rattle.perm_catalog.specs.declared.entries.TableEntry.{TableEntry}
-use Rattle.statement_steps.specs.Found.{Found}
-use Rattle.statement_steps.specs.Found as found
+use Rattle.perm_io.specs.Found.{Found}
+use Rattle.perm_io.specs.Found as found
 use Rattle.perm_values.specs.Numbers.{last_number}
 use Rattle.statement_steps.specs.Step.{Stepped}
 use Rattle.statement_steps.specs.declared.copy.CopyBreak.{CopyBreak}

@@ -3,7 +3,7 @@ ghost use Rattle.csv_tables.specs.declared.data_error.DataError.TheVariants as b
 ghost use Rattle.perm_catalog.specs.Changes.{table_named, with_more_rows};
 ghost use Rattle.perm_values.specs.Numbers.{last_number};
 ghost use Rattle.perm_io.specs.Counts.{next_count, HasRisen, CountsFault};
-ghost use Rattle.statement_steps.specs.Found.{CanBe};
+ghost use Rattle.perm_io.specs.Found.{CanBe};
 ghost use Rattle.statement_steps.specs.Copying.{copy, copy_text, file_limit, has_failed, is_short, IsCopy};
 ghost use Rattle.statement_steps.specs.declared.copying.CopyRefusal.TheVariants as of_file;
 

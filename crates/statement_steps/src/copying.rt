@@ -2,7 +2,7 @@ ghost use Rattle.std.specs.Prelude.{◌≡◌, ◌≢◌, ◌↔◌, ◌<◌, Er
 ghost use Rattle.bag_algebra.specs.Fits.{bag_fits};
 ghost use Rattle.csv_tables.specs.declared.data_error.DataError.TheVariants as broken;
 ghost use Rattle.perm_io.specs.Counts.{next_count, HasRisen, CountsFault};
-ghost use Rattle.statement_steps.specs.Found.{CanBe};
+ghost use Rattle.perm_io.specs.Found.{CanBe};
 ghost use Rattle.statement_steps.specs.Copying.{file_limit, is_read_fault, IsCopied, unloaded};
 
 use csv_tables::{DataError, load};

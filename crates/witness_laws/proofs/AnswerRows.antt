@@ -9,7 +9,7 @@ use Rattle.bag_algebra.specs.Means.{Means, Witness, with_lists, good_rows}
 use Rattle.bag_algebra.specs.Outcome.{Outcome, Good, Bad}
 use Rattle.bag_algebra.specs.declared.query.Query.{Query}
 use Rattle.contribution.proofs.EntriesAtPlaces.{from-lists}
-use Rattle.contribution.proofs.MembersByIndex.{in-from_contains, contains-from_in}
+use Rattle.bag_algebra.proofs.MembersByIndex.{in-from_contains, contains-from_in}
 use Rattle.witness_laws.specs.SublinkLists.{InAnswer}
 
 pub answer-from : (q : Query) (db : Database) (env : List Row) (t : Row) → IsIn t (good_rows (meaning q db env)) → InAnswer q db env t

@@ -21,12 +21,12 @@ use Rattle.bag_algebra.specs.declared.query.SubKind.{SubKind}
 use Rattle.bag_algebra.specs.declared.query.SubKind.TheVariants.{Exists, Any, All, Scalar}
 use Rattle.bag_algebra.specs.declared.query.Sublink.{Sublink}
 use Rattle.contribution.proofs.EntriesAtPlaces.{all_empty-append}
-use Rattle.contribution.proofs.JoinMembers.{both-parts, both_then-parts}
-use Rattle.contribution.proofs.MembersByIndex.{in-from_contains, contains-from_in}
+use Rattle.bag_algebra.proofs.MembersByIndex.{in-from_contains, contains-from_in}
 use Rattle.contribution.proofs.TruthKept.{from-chosen}
 use Rattle.witness_laws.proofs.PairedLists.{OneOfEach, in-beside, from-beside}
 use Rattle.witness_laws.specs.ListsOfNodes.{Followed}
 use Rattle.witness_laws.specs.SublinkLists.{IsChosen, Contributes, by_row, by_no_row, EachContributes, no_sublink, one_more}
+use Rattle.bag_algebra.proofs.Outcomes.{both-is, both_then-parts}
 
 -- ---- truths and the values that stand for them
 
@@ -150,7 +150,7 @@ module _ (db : Database) (env : List Row) (u : Row) where
   pub all_good : (subs : List Sublink) (vs : List Value) → (subs_denote subs db env).answers u ≡ Good vs → AllGood subs
   all_good [] vs e = tt
   all_good (sub ∷ subs) vs e =
-      let both = both-parts (λ v vs. v ∷ vs) _ ((subs_denote subs db env).answers u) vs e in
+      let both = both-is (λ v vs. v ∷ vs) _ ((subs_denote subs db env).answers u) vs e in
       let first = both_then-parts (optional_value sub.tested env u) (meaning sub.query db (u ∷ env)) (sub_value sub.kind) both.0 both.2 in
       (record { x = first.0; bag = first.1; tested = first.2; rows = first.3 }, all_good subs both.1 both.3)
 

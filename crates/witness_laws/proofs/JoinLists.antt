@@ -17,7 +17,7 @@ use Rattle.bag_algebra.specs.declared.query.JoinKind.{JoinKind}
 use Rattle.bag_algebra.specs.declared.query.Query.{Query}
 use Rattle.bag_algebra.specs.declared.query.Query.TheVariants.{Join}
 use Rattle.bag_algebra.specs.declared.query.Sublink.{Sublink}
-use Rattle.contribution.proofs.MembersByIndex.{in-from_contains, contains-from_in}
+use Rattle.bag_algebra.proofs.MembersByIndex.{in-from_contains, contains-from_in}
 use Rattle.witness_laws.proofs.AnswerRows.{answer-from, answer-in, listed-where}
 use Rattle.witness_laws.proofs.Contributed.{each_contributes-from, one_of_each, blank-is}
 use Rattle.witness_laws.proofs.PairedLists.{in-paired, from-paired, rejoined, in-beside, from-beside, none_passes, none-pass, in-where, from-where, in-if, from-if}

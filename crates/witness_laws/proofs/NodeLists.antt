@@ -22,7 +22,7 @@ use Rattle.bag_algebra.specs.declared.query.Query.TheVariants.{Table, Single, Ba
 use Rattle.bag_algebra.specs.declared.query.Sublink.{Sublink}
 use Rattle.contribution.proofs.GoodRows.{from-and_then, from-gather, from-kept}
 use Rattle.contribution.proofs.ListedRows.{none-in}
-use Rattle.contribution.proofs.MembersByIndex.{in-from_contains, contains-from_in}
+use Rattle.bag_algebra.proofs.MembersByIndex.{in-from_contains, contains-from_in}
 use Rattle.contribution.proofs.NoRowLost.{gives-good}
 use Rattle.witness_laws.proofs.AnswerRows.{answer-from, answer-in, listed-where}
 use Rattle.witness_laws.proofs.Contributed.{AllGood, all_good, followed-from, in-followed}

@@ -5,7 +5,7 @@ use Rattle.csv_tables.specs.declared.data_error.DataError.TheVariants as rule
 use Rattle.perm_values.specs.declared.kind.Kind.TheVariants as kind
 use Rattle.statement_steps.specs.Copying.{copied, copy_text}
 use Rattle.perm_engine.specs.DataLines.{data_line}
-use Rattle.statement_steps.specs.Found.{Missing, TooLong, Failed}
+use Rattle.perm_io.specs.Found.{Missing, TooLong, Failed}
 use Rattle.statement_steps.specs.declared.copying.CopyRefusal.TheVariants as refusal
 
 no_file : copied (kind.Integer ∷ []) [] false Missing ≡ Err refusal.Missing

@@ -2,7 +2,7 @@
 ghost use Rattle.std.specs.Prelude.{◌≡◌, ◌≢◌, ◌↔◌, ◌≤◌, ◌++◌, List, [], All, Contains, IsTrue, Some, take};
 ghost use Rattle.perm_values.specs.declared.kind.Kind.{Kind};
 ghost use Rattle.bag_algebra.specs.Bags.{Row as Cells, Bag, member, count};
-ghost use Rattle.bag_algebra.specs.Children.{subs_denote};
+ghost use Rattle.bag_algebra.specs.Children.{subs_denote, sublink_value};
 ghost use Rattle.bag_algebra.specs.Kinds.{shape, width_of};
 ghost use Rattle.bag_algebra.specs.Meaning.{Database, meaning, witnesses};
 ghost use Rattle.bag_algebra.specs.Means.{Witness, flat, sub_value, chosen};
@@ -12,7 +12,7 @@ ghost use Rattle.bag_algebra.specs.declared.query.Query.{Query};
 ghost use Rattle.bag_algebra.specs.declared.query.Sublink.{Sublink};
 ghost use Rattle.contribution.specs.Fitting.{Fitting};
 ghost use Rattle.contribution.specs.HeldRows.{held_rows, StandAt};
-ghost use Rattle.contribution.specs.SublinkValues.{sublink_value, contributing_value};
+ghost use Rattle.contribution.specs.SublinkValues.{contributing_value};
 
 /// No row is lost: where a query is good, a row is in its answer exactly where it has a witness list. Where it is bad no
 /// row has one.

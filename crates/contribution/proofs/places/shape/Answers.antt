@@ -4,7 +4,7 @@ use Rattle.bag_algebra.specs.Meaning.{witnesses}
 use Rattle.contribution.proofs.EntriesAtPlaces.{all-at}
 use Rattle.contribution.proofs.Growth.{denote-longer}
 use Rattle.contribution.proofs.ListedRows.{row-listed, contributing_rows-suffice}
-use Rattle.contribution.proofs.MembersByIndex.{all-from_in}
+use Rattle.bag_algebra.proofs.MembersByIndex.{all-from_in}
 use Rattle.contribution.proofs.places.shape.Goals as goal
 use Rattle.contribution.specs.HeldRows.{held_rows, StandAt}
 

@@ -3,7 +3,7 @@ use Rattle.perm_io.specs.Answers.{is_fault}
 use Rattle.perm_io.specs.Counts.{CountsFault}
 use Rattle.perm_engine.proofs.Damaged.{bad_file-later}
 use Rattle.perm_engine.proofs.Running.{Runs-misused, Runs-found, EndsOne-moved, Opens-none, one_word, none_or_more}
-use Rattle.statement_steps.specs.Found.{Read, Missing, TooLong, Failed}
+use Rattle.perm_io.specs.Found.{Read, Missing, TooLong, Failed}
 use Rattle.perm_engine.specs.Run.{usage}
 use Rattle.perm_engine.specs.declared.status.Status.TheVariants as status
 use Rattle.perm_engine.proofs.run.perm.Goals as goal

@@ -5,7 +5,7 @@ use Rattle.perm_catalog.specs.Changes.{nothing_held}
 use Rattle.perm_catalog.specs.Contents.{Contents}
 use Rattle.perm_engine.specs.Asking.{asked, has_failed, IsAnswered}
 use Rattle.statement_steps.specs.Copying.{file_limit}
-use Rattle.statement_steps.specs.Found.{CanBe}
+use Rattle.perm_io.specs.Found.{CanBe}
 use Rattle.perm_engine.specs.declared.status.Status.TheVariants as status
 use Rattle.perm_engine.specs.Ends.{joined, EndsBroken, IsBadFile}
 use Rattle.perm_engine.proofs.Damaged.{bad_file, ends_broken}

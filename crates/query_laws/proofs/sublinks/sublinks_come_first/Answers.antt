@@ -4,13 +4,15 @@ use Rattle.bag_algebra.specs.Meaning.{optional_value}
 use Rattle.bag_algebra.specs.Outcome.{and_then, each}
 use Rattle.bag_algebra.specs.declared.expr.Item.{Item}
 use Rattle.bag_algebra.specs.declared.query.Aggr.{Aggr}
-use Rattle.query_laws.specs.Evaluated.{IsEvaluated, sublink_value}
-use Rattle.query_laws.proofs.SublinkValues.{each-evaluated, subs-each}
+use Rattle.bag_algebra.specs.Children.{sublink_value}
+use Rattle.query_laws.specs.Evaluated.{IsEvaluated}
+use Rattle.query_laws.proofs.SublinkValues.{each-evaluated}
 use Rattle.query_laws.proofs.sublinks.sublinks_come_first.Goals as goal
+use Rattle.bag_algebra.proofs.Outcomes.{answers-each}
 
 pub returns-clause-sublinks : goal.returns-clause-sublinks
 returns-clause-sublinks c subs db env u =
-    subst (IsEvaluated (sublink_value db env u) subs) (sym (subs-each subs db env u)) (each-evaluated (sublink_value db env u) subs)
+    subst (IsEvaluated (sublink_value db env u) subs) (sym (answers-each subs db env u)) (each-evaluated (sublink_value db env u) subs)
 
 pub returns-clause-bad_condition : goal.returns-clause-bad_condition
 returns-clause-bad_condition c condition subs db env u faults e = ap (λ o. and_then o (value condition u env)) e

@@ -4,7 +4,7 @@ use Rattle.perm_io.specs.Counts.{HasRisen}
 use Rattle.statement_steps.proofs.CopiedFile.{kept-error}
 use Rattle.statement_steps.proofs.CopiedInto.{copy-refused, copy-short, copy-unknown, some_found}
 use Rattle.statement_steps.specs.Copying.{copy, file_limit, IsCopied, IsCopy}
-use Rattle.statement_steps.specs.Found.{Found, CanBe}
+use Rattle.perm_io.specs.Found.{Found, CanBe}
 use Rattle.perm_catalog.specs.Columns.{column_kinds}
 use Rattle.statement_steps.specs.declared.copy.CopyBreak.TheVariants.{File}
 use Rattle.statement_steps.specs.declared.copying.CopyRefusal.TheVariants.{NoMemory}

@@ -1,7 +1,7 @@
 use Rattle.perm_io.specs.Counts.{HasRisen}
 use Rattle.statement_steps.proofs.CopiedFile.{copied-broken, copied-whole, kept-error}
 use Rattle.statement_steps.specs.Copying.{file_limit, IsCopied, unloaded}
-use Rattle.statement_steps.specs.Found.{Found, CanBe}
+use Rattle.perm_io.specs.Found.{Found, CanBe}
 use Rattle.statement_steps.proofs.copying.file_rows.Goals as goal
 
 pub returns-in_err-load-in-Ok-clause-copied : goal.returns-in_err-load-in-Ok-clause-copied

@@ -1,7 +1,7 @@
 use Rattle.std.proofs.Common.{ap, subst}
 use Rattle.bag_algebra.proofs.Members.{IsIn}
 use Rattle.bag_algebra.specs.Means.{chosen, good_value}
-use Rattle.contribution.proofs.MembersByIndex.{in-from_contains, contains-from_in}
+use Rattle.bag_algebra.proofs.MembersByIndex.{in-from_contains, contains-from_in}
 use Rattle.witness_laws.proofs.Contributed.{in-chosen, chosen-is, contributed, contributes-from, in-contributed}
 use Rattle.witness_laws.proofs.sublinks.contributions_are_lists_of_chosen_rows.Goals as goal
 

@@ -2,7 +2,7 @@ use Rattle.std.proofs.Common.{Some, refl}
 use Rattle.bag_algebra.specs.Kinds.{shape}
 use Rattle.bag_algebra.specs.Meaning.{witnesses}
 use Rattle.contribution.proofs.EntriesAtPlaces.{all-at}
-use Rattle.contribution.proofs.MembersByIndex.{all-from_in}
+use Rattle.bag_algebra.proofs.MembersByIndex.{all-from_in}
 use Rattle.contribution.proofs.laws.witnesses.entries_stand_at_their_places.Goals as goal
 use Rattle.contribution.specs.HeldRows.{held_rows, StandAt}
 

@@ -3,7 +3,7 @@ use Rattle.perm_catalog.specs.Changes.{table_named}
 use Rattle.perm_io.specs.Counts.{HasRisen}
 use Rattle.perm_engine.proofs.CopyAnswers.{answered}
 use Rattle.statement_steps.specs.Copying.{file_limit}
-use Rattle.statement_steps.specs.Found.{Found, CanBe}
+use Rattle.perm_io.specs.Found.{Found, CanBe}
 use Rattle.perm_engine.proofs.session.Session.copy.Goals as goal
 use Rattle.perm_engine.proofs.session.Session.copy.Goals.{in-Ok, in-Err}
 

@@ -14,7 +14,7 @@ contains-from_in x [] h = absurd h
 contains-from_in x (y ∷ ys) (inl e) = (zero, omega arith, e)
 contains-from_in x (y ∷ ys) (inr h) = let found = contains-from_in x ys h in (suc found.0, omega arith, found.2)
 
-in-at : {X : Type 0} (xs : List X) (k : ℕ) (d : X) → k < length xs → IsIn (slice_index_or xs k d) xs
+pub in-at : {X : Type 0} (xs : List X) (k : ℕ) (d : X) → k < length xs → IsIn (slice_index_or xs k d) xs
 in-at [] k d h = absurd (omega arith)
 in-at (x ∷ xs) zero d h = inl refl
 in-at (x ∷ xs) (suc k) d h = inr (in-at xs k d (omega arith))
