@@ -16,6 +16,7 @@ use Rattle.bag_algebra.specs.Patterns.{BaseOf, ProjectOf, DistinctOf, ProvOf}
 use Rattle.bag_algebra.specs.declared.query.Label.{Label}
 use Rattle.bag_algebra.specs.declared.query.Query.{end_of-Sublink}
 use Rattle.bag_algebra.specs.declared.query.Query.TheVariants.{Table}
+use Rattle.bag_algebra.specs.Built.{rows-with_lists}
 
 -- column items are good on every row and give the row's values there
 pub column_items-give : (kinds : List Kind) (places : List ℕ) (env : List Row) (u : Row) →
@@ -26,10 +27,6 @@ column_items-give kinds (place ∷ places) env u = ap (both (λ y ys. y ∷ ys) 
 pub each-good : {X Y : Type 0} (f : X → Y) (g : X → Outcome Y) → ((x : X) → g x ≡ Good (f x)) → (xs : List X) → each g xs ≡ Good (map f xs)
 each-good f g good [] = refl
 each-good f g good (x ∷ xs) = λ i. both (λ y ys. y ∷ ys) (good x i) (each-good f g good xs i)
-
-pub with_lists-rows : (rows : Outcome Bag) (lists : Row → List Witness) → (with_lists rows lists).rows ≡ rows
-with_lists-rows (Good bag) lists = refl
-with_lists-rows (Bad faults) lists = refl
 
 listed-in : {X : Type 0} (w : X) (ws : List X) (b : Bool) → b ≡ true → IsIn w ws → IsIn w (cond b ws [])
 listed-in w ws true e h = h
@@ -52,13 +49,13 @@ from-with_lists bag lists t w h = let found = listed-from w (lists t) (member t 
 pub columns-meaning : (id : ℕ) (kinds : List Kind) (columns : List ℕ) (db : Database) (env : List Row) →
     meaning (ProjectOf (Table id kinds) (column_items kinds columns) [] end_of-Sublink) db env ≡ Good (map (picked columns) (db id))
 columns-meaning id kinds columns db env =
-    with_lists-rows (each (items_on (column_items kinds columns) env no_subs) (db id)) _
+    rows-with_lists (each (items_on (column_items kinds columns) env no_subs) (db id)) _
     ∙ each-good (picked columns) (items_on (column_items kinds columns) env no_subs) (column_items-give kinds columns env) (db id)
 
 pub source_columns-meaning : (id : ℕ) (kinds : List Kind) (places columns : List ℕ) (label : Label) (db : Database) (env : List Row) →
     meaning (ProjectOf (BaseOf (Table id kinds) places label) (column_items kinds columns) [] end_of-Sublink) db env ≡ Good (map (picked columns) (db id))
 source_columns-meaning id kinds places columns label db env =
-    with_lists-rows (each (items_on (column_items kinds columns) env no_subs) (db id)) _
+    rows-with_lists (each (items_on (column_items kinds columns) env no_subs) (db id)) _
     ∙ each-good (picked columns) (items_on (column_items kinds columns) env no_subs) (column_items-give kinds columns env) (db id)
 
 -- ---- the same for witness lists, over the rows of a table and any good items
@@ -142,7 +139,7 @@ pub distinct_columns-meaning : (id : ℕ) (kinds : List Kind) (columns places : 
     meaning (DistinctOf (ProjectOf (Table id kinds) (column_items kinds (columns ++ places)) [] end_of-Sublink)) db env
     ≡ Good (once (map (λ u. picked columns u ++ picked places u) (db id)))
 distinct_columns-meaning id kinds columns places db env =
-    with_lists-rows (mapped once (denote (ProjectOf (Table id kinds) (column_items kinds (columns ++ places)) [] end_of-Sublink) db env).rows) _
+    rows-with_lists (mapped once (denote (ProjectOf (Table id kinds) (column_items kinds (columns ++ places)) [] end_of-Sublink) db env).rows) _
     ∙ ap (mapped once) (columns-meaning id kinds (columns ++ places) db env)
     ∙ ap (λ rows. Good (once rows)) (map-same (picked (columns ++ places)) (λ u. picked columns u ++ picked places u) (picked-append columns places) (db id))
 

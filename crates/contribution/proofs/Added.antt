@@ -6,6 +6,7 @@ use Rattle.bag_algebra.specs.Children.{subs_shape}
 use Rattle.bag_algebra.specs.Kinds.{shape, place_kinds}
 use Rattle.bag_algebra.specs.declared.place.Place.{Place}
 use Rattle.bag_algebra.specs.declared.query.Sublink.{Sublink}
+use Rattle.bag_algebra.proofs.Widths.{place_kinds-append}
 
 abbrev Done : Type 0
 Done = Result Unit NoMemory
@@ -27,10 +28,6 @@ added-joined middle before last xs ys e f = f ∙ ap (λ zs. zs ++ ys) e ∙ app
 
 pub one_more : {X : Type 0} (xs : List X) (i : ℕ) (x : X) → i < length xs → x ≡ get_or xs i x → take (i + 1) xs ≡ take i xs ++ x ∷ []
 one_more xs i x within e = take_more xs i x within ∙ ap (λ y. take i xs ++ y ∷ []) (sym e)
-
-pub place_kinds-append : (ps qs : List Place) → place_kinds (ps ++ qs) ≡ place_kinds ps ++ place_kinds qs
-place_kinds-append [] qs = refl
-place_kinds-append (p ∷ ps) qs = ap (λ kinds. p.kinds ++ kinds) (place_kinds-append ps qs) ∙ sym (append_assoc p.kinds (place_kinds ps) (place_kinds qs))
 
 pub place_kinds-more : (ps : List Place) (i : ℕ) (p : Place) → i < length ps → p ≡ get_or ps i p → place_kinds (take i ps) ++ p.kinds ≡ place_kinds (take (i + 1) ps)
 place_kinds-more ps i p within e =

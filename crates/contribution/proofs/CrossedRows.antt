@@ -4,7 +4,6 @@ use Rattle.std.proofs.lemmas.List.{length-map}
 use Rattle.std.specs.List.{flat_map}
 use Rattle.perm_values.specs.Rows.{picked, value_at}
 use Rattle.perm_values.specs.declared.value.Value.{Value}
-use Rattle.bag_algebra.proofs.Columns.{with_lists-rows}
 use Rattle.bag_algebra.proofs.Members.{IsIn, in-map, from-map, in-append_left, in-append_right, from-append, in-flat_map, from-flat_map, in-member, member-in}
 use Rattle.bag_algebra.specs.Bags.{Row, Bag, nulls}
 use Rattle.bag_algebra.specs.Kinds.{kinds_in, kind_in, width_of}
@@ -20,6 +19,7 @@ use Rattle.contribution.proofs.NullRows.{meaning-null_row}
 use Rattle.contribution.specs.CrossBase.{source_query, crossed, always}
 use Rattle.contribution.specs.HeldRows.{StandAt}
 use Rattle.contribution.specs.declared.cross.TableSource.{TableSource}
+use Rattle.bag_algebra.specs.Built.{rows-with_lists}
 
 -- what a source holds, restricted to its places
 abbrev pub held_by : Database → TableSource → Bag
@@ -42,7 +42,7 @@ crossed_rows db (source ∷ sources) = pairs_of (source_rows db source) (crossed
 
 pub meaning-source_query : (source : TableSource) (db : Database) (env : List Row) → meaning (source_query source) db env ≡ Good (source_rows db source)
 meaning-source_query source db env =
-    with_lists-rows _ _
+    rows-with_lists _ _
     ∙ (λ i. both (λ us vs. us ++ vs) (meaning-columns (Table source.id source.kinds) source.places db env i) (meaning-null_row (kinds_in source.kinds source.places) db env i))
 
 gather-singles : (f : Row → Row) (us : Bag) → gather (λ u. Good (f u ∷ [])) us ≡ Good (map f us)
@@ -66,7 +66,7 @@ all_pairs env left_width right_width us vs =
 pub meaning-crossed : (sources : List TableSource) (db : Database) (env : List Row) → meaning (crossed sources Single) db env ≡ Good (crossed_rows db sources)
 meaning-crossed [] db env = refl
 meaning-crossed (source ∷ sources) db env =
-    with_lists-rows _ _
+    rows-with_lists _ _
     ∙ (λ i. both_then (meaning-source_query source db env i) (meaning-crossed sources db env i)
     (joined_rows Inner (always_on env) (width_of (source_query source)) (width_of (crossed sources Single))))
     ∙ all_pairs env (width_of (source_query source)) (width_of (crossed sources Single)) (source_rows db source) (crossed_rows db sources)

@@ -33,6 +33,7 @@ use Rattle.contribution.proofs.WhereGood.{Each}
 use Rattle.contribution.specs.Longer.{Longer, more_lists, more_items}
 use Rattle.contribution.specs.SameColumns.{SameColumns}
 use Rattle.std.proofs.lemmas.Bool.{and_parts, and_from}
+use Rattle.query_measures.proofs.Forms.{op_parts}
 
 -- beside one own row
 pub columns-own : (kinds : List Kind) (u : Row) {outer : List (List Kind)} {env other : List Row} → SameColumns outer env other →
@@ -45,20 +46,6 @@ columns-own kinds u {outer} {env} {other} s = record { same = at } where
 
 -- ---- expressions
 
--- the parts of an operator have some kind
-some_kind : (o : Operator) (n : ℕ) (all_have : Kind → Type 0) (kind : Kind) → op_form o n all_have kind → (k : Kind) × all_have k
-some_kind op.And n all_have kind f = (Boolean, f.parts)
-some_kind op.Or n all_have kind f = (Boolean, f.parts)
-some_kind op.Not n all_have kind f = (Boolean, f.parts)
-some_kind op.Negate n all_have kind f = (Integer, f.parts)
-some_kind (op.Compare c) n all_have kind f = (f.parts.shared, f.parts.parts)
-some_kind (op.Arith c) n all_have kind f = absurd f
-some_kind op.Like n all_have kind f = (Text, f.parts)
-some_kind op.Between n all_have kind f = (f.parts.shared, f.parts.parts)
-some_kind op.InList n all_have kind f = (f.parts.shared, f.parts.parts)
-some_kind op.Coalesce n all_have kind f = (kind, f.parts)
-some_kind op.NullIf n all_have kind f = (kind, f.parts)
-
 -- on rows that agree on the columns of the scopes, the own row included
 module _ (scopes : List (List Kind)) (subs : List Kind) (u v : Row) (env other : List Row) (s : SameColumns scopes (u ∷ env) (v ∷ other)) (answers : List Value) where
   mutual
@@ -66,7 +53,7 @@ module _ (scopes : List (List Kind)) (subs : List Kind) (u v : Row) (env other :
     value-same (Col level place) k f = ap Good (s.same level place k f)
     value-same (Lit constant own) k f = refl
     value-same (OpOf o _ parts) k f =
-        let some = some_kind o (number_of_parts parts) (PartsHave scopes subs parts) k f in
+        let some = op_parts o (number_of_parts parts) (PartsHave scopes subs parts) k f in
         λ i. and_then (values-same parts some.0 some.1 i) (operate o)
     value-same (ChainOf first _ steps) k f = λ i. both_then (value-same first Integer f.first i) (step_values-same steps f.steps i) chain
     value-same (CaseOf _ arms otherwise) k f = arm_value-same arms k (value otherwise u env answers) (value otherwise v other answers) f.arms (value-same otherwise k f.otherwise)

@@ -10,7 +10,7 @@ use Rattle.perm_values.specs.declared.kind.Kind.TheVariants.{Integer, Boolean}
 use Rattle.bag_algebra.specs.Closed.{within_levels, parts_within, steps_within, arms_within, option_within, items_within, aggregates_within, reads_within, subs_read_within}
 use Rattle.bag_algebra.specs.Kinds.{kinds_of}
 use Rattle.bag_algebra.specs.Patterns.{OpOf, ChainOf, CaseOf, IsNullOf, IsTruthOf, SameOf, BaseOf, FilterOf, ProjectOf, JoinOf, UnionOf, IntersectOf, ExceptOf, DistinctOf, AggregateOf, LimitOf, ProvOf}
-use Rattle.bag_algebra.specs.WellFormed.{kind_at_place, column_kind, op_form, HasKind, PartsHave, StepsHave, ArmsHave, ItemsForm, aggr_form, AggregatesForm, sub_form, WellFormed, SubsForm}
+use Rattle.bag_algebra.specs.WellFormed.{kind_at_place, column_kind, HasKind, PartsHave, StepsHave, ArmsHave, ItemsForm, aggr_form, AggregatesForm, sub_form, WellFormed, SubsForm}
 use Rattle.bag_algebra.specs.declared.expr.Expr.{Expr, Row_of-Expr, Row_of-Arm, Row_of-ChainStep, more_of-Expr, end_of-Expr, more_of-Arm, end_of-Arm, more_of-ChainStep, end_of-ChainStep}
 use Rattle.bag_algebra.specs.declared.expr.Expr.TheVariants.{Col, Lit, Sub}
 use Rattle.bag_algebra.specs.declared.expr.Item.{Item}
@@ -22,6 +22,7 @@ use Rattle.bag_algebra.specs.declared.query.Query.TheVariants.{Table, Single}
 use Rattle.bag_algebra.specs.declared.query.SubKind.{SubKind}
 use Rattle.bag_algebra.specs.declared.query.SubKind.TheVariants as sub
 use Rattle.bag_algebra.proofs.Truths.{both-true, left-true, right-true}
+use Rattle.query_measures.proofs.Forms.{op_parts, op_form-kept}
 
 -- ---- scopes
 
@@ -34,38 +35,6 @@ nearest : (scopes outer : List (List Kind)) (level : ℕ) → level < length sco
 nearest [] outer level h = absurd (omega arith)
 nearest (scope ∷ scopes) outer zero h = refl
 nearest (scope ∷ scopes) outer (suc level) h = nearest scopes outer level (omega arith)
-
--- ---- operators: what is asked of the parts, and that nothing else is
-
-pub op_parts : (operator : Operator) (n : ℕ) (all_have : Kind → Type 0) (kind : Kind) → op_form operator n all_have kind → (shared : Kind) × all_have shared
-op_parts op.And n all_have kind h = (Boolean, h.parts)
-op_parts op.Or n all_have kind h = (Boolean, h.parts)
-op_parts op.Not n all_have kind h = (Boolean, h.parts)
-op_parts op.Negate n all_have kind h = (Integer, h.parts)
-op_parts (op.Compare c) n all_have kind h = (h.parts.shared, h.parts.parts)
-op_parts (op.Arith c) n all_have kind h = absurd h
-op_parts op.Like n all_have kind h = (_, h.parts)
-op_parts op.Between n all_have kind h = (h.parts.shared, h.parts.parts)
-op_parts op.InList n all_have kind h = (h.parts.shared, h.parts.parts)
-op_parts op.Coalesce n all_have kind h = (kind, h.parts)
-op_parts op.NullIf n all_have kind h = (kind, h.parts)
-
-op_other : (operator : Operator) (n : ℕ) (all_have some_have : Kind → Type 0) (kind : Kind) → ((shared : Kind) → all_have shared → some_have shared) →
-    op_form operator n all_have kind → op_form operator n some_have kind
-op_other op.And n all_have some_have kind f h = record { number = h.number; parts = f Boolean h.parts; gives = h.gives }
-op_other op.Or n all_have some_have kind f h = record { number = h.number; parts = f Boolean h.parts; gives = h.gives }
-op_other op.Not n all_have some_have kind f h = record { number = h.number; parts = f Boolean h.parts; gives = h.gives }
-op_other op.Negate n all_have some_have kind f h = record { number = h.number; parts = f Integer h.parts; gives = h.gives }
-op_other (op.Compare c) n all_have some_have kind f h =
-    record { number = h.number; parts = record { shared = h.parts.shared; parts = f h.parts.shared h.parts.parts }; gives = h.gives }
-op_other (op.Arith c) n all_have some_have kind f h = absurd h
-op_other op.Like n all_have some_have kind f h = record { number = h.number; parts = f _ h.parts; gives = h.gives }
-op_other op.Between n all_have some_have kind f h =
-    record { number = h.number; parts = record { shared = h.parts.shared; parts = f h.parts.shared h.parts.parts }; gives = h.gives }
-op_other op.InList n all_have some_have kind f h =
-    record { number = h.number; parts = record { shared = h.parts.shared; parts = f h.parts.shared h.parts.parts }; gives = h.gives }
-op_other op.Coalesce n all_have some_have kind f h = record { number = h.number; parts = f kind h.parts; gives = h.gives }
-op_other op.NullIf n all_have some_have kind f h = record { number = h.number; parts = f kind h.parts; gives = h.gives }
 
 -- ---- what is well formed in so many scopes reads no others
 
@@ -186,7 +155,7 @@ module _ (outer : List (List Kind)) where
         ap (λ scope. kind_at_place scope place) (sym (nearest scopes outer level (omega arith))) ∙ h
     expr_inside scopes subs (Lit v own) kind n l w h = h
     expr_inside scopes subs (OpOf operator _ parts) kind n l w h =
-        op_other operator _ (PartsHave (scopes ++ outer) subs parts) (PartsHave scopes subs parts) kind (λ shared. all_inside scopes subs parts shared n l w) h
+        op_form-kept (λ shared. all_inside scopes subs parts shared n l w) operator _ kind h
     expr_inside scopes subs (ChainOf first _ steps) kind n l w h =
         record { number = h.number; level = h.level; first = expr_inside scopes subs first Integer n l (left-true _ _ w) h.first; steps = all_steps_inside scopes subs steps n l (right-true _ _ w) h.steps; gives = h.gives }
     expr_inside scopes subs (CaseOf _ arms otherwise) kind n l w h =

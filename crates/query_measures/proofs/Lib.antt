@@ -1,4 +1,5 @@
 pub mod Closing
+pub mod Forms
 pub mod Levels
 pub mod NeverBad
 pub mod OneKind

@@ -3,7 +3,7 @@ use Rattle.std.proofs.Common.{◌≡◌, ℕ, zero, suc, ◌<◌, List, [], ◌�
 use Rattle.std.specs.Prelude.{slice_get}
 use Rattle.perm_values.specs.Rows.{picked}
 use Rattle.perm_values.specs.declared.kind.Kind.{Kind}
-use Rattle.bag_algebra.proofs.Columns.{column_items-give, each-good, with_lists-rows}
+use Rattle.bag_algebra.proofs.Columns.{column_items-give, each-good}
 use Rattle.bag_algebra.specs.Bags.{Row, Bag}
 use Rattle.bag_algebra.specs.ColumnItems.{column_item, column_items}
 use Rattle.bag_algebra.specs.Kinds.{kinds_of, kinds_in, kind_in, width_of}
@@ -15,6 +15,7 @@ use Rattle.bag_algebra.specs.WellFormed.{WellFormed, PlacesIn, ItemsForm, HasKin
 use Rattle.bag_algebra.specs.declared.expr.Item.{Item}
 use Rattle.bag_algebra.specs.declared.query.Query.{Query, end_of-Sublink}
 use Rattle.query_parts.specs.ItemKinds.{item_kinds}
+use Rattle.bag_algebra.specs.Built.{rows-with_lists}
 
 pub all-nothing : {X : Type 0} (P : X → Type 0) → All P []
 all-nothing P k d within = absurd (omega arith)
@@ -50,7 +51,7 @@ module _ (q : Query) (order : List ℕ) where
   kinds_of-columns = column_items-kinds (kinds_of q) order
 
   pub meaning-columns : (db : Database) (env : List Row) → meaning columns db env ≡ mapped (map (picked order)) (meaning q db env)
-  meaning-columns db env = with_lists-rows _ _ ∙ by_input (meaning q db env) where
+  meaning-columns db env = rows-with_lists _ _ ∙ by_input (meaning q db env) where
     by_input : (o : Outcome Bag) → and_then o (each (items_on (column_items (kinds_of q) order) env no_subs)) ≡ mapped (map (picked order)) o
     by_input (Good bag) = each-good (picked order) (items_on (column_items (kinds_of q) order) env no_subs) (column_items-give (kinds_of q) order env) bag
     by_input (Bad faults) = refl

@@ -26,7 +26,7 @@ use Rattle.bag_algebra.specs.declared.expr.ChainStep.{ChainStep}
 use Rattle.bag_algebra.specs.declared.expr.Expr.{Expr}
 use Rattle.bag_algebra.specs.declared.expr.Expr.TheBlock.{shape-the_row-Expr-0, hidden-the_row-Expr-0, shape-the_row-ChainStep-2, hidden-the_row-ChainStep-2, shape-the_row-Arm-3, hidden-the_row-Arm-3}
 use Rattle.bag_algebra.specs.declared.expr.Expr.TheVariants.{Col, Lit, Op, Chain, Case, IsNull, IsTruth, Same}
-use Rattle.query_parts.proofs.PartForms.{alike-kept, op_form-kept}
+use Rattle.query_measures.proofs.Forms.{alike-kept, op_form-kept}
 use Rattle.query_parts.specs.MovedColumns.{IsMoved, Along, PartsMoved, StepsMoved, ArmsMoved}
 
 -- ---- lists

@@ -19,23 +19,12 @@ use Rattle.bag_algebra.specs.declared.query.JoinKind.{JoinKind}
 use Rattle.bag_algebra.specs.declared.query.Query.{Query, end_of-Sublink}
 use Rattle.bag_algebra.specs.declared.query.Query.TheBlock.{shape-the_row-Query-0, hidden-the_row-Query-0, shape-the_row-Sublink-1, hidden-the_row-Sublink-1}
 use Rattle.bag_algebra.specs.declared.query.Query.TheVariants.{Filter, Join}
+use Rattle.bag_algebra.proofs.Truths.{and_true}
 
 -- what holds of the value that a call makes
 pub of_made : {X : Type 0} (P : X → Type 0) (result : Result X NoMemory) (made : X) → IfOk result (λ x. x ≡ made) → P made → IfOk result P
 of_made P (Ok x) made e p = subst P (sym e) p
 of_made P (Err error) made e p = tt
-
-pub Filter_alone-is : (input : Query) (condition : Expr) → Filter input condition [] ≡ FilterOf input condition [] end_of-Sublink
-unfolding shape-the_row-Query-0 hidden-the_row-Query-0 shape-the_row-Sublink-1 hidden-the_row-Sublink-1 package.denote.Hole.Carrier.hidden
-Filter_alone-is input condition = refl
-
-pub Join_alone-is : (kind : JoinKind) (left right : Query) (condition : Expr) → Join kind left right condition [] ≡ JoinOf kind left right condition [] end_of-Sublink
-unfolding shape-the_row-Query-0 hidden-the_row-Query-0 shape-the_row-Sublink-1 hidden-the_row-Sublink-1 package.denote.Hole.Carrier.hidden
-Join_alone-is kind left right condition = refl
-
-plain-and : (b : Bool) → (b && true) ≡ b
-plain-and true = refl
-plain-and Bool.false = refl
 
 module _ (q : Query) (items : List Item) where
   abbrev projected : Query
@@ -48,7 +37,7 @@ module _ (q : Query) (items : List Item) where
   formed-projected outer w parts = record { input = w; subs = tt; items = parts }
 
   pub plain-projected : is_plain projected ≡ is_plain q
-  plain-projected = plain-and (is_plain q)
+  plain-projected = and_true (is_plain q)
 
   pub tables-projected : tables_read projected ≡ tables_read q
   tables-projected = append-nil (tables_read q)
@@ -64,7 +53,7 @@ module _ (q : Query) (condition : Expr) where
   formed-chosen outer w test = record { input = w; subs = tt; condition = test }
 
   pub plain-chosen : is_plain chosen ≡ is_plain q
-  plain-chosen = plain-and (is_plain q)
+  plain-chosen = and_true (is_plain q)
 
   pub tables-chosen : tables_read chosen ≡ tables_read q
   tables-chosen = append-nil (tables_read q)
@@ -83,7 +72,7 @@ module _ (kind : JoinKind) (left right : Query) (condition : Expr) where
   formed-pairs outer l r test = record { left = l; right = r; subs = tt; condition = test; without_subs = tt }
 
   pub plain-pairs : is_plain pairs ≡ (is_plain left && is_plain right)
-  plain-pairs = plain-and (is_plain left && is_plain right)
+  plain-pairs = and_true (is_plain left && is_plain right)
 
   pub tables-pairs : tables_read pairs ≡ tables_read left ++ tables_read right
   tables-pairs = append-nil (tables_read left ++ tables_read right)

@@ -5,7 +5,7 @@ use Rattle.perm_values.specs.Values.{fits}
 use Rattle.perm_values.specs.declared.kind.Kind.{Kind}
 use Rattle.perm_values.specs.declared.kind.Kind.TheVariants.{Integer, Text, Boolean}
 use Rattle.perm_values.specs.declared.value.Value.TheVariants.{Null}
-use Rattle.bag_algebra.proofs.Columns.{column_items-give, each-good, with_lists-rows}
+use Rattle.bag_algebra.proofs.Columns.{column_items-give, each-good}
 use Rattle.bag_algebra.specs.Bags.{Row, Bag, nulls}
 use Rattle.bag_algebra.specs.ColumnItems.{column_items}
 use Rattle.bag_algebra.specs.Kinds.{kinds_of, kinds_in, width_of}
@@ -19,6 +19,7 @@ use Rattle.bag_algebra.specs.declared.query.Query.{Query, end_of-Sublink}
 use Rattle.query_parts.proofs.ColumnQueries.{all-nothing, all-first, all-rest, column_items-kinds, column_items-formed}
 use Rattle.query_parts.specs.ItemKinds.{item_kinds}
 use Rattle.query_parts.specs.NullItems.{null_item, padded_items, padded_row}
+use Rattle.bag_algebra.specs.Built.{rows-with_lists}
 
 -- ---- NULLs
 
@@ -94,7 +95,7 @@ module _ (q : Query) (before : List ℕ) (kinds : List Kind) (behind : List ℕ)
       ∙ (λ i. column_items-kinds (kinds_of q) before i ++ null_items-kinds kinds i ++ column_items-kinds (kinds_of q) behind i)
 
   pub meaning-padded : (db : Database) (env : List Row) → meaning padded_query db env ≡ mapped (map (padded_row before (length kinds) behind)) (meaning q db env)
-  meaning-padded db env = with_lists-rows _ _ ∙ by_input (meaning q db env) where
+  meaning-padded db env = rows-with_lists _ _ ∙ by_input (meaning q db env) where
     by_input : (o : Outcome Bag) → and_then o (each (items_on items env no_subs)) ≡ mapped (map (padded_row before (length kinds) behind)) o
     by_input (Good bag) = each-good (padded_row before (length kinds) behind) (items_on items env no_subs) (padded-give env) bag
     by_input (Bad faults) = refl

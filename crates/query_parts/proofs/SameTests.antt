@@ -21,8 +21,10 @@ use Rattle.bag_algebra.specs.WellFormed.{HasKind, PlacesIn, PartsHave}
 use Rattle.bag_algebra.specs.declared.expr.Expr.{Expr}
 use Rattle.bag_algebra.specs.declared.expr.Expr.TheVariants.{Col}
 use Rattle.query_parts.proofs.ColumnQueries.{all-rest, kind_there}
-use Rattle.query_parts.proofs.PartForms.{number-row_of_parts, no_parts-have, more_parts-have}
+use Rattle.query_parts.proofs.PartForms.{no_parts-have, more_parts-have}
 use Rattle.query_parts.specs.Conjunctions.{all_hold, same_test, same_tests}
+use Rattle.bag_algebra.specs.BuiltForms.{number_of_parts-built}
+use Rattle.bag_algebra.proofs.Truths.{and_true}
 
 -- ---- one more test
 
@@ -46,10 +48,6 @@ truths-and false false = refl
 truth-value : (b : Bool) → value_of (truth_of (Boolean b)) ≡ Boolean b
 truth-value true = refl
 truth-value false = refl
-
-and-true : (b : Bool) → (b && true) ≡ b
-and-true true = refl
-and-true false = refl
 
 module _ (u : Row) (env : List Row) (subs : List Value) where
   abbrev is_same : ℕ → ℕ → Bool
@@ -82,7 +80,7 @@ module _ (u : Row) (env : List Row) (subs : List Value) where
   tests-value [] [] e = refl
   tests-value [] (right ∷ rights) e = absurd (omega (arith, e))
   tests-value (left ∷ lefts) [] e = absurd (omega (arith, e))
-  tests-value (left ∷ []) (right ∷ []) e = one_value left right ∙ ap (λ b. Good (Boolean b)) (sym (and-true (is_same left right)))
+  tests-value (left ∷ []) (right ∷ []) e = one_value left right ∙ ap (λ b. Good (Boolean b)) (sym (and_true (is_same left right)))
   tests-value (left ∷ []) (right ∷ r ∷ rights) e = absurd (omega (arith, e))
   tests-value (left ∷ l ∷ lefts) (right ∷ []) e = absurd (omega (arith, e))
   tests-value (left ∷ l ∷ lefts) (right ∷ r ∷ rights) e =
@@ -129,7 +127,7 @@ module _ (kinds : List Kind) (outer : List (List Kind)) (subs : List Kind) where
   several-formed [] n h = absurd (omega (arith, n))
   several-formed (test ∷ []) n h = absurd (omega (arith, n))
   several-formed (test ∷ other ∷ tests) n h =
-      record { number = subst (λ m. 2 ≤ m) (sym (number-row_of_parts (test ∷ other ∷ tests))) n; parts = h; gives = refl }
+      record { number = subst (λ m. 2 ≤ m) (sym (number_of_parts-built (test ∷ other ∷ tests))) n; parts = h; gives = refl }
 
   pub conjunction-formed : (lefts rights : List ℕ) → PlacesIn (length kinds) lefts → PlacesIn (length kinds) rights → kinds_in kinds lefts ≡ kinds_in kinds rights →
       HasKind scopes subs (all_hold (same_tests lefts rights)) kind.Boolean
@@ -151,7 +149,7 @@ tests-faultless (left ∷ lefts) (right ∷ rights) = λ i. faultless-Same (Col 
 
 conjunction-of-faultless : (tests : List Expr) → all_parts_faultless tests ≡ true → faultless (all_hold tests) ≡ true
 conjunction-of-faultless [] h = refl
-conjunction-of-faultless (test ∷ []) h = sym (and-true (faultless test)) ∙ h
+conjunction-of-faultless (test ∷ []) h = sym (and_true (faultless test)) ∙ h
 conjunction-of-faultless (test ∷ other ∷ tests) h = faultless-Op And (test ∷ other ∷ tests) ∙ h
 
 pub conjunction-faultless : (lefts rights : List ℕ) → faultless (all_hold (same_tests lefts rights)) ≡ true

@@ -1,7 +1,8 @@
 use crate::expression::ExprTree;
 use crate::name::Name;
 use crate::query::QueryTree;
-use perm_values::{Boxed, List};
+use perm_values::{Boxed, Copyable, List, NoMemory};
+use std::alloc::Global;
 
 /// How a join keeps rows.
 #[derive(Clone, Copy, Debug, PartialEq, Eq)]
@@ -19,6 +20,18 @@ pub enum ScopeMark {
     Plain,
     BaseRelation,
     External { attributes: List<Name> },
+}
+
+impl Copyable for ScopeMark {
+    fn copy(&self, alloc: Global) -> Result<ScopeMark, NoMemory> {
+        match self {
+            ScopeMark::Plain => Ok(ScopeMark::Plain),
+            ScopeMark::BaseRelation => Ok(ScopeMark::BaseRelation),
+            ScopeMark::External { attributes } => Ok(ScopeMark::External {
+                attributes: attributes.copy(alloc)?,
+            }),
+        }
+    }
 }
 
 /// An item of FROM with the joins behind it (ISO/IEC 9075-2, 'joined table').

@@ -10,8 +10,9 @@ use Rattle.bag_algebra.specs.Outcome.{and_then, gather}
 use Rattle.bag_algebra.specs.Rewriting.{is_plain}
 use Rattle.bag_algebra.specs.WellFormed.{WellFormed, HasKind}
 use Rattle.bag_algebra.specs.declared.query.Query.TheVariants.{Filter}
-use Rattle.query_parts.proofs.NodeQueries.{Filter_alone-is, meaning-chosen, formed-chosen, plain-chosen, tables-chosen}
+use Rattle.query_parts.proofs.NodeQueries.{meaning-chosen, formed-chosen, plain-chosen, tables-chosen}
 use Rattle.query_parts.proofs.nodes.filtered.Goals as goal
+use Rattle.bag_algebra.specs.BuiltForms.{Filter_alone-is}
 
 pub returns-clause-made : goal.returns-clause-made
 returns-clause-made c = (λ i. Filter (c.in_ok-input.ensures i) c.args.condition (c.new-2.ensures i)) ∙ Filter_alone-is _ _

@@ -10,8 +10,9 @@ use Rattle.bag_algebra.specs.Outcome.{both_then}
 use Rattle.bag_algebra.specs.Rewriting.{is_plain}
 use Rattle.bag_algebra.specs.WellFormed.{WellFormed, HasKind}
 use Rattle.bag_algebra.specs.declared.query.Query.TheVariants.{Join}
-use Rattle.query_parts.proofs.NodeQueries.{Join_alone-is, meaning-pairs, formed-pairs, plain-pairs, tables-pairs}
+use Rattle.query_parts.proofs.NodeQueries.{meaning-pairs, formed-pairs, plain-pairs, tables-pairs}
 use Rattle.query_parts.proofs.nodes.joined.Goals as goal
+use Rattle.bag_algebra.specs.BuiltForms.{Join_alone-is}
 
 pub returns-clause-made : goal.returns-clause-made
 returns-clause-made c =
