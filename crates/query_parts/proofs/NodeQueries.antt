@@ -5,6 +5,7 @@ use Rattle.perm_values.specs.declared.kind.Kind.TheVariants.{Boolean}
 use Rattle.perm_values.specs.declared.no_memory.NoMemory.{NoMemory}
 use Rattle.bag_algebra.specs.Bags.{Row}
 use Rattle.bag_algebra.specs.Built.{rows-with_lists}
+use Rattle.bag_algebra.specs.EveryNode.{no_open_sublink}
 use Rattle.bag_algebra.specs.Kinds.{kinds_of, width_of}
 use Rattle.bag_algebra.specs.Meaning.{Database, meaning, condition_on, items_on}
 use Rattle.bag_algebra.specs.Means.{no_subs, kept, joined_rows}
@@ -33,9 +34,9 @@ pub Join_alone-is : (kind : JoinKind) (left right : Query) (condition : Expr) �
 unfolding shape-the_row-Query-0 hidden-the_row-Query-0 shape-the_row-Sublink-1 hidden-the_row-Sublink-1 package.denote.Hole.Carrier.hidden
 Join_alone-is kind left right condition = refl
 
-plain-and : (b : Bool) → (b && true) ≡ b
-plain-and true = refl
-plain-and Bool.false = refl
+and_nothing : (b : Bool) → (b && true) ≡ b
+and_nothing true = refl
+and_nothing Bool.false = refl
 
 module _ (q : Query) (items : List Item) where
   abbrev projected : Query
@@ -48,10 +49,13 @@ module _ (q : Query) (items : List Item) where
   formed-projected outer w parts = record { input = w; subs = tt; items = parts }
 
   pub plain-projected : is_plain projected ≡ is_plain q
-  plain-projected = plain-and (is_plain q)
+  plain-projected = and_nothing (is_plain q)
 
   pub tables-projected : tables_read projected ≡ tables_read q
   tables-projected = append-nil (tables_read q)
+
+  pub closed-projected : no_open_sublink projected ≡ no_open_sublink q
+  closed-projected = and_nothing (no_open_sublink q)
 
 module _ (q : Query) (condition : Expr) where
   abbrev chosen : Query
@@ -64,10 +68,13 @@ module _ (q : Query) (condition : Expr) where
   formed-chosen outer w test = record { input = w; subs = tt; condition = test }
 
   pub plain-chosen : is_plain chosen ≡ is_plain q
-  plain-chosen = plain-and (is_plain q)
+  plain-chosen = and_nothing (is_plain q)
 
   pub tables-chosen : tables_read chosen ≡ tables_read q
   tables-chosen = append-nil (tables_read q)
+
+  pub closed-chosen : no_open_sublink chosen ≡ no_open_sublink q
+  closed-chosen = and_nothing (no_open_sublink q)
 
 module _ (kind : JoinKind) (left right : Query) (condition : Expr) where
   abbrev pairs : Query
@@ -83,7 +90,10 @@ module _ (kind : JoinKind) (left right : Query) (condition : Expr) where
   formed-pairs outer l r test = record { left = l; right = r; subs = tt; condition = test; without_subs = tt }
 
   pub plain-pairs : is_plain pairs ≡ (is_plain left && is_plain right)
-  plain-pairs = plain-and (is_plain left && is_plain right)
+  plain-pairs = and_nothing (is_plain left && is_plain right)
 
   pub tables-pairs : tables_read pairs ≡ tables_read left ++ tables_read right
   tables-pairs = append-nil (tables_read left ++ tables_read right)
+
+  pub closed-pairs : no_open_sublink pairs ≡ (no_open_sublink left && no_open_sublink right)
+  closed-pairs = and_nothing (no_open_sublink left && no_open_sublink right)
