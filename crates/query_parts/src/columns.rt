@@ -3,6 +3,7 @@ ghost use Rattle.std.specs.Prelude.{◌≡◌, [], ◌∷◌, ◌<◌, List as I
 ghost use Rattle.perm_values.specs.Rows.{picked};
 ghost use Rattle.bag_algebra.specs.Bags.{Row as Cells};
 ghost use Rattle.bag_algebra.specs.ColumnItems.{column_item, column_items};
+ghost use Rattle.bag_algebra.specs.EveryNode.{no_open_sublink};
 ghost use Rattle.bag_algebra.specs.Kinds.{kind_in, kinds_of, kinds_in, width_of};
 ghost use Rattle.bag_algebra.specs.Meaning.{Database, meaning, items_on};
 ghost use Rattle.bag_algebra.specs.Means.{no_subs};
@@ -23,8 +24,8 @@ use std::alloc::Global;
 
 /// A projection of the query to its columns at those places, in that order, without sublinks of its own: its rows are the
 /// query's with these values, and it is bad exactly where the query is, with the same faults. It is well formed under all
-/// outer kinds under which the query is, plain where the query is, and reads the same tables. It fails only for want
-/// of memory.
+/// outer kinds under which the query is, plain where the query is, reads the same tables, and has an open sublink where
+/// the query has one. It fails only for want of memory.
 pub fn regroup(alloc: Global, query: Query, order: &[usize]) -> Result<Query, NoMemory>
     requires { PlacesIn (width_of query) order.now }
     ensures made { IfOk result (λ p. p ≡ ProjectOf query (column_items (kinds_of query) order.now) [] end_of-Sublink) }
@@ -34,6 +35,7 @@ pub fn regroup(alloc: Global, query: Query, order: &[usize]) -> Result<Query, No
     ensures formed { IfOk result (λ p. (outer : Items (Items Sort)) → WellFormed outer query → WellFormed outer p) }
     ensures plain { IfOk result (λ p. is_plain p ≡ is_plain query) }
     ensures tables { IfOk result (λ p. tables_read p ≡ tables_read query) }
+    ensures closed { IfOk result (λ p. no_open_sublink p ≡ no_open_sublink query) }
 {
     let items = columns_of(alloc, &query, order)?;
     projection(alloc, query, items)

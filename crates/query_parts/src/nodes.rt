@@ -1,6 +1,7 @@
 //! Projections, filters and joins without sublinks.
 ghost use Rattle.std.specs.Prelude.{◌≡◌, ◌&&◌, ◌++◌, [], ◌∷◌, List as Items, IfOk};
 ghost use Rattle.bag_algebra.specs.Bags.{Row as Cells};
+ghost use Rattle.bag_algebra.specs.EveryNode.{no_open_sublink};
 ghost use Rattle.bag_algebra.specs.Kinds.{kinds_of, width_of};
 ghost use Rattle.bag_algebra.specs.Meaning.{Database, meaning, condition_on, items_on};
 ghost use Rattle.bag_algebra.specs.Means.{no_subs, kept, joined_rows};
@@ -19,7 +20,8 @@ use perm_values::{Boxed, List, NoMemory};
 use std::alloc::Global;
 
 /// A projection of the query to the items, without sublinks. It is well formed where the query and the items are, plain
-/// where the query is, and reads the same tables. It fails only for want of memory.
+/// where the query is, reads the same tables, and has an open sublink where the query has one. It fails only for want of
+/// memory.
 pub fn projection(alloc: Global, query: Query, items: List<Item>) -> Result<Query, NoMemory>
     ensures made { IfOk result (λ p. p ≡ ProjectOf query items [] end_of-Sublink) }
     ensures kinds { IfOk result (λ p. kinds_of p ≡ item_kinds items) }
@@ -29,6 +31,7 @@ pub fn projection(alloc: Global, query: Query, items: List<Item>) -> Result<Quer
         WellFormed outer query → ItemsForm (kinds_of query ∷ outer) [] items → WellFormed outer p) }
     ensures plain { IfOk result (λ p. is_plain p ≡ is_plain query) }
     ensures tables { IfOk result (λ p. tables_read p ≡ tables_read query) }
+    ensures closed { IfOk result (λ p. no_open_sublink p ≡ no_open_sublink query) }
 {
     let input = Boxed::new(alloc, query)?;
     Ok(Query::Project {
@@ -39,7 +42,8 @@ pub fn projection(alloc: Global, query: Query, items: List<Item>) -> Result<Quer
 }
 
 /// The rows of the query on which the condition is true, without sublinks. It is well formed where the query and the
-/// condition are, plain where the query is, and reads the same tables. It fails only for want of memory.
+/// condition are, plain where the query is, reads the same tables, and has an open sublink where the query has one. It
+/// fails only for want of memory.
 pub fn filtered(alloc: Global, query: Query, condition: Expr) -> Result<Query, NoMemory>
     ensures made { IfOk result (λ p. p ≡ FilterOf query condition [] end_of-Sublink) }
     ensures kinds { IfOk result (λ p. kinds_of p ≡ kinds_of query) }
@@ -49,6 +53,7 @@ pub fn filtered(alloc: Global, query: Query, condition: Expr) -> Result<Query, N
         WellFormed outer query → HasKind (kinds_of query ∷ outer) [] condition Boolean → WellFormed outer p) }
     ensures plain { IfOk result (λ p. is_plain p ≡ is_plain query) }
     ensures tables { IfOk result (λ p. tables_read p ≡ tables_read query) }
+    ensures closed { IfOk result (λ p. no_open_sublink p ≡ no_open_sublink query) }
 {
     let input = Boxed::new(alloc, query)?;
     Ok(Query::Filter {
@@ -59,7 +64,8 @@ pub fn filtered(alloc: Global, query: Query, condition: Expr) -> Result<Query, N
 }
 
 /// The join of the queries on the condition, without sublinks. It is well formed where the queries and the condition are,
-/// plain where both queries are, and reads the tables of both. It fails only for want of memory.
+/// plain where both queries are, reads the tables of both, and has an open sublink where one of them has. It fails only
+/// for want of memory.
 pub fn joined(
     alloc: Global,
     kind: JoinKind,
@@ -76,6 +82,7 @@ pub fn joined(
         HasKind ((kinds_of left ++ kinds_of right) ∷ outer) [] condition Boolean → WellFormed outer p) }
     ensures plain { IfOk result (λ p. is_plain p ≡ (is_plain left && is_plain right)) }
     ensures tables { IfOk result (λ p. tables_read p ≡ tables_read left ++ tables_read right) }
+    ensures closed { IfOk result (λ p. no_open_sublink p ≡ (no_open_sublink left && no_open_sublink right)) }
 {
     let left = Boxed::new(alloc, left)?;
     let right = Boxed::new(alloc, right)?;

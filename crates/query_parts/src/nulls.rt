@@ -1,6 +1,7 @@
 //! NULLs as items, and NULLs beside the columns of a query.
 ghost use Rattle.std.specs.Prelude.{◌≡◌, ◌++◌, ◌<◌, [], ◌∷◌, List as Items, IfOk, map, length};
 ghost use Rattle.bag_algebra.specs.Bags.{Row as Cells, nulls};
+ghost use Rattle.bag_algebra.specs.EveryNode.{no_open_sublink};
 ghost use Rattle.bag_algebra.specs.Kinds.{kinds_of, kinds_in, width_of};
 ghost use Rattle.bag_algebra.specs.Meaning.{Database, meaning, items_on};
 ghost use Rattle.bag_algebra.specs.Means.{no_subs};
@@ -22,7 +23,8 @@ use std::alloc::Global;
 
 /// A projection of the query to its columns at the places `before`, NULLs of the kinds, and its columns at the places
 /// `behind`, without sublinks. It is bad exactly where the query is, with the same faults; it is well formed where the
-/// query is, plain where the query is, and what fits the query fits it. It fails only for want of memory.
+/// query is, plain where the query is, reads the same tables, and has an open sublink where the query has one. It fails
+/// only for want of memory.
 pub fn padded(
     alloc: Global,
     query: Query,
@@ -41,6 +43,7 @@ pub fn padded(
     ensures formed { IfOk result (λ p. (outer : Items (Items Sort)) → WellFormed outer query → WellFormed outer p) }
     ensures plain { IfOk result (λ p. is_plain p ≡ is_plain query) }
     ensures tables { IfOk result (λ p. tables_read p ≡ tables_read query) }
+    ensures closed { IfOk result (λ p. no_open_sublink p ≡ no_open_sublink query) }
 {
     let items = padded_items(alloc, &query, before, kinds, behind)?;
     projection(alloc, query, items)

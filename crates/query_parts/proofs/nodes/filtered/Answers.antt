@@ -2,6 +2,7 @@ use Rattle.std.proofs.Common.{◌≡◌, List, [], ◌∷◌, refl, sym, subst, 
 use Rattle.perm_values.specs.declared.kind.Kind.{Kind}
 use Rattle.perm_values.specs.declared.kind.Kind.TheVariants.{Boolean}
 use Rattle.bag_algebra.specs.Bags.{Row}
+use Rattle.bag_algebra.specs.EveryNode.{no_open_sublink}
 use Rattle.bag_algebra.specs.TablesRead.{tables_read}
 use Rattle.bag_algebra.specs.Kinds.{kinds_of}
 use Rattle.bag_algebra.specs.Meaning.{Database, meaning, condition_on}
@@ -10,7 +11,7 @@ use Rattle.bag_algebra.specs.Outcome.{and_then, gather}
 use Rattle.bag_algebra.specs.Rewriting.{is_plain}
 use Rattle.bag_algebra.specs.WellFormed.{WellFormed, HasKind}
 use Rattle.bag_algebra.specs.declared.query.Query.TheVariants.{Filter}
-use Rattle.query_parts.proofs.NodeQueries.{meaning-chosen, formed-chosen, plain-chosen, tables-chosen}
+use Rattle.query_parts.proofs.NodeQueries.{meaning-chosen, formed-chosen, plain-chosen, tables-chosen, closed-chosen}
 use Rattle.query_parts.proofs.nodes.filtered.Goals as goal
 use Rattle.bag_algebra.specs.BuiltForms.{Filter_alone-is}
 
@@ -36,3 +37,8 @@ returns-clause-plain c = subst (λ p. is_plain p ≡ is_plain c.args.query) (sym
 pub returns-clause-tables : goal.returns-clause-tables
 returns-clause-tables c =
     subst (λ p. tables_read p ≡ tables_read c.args.query) (sym (returns-clause-made c)) (tables-chosen c.args.query c.args.condition)
+
+pub returns-clause-closed : goal.returns-clause-closed
+returns-clause-closed c =
+    subst (λ p. no_open_sublink p ≡ no_open_sublink c.args.query) (sym (returns-clause-made c))
+    (closed-chosen c.args.query c.args.condition)

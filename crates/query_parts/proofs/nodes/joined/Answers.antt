@@ -2,6 +2,7 @@ use Rattle.std.proofs.Common.{◌≡◌, ◌&&◌, ◌++◌, List, [], ◌∷◌
 use Rattle.perm_values.specs.declared.kind.Kind.{Kind}
 use Rattle.perm_values.specs.declared.kind.Kind.TheVariants.{Boolean}
 use Rattle.bag_algebra.specs.Bags.{Row}
+use Rattle.bag_algebra.specs.EveryNode.{no_open_sublink}
 use Rattle.bag_algebra.specs.TablesRead.{tables_read}
 use Rattle.bag_algebra.specs.Kinds.{kinds_of, width_of}
 use Rattle.bag_algebra.specs.Meaning.{Database, meaning, condition_on}
@@ -10,7 +11,7 @@ use Rattle.bag_algebra.specs.Outcome.{both_then}
 use Rattle.bag_algebra.specs.Rewriting.{is_plain}
 use Rattle.bag_algebra.specs.WellFormed.{WellFormed, HasKind}
 use Rattle.bag_algebra.specs.declared.query.Query.TheVariants.{Join}
-use Rattle.query_parts.proofs.NodeQueries.{meaning-pairs, formed-pairs, plain-pairs, tables-pairs}
+use Rattle.query_parts.proofs.NodeQueries.{meaning-pairs, formed-pairs, plain-pairs, tables-pairs, closed-pairs}
 use Rattle.query_parts.proofs.nodes.joined.Goals as goal
 use Rattle.bag_algebra.specs.BuiltForms.{Join_alone-is}
 
@@ -42,3 +43,8 @@ pub returns-clause-tables : goal.returns-clause-tables
 returns-clause-tables c =
     subst (λ p. tables_read p ≡ tables_read c.args.left ++ tables_read c.args.right) (sym (returns-clause-made c))
     (tables-pairs c.args.kind c.args.left c.args.right c.args.condition)
+
+pub returns-clause-closed : goal.returns-clause-closed
+returns-clause-closed c =
+    subst (λ p. no_open_sublink p ≡ (no_open_sublink c.args.left && no_open_sublink c.args.right)) (sym (returns-clause-made c))
+    (closed-pairs c.args.kind c.args.left c.args.right c.args.condition)

@@ -2,6 +2,7 @@ use Rattle.std.proofs.Common.{◌≡◌, List, [], ◌∷◌, refl, sym, subst, 
 use Rattle.perm_values.specs.declared.kind.Kind.{Kind}
 use Rattle.bag_algebra.specs.Bags.{Row}
 use Rattle.bag_algebra.specs.Built.{Project-is}
+use Rattle.bag_algebra.specs.EveryNode.{no_open_sublink}
 use Rattle.bag_algebra.specs.TablesRead.{tables_read}
 use Rattle.bag_algebra.specs.Kinds.{kinds_of}
 use Rattle.bag_algebra.specs.Meaning.{Database, meaning, items_on}
@@ -10,7 +11,7 @@ use Rattle.bag_algebra.specs.Outcome.{and_then, each}
 use Rattle.bag_algebra.specs.Rewriting.{is_plain}
 use Rattle.bag_algebra.specs.WellFormed.{WellFormed, ItemsForm}
 use Rattle.bag_algebra.specs.declared.query.Query.TheVariants.{Project}
-use Rattle.query_parts.proofs.NodeQueries.{meaning-projected, formed-projected, plain-projected, tables-projected}
+use Rattle.query_parts.proofs.NodeQueries.{meaning-projected, formed-projected, plain-projected, tables-projected, closed-projected}
 use Rattle.query_parts.specs.ItemKinds.{item_kinds}
 use Rattle.query_parts.proofs.nodes.projection.Goals as goal
 
@@ -36,3 +37,8 @@ pub returns-clause-tables : goal.returns-clause-tables
 returns-clause-tables c =
     subst (λ p. tables_read p ≡ tables_read c.args.query) (sym (returns-clause-made c))
     (tables-projected c.args.query c.args.items)
+
+pub returns-clause-closed : goal.returns-clause-closed
+returns-clause-closed c =
+    subst (λ p. no_open_sublink p ≡ no_open_sublink c.args.query) (sym (returns-clause-made c))
+    (closed-projected c.args.query c.args.items)
