@@ -1,0 +1,5 @@
+pub mod JoinedOutcomes
+pub mod JoinedRows
+pub mod KeptRewriting
+pub mod KeptRows
+pub mod Places

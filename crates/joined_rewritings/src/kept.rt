@@ -1,0 +1,87 @@
+//! Joins of which some columns are left out.
+ghost use Rattle.std.specs.Prelude.{◌≡◌, ◌+◌, ◌-◌, ◌≤◌, ◌++◌, IfOk};
+ghost use Rattle.std.specs.List.{range_with_len};
+ghost use Rattle.bag_algebra.specs.Kinds.{width_of};
+ghost use Rattle.joined_rewritings.specs.KeptColumns.{kept_places, same_as_first, pairs_of, columns_kept};
+
+use bag_algebra::{Expr, JoinKind, Query};
+use perm_values::{List, NoMemory};
+use query_measures::width;
+use query_parts::{joined, regroup, same_columns};
+use std::alloc::Global;
+
+/// The sum of two numbers of columns. One that no `usize` holds is want of memory.
+pub fn sum(first: usize, second: usize) -> Result<usize, NoMemory>
+    ensures { IfOk result (λ total. total ≡ first + second) }
+{
+    match first.checked_add(second) {
+        Some(total) => Ok(total),
+        None => Err(NoMemory),
+    }
+}
+
+/// The number of columns. One that `width` can't tell from a greater one is want of memory.
+pub fn exact_width(query: &Query) -> Result<usize, NoMemory>
+    ensures { IfOk result (λ count. count ≡ width_of query.now) }
+{
+    let count = width(query);
+    if count == usize::MAX {
+        return Err(NoMemory);
+    }
+    Ok(count)
+}
+
+/// As many places, from the first on. It fails only for want of memory.
+pub fn columns_from(alloc: Global, first: usize, count: usize) -> Result<List<usize>, NoMemory>
+    ensures { IfOk result (λ places. places ≡ range_with_len first count) }
+{
+    let mut places = List::new(alloc);
+    for place in first..sum(first, count)? {
+        places.push(place)?;
+    }
+    Ok(places)
+}
+
+/// Whether so many of the first columns are, one by one, the same as those from a place on, two NULLs included. It fails
+/// only for want of memory.
+pub fn same_as_first(alloc: Global, count: usize, from: usize) -> Result<Expr, NoMemory>
+    ensures { IfOk result (λ test. test ≡ same_as_first count from) }
+{
+    let first = columns_from(alloc, 0, count)?;
+    let others = columns_from(alloc, from, count)?;
+    same_columns(alloc, first.as_slice(), others.as_slice())
+}
+
+/// The join of the queries on the condition, without sublinks, and of its columns the first `kept` and those behind the
+/// `left_out` next ones. It fails only for want of memory.
+pub fn join_kept(
+    alloc: Global,
+    kind: JoinKind,
+    left: Query,
+    right: Query,
+    condition: Expr,
+    kept: usize,
+    left_out: usize,
+) -> Result<Query, NoMemory>
+    requires { kept ≤ width_of left }
+    ensures { IfOk result (λ p. p ≡ columns_kept (pairs_of kind left right condition) kept left_out) }
+{
+    let pairs = joined(alloc, kind, left, right, condition)?;
+    let order = kept_order(alloc, &pairs, kept, left_out)?;
+    regroup(alloc, pairs, order.as_slice())
+}
+
+fn kept_order(
+    alloc: Global,
+    query: &Query,
+    kept: usize,
+    left_out: usize,
+) -> Result<List<usize>, NoMemory>
+    ensures { IfOk result (λ order. order ≡ kept_places kept left_out (width_of query.now)) }
+{
+    let behind = sum(kept, left_out)?;
+    let all = exact_width(query)?;
+    let mut order = columns_from(alloc, 0, kept)?;
+    order.append(columns_from(alloc, behind, all.saturating_sub(behind))?)?;
+    Ok(order)
+}
