@@ -6,7 +6,7 @@ use Rattle.bag_algebra.specs.Bags.{Row, Bag, count, member, once, without_first,
 use Rattle.bag_algebra.proofs.BagLaws.{same_row-is, member_decides, member-append, member-filter, count-append, count-of_none}
 use Rattle.row_executor.specs.Marks.{marks_behind, marks_by, left_out, wanted, is_over}
 use Rattle.row_executor.proofs.Distinct.{once_more}
-use Rattle.row_executor.proofs.Taken.{taken}
+use Rattle.expression_values.proofs.Taken.{taken}
 
 -- ---- one more row
 

@@ -1,7 +1,3 @@
-pub mod Truths
-pub mod Taken
-pub mod Outcomes
-pub mod Values
 pub mod Distinct
 pub mod Flags
 pub mod Seeing

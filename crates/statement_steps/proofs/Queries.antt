@@ -21,7 +21,7 @@ use Rattle.csv_tables.specs.AnswerText.{answer_bytes}
 use Rattle.perm_catalog.specs.Columns.{column_kinds, column_names}
 use Rattle.perm_catalog.specs.Contents.{Contents}
 use Rattle.perm_catalog.specs.declared.entries.TableEntry.{TableEntry}
-use Rattle.row_executor.specs.Answers.{meets}
+use Rattle.expression_values.specs.Answers.{meets}
 use Rattle.statement_steps.specs.Step.{Stands, unfit, all_places, plain_query, query_of, answer, answer_names, answer_rows}
 
 -- a good outcome meets no fault

@@ -10,7 +10,7 @@ ghost use Rattle.bag_algebra.specs.declared.query.Label.TheVariants.{Relation};
 ghost use Rattle.bag_algebra.specs.declared.query.Query.{end_of-Sublink};
 ghost use Rattle.bag_algebra.specs.declared.query.Query.TheVariants.{Table as TableOf};
 ghost use Rattle.perm_values.specs.Rows.{row_cmp};
-ghost use Rattle.row_executor.specs.Answers.{Gives};
+ghost use Rattle.expression_values.specs.Answers.{Gives};
 ghost use Rattle.row_executor.specs.Built.{is_built};
 ghost use Rattle.perm_catalog.specs.Columns.{column_kinds, column_names};
 ghost use Rattle.statement_steps.specs.Step.{source_of, plain_query, query_of, all_places, answer_rows};

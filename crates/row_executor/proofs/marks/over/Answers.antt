@@ -2,7 +2,7 @@ use Rattle.std.proofs.Common.{refl, arith}
 use Rattle.row_executor.proofs.Spending.{spends_one, spends_none}
 use Rattle.bag_algebra.specs.Bags.{Row}
 use Rattle.std.specs.Borrow.{Bor}
-use Rattle.row_executor.proofs.Taken.{taken}
+use Rattle.expression_values.proofs.Taken.{taken}
 use Rattle.row_executor.proofs.marks.over.Goals as goal
 use Rattle.row_executor.proofs.marks.over.Goals.{then-rest-gt0+in_ok-insert, else-rest-gt0}
 

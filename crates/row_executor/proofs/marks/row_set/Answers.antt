@@ -1,5 +1,5 @@
 use Rattle.row_executor.proofs.Seeing.{holds_more}
-use Rattle.row_executor.proofs.Taken.{taken}
+use Rattle.expression_values.proofs.Taken.{taken}
 use Rattle.row_executor.proofs.marks.row_set.Goals as goal
 
 pub loop-row-preserved : goal.loop-row-preserved

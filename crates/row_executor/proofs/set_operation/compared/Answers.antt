@@ -1,6 +1,6 @@
 use Rattle.row_executor.specs.Marks.{left_out, wanted, is_over}
 use Rattle.row_executor.proofs.Flags.{over_left, once_left, long}
-use Rattle.row_executor.proofs.Outcomes.{if_ok}
+use Rattle.expression_values.proofs.Outcomes.{if_ok}
 use Rattle.row_executor.proofs.set_operation.compared.Goals as goal
 
 pub returns-then-all-clause-rest : goal.returns-then-all-clause-rest

@@ -1,7 +1,7 @@
 use Rattle.std.proofs.Common.{false, []}
 use Rattle.row_executor.specs.Marks.{left_out, wanted}
 use Rattle.row_executor.proofs.Flags.{repeats_left, long}
-use Rattle.row_executor.proofs.Outcomes.{if_ok}
+use Rattle.expression_values.proofs.Outcomes.{if_ok}
 use Rattle.row_executor.proofs.set_operation.repeated.Goals as goal
 
 pub returns-clause-once : goal.returns-clause-once

@@ -1,0 +1,5 @@
+pub mod Taken
+pub mod Truths
+pub mod Outcomes
+pub mod Values
+pub mod Quantified
