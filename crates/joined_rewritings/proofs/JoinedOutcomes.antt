@@ -9,9 +9,9 @@ use Rattle.bag_algebra.specs.Outcome.{Outcome, Good, Bad, union, mapped, both_th
 use Rattle.bag_algebra.specs.Rewriting.{SameRows}
 use Rattle.bag_algebra.specs.declared.query.Query.{Query}
 use Rattle.contribution.proofs.ListedRows.{only_rows}
-use Rattle.contribution.proofs.MembersByIndex.{in-from_contains, contains-from_in}
 use Rattle.contribution.proofs.NoRowLost.{none_lost}
 use Rattle.rewritten.specs.Rewritten.{SomeList, Beside, Rewritten}
+use Rattle.bag_algebra.proofs.MembersByIndex.{in-from_contains, contains-from_in}
 
 -- the same set of faults, or bags that are related
 abbrev pub Related : (Bag → Bag → Type 0) → Outcome Bag → Outcome Bag → Type 0
