@@ -17,7 +17,7 @@ use Rattle.bag_algebra.specs.Patterns.{OpOf, ChainOf, CaseOf, IsNullOf, IsTruthO
 use Rattle.bag_algebra.specs.WellFormed.{op_form, HasKind, PartsHave, StepsHave, ArmsHave, number_of_parts}
 use Rattle.bag_algebra.specs.declared.expr.Expr.{Expr, Row_of-Expr, Row_of-Arm, Row_of-ChainStep, more_of-Expr, end_of-Expr, more_of-Arm, end_of-Arm, more_of-ChainStep, end_of-ChainStep}
 use Rattle.bag_algebra.specs.declared.expr.Expr.TheVariants.{Col, Lit, Sub}
-use Rattle.query_measures.proofs.Closing.{op_parts}
+use Rattle.query_measures.proofs.Forms.{op_parts}
 
 -- ---- one kind
 
