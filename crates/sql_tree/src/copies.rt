@@ -83,7 +83,10 @@ impl Copyable for FromTree {
 impl Copyable for JoinStep {
     fn copy(&self, alloc: Global) -> Result<JoinStep, NoMemory> {
         let item = copy_from_item(alloc, &self.item)?;
-        let condition = copy_option(alloc, &self.condition)?;
+        let condition = match &self.condition {
+            Some(condition) => Some(copy_expr(alloc, condition)?),
+            None => None,
+        };
         Ok(JoinStep {
             word: self.word,
             item,
@@ -250,7 +253,10 @@ fn copy_body(alloc: Global, body: &ExprBody) -> Result<ExprBody, NoMemory>
         }
         ExprBody::Case { arms, otherwise } => {
             let arms = copy_arms(alloc, arms.as_slice())?;
-            let otherwise = copy_boxed_option(alloc, otherwise)?;
+            let otherwise = match otherwise {
+                Some(part) => Some(copy_boxed(alloc, part)?),
+                None => None,
+            };
             Ok(ExprBody::Case { arms, otherwise })
         }
         ExprBody::Coalesce(parts) => Ok(ExprBody::Coalesce(copy_parts(alloc, parts.as_slice())?)),
@@ -259,10 +265,16 @@ fn copy_body(alloc: Global, body: &ExprBody) -> Result<ExprBody, NoMemory>
             let second = copy_boxed(alloc, second)?;
             Ok(ExprBody::NullIf { first, second })
         }
-        ExprBody::Aggregate { function, argument } => Ok(ExprBody::Aggregate {
-            function: *function,
-            argument: copy_boxed_option(alloc, argument)?,
-        }),
+        ExprBody::Aggregate { function, argument } => {
+            let argument = match argument {
+                Some(part) => Some(copy_boxed(alloc, part)?),
+                None => None,
+            };
+            Ok(ExprBody::Aggregate {
+                function: *function,
+                argument,
+            })
+        }
         ExprBody::Exists(query) => Ok(ExprBody::Exists(copy_boxed_query(alloc, query)?)),
         ExprBody::Scalar(query) => Ok(ExprBody::Scalar(copy_boxed_query(alloc, query)?)),
     }
@@ -274,29 +286,6 @@ fn copy_boxed(alloc: Global, part: &Boxed<ExprTree>) -> Result<Boxed<ExprTree>, 
 {
     let copy = copy_expr(alloc, part.get())?;
     Boxed::new(alloc, copy)
-}
-
-#[cycle(copy_tree)]
-fn copy_boxed_option(
-    alloc: Global,
-    part: &Option<Boxed<ExprTree>>,
-) -> Result<Option<Boxed<ExprTree>>, NoMemory>
-    ensures { IfOk result (λ copy. copy ≡ part.now) }
-{
-    match part {
-        Some(part) => Ok(Some(copy_boxed(alloc, part)?)),
-        None => Ok(None),
-    }
-}
-
-#[cycle(copy_tree)]
-fn copy_option(alloc: Global, part: &Option<ExprTree>) -> Result<Option<ExprTree>, NoMemory>
-    ensures { IfOk result (λ copy. copy ≡ part.now) }
-{
-    match part {
-        Some(part) => Ok(Some(copy_expr(alloc, part)?)),
-        None => Ok(None),
-    }
 }
 
 #[cycle(copy_tree)]
@@ -407,9 +396,15 @@ fn copy_core(alloc: Global, core: &Core) -> Result<Core, NoMemory>
 {
     let items = copy_items(alloc, core.items.as_slice())?;
     let sources = copy_sources(alloc, core.sources.as_slice())?;
-    let condition = copy_option(alloc, &core.condition)?;
+    let condition = match &core.condition {
+        Some(condition) => Some(copy_expr(alloc, condition)?),
+        None => None,
+    };
     let groups = core.groups.copy(alloc)?;
-    let having = copy_option(alloc, &core.having)?;
+    let having = match &core.having {
+        Some(having) => Some(copy_expr(alloc, having)?),
+        None => None,
+    };
     Ok(Core {
         at: core.at,
         provenance: core.provenance,
@@ -471,7 +466,10 @@ fn copy_joins(alloc: Global, joins: &[JoinStep]) -> Result<List<JoinStep>, NoMem
     for join in joins {
         let word = join.word;
         let item = copy_from_item(alloc, &join.item)?;
-        let condition = copy_option(alloc, &join.condition)?;
+        let condition = match &join.condition {
+            Some(condition) => Some(copy_expr(alloc, condition)?),
+            None => None,
+        };
         copy.push(JoinStep {
             word,
             item,
