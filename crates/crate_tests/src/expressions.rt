@@ -3,7 +3,8 @@ use crate::queries::{column, distinct, number, source, table, truth};
 use bag_algebra::{Arm, ChainStep, Env, Expr, Item, Query, Tables};
 use null_logic::{Arith, Compare, Operator, RunFault, Truth};
 use perm_values::{Boxed, Kind, List, NoMemory, Row, Rows, Value};
-use row_executor::{ExecError, eval, is_built, run_plain};
+use query_measures::is_plain;
+use row_executor::{ExecError, eval, run_plain};
 use std::alloc::Global;
 use std::test::Fail;
 
@@ -136,10 +137,10 @@ fn tables(alloc: Global) -> Result<Tables, NoMemory> {
     Ok(tables)
 }
 
-/// The rows of a query, if it is built.
+/// The rows of a query, if it is plain.
 fn answer(alloc: Global, query: &Query) -> Result<Rows, ExecError> {
     let tables = tables(alloc)?;
-    if is_built(query) {
+    if is_plain(query) {
         run_plain(alloc, query, &tables, &Env::new(alloc))
     } else {
         Err(ExecError::NoMemory)

@@ -1,5 +1,5 @@
 -- Outcomes of lists, item by item, and where a fault of a part is a fault of the whole.
-use Rattle.std.proofs.Common.{◌≡◌, ℕ, suc, zero, ◌<◌, Bool, true, false, ◌||◌, List, [], ◌∷◌, ◌++◌, length, get_or, refl, sym, ap, subst, ◌∙◌, arith, append_assoc, append-nil, Result, Ok, Err, IsErrAnd, IfOk}
+use Rattle.std.proofs.Common.{◌≡◌, ℕ, suc, zero, ◌<◌, Bool, true, false, ◌||◌, List, [], ◌∷◌, ◌++◌, length, get_or, refl, sym, ap, subst, ◌∙◌, arith, append_assoc, append-nil, Result, Ok, Err, IsErrAnd, IfOk, IfErr}
 use Rattle.null_logic.specs.declared.run_fault.RunFault.{RunFault}
 use Rattle.null_logic.specs.declared.run_fault.RunFault.TheVariants.{DivideByZero, OutOfRange, SeveralRows}
 use Rattle.bag_algebra.specs.Outcome.{Outcome, Good, Bad, Faults, union, only, has, and_then, mapped, both, both_then, gather, each, of_result}
@@ -44,6 +44,10 @@ along o p r e h = subst (λ q. Gives q r) (sym e) h
 pub passed : {X : Type 0} (o : Outcome X) (error : ExecError) (r : Result X ExecError) → IsErrAnd r (λ e. e ≡ error) → Refuses o error → Gives o r
 passed o error (Ok x) h k = absurd h
 passed o error (Err e) h k = subst (λ e. Refuses o e) (sym h) k
+
+pub handed_on : {X Y : Type 0} (o : Outcome X) (error : ExecError) (r : Result Y ExecError) → IsErrAnd r (λ e. e ≡ error) → Refuses o error → IfErr r (Refuses o)
+handed_on o error (Ok y) h k = tt
+handed_on o error (Err e) h k = subst (λ e. Refuses o e) (sym h) k
 
 -- ---- a part that refuses
 

@@ -1,4 +1,3 @@
-pub mod Distinct
 pub mod Flags
 pub mod Seeing
 pub mod Spending

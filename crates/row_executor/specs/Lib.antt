@@ -1,4 +1,3 @@
-pub mod Built
 pub mod Held
 pub mod Joins
 pub mod Marks

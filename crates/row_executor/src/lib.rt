@@ -1,7 +1,6 @@
 //! The rows of queries, by nested loops.
 #![tactic(auto)]
 
-mod built;
 mod input;
 mod join;
 mod limit;
@@ -9,6 +8,5 @@ mod marks;
 mod query;
 mod set_operation;
 
-pub use built::is_built;
 pub use expression_values::{ExecError, eval};
 pub use query::run_plain;

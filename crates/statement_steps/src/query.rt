@@ -5,13 +5,13 @@ ghost use Rattle.bag_algebra.specs.ColumnItems.{column_item, column_items};
 ghost use Rattle.bag_algebra.specs.Meaning.{meaning};
 ghost use Rattle.bag_algebra.specs.Outcome.{mapped};
 ghost use Rattle.bag_algebra.specs.Patterns.{BaseOf, ProjectOf, DistinctOf};
+ghost use Rattle.bag_algebra.specs.Rewriting.{is_plain};
 ghost use Rattle.bag_algebra.specs.TableRows.{rows_in};
 ghost use Rattle.bag_algebra.specs.declared.query.Label.TheVariants.{Relation};
 ghost use Rattle.bag_algebra.specs.declared.query.Query.{end_of-Sublink};
 ghost use Rattle.bag_algebra.specs.declared.query.Query.TheVariants.{Table as TableOf};
 ghost use Rattle.perm_values.specs.Rows.{row_cmp};
 ghost use Rattle.expression_values.specs.Answers.{Gives};
-ghost use Rattle.row_executor.specs.Built.{is_built};
 ghost use Rattle.perm_catalog.specs.Columns.{column_kinds, column_names};
 ghost use Rattle.statement_steps.specs.Step.{source_of, plain_query, query_of, all_places, answer_rows};
 
@@ -75,7 +75,7 @@ fn provenance_rows(
 
 /// The rows of a query in the printed order.
 fn printed_rows(alloc: Global, catalog: &Catalog, query: &Query) -> Result<Rows, ExecError>
-    requires { IsTrue (is_built query.now) }
+    requires { IsTrue (is_plain query.now) }
     ensures { Gives (mapped (sorted row_cmp) (meaning query.now (rows_in catalog.now.rows) [])) result }
 {
     let env = Env::new(alloc);
