@@ -44,13 +44,13 @@ null_items-formed (kind ∷ kinds) scopes =
 
 -- ---- items before others
 
-items-append : (scopes : List (List Kind)) (items more : List Item) → ItemsForm scopes [] items → ItemsForm scopes [] more → ItemsForm scopes [] (items ++ more)
+pub items-append : (scopes : List (List Kind)) (items more : List Item) → ItemsForm scopes [] items → ItemsForm scopes [] more → ItemsForm scopes [] (items ++ more)
 items-append scopes [] more a b = b
 items-append scopes (item ∷ items) more a b =
     all-first (λ (item : Item). HasKind scopes [] item.expr item.kind) item (items ++ more) (a 0 item (omega arith))
     (items-append scopes items more (all-rest (λ (item : Item). HasKind scopes [] item.expr item.kind) item items a) b)
 
-kinds-append : (items more : List Item) → item_kinds (items ++ more) ≡ item_kinds items ++ item_kinds more
+pub kinds-append : (items more : List Item) → item_kinds (items ++ more) ≡ item_kinds items ++ item_kinds more
 kinds-append [] more = refl
 kinds-append (item ∷ items) more = ap (λ ks. item.kind ∷ ks) (kinds-append items more)
 

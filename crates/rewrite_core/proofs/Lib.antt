@@ -1,2 +1,10 @@
+pub mod BaseRows
+pub mod Closing
 pub mod DistinctRows
+pub mod Faults
+pub mod FilterRows
+pub mod NodeRows
+pub mod ProjectRows
+pub mod RowColumns
 pub mod RuleRows
+pub mod Unlinked

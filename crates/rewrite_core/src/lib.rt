@@ -1,6 +1,9 @@
 //! The rules that rewrite a node to a plain query with the rows of its PROVENANCE.
 #![tactic(auto)]
 
+mod columns;
 mod nodes;
+mod sources;
 
-pub use nodes::distinct;
+pub use nodes::{distinct, filter, project};
+pub use sources::base;

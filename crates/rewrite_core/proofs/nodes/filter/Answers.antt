@@ -1,0 +1,18 @@
+use Rattle.std.proofs.Common.{◌≡◌, [], IfOk, subst}
+use Rattle.bag_algebra.specs.Patterns.{FilterOf}
+use Rattle.bag_algebra.specs.Rewriting.{IsRewrite}
+use Rattle.bag_algebra.specs.declared.query.Query.{end_of-Sublink}
+use Rattle.bag_algebra.specs.declared.query.Query.TheVariants.{Filter}
+use Rattle.query_parts.proofs.NodeQueries.{of_made}
+use Rattle.rewrite_core.proofs.Closing.{closed-made}
+use Rattle.rewrite_core.proofs.FilterRows.{rewrite-Filter}
+use Rattle.rewrite_core.proofs.nodes.filter.Goals as goal
+
+pub returns-clause-rewrites : goal.returns-clause-rewrites
+returns-clause-rewrites c =
+    of_made (λ p. IsRewrite (Filter c.args.input.now c.args.condition.now []) p) c.filtered.result _
+    (subst (λ e. IfOk c.filtered.result (λ p. p ≡ FilterOf c.args.rewriting e [] end_of-Sublink)) c.in_ok-condition.ensures c.filtered.ensures.made)
+    (rewrite-Filter c.args.input.now c.args.rewriting c.args.condition.now c.requires)
+
+pub returns-clause-closed : goal.returns-clause-closed
+returns-clause-closed c = closed-made c.filtered.result c.args.rewriting c.filtered.ensures.closed
