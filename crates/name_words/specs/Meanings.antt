@@ -82,6 +82,10 @@ pub record Part : Type 0 where
   pub called : Option (List ℕ)
   pub means : Surroundings → Meant
 
+-- what an expression means where it stands; a word that proofs open where they need it
+unfoldable pub means_at : Part → Surroundings → Meant
+means_at part here = part.means here
+
 -- ---- queries
 
 -- where a query stands: the scopes around its cores, and whether the word PROVENANCE may stand behind its first SELECT
@@ -107,6 +111,10 @@ pub record QueryMeant : Type 0 where
 pub record QueryPart : Type 0 where
   pub at : ℕ
   pub means : Around → QueryMeant
+
+-- what a query means where it stands
+unfoldable pub query_means_at : QueryPart → Around → QueryMeant
+query_means_at query around = query.means around
 
 -- ---- kinds
 

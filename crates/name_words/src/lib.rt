@@ -2,7 +2,5 @@
 #![tactic(auto)]
 
 mod answer;
-mod laws;
 
 pub use answer::{Break, Resolved};
-pub use laws::{a_table_is_a_source_of_its_columns, broken_queries_have_their_breaks};
