@@ -28,10 +28,13 @@ use Rattle.sql_tree.specs.declared.source.JoinWord.{JoinWord}
 use Rattle.sql_tree.specs.declared.source.JoinWord.TheVariants as word
 use Rattle.sql_tree.specs.declared.source.ScopeMark.{ScopeMark}
 use Rattle.sql_tree.specs.declared.source.ScopeMark.TheVariants as mark
-use Rattle.name_words.specs.Meanings.{Trace, untraced, in_provenance, traced_sublink, Inside, nothing_inside, both_inside, Surroundings, Meant, seen_kind, Part, OutColumn, QueryMeant, QueryPart, broken, broken_if, is_whole, settled, unites}
-use Rattle.name_words.specs.Scopes.{KnownColumn, ScopeItem, Scope}
+use Rattle.name_words.specs.Meanings.{Inside, nothing_inside, both_inside, Surroundings, Meant, seen_kind, Part, OutColumn, QueryMeant, QueryPart, broken, broken_if, is_whole, settled, unites}
+use Rattle.name_words.specs.Scopes.{KnownColumn, ScopeItem, scope_of}
 use Rattle.name_words.specs.Sublinks.{nothing_before}
 use Rattle.name_words.specs.declared.answer.Break.{Break}
+use Rattle.name_words.specs.declared.scope.Scope.{Scope}
+use Rattle.name_words.specs.declared.trace.Trace.{Trace}
+use Rattle.name_words.specs.declared.trace.Trace.TheVariants.{Untraced as untraced, InProvenance as in_provenance, TracedSublink as traced_sublink}
 
 -- ---- columns
 
@@ -229,7 +232,7 @@ yes = Lit (v.Boolean true) kind.Boolean
 -- neither an aggregate nor a sublink stands in ON
 abbrev pub in_on : List ScopeItem → List Scope → Trace → Surroundings
 in_on items outer trace = record {
-  scopes = record { items = items; groups = None } ∷ outer;
+  scopes = scope_of items ∷ outer;
   trace = trace;
   aggregates = false;
   sublinks = false;

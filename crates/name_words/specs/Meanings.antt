@@ -7,8 +7,10 @@ use Rattle.bag_algebra.specs.declared.expr.Expr.{Expr}
 use Rattle.bag_algebra.specs.declared.query.Aggr.{Aggr}
 use Rattle.bag_algebra.specs.declared.query.Query.{Query}
 use Rattle.bag_algebra.specs.declared.query.Sublink.{Sublink}
-use Rattle.name_words.specs.Scopes.{Scope}
 use Rattle.name_words.specs.declared.answer.Break.{Break}
+use Rattle.name_words.specs.declared.scope.Scope.{Scope}
+use Rattle.name_words.specs.declared.trace.Trace.{Trace}
+use Rattle.name_words.specs.declared.trace.Trace.TheVariants.{Untraced as untraced, InProvenance as in_provenance, TracedSublink as traced_sublink}
 
 abbrev pub broken : ℕ → ℕ → Break
 broken code at = record { code = code; at = at }
@@ -21,12 +23,7 @@ abbrev pub is_whole : List Break → Bool
 is_whole [] = true
 is_whole (first ∷ more) = false
 
--- whether the provenance of what stands here is asked for, and whether it stands in a sublink of what is asked for
-pub data Trace : Type 0 where
-  untraced : Trace
-  in_provenance : Trace
-  traced_sublink : Trace
-
+-- in a sublink of what is traced
 abbrev pub trace_below : Trace → Trace
 trace_below untraced = untraced
 trace_below in_provenance = traced_sublink

@@ -27,11 +27,13 @@ use Rattle.sql_tree.specs.declared.statement.StatementBody.{StatementBody}
 use Rattle.sql_tree.specs.declared.statement.StatementBody.TheVariants as st
 use Rattle.sql_tree.specs.declared.statement.ValuesRow.{ValuesRow}
 use Rattle.name_words.specs.Froms.{condition_breaks, names_of, named_so, settled_columns, table_columns}
-use Rattle.name_words.specs.Meanings.{untraced, Surroundings, Meant, means_at, Around, QueryMeant, query_means_at, broken, broken_if, is_whole, seen_kind, unites}
-use Rattle.name_words.specs.Scopes.{KnownColumn, Scope}
+use Rattle.name_words.specs.Meanings.{Surroundings, Meant, means_at, Around, QueryMeant, query_means_at, broken, broken_if, is_whole, seen_kind, unites}
+use Rattle.name_words.specs.Scopes.{KnownColumn, scope_of}
 use Rattle.name_words.specs.Sublinks.{nothing_before}
 use Rattle.name_words.specs.Trees.{part_of, query_of}
 use Rattle.name_words.specs.declared.answer.Break.{Break}
+use Rattle.name_words.specs.declared.scope.Scope.{Scope}
+use Rattle.name_words.specs.declared.trace.Trace.TheVariants.{Untraced as untraced}
 use Rattle.name_words.specs.declared.answer.Resolved.{Resolved}
 use Rattle.name_words.specs.declared.answer.Resolved.TheVariants as r
 
@@ -69,7 +71,7 @@ bare scopes = record { scopes = scopes; trace = untraced; aggregates = false; su
 
 -- the condition of DELETE sees one item, named as the table, with all its columns
 abbrev pub table_scope : Name → TableEntry → Scope
-table_scope name table = record { items = record { name = name.text; columns = table_columns table.columns } ∷ []; groups = None }
+table_scope name table = scope_of (record { name = name.text; columns = table_columns table.columns } ∷ [])
 
 -- the value's own breaks, then its kind
 abbrev pub value_breaks : Kind → ℕ → Meant → List Break

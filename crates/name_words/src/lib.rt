@@ -2,5 +2,11 @@
 #![tactic(auto)]
 
 mod answer;
+mod need;
+mod scope;
+mod trace;
 
 pub use answer::{Break, Resolved};
+pub use need::{Gives, Need};
+pub use scope::{Found, FoundColumn, Scope, ScopeColumn};
+pub use trace::Trace;
