@@ -11,11 +11,16 @@ use Rattle.sql_tree.specs.declared.expression.ExprBody.TheOpen.{Core-F}
 use Rattle.sql_tree.specs.declared.name.ColRef.{ColRef}
 use Rattle.name_words.specs.Froms.{FromMeant, FromPart, from_all, condition_breaks}
 use Rattle.name_words.specs.Items.{SelectMeant, SelectPart, Made, all_known, made_items, named_from, items_breaks, items_inside}
-use Rattle.name_words.specs.Meanings.{Trace, untraced, Inside, nothing_inside, both_inside, Surroundings, Before, Built, Meant, Part, Around, OutColumn, QueryMeant, broken, is_whole, settled}
+use Rattle.name_words.specs.Meanings.{Inside, nothing_inside, both_inside, Surroundings, Before, Built, Meant, Part, Around, OutColumn, QueryMeant, broken, is_whole, settled}
 use Rattle.name_words.specs.Operands.{behind}
-use Rattle.name_words.specs.Scopes.{ScopeItem, Scope, Found, absent, ambiguous, found, look_up}
+use Rattle.name_words.specs.Scopes.{ScopeItem, scope_of, look_up}
 use Rattle.name_words.specs.Sublinks.{nothing_before, built_alone, null_at}
 use Rattle.name_words.specs.declared.answer.Break.{Break}
+use Rattle.name_words.specs.declared.scope.Found.{Found}
+use Rattle.name_words.specs.declared.scope.Found.TheVariants.{Absent as absent, Ambiguous as ambiguous, Column as found}
+use Rattle.name_words.specs.declared.scope.Scope.{Scope}
+use Rattle.name_words.specs.declared.trace.Trace.{Trace}
+use Rattle.name_words.specs.declared.trace.Trace.TheVariants.{Untraced as untraced}
 
 -- a core, or what stands for one among set operations; `word`: the offset of PROVENANCE behind its first SELECT
 pub record BodyPart : Type 0 where
@@ -168,7 +173,7 @@ has_some (x ∷ xs) = true
 abbrev pub core_over : List Scope → Trace → List Break → FromMeant → Bool → Bool → List SelectPart → Option Part → List ColRef → Option Part
     → List ScopeItem → QueryMeant
 core_over outer trace word_breaks input has_from is_distinct items condition groups having scope_items =
-    let own : Scope = record { items = scope_items; groups = None } in
+    let own : Scope = scope_of scope_items in
     let grouped : Scope = group_scope own groups having items in
     let k : Clauses = core_clauses (in_clause own outer trace false) (in_clause grouped outer trace true) grouped has_from input condition having items in
     core_meant word_breaks (clause_breaks own condition groups having k) k is_distinct

@@ -18,8 +18,12 @@ use Rattle.bag_algebra.specs.declared.query.SubKind.TheVariants.{Any, All}
 use Rattle.sql_tree.specs.declared.expression.ExprBody.TheOpen.{ExprBody-F, ExprTree-F, ArmTree-F, ExprStep-F}
 use Rattle.name_words.specs.Meanings.{Surroundings, Meant, Part, QueryPart}
 use Rattle.name_words.specs.Meanings.{nothing_inside}
-use Rattle.name_words.specs.Operands.{Need, of_kind, alike, free, Gives, always, common, Operand, operand, node, need_of, gives_of, operated}
+use Rattle.name_words.specs.Operands.{Operand, operand, node, need_of, gives_of, operated}
 use Rattle.name_words.specs.Scopes.{look_up}
+use Rattle.name_words.specs.declared.need.Gives.{Gives}
+use Rattle.name_words.specs.declared.need.Gives.TheVariants.{Always as always, Common as common}
+use Rattle.name_words.specs.declared.need.Need.{Need}
+use Rattle.name_words.specs.declared.need.Need.TheVariants.{OfKind as of_kind, Alike as alike, Free as free}
 use Rattle.name_words.specs.Sublinks.{built_alone, null_at, column_meant, aggregate_meant, aggregate_name, around_of, exists_meant, scalar_meant, tested_meant, if_standing}
 
 -- what an expression is made of, with the offset still to come

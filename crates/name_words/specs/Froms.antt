@@ -28,10 +28,13 @@ use Rattle.sql_tree.specs.declared.source.JoinWord.{JoinWord}
 use Rattle.sql_tree.specs.declared.source.JoinWord.TheVariants as word
 use Rattle.sql_tree.specs.declared.source.ScopeMark.{ScopeMark}
 use Rattle.sql_tree.specs.declared.source.ScopeMark.TheVariants as mark
-use Rattle.name_words.specs.Meanings.{Trace, untraced, in_provenance, traced_sublink, Inside, nothing_inside, both_inside, Surroundings, Meant, seen_kind, Part, OutColumn, QueryMeant, QueryPart, broken, broken_if, is_whole, settled, unites}
-use Rattle.name_words.specs.Scopes.{KnownColumn, ScopeItem, Scope}
+use Rattle.name_words.specs.Meanings.{Inside, nothing_inside, both_inside, Surroundings, Meant, seen_kind, Part, OutColumn, QueryMeant, QueryPart, broken, broken_if, is_whole, settled, unites}
+use Rattle.name_words.specs.Scopes.{KnownColumn, ScopeItem, scope_of}
 use Rattle.name_words.specs.Sublinks.{nothing_before}
 use Rattle.name_words.specs.declared.answer.Break.{Break}
+use Rattle.name_words.specs.declared.scope.Scope.{Scope}
+use Rattle.name_words.specs.declared.trace.Trace.{Trace}
+use Rattle.name_words.specs.declared.trace.Trace.TheVariants.{Untraced as untraced, InProvenance as in_provenance, TracedSublink as traced_sublink}
 
 -- ---- columns
 
@@ -129,12 +132,16 @@ named_so name other = pointwise nat_eq name other
 abbrev pub place_of : List (List ℕ) → List ℕ → ℕ
 place_of names name = option_map_or (λ place. place) (position (named_so name) names) 0
 
--- an attribute is one column, and is named once
-abbrev pub attribute_breaks : List (List ℕ) → List (List ℕ) → List Name → List Break
+-- an attribute is one column
+abbrev pub column_breaks : Name → List (List ℕ) → List Break
+column_breaks attribute names = broken_if (nat_eq (count_by (named_so attribute.text) names) 0) 11 attribute.at
+    ++ broken_if (nat_lt 1 (count_by (named_so attribute.text) names)) 12 attribute.at
+
+-- an attribute is one of the columns, where these are known, and is named once
+abbrev pub attribute_breaks : Option (List (List ℕ)) → List (List ℕ) → List Name → List Break
 attribute_breaks names earlier [] = []
 attribute_breaks names earlier (attribute ∷ attributes) =
-    broken_if (nat_eq (count_by (named_so attribute.text) names) 0) 11 attribute.at
-    ++ broken_if (nat_lt 1 (count_by (named_so attribute.text) names)) 12 attribute.at
+    option_map_or (column_breaks attribute) names []
     ++ broken_if (list_any (named_so attribute.text) earlier) 14 attribute.at
     ++ attribute_breaks names (attribute.text ∷ earlier) attributes
 
@@ -148,7 +155,7 @@ marked mark.BaseRelation label names read = Base read.query (all_places names) (
 marked (mark.External attributes) label names read =
     Base read.query (map (place_of names) (texts_of attributes)) (External (texts_of attributes))
 
-abbrev pub mark_breaks : ScopeMark → List (List ℕ) → List Break
+abbrev pub mark_breaks : ScopeMark → Option (List (List ℕ)) → List Break
 mark_breaks mark.Plain names = []
 mark_breaks mark.BaseRelation names = []
 mark_breaks (mark.External attributes) names = attribute_breaks names [] attributes
@@ -203,13 +210,10 @@ read_names read = option_map_or names_of read.columns []
 abbrev pub scope_break : List Break → Trace → Bool → Query → ℕ → List Break
 scope_break earlier trace viewed query at = cond (is_whole earlier) (broken_if (is_out_of_scope trace viewed query) 25 at) []
 
-abbrev pub marks_if_known : ScopeMark → Read → List Break
-marks_if_known mark read = option_map_or (λ columns. mark_breaks mark (names_of columns)) read.columns []
-
 abbrev pub item_meant : ℕ → ScopeMark → Trace → List (List ℕ) → List ℕ → List ℕ → Read → ItemMeant
 item_meant at mark trace earlier name label read = record {
-  breaks = read.breaks ++ broken_if (list_any (named_so name) earlier) 15 at ++ marks_if_known mark read
-      ++ scope_break (read.breaks ++ marks_if_known mark read) trace read.viewed (marked mark label (read_names read) read) at;
+  breaks = read.breaks ++ broken_if (list_any (named_so name) earlier) 15 at ++ mark_breaks mark (option_map names_of read.columns)
+      ++ scope_break read.breaks trace read.viewed (marked mark label (read_names read) read) at;
   name = name;
   columns = read.columns;
   query = marked mark label (read_names read) read;
@@ -228,7 +232,7 @@ yes = Lit (v.Boolean true) kind.Boolean
 -- neither an aggregate nor a sublink stands in ON
 abbrev pub in_on : List ScopeItem → List Scope → Trace → Surroundings
 in_on items outer trace = record {
-  scopes = record { items = items; groups = None } ∷ outer;
+  scopes = scope_of items ∷ outer;
   trace = trace;
   aggregates = false;
   sublinks = false;

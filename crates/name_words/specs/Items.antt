@@ -1,6 +1,6 @@
 -- What a SELECT list means: its columns, with `*` and `x.*` expanded.
 use Rattle.std.specs.Prelude.{ℕ, suc, Bool, false, cond, List, [], ◌∷◌, ◌++◌, map, flat_map, length, take, drop, is_none, Option, Some, None, option_map, codes, decimal}
-use Rattle.std.specs.List.{list_any, enumerate_from}
+use Rattle.std.specs.List.{list_any}
 use Rattle.std.specs.Option.{option_map_or}
 use Rattle.perm_values.specs.declared.kind.Kind.{Kind}
 use Rattle.perm_values.specs.declared.kind.Kind.TheVariants as kind
@@ -12,9 +12,10 @@ use Rattle.sql_tree.specs.declared.expression.ExprBody.TheOpen.{SelectItem-F}
 use Rattle.sql_tree.specs.declared.name.Name.{Name}
 use Rattle.name_words.specs.Meanings.{Inside, nothing_inside, both_inside, Surroundings, Before, Built, Meant, seen_kind, Part, OutColumn, broken, broken_if, settled}
 use Rattle.name_words.specs.Operands.{behind}
-use Rattle.name_words.specs.Scopes.{Scope, Placed, scope_columns, item_columns, place_among}
+use Rattle.name_words.specs.Scopes.{Placed, placed, item_columns, place_among}
 use Rattle.name_words.specs.Sublinks.{null_at}
 use Rattle.name_words.specs.declared.answer.Break.{Break}
+use Rattle.name_words.specs.declared.scope.Scope.{Scope}
 
 -- a column of the list; without a name of its own it is named by its position
 pub record Titled : Type 0 where
@@ -71,11 +72,11 @@ no_columns at = record {
 }
 
 abbrev pub star_meant : Bool → Scope → ℕ → SelectMeant
-star_meant has_from scope at = cond has_from (columns_meant scope at (enumerate_from 0 (scope_columns scope))) (no_columns at)
+star_meant has_from scope at = cond has_from (columns_meant scope at (placed scope)) (no_columns at)
 
 -- the item x is one of the core itself
 abbrev pub table_star_meant : Scope → Name → SelectMeant
-table_star_meant scope table = option_map_or (columns_meant scope table.at) (item_columns table.text 0 scope.items) (no_columns table.at)
+table_star_meant scope table = option_map_or (columns_meant scope table.at) (item_columns table.text scope) (no_columns table.at)
 
 -- ---- an expression
 

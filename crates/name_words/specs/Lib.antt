@@ -5,7 +5,6 @@ pub mod Items
 pub mod Meanings
 pub mod Operands
 pub mod Queries
-pub mod Samples
 pub mod Scopes
 pub mod Statements
 pub mod Sublinks

@@ -7,8 +7,10 @@ use Rattle.bag_algebra.specs.declared.expr.Expr.{Expr}
 use Rattle.bag_algebra.specs.declared.query.Aggr.{Aggr}
 use Rattle.bag_algebra.specs.declared.query.Query.{Query}
 use Rattle.bag_algebra.specs.declared.query.Sublink.{Sublink}
-use Rattle.name_words.specs.Scopes.{Scope}
 use Rattle.name_words.specs.declared.answer.Break.{Break}
+use Rattle.name_words.specs.declared.scope.Scope.{Scope}
+use Rattle.name_words.specs.declared.trace.Trace.{Trace}
+use Rattle.name_words.specs.declared.trace.Trace.TheVariants.{Untraced as untraced, InProvenance as in_provenance, TracedSublink as traced_sublink}
 
 abbrev pub broken : ℕ → ℕ → Break
 broken code at = record { code = code; at = at }
@@ -21,12 +23,7 @@ abbrev pub is_whole : List Break → Bool
 is_whole [] = true
 is_whole (first ∷ more) = false
 
--- whether the provenance of what stands here is asked for, and whether it stands in a sublink of what is asked for
-pub data Trace : Type 0 where
-  untraced : Trace
-  in_provenance : Trace
-  traced_sublink : Trace
-
+-- in a sublink of what is traced
 abbrev pub trace_below : Trace → Trace
 trace_below untraced = untraced
 trace_below in_provenance = traced_sublink
@@ -82,6 +79,10 @@ pub record Part : Type 0 where
   pub called : Option (List ℕ)
   pub means : Surroundings → Meant
 
+-- what an expression means where it stands; a word that proofs open where they need it
+unfoldable pub means_at : Part → Surroundings → Meant
+means_at part here = part.means here
+
 -- ---- queries
 
 -- where a query stands: the scopes around its cores, and whether the word PROVENANCE may stand behind its first SELECT
@@ -107,6 +108,10 @@ pub record QueryMeant : Type 0 where
 pub record QueryPart : Type 0 where
   pub at : ℕ
   pub means : Around → QueryMeant
+
+-- what a query means where it stands
+unfoldable pub query_means_at : QueryPart → Around → QueryMeant
+query_means_at query around = query.means around
 
 -- ---- kinds
 

@@ -14,17 +14,10 @@ use Rattle.bag_algebra.specs.declared.query.Aggr.{Aggr}
 use Rattle.bag_algebra.specs.declared.query.Sublink.{Sublink}
 use Rattle.name_words.specs.Meanings.{Inside, nothing_inside, both_inside, Surroundings, Before, Built, Meant, seen_kind, Part, broken, unites, united_kind, settled}
 use Rattle.name_words.specs.declared.answer.Break.{Break}
-
--- of an operand: this kind, a kind that unites with that of the others, or none
-pub data Need : Type 0 where
-  of_kind : Kind → Need
-  alike : Need
-  free : Need
-
--- of the whole: this kind, or the one that its operands were united to
-pub data Gives : Type 0 where
-  always : Kind → Gives
-  common : Gives
+use Rattle.name_words.specs.declared.need.Gives.{Gives}
+use Rattle.name_words.specs.declared.need.Gives.TheVariants.{Always as always, Common as common}
+use Rattle.name_words.specs.declared.need.Need.{Need}
+use Rattle.name_words.specs.declared.need.Need.TheVariants.{OfKind as of_kind, Alike as alike, Free as free}
 
 pub record Operand : Type 0 where
   pub at : ℕ

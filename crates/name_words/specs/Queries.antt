@@ -15,9 +15,10 @@ use Rattle.sql_tree.specs.declared.query.SetWord.{SetWord}
 use Rattle.sql_tree.specs.declared.query.SetWord.TheVariants as word
 use Rattle.name_words.specs.Cores.{BodyPart, settle_known}
 use Rattle.name_words.specs.Froms.{named_columns, named_so}
-use Rattle.name_words.specs.Meanings.{in_provenance, both_inside, Around, OutColumn, QueryMeant, QueryPart, broken, broken_if, is_whole, unites, united_kind}
+use Rattle.name_words.specs.Meanings.{both_inside, Around, OutColumn, QueryMeant, QueryPart, broken, broken_if, is_whole, unites, united_kind}
 use Rattle.name_words.specs.Scopes.{KnownColumn}
 use Rattle.name_words.specs.declared.answer.Break.{Break}
+use Rattle.name_words.specs.declared.trace.Trace.TheVariants.{InProvenance as in_provenance}
 
 -- ---- set operations
 

@@ -1,10 +1,15 @@
 -- What names name: the columns of the items in scope, looked up from the inside out.
-use Rattle.std.specs.Prelude.{ℕ, suc, ◌+◌, cond, List, [], ◌∷◌, length, nat_eq, filter, flat_map, position, Option, Some, None, option_map}
+use Rattle.std.specs.Prelude.{ℕ, suc, Bool, ◌&&◌, List, [], ◌∷◌, ◌++◌, map, length, nat_eq, filter, position, Option, Some, None, option_map}
 use Rattle.std.specs.Cmp.Lexicographic.{pointwise}
 use Rattle.std.specs.List.{enumerate_from}
 use Rattle.std.specs.Option.{option_map_or}
 use Rattle.perm_values.specs.declared.kind.Kind.{Kind}
 use Rattle.sql_tree.specs.declared.name.ColRef.{ColRef}
+use Rattle.sql_tree.specs.declared.name.Name.{Name}
+use Rattle.name_words.specs.declared.scope.Found.{Found}
+use Rattle.name_words.specs.declared.scope.Found.TheVariants.{Absent as absent, Ambiguous as ambiguous, Column as found}
+use Rattle.name_words.specs.declared.scope.Scope.{Scope}
+use Rattle.name_words.specs.declared.scope.ScopeColumn.{ScopeColumn}
 
 pub record KnownColumn : Type 0 where
   pub name : List ℕ
@@ -15,38 +20,46 @@ pub record ScopeItem : Type 0 where
   pub name : List ℕ
   pub columns : List KnownColumn
 
--- the items of a core; where its rows stand for groups, the places of its GROUP BY columns in the order written
-pub record Scope : Type 0 where
-  pub items : List ScopeItem
-  pub groups : Option (List ℕ)
+abbrev pub numbered_columns : ℕ → List KnownColumn → List ScopeColumn
+numbered_columns number columns =
+    map (λ (column : KnownColumn). record { item = number; name = column.name; kind = column.kind }) columns
 
--- a column where it was found: through as many sublinks as its level says, and where it stands in the rows of its core
--- (nowhere, if these are groups and it is none of their columns)
-pub record FoundColumn : Type 0 where
-  pub level : ℕ
-  pub place : Option ℕ
-  pub kind : Kind
+-- the columns of all items, the first of which has this number
+abbrev pub columns_from : ℕ → List ScopeItem → List ScopeColumn
+columns_from number [] = []
+columns_from number (item ∷ items) = numbered_columns number item.columns ++ columns_from (suc number) items
 
-pub data Found : Type 0 where
-  absent : Found
-  ambiguous : Found
-  found : FoundColumn → Found
+-- the scope of these items, whose rows are not grouped
+abbrev pub scope_of : List ScopeItem → Scope
+scope_of items = record { items = map (λ (item : ScopeItem). item.name) items; columns = columns_from 0 items; groups = None }
 
 -- a column with its place
 abbrev pub Placed : Type 0
-Placed = ℕ × KnownColumn
+Placed = ℕ × ScopeColumn
 
-abbrev pub scope_columns : Scope → List KnownColumn
-scope_columns scope = flat_map (λ (item : ScopeItem). item.columns) scope.items
+abbrev pub placed : Scope → List Placed
+placed scope = enumerate_from 0 scope.columns
 
-abbrev pub columns_named : List ℕ → List Placed → List Placed
-columns_named name columns = filter (λ (column : Placed). pointwise nat_eq name column.1.name) columns
+abbrev pub is_called : List ℕ → Placed → Bool
+is_called name column = pointwise nat_eq name column.1.name
 
--- the columns of the first item of this name
-abbrev pub item_columns : List ℕ → ℕ → List ScopeItem → Option (List Placed)
-item_columns name place [] = None
-item_columns name place (item ∷ items) =
-    cond (pointwise nat_eq name item.name) (Some (enumerate_from place item.columns)) (item_columns name (place + length item.columns) items)
+abbrev pub is_of_item : ℕ → Placed → Bool
+is_of_item number column = nat_eq number column.1.item
+
+-- the number of the first item of this name
+abbrev pub item_number : List ℕ → Scope → Option ℕ
+item_number name scope = position (pointwise nat_eq name) scope.items
+
+abbrev pub item_columns : List ℕ → Scope → Option (List Placed)
+item_columns name scope = option_map (λ number. filter (is_of_item number) (placed scope)) (item_number name scope)
+
+-- whether the column has this name, and is one of the item if there is one
+abbrev pub is_meant : Option ℕ → List ℕ → Placed → Bool
+is_meant None name column = is_called name column
+is_meant (Some number) name column = is_of_item number column && is_called name column
+
+abbrev pub columns_meant_by : Option ℕ → List ℕ → Scope → List Placed
+columns_meant_by item name scope = filter (is_meant item name) (placed scope)
 
 abbrev pub if_some : List Placed → Option (List Placed)
 if_some [] = None
@@ -54,11 +67,12 @@ if_some (column ∷ columns) = Some (column ∷ columns)
 
 -- the columns that a reference may mean in this scope: `a` is looked for where any item has such a column, `x.a` where
 -- there is an item x
+abbrev pub meant_by : Option Name → List ℕ → Scope → Option (List Placed)
+meant_by None name scope = if_some (columns_meant_by None name scope)
+meant_by (Some table) name scope = option_map (λ number. columns_meant_by (Some number) name scope) (item_number table.text scope)
+
 abbrev pub meant_in : ColRef → Scope → Option (List Placed)
-meant_in reference scope = elim reference.table [
-  | None ↦ if_some (columns_named reference.name.text (enumerate_from 0 (scope_columns scope)))
-  | Some table ↦ option_map (columns_named reference.name.text) (item_columns table.text 0 scope.items)
-]
+meant_in reference scope = meant_by reference.table reference.name.text scope
 
 -- where a column of the core stands in its rows
 abbrev pub place_among : Option (List ℕ) → ℕ → Option ℕ

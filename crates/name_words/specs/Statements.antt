@@ -27,11 +27,13 @@ use Rattle.sql_tree.specs.declared.statement.StatementBody.{StatementBody}
 use Rattle.sql_tree.specs.declared.statement.StatementBody.TheVariants as st
 use Rattle.sql_tree.specs.declared.statement.ValuesRow.{ValuesRow}
 use Rattle.name_words.specs.Froms.{condition_breaks, names_of, named_so, settled_columns, table_columns}
-use Rattle.name_words.specs.Meanings.{untraced, Surroundings, Meant, Around, QueryMeant, broken, broken_if, is_whole, seen_kind, unites}
-use Rattle.name_words.specs.Scopes.{KnownColumn, Scope}
+use Rattle.name_words.specs.Meanings.{Surroundings, Meant, means_at, Around, QueryMeant, query_means_at, broken, broken_if, is_whole, seen_kind, unites}
+use Rattle.name_words.specs.Scopes.{KnownColumn, scope_of}
 use Rattle.name_words.specs.Sublinks.{nothing_before}
 use Rattle.name_words.specs.Trees.{part_of, query_of}
 use Rattle.name_words.specs.declared.answer.Break.{Break}
+use Rattle.name_words.specs.declared.scope.Scope.{Scope}
+use Rattle.name_words.specs.declared.trace.Trace.TheVariants.{Untraced as untraced}
 use Rattle.name_words.specs.declared.answer.Resolved.{Resolved}
 use Rattle.name_words.specs.declared.answer.Resolved.TheVariants as r
 
@@ -42,7 +44,7 @@ abbrev pub alone : Around
 alone = record { outer = []; trace = untraced; provable = true }
 
 abbrev pub query_meant : Contents → QueryTree → QueryMeant
-query_meant c tree = (query_of c tree).means alone
+query_meant c tree = query_means_at (query_of c tree) alone
 
 abbrev pub columns_of : QueryMeant → List KnownColumn
 columns_of m = option_map_or settled_columns m.columns []
@@ -69,7 +71,7 @@ bare scopes = record { scopes = scopes; trace = untraced; aggregates = false; su
 
 -- the condition of DELETE sees one item, named as the table, with all its columns
 abbrev pub table_scope : Name → TableEntry → Scope
-table_scope name table = record { items = record { name = name.text; columns = table_columns table.columns } ∷ []; groups = None }
+table_scope name table = scope_of (record { name = name.text; columns = table_columns table.columns } ∷ [])
 
 -- the value's own breaks, then its kind
 abbrev pub value_breaks : Kind → ℕ → Meant → List Break
@@ -79,7 +81,7 @@ abbrev pub values_breaks : Contents → List Kind → List ExprTree → List Bre
 values_breaks c [] values = []
 values_breaks c (kind ∷ kinds) [] = []
 values_breaks c (kind ∷ kinds) (tree ∷ trees) =
-    value_breaks kind (part_of c tree).at ((part_of c tree).means (bare [])) ++ values_breaks c kinds trees
+    value_breaks kind (part_of c tree).at (means_at (part_of c tree) (bare [])) ++ values_breaks c kinds trees
 
 abbrev pub row_breaks : Contents → List Kind → ValuesRow → List Break
 row_breaks c kinds row = cond (nat_eq (length row.values) (length kinds)) (values_breaks c kinds row.values) (broken 21 row.at ∷ [])
@@ -90,7 +92,7 @@ made_alone kind m = (m.make kind nothing_before).expr
 abbrev pub row_made : Contents → List Kind → List ExprTree → List Expr
 row_made c [] values = []
 row_made c (kind ∷ kinds) [] = []
-row_made c (kind ∷ kinds) (tree ∷ trees) = made_alone kind ((part_of c tree).means (bare [])) ∷ row_made c kinds trees
+row_made c (kind ∷ kinds) (tree ∷ trees) = made_alone kind (means_at (part_of c tree) (bare [])) ∷ row_made c kinds trees
 
 -- ---- the rules of names and kinds
 
@@ -118,7 +120,7 @@ on_table c name looked = option_map_or looked (table_named c name.text) (broken 
 
 abbrev pub delete_breaks : Contents → Name → Option ExprTree → TableEntry → List Break
 delete_breaks c name condition table = option_map_or
-    (λ tree. condition_breaks (part_of c tree).at ((part_of c tree).means (bare (table_scope name table ∷ [])))) condition []
+    (λ tree. condition_breaks (part_of c tree).at (means_at (part_of c tree) (bare (table_scope name table ∷ [])))) condition []
 
 abbrev pub named_query_breaks : ℕ → QueryMeant → List Break
 named_query_breaks at m = m.breaks ++ broken_if (repeats (names_of (columns_of m))) 14 at
@@ -208,7 +210,7 @@ abbrev pub rows_made : Contents → List Kind → List ValuesRow → List (List 
 rows_made c kinds rows = map (λ (row : ValuesRow). row_made c kinds row.values) rows
 
 abbrev pub condition_made : Contents → Name → ExprTree → TableEntry → Expr
-condition_made c name tree table = made_alone kind.Boolean ((part_of c tree).means (bare (table_scope name table ∷ [])))
+condition_made c name tree table = made_alone kind.Boolean (means_at (part_of c tree) (bare (table_scope name table ∷ [])))
 
 abbrev pub delete_made : Contents → Name → Option ExprTree → Option Expr
 delete_made c name None = None

@@ -13,8 +13,10 @@ use Rattle.bag_algebra.specs.declared.query.SubKind.TheVariants.{Exists, Scalar}
 use Rattle.sql_tree.specs.declared.expression.AggWord.{AggWord}
 use Rattle.sql_tree.specs.declared.expression.AggWord.TheVariants as word
 use Rattle.name_words.specs.Meanings.{nothing_inside, both_inside, Surroundings, Before, Built, Meant, seen_kind, Part, Around, OutColumn, QueryMeant, QueryPart, broken, broken_if, is_whole, trace_below, unites, united_kind, settled, is_same_kind}
-use Rattle.name_words.specs.Scopes.{Found, absent, ambiguous, found, ungrouped, group_count}
+use Rattle.name_words.specs.Scopes.{ungrouped, group_count}
 use Rattle.name_words.specs.declared.answer.Break.{Break}
+use Rattle.name_words.specs.declared.scope.Found.{Found}
+use Rattle.name_words.specs.declared.scope.Found.TheVariants.{Absent as absent, Ambiguous as ambiguous, Column as found}
 
 -- ---- what needs no operand
 

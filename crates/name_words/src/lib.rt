@@ -2,7 +2,11 @@
 #![tactic(auto)]
 
 mod answer;
-mod laws;
+mod need;
+mod scope;
+mod trace;
 
 pub use answer::{Break, Resolved};
-pub use laws::{a_table_is_a_source_of_its_columns, broken_queries_have_their_breaks};
+pub use need::{Gives, Need};
+pub use scope::{Found, FoundColumn, Scope, ScopeColumn};
+pub use trace::Trace;

@@ -1,0 +1,42 @@
+-- Words on what a name means in one scope.
+use Rattle.std.specs.Prelude.{ℕ, Bool, cond, List, [], ◌∷◌, Option, Some, None}
+use mathlib.Core.List.{reverse}
+use Rattle.perm_values.specs.declared.kind.Kind.{Kind}
+use Rattle.name_words.specs.Scopes.{Placed, place_among, ungrouped}
+use Rattle.name_words.specs.declared.scope.Found.{Found}
+use Rattle.name_words.specs.declared.scope.Found.TheVariants.{Absent, Ambiguous, Column}
+use Rattle.name_words.specs.declared.scope.Scope.{Scope}
+use Rattle.name_seen.specs.declared.named.Named.{Named}
+use Rattle.name_seen.specs.declared.named.Named.TheVariants.{Nowhere, Once, Often}
+
+abbrev pub named_of : List Placed → Named
+named_of [] = Nowhere
+named_of (column ∷ []) = Once column.0 column.1.kind
+named_of (column ∷ other ∷ more) = Often
+
+abbrev pub with_column : Named → ℕ → Kind → Named
+with_column Nowhere place kind = Once place kind
+with_column (Once first kind_of_first) place kind = Often
+with_column Often place kind = Often
+
+abbrev pub found_of : ℕ → Scope → Named → Found
+found_of level scope Nowhere = Absent
+found_of level scope (Once place kind) = Column (record { level = level; place = place_among scope.groups place; kind = kind })
+found_of level scope Often = Ambiguous
+
+-- a name alone is looked for further out where no column of this scope has it
+abbrev pub found_if_any : ℕ → Scope → Named → Option Found
+found_if_any level scope Nowhere = None
+found_if_any level scope (Once place kind) = Some (found_of level scope (Once place kind))
+found_if_any level scope Often = Some (found_of level scope Often)
+
+-- the scope as it is, or its rows before they are grouped
+abbrev pub here_only : Bool → Scope → Scope
+here_only bare scope = cond bare (record scope { groups = None }) scope
+
+abbrev pub innermost_bare : Bool → List Scope → List Scope
+innermost_bare bare scopes = cond bare (ungrouped scopes) scopes
+
+-- from the inside out, where the innermost comes last
+abbrev pub seen_scopes : Bool → List Scope → List Scope
+seen_scopes bare scopes = innermost_bare bare (reverse scopes)
