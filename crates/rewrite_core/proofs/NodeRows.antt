@@ -7,10 +7,10 @@ use Rattle.bag_algebra.specs.Meaning.{Database, meaning, witnesses}
 use Rattle.bag_algebra.specs.Means.{Witness, flat, good_rows}
 use Rattle.bag_algebra.specs.Outcome.{Outcome, Good, Bad, and_then, both_then, union}
 use Rattle.bag_algebra.specs.declared.query.Query.{Query}
-use Rattle.contribution.proofs.MembersByIndex.{contains-from_in}
 use Rattle.contribution.proofs.NoRowLost.{none_lost}
 use Rattle.rewrite_core.proofs.Faults.{SameFaults}
 use Rattle.rewritten.specs.Rewritten.{Beside, Rewritten}
+use Rattle.bag_algebra.proofs.MembersByIndex.{contains-from_in}
 
 -- beside each of its lists each row is there, and nothing else is
 pub record Flattened (lists : Row → List Witness) (us vs : Bag) : Type 0 where
