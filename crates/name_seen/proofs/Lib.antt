@@ -1,2 +1,6 @@
+mod AnyColumns
 mod Levels
 mod Matches
+pub mod OperandLists
+mod OperatorRows
+pub mod SeenAs

@@ -18,7 +18,7 @@ with-behind false [] column = refl
 with-behind false (first ∷ []) column = refl
 with-behind false (first ∷ other ∷ more) column = refl
 
-filtered-more : (p : Placed → Bool) (columns : List ScopeColumn) (place : ℕ) (column : ScopeColumn) → place < length columns
+pub filtered-more : (p : Placed → Bool) (columns : List ScopeColumn) (place : ℕ) (column : ScopeColumn) → place < length columns
     → column ≡ get_or columns place column
     → filter p (take (place + 1) (enumerate_from 0 columns)) ≡ filter p (take place (enumerate_from 0 columns)) ++ cond (p (place, column)) ((place, column) ∷ []) []
 filtered-more p columns place column within e =

@@ -67,7 +67,7 @@ fn found_at(scope: &Scope, level: usize, bare: bool, named: Named) -> Found
 }
 
 /// Where a column stands in the rows of its core.
-fn place_among(scope: &Scope, bare: bool, place: usize) -> Option<usize>
+pub(crate) fn place_among(scope: &Scope, bare: bool, place: usize) -> Option<usize>
     ensures { result ≡ place_among (here_only bare scope.now).groups place }
 {
     if bare {

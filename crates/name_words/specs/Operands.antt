@@ -32,19 +32,26 @@ operand here need part = record { at = part.at; need = need; meant = part.means 
 abbrev pub seen_of : Operand → Option Kind
 seen_of o = seen_kind o.meant
 
+-- an operand at this offset, of this kind, behind operands united to `so_far`, and what is found of those behind it
+abbrev pub unfit_from : Need → ℕ → Option Kind → Option Kind → (Option Kind → Option ℕ) → Option ℕ
+unfit_from (of_kind kind) at found so_far behind = cond (unites (Some kind) found) (behind so_far) (Some at)
+unfit_from alike at found so_far behind = cond (unites so_far found) (behind (united_kind so_far found)) (Some at)
+unfit_from free at found so_far behind = behind so_far
+
 -- the first operand, from the left, that hasn't the kind that it needs or doesn't unite with those before it
 abbrev pub first_unfit : Option Kind → List Operand → Option ℕ
 first_unfit so_far [] = None
-first_unfit so_far (o ∷ os) = elim o.need [
-  | of_kind kind ↦ cond (unites (Some kind) (seen_of o)) (first_unfit so_far os) (Some o.at)
-  | alike ↦ cond (unites so_far (seen_of o)) (first_unfit (united_kind so_far (seen_of o)) os) (Some o.at)
-  | free ↦ first_unfit so_far os
-]
+first_unfit so_far (o ∷ os) = unfit_from o.need o.at (seen_of o) so_far (λ common. first_unfit common os)
+
+abbrev pub united_from : Need → Option Kind → Option Kind → Option Kind
+united_from (of_kind kind) found behind = behind
+united_from alike found behind = united_kind found behind
+united_from free found behind = behind
 
 -- what the operands that are to be alike were united to
 abbrev pub united : List Operand → Option Kind
 united [] = None
-united (o ∷ os) = elim o.need [ of_kind kind ↦ united os | alike ↦ united_kind (seen_of o) (united os) | free ↦ united os ]
+united (o ∷ os) = united_from o.need (seen_of o) (united os)
 
 -- the kind that an operand takes, if it has none
 abbrev pub wanted_of : Kind → Need → Kind
