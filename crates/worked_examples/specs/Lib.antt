@@ -7,9 +7,6 @@ pub mod GroupRows
 pub mod IrregularTrees
 pub mod JoinRows
 pub mod LongTexts
-pub mod NamedCatalog
-pub mod NamedQueries
-pub mod NamedTrees
 pub mod Places
 pub mod Queries
 pub mod QueryTests

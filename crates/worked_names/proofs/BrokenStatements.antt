@@ -6,8 +6,8 @@ use Rattle.sql_tree.specs.declared.query.OrderKey.TheVariants.{Named as named_ke
 use Rattle.name_words.specs.Meanings.{broken}
 use Rattle.name_words.specs.Statements.{name_breaks}
 use Rattle.name_words.proofs.Equations.{tree_equations, token-given}
-use Rattle.worked_examples.specs.NamedCatalog.{contents}
-use Rattle.worked_examples.specs.NamedTrees.{name, reference, expr, column, number, text, reads, table, join, from, item, select, core, operand, key, ordered, query, defined, values}
+use Rattle.worked_names.specs.NamedCatalog.{contents}
+use Rattle.worked_names.specs.NamedTrees.{name, reference, expr, column, number, text, reads, table, join, from, item, select, core, operand, key, ordered, query, defined, values}
 use Rattle.sql_tree.specs.declared.expression.ExprBody.TheVariants as e
 use Rattle.sql_tree.specs.declared.query.SelectItem.TheVariants as i
 use Rattle.sql_tree.specs.declared.query.SetTree.TheVariants as set

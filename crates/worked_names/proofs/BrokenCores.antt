@@ -7,8 +7,8 @@ use Rattle.sql_tree.specs.declared.query.OrderKey.TheVariants.{Named as named_ke
 use Rattle.name_words.specs.Meanings.{broken}
 use Rattle.name_words.specs.Statements.{name_breaks}
 use Rattle.name_words.proofs.Equations.{tree_equations, token-given}
-use Rattle.worked_examples.specs.NamedCatalog.{contents}
-use Rattle.worked_examples.specs.NamedTrees.{name, reference, expr, column, column_of, number, text, step, reads, table, join, from, item, select, core, key, ordered, query}
+use Rattle.worked_names.specs.NamedCatalog.{contents}
+use Rattle.worked_names.specs.NamedTrees.{name, reference, expr, column, column_of, number, text, step, reads, table, join, from, item, select, core, key, ordered, query}
 use Rattle.sql_tree.specs.declared.expression.ExprBody.TheVariants as e
 use Rattle.sql_tree.specs.declared.query.SelectItem.TheVariants as i
 use Rattle.sql_tree.specs.declared.source.FromSource.TheVariants as source

@@ -10,9 +10,9 @@ use Rattle.bag_algebra.specs.declared.query.Query.TheBlock.{shape-the_row-Query-
 use Rattle.name_words.specs.Froms.{names_of}
 use Rattle.name_words.specs.Statements.{query_meant, columns_of}
 use Rattle.name_words.proofs.Equations.{tree_equations, token-given}
-use Rattle.worked_examples.specs.NamedCatalog.{contents, read_r, read_s, a_of_r, provenance_names, table_r_read, table_t_read}
-use Rattle.worked_examples.specs.NamedTrees.{name, expr, column, column_of, number, reads, table, join, from, item, select, core, query}
-use Rattle.worked_examples.specs.NamedQueries.{one_over, yes}
+use Rattle.worked_names.specs.NamedCatalog.{contents, read_r, read_s, a_of_r, provenance_names, table_r_read, table_t_read}
+use Rattle.worked_names.specs.NamedTrees.{name, expr, column, column_of, number, reads, table, join, from, item, select, core, query}
+use Rattle.worked_names.specs.NamedQueries.{one_over, yes}
 use Rattle.sql_tree.specs.declared.expression.ExprBody.TheVariants as e
 use Rattle.sql_tree.specs.declared.query.SelectItem.TheVariants as i
 use Rattle.sql_tree.specs.declared.source.FromSource.TheVariants as source

@@ -5,8 +5,8 @@ use Rattle.bag_algebra.specs.declared.query.Query.TheBlock.{shape-the_row-Query-
 use Rattle.name_words.specs.Meanings.{broken}
 use Rattle.name_words.specs.Statements.{name_breaks}
 use Rattle.name_words.proofs.Equations.{tree_equations, token-given}
-use Rattle.worked_examples.specs.NamedCatalog.{contents}
-use Rattle.worked_examples.specs.NamedTrees.{name, expr, column, number, reads, table, from, item, select, core, operand, query}
+use Rattle.worked_names.specs.NamedCatalog.{contents}
+use Rattle.worked_names.specs.NamedTrees.{name, expr, column, number, reads, table, from, item, select, core, operand, query}
 use Rattle.sql_tree.specs.declared.expression.ExprBody.TheVariants as e
 use Rattle.sql_tree.specs.declared.query.SetTree.TheVariants as set
 use Rattle.sql_tree.specs.declared.query.SetWord.TheVariants as set_word

@@ -7,8 +7,8 @@ use Rattle.name_words.specs.Meanings.{QueryMeant, broken, is_whole}
 use Rattle.name_words.specs.declared.answer.Break.{Break}
 use Rattle.name_words.specs.Statements.{breaks, query_limits, query_meant}
 use Rattle.name_words.proofs.Equations.{tree_equations, token-given}
-use Rattle.worked_examples.specs.NamedCatalog.{contents}
-use Rattle.worked_examples.specs.NamedTrees.{name, expr, column, number, reads, table, from, item, select, core, query, statement}
+use Rattle.worked_names.specs.NamedCatalog.{contents}
+use Rattle.worked_names.specs.NamedTrees.{name, expr, column, number, reads, table, from, item, select, core, query, statement}
 use Rattle.sql_tree.specs.declared.expression.ExprBody.TheVariants as e
 use Rattle.sql_tree.specs.declared.query.SelectItem.TheVariants as i
 use Rattle.sql_tree.specs.declared.source.FromSource.TheVariants as source

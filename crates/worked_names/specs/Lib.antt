@@ -1,0 +1,3 @@
+pub mod NamedCatalog
+pub mod NamedQueries
+pub mod NamedTrees
