@@ -1,8 +1,10 @@
 -- Outcomes that are bad alike: what looks at every item meets the faults of the items, however often each comes.
-use Rattle.std.proofs.Common.{◌≡◌, List, [], ◌∷◌, ◌++◌, refl, sym, ap, ◌∙◌, subst, subst₂}
+use Rattle.std.proofs.Common.{◌≡◌, cond, List, [], ◌∷◌, ◌++◌, refl, sym, ap, ◌∙◌, subst, subst₂}
 use Rattle.std.specs.Prelude.{⊤}
+use Rattle.perm_values.specs.declared.value.Value.{Value}
 use Rattle.bag_algebra.proofs.Members.{IsIn}
 use Rattle.bag_algebra.specs.Bags.{Row}
+use Rattle.bag_algebra.specs.Means.{holds_of, kept}
 use Rattle.bag_algebra.specs.Outcome.{Faults, Outcome, Good, Bad, mapped, both, gather, each}
 use Rattle.contribution.proofs.SetsOfRows.{SetAgree, set_agree-refl, set_bad, gather-matched}
 
@@ -27,6 +29,25 @@ mapped-same_faults make remake (Good x) (Good z) same = tt
 mapped-same_faults make remake (Good x) (Bad g) same = same
 mapped-same_faults make remake (Bad f) (Good z) same = same
 mapped-same_faults make remake (Bad f) (Bad g) same = same
+
+pub same_faults-then : {X Y Z : Type 0} (make : Y → Z) (o : Outcome X) (s : Outcome Y) → SameFaults o s → SameFaults o (mapped make s)
+same_faults-then make (Good x) (Good y) same = tt
+same_faults-then make (Good x) (Bad g) same = same
+same_faults-then make (Bad f) (Good y) same = same
+same_faults-then make (Bad f) (Bad g) same = same
+
+-- what is mapped to something good is good
+pub good-mapped : {X Y : Type 0} (make : X → Y) (o : Outcome X) (y : Y) → mapped make o ≡ Good y → (x : X) × (o ≡ Good x) × (make x ≡ y)
+good-mapped {X} {Y} make (Good x) y e = (x, refl, same_good e) where
+  same_good : {a b : Y} → Good a ≡ Good b → a ≡ b
+  same_good e = cc
+good-mapped make (Bad f) y e = absurd (cc e)
+
+-- a condition that comes to the same on two rows is bad alike on both
+pub kept-alike : (condition other : Row → Outcome Value) (u x : Row) → other x ≡ condition u → SameFaults (kept condition u) (kept other x)
+kept-alike condition other u x same =
+    subst (λ o. SameFaults (kept condition u) (mapped (λ v. cond (holds_of v) (x ∷ []) []) o)) (sym same)
+    (same_faults-mapped (λ v. cond (holds_of v) (u ∷ []) []) (λ v. cond (holds_of v) (x ∷ []) []) (condition u))
 
 -- ---- an outcome's faults, without what it gives
 

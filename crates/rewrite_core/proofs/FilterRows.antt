@@ -1,5 +1,5 @@
 -- The condition of a selection over a rewriting of its input is a rewriting of the selection.
-use Rattle.std.proofs.Common.{◌≡◌, ◌↔◌, true, List, [], ◌∷◌, ◌++◌, cond, Contains, sym, ap, ◌∙◌, subst, append-nil}
+use Rattle.std.proofs.Common.{◌≡◌, ◌↔◌, true, List, [], ◌∷◌, ◌++◌, Contains, sym, ap, ◌∙◌, subst, append-nil}
 use Rattle.perm_values.specs.declared.kind.Kind.{Kind}
 use Rattle.perm_values.specs.declared.kind.Kind.TheVariants.{Boolean}
 use Rattle.perm_values.specs.declared.value.Value.{Value}
@@ -9,8 +9,8 @@ use Rattle.bag_algebra.specs.BuiltForms.{Filter_alone-is}
 use Rattle.bag_algebra.specs.Fits.{TablesFit, env_fits}
 use Rattle.bag_algebra.specs.Kinds.{kinds_of, place_kinds, shape}
 use Rattle.bag_algebra.specs.Meaning.{Database, meaning, witnesses, condition_on}
-use Rattle.bag_algebra.specs.Means.{Witness, flat, good_rows, holds_of, is_met, kept, no_subs}
-use Rattle.bag_algebra.specs.Outcome.{Outcome, Good, and_then, gather, mapped}
+use Rattle.bag_algebra.specs.Means.{Witness, flat, good_rows, is_met, kept, no_subs}
+use Rattle.bag_algebra.specs.Outcome.{Outcome, Good, and_then, gather}
 use Rattle.bag_algebra.specs.Patterns.{FilterOf, ProvOf}
 use Rattle.bag_algebra.specs.Rewriting.{IsRewrite, SameSet}
 use Rattle.bag_algebra.specs.TablesRead.{EachTable, tables_read}
@@ -24,7 +24,7 @@ use Rattle.contribution.proofs.JoinMembers.{in-gather, in-kept}
 use Rattle.contribution.proofs.LongerKinds.{has_kind-longer}
 use Rattle.contribution.specs.Fitting.{Fitting}
 use Rattle.query_parts.proofs.NodeQueries.{meaning-chosen, formed-chosen, plain-chosen}
-use Rattle.rewrite_core.proofs.Faults.{SameFaults, same_faults-mapped, gather-bad_alike}
+use Rattle.rewrite_core.proofs.Faults.{SameFaults, kept-alike, gather-bad_alike}
 use Rattle.rewrite_core.proofs.NodeRows.{Flattened, flattened, stands_beside, Made, rewritten-over}
 use Rattle.rewrite_core.proofs.RowColumns.{names-more, row-begins}
 use Rattle.rewrite_core.proofs.RuleRows.{beside-from_rewrite, rows-from_beside}
@@ -61,9 +61,7 @@ module _ (q r : Query) (condition : Expr) (given : IsRewrite q r) where
           (columns-added (kinds_of q) outer t (flat w) env (row-begins outer q db env input-fits us good t i)) db end_of-Sublink condition [] tt formed.condition)
 
       alike : (t : Row) (w : Witness) → IsIn t us → SameFaults (kept on t) (kept on (t ++ flat w))
-      alike t w i =
-          subst (λ o. SameFaults (kept on t) (mapped (λ v. cond (holds_of v) ((t ++ flat w) ∷ []) []) o)) (sym (on-longer t w i))
-          (same_faults-mapped (λ v. cond (holds_of v) (t ∷ []) []) (λ v. cond (holds_of v) ((t ++ flat w) ∷ []) []) (on t))
+      alike t w i = kept-alike on on t (t ++ flat w) (on-longer t w i)
 
       beside_rows : Flattened (witnesses q db env) us vs
       beside_rows = flattened (witnesses q db env) us vs b

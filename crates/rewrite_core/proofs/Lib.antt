@@ -3,6 +3,8 @@ pub mod Closing
 pub mod DistinctRows
 pub mod Faults
 pub mod FilterRows
+pub mod JoinColumns
+pub mod JoinRows
 pub mod NodeRows
 pub mod ProjectRows
 pub mod RowColumns

@@ -33,7 +33,7 @@ use Rattle.query_parts.proofs.ColumnQueries.{column_items-formed, column_items-k
 use Rattle.query_parts.proofs.NodeQueries.{meaning-projected, formed-projected, plain-projected}
 use Rattle.query_parts.proofs.Padding.{items-append, kinds-append}
 use Rattle.query_parts.specs.ItemKinds.{item_kinds}
-use Rattle.rewrite_core.proofs.Faults.{SameFaults, same_faults-made, each-bad_alike}
+use Rattle.rewrite_core.proofs.Faults.{SameFaults, same_faults-made, each-bad_alike, good-mapped}
 use Rattle.rewrite_core.proofs.NodeRows.{Flattened, flattened, stands_beside, Made, rewritten-over}
 use Rattle.rewrite_core.proofs.RowColumns.{behind, names-more, places_in-range, row-begins, row-width, list-width, width-rewriting, width-provenance}
 use Rattle.rewrite_core.proofs.RuleRows.{beside-from_rewrite, rows-from_beside}
@@ -64,12 +64,6 @@ module _ {X : Type 0} (f : X → Outcome Row) where
   in-each t x [] all e i g = absurd i
   in-each t x (y ∷ xs) all e (inl same) g = in-made t y (each f xs) all e (ap f same ∙ g)
   in-each t x (y ∷ xs) all e (inr i) g = in-later t (f y) (each f xs) all e (λ us h. in-each t x xs us h i g)
-
-good-mapped : {X Y : Type 0} (make : X → Y) (o : Outcome X) (y : Y) → mapped make o ≡ Good y → (x : X) × (o ≡ Good x) × (make x ≡ y)
-good-mapped {X} {Y} make (Good x) y e = (x, refl, same_good e) where
-  same_good : {a b : Y} → Good a ≡ Good b → a ≡ b
-  same_good e = cc
-good-mapped make (Bad f) y e = absurd (cc e)
 
 mapped-first : (behind : Row) (o : Outcome Value) (s : Outcome Row) →
     both (λ v vs. v ∷ vs) o (mapped (λ t. t ++ behind) s) ≡ mapped (λ t. t ++ behind) (both (λ v vs. v ∷ vs) o s)

@@ -1,1 +1,2 @@
+pub mod JoinColumns
 pub mod ProvenanceColumns

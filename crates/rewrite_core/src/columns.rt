@@ -1,11 +1,16 @@
-//! Places of columns, in order.
-ghost use Rattle.std.specs.Prelude.{◌≡◌, ◌-◌, ◌++◌, IfOk, OnOk};
+//! Places of columns, and the columns of a query at places.
+ghost use Rattle.std.specs.Prelude.{◌≡◌, ◌-◌, ◌++◌, ◌<◌, ◌^◌, [], IfOk, OnOk};
 ghost use Rattle.std.specs.List.{range_with_len};
-ghost use Rattle.bag_algebra.specs.Kinds.{width_of};
+ghost use Rattle.bag_algebra.specs.ColumnItems.{column_items};
+ghost use Rattle.bag_algebra.specs.EveryNode.{no_open_sublink};
+ghost use Rattle.bag_algebra.specs.Kinds.{kinds_of, width_of};
+ghost use Rattle.bag_algebra.specs.Patterns.{ProjectOf};
+ghost use Rattle.bag_algebra.specs.declared.query.Query.{end_of-Sublink};
 
-use bag_algebra::Query;
+use bag_algebra::{Item, Query};
 use contribution::kinds;
 use perm_values::{List, NoMemory};
+use query_parts::{column_items, projection};
 use std::alloc::Global;
 
 /// Adds the places from `start` on and below `end`.
@@ -20,8 +25,31 @@ pub(crate) fn add_places(places: &mut List<usize>, start: usize, end: usize) -> 
 
 /// How many columns the query has.
 pub(crate) fn column_count(alloc: Global, query: &Query) -> Result<usize, NoMemory>
-    ensures { IfOk result (λ count. count ≡ width_of query.now) }
+    ensures value { IfOk result (λ count. count ≡ width_of query.now) }
+    ensures bound { IfOk result (λ count. count < 2 ^ 63) }
 {
     let columns = kinds(alloc, query)?;
     Ok(columns.len())
+}
+
+/// A projection of the query to its columns at those places. `regroup` asks that the places are in range, which a rule
+/// knows only where its node is well formed.
+pub(crate) fn arranged(alloc: Global, query: Query, order: &[usize]) -> Result<Query, NoMemory>
+    ensures made { IfOk result (λ p. p ≡ ProjectOf query (column_items (kinds_of query) order.now) [] end_of-Sublink) }
+    ensures closed { IfOk result (λ p. no_open_sublink p ≡ no_open_sublink query) }
+{
+    let items = columns_at(alloc, &query, order)?;
+    projection(alloc, query, items)
+}
+
+/// The query's columns at those places; one out of range counts as a text.
+pub(crate) fn columns_at(
+    alloc: Global,
+    query: &Query,
+    order: &[usize],
+) -> Result<List<Item>, NoMemory>
+    ensures { IfOk result (λ items. items ≡ column_items (kinds_of query.now) order.now) }
+{
+    let columns = kinds(alloc, query)?;
+    column_items(alloc, columns.as_slice(), order)
 }

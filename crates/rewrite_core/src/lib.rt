@@ -2,8 +2,10 @@
 #![tactic(auto)]
 
 mod columns;
+mod joins;
 mod nodes;
 mod sources;
 
+pub use joins::join;
 pub use nodes::{distinct, filter, project};
 pub use sources::base;

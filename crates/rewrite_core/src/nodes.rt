@@ -5,11 +5,10 @@ ghost use Rattle.bag_algebra.specs.Rewriting.{IsRewrite};
 ghost use Rattle.bag_algebra.specs.declared.query.Query.TheVariants.{Distinct, Filter, Project};
 ghost use Rattle.rewrite_core.specs.ProvenanceColumns.{provenance_items};
 
-use crate::columns::{add_places, column_count};
+use crate::columns::{add_places, column_count, columns_at};
 use bag_algebra::{Expr, Item, Query};
-use contribution::kinds;
 use perm_values::{Copyable, List, NoMemory};
-use query_parts::{column_items, filtered, projection};
+use query_parts::{filtered, projection};
 use std::alloc::Global;
 
 /// A rewriting of the input's distinct rows: that of the input, since how often a row stands in a rewriting is free. It
@@ -79,8 +78,8 @@ fn provenance_items(alloc: Global, input: &Query, rewriting: &Query) -> Result<L
     ensures { IfOk result (λ items. items ≡ provenance_items input.now rewriting.now) }
 {
     let start = column_count(alloc, input)?;
-    let columns = kinds(alloc, rewriting)?;
+    let end = column_count(alloc, rewriting)?;
     let mut order = List::new(alloc);
-    add_places(&mut order, start, columns.len())?;
-    column_items(alloc, columns.as_slice(), order.as_slice())
+    add_places(&mut order, start, end)?;
+    columns_at(alloc, rewriting, order.as_slice())
 }

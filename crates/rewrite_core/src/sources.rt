@@ -4,26 +4,23 @@ ghost use Rattle.std.specs.List.{range_with_len};
 ghost use Rattle.bag_algebra.specs.EveryNode.{no_open_sublink};
 ghost use Rattle.bag_algebra.specs.Kinds.{width_of};
 ghost use Rattle.bag_algebra.specs.Rewriting.{IsRewrite, Stands};
-ghost use Rattle.bag_algebra.specs.WellFormed.{PlacesIn};
 ghost use Rattle.bag_algebra.specs.declared.query.Label.{Label as Named};
 ghost use Rattle.bag_algebra.specs.declared.query.Query.TheVariants.{Base};
 ghost use Rattle.bag_algebra.specs.declared.query.Query.{Query as Whole};
 
-use crate::columns::{add_places, column_count};
+use crate::columns::{add_places, arranged, column_count};
 use bag_algebra::Query;
 use perm_values::{List, NoMemory};
-use query_parts::regroup;
 use std::alloc::Global;
 
 /// A rewriting of the source with these places over a query for which the input stands: the input's columns, and then those
 /// at the places. It has an open sublink only where the input has one, and fails only for want of memory.
 pub fn base(alloc: Global, input: Query, places: &[usize]) -> Result<Query, NoMemory>
-    requires { PlacesIn (width_of input) places.now }
     ensures rewrites { IfOk result (λ p. (q : Whole) (label : Named) → Stands q input → IsRewrite (Base q places.now label) p) }
     ensures closed { IsTrue (no_open_sublink input) → IfOk result (λ p. IsTrue (no_open_sublink p)) }
 {
     let order = columns_and(alloc, &input, places)?;
-    regroup(alloc, input, order.as_slice())
+    arranged(alloc, input, order.as_slice())
 }
 
 /// The places of all columns of the query, and then those.

@@ -1,0 +1,144 @@
+//! The rule of joins.
+ghost use Rattle.std.specs.Prelude.{◌≡◌, ◌&&◌, ◌++◌, [], IfOk, IsTrue};
+ghost use Rattle.bag_algebra.specs.EveryNode.{no_open_sublink};
+ghost use Rattle.bag_algebra.specs.Kinds.{width_of};
+ghost use Rattle.bag_algebra.specs.Rewriting.{IsRewrite};
+ghost use Rattle.bag_algebra.specs.declared.query.Query.TheVariants.{Join};
+ghost use Rattle.query_parts.specs.MovedColumns.{IsMoved};
+ghost use Rattle.rewrite_core.specs.JoinColumns.{own_places, added_places, IsPaired, IsLaidOut};
+
+use crate::columns::{add_places, arranged, column_count};
+use bag_algebra::{Expr, JoinKind, Query};
+use perm_values::{List, NoMemory};
+use query_parts::{joined, moved};
+use std::alloc::Global;
+
+/// A rewriting of a join of any kind on a condition without sublinks: that join of the rewritings, on the condition with its
+/// columns at their places there, and then the columns of the join before those of provenance, the left ones first. It
+/// has an open sublink only where one of the rewritings has one, and fails only for want of memory.
+pub fn join(
+    alloc: Global,
+    kind: JoinKind,
+    left: &Query,
+    left_rewriting: Query,
+    right: &Query,
+    right_rewriting: Query,
+    condition: &Expr,
+) -> Result<Query, NoMemory>
+    requires left { IsRewrite left.now left_rewriting }
+    requires right { IsRewrite right.now right_rewriting }
+    ensures rewrites { IfOk result (λ p. IsRewrite (Join kind left.now right.now condition.now []) p) }
+    ensures closed { IsTrue (no_open_sublink left_rewriting) → IsTrue (no_open_sublink right_rewriting) →
+        IfOk result (λ p. IsTrue (no_open_sublink p)) }
+{
+    let order = all_columns(alloc, left, &left_rewriting, right, &right_rewriting)?;
+    laid_out(
+        alloc,
+        kind,
+        left,
+        left_rewriting,
+        right,
+        right_rewriting,
+        condition,
+        order.as_slice(),
+    )
+}
+
+/// The join of the rewritings with its columns in that order.
+fn laid_out(
+    alloc: Global,
+    kind: JoinKind,
+    left: &Query,
+    left_rewriting: Query,
+    right: &Query,
+    right_rewriting: Query,
+    condition: &Expr,
+    order: &[usize],
+) -> Result<Query, NoMemory>
+    ensures made { IfOk result (λ p. IsLaidOut kind left.now left_rewriting right.now right_rewriting condition.now order.now p) }
+    ensures closed { IsTrue (no_open_sublink left_rewriting) → IsTrue (no_open_sublink right_rewriting) →
+        IfOk result (λ p. IsTrue (no_open_sublink p)) }
+{
+    let pairs = paired(
+        alloc,
+        kind,
+        left,
+        left_rewriting,
+        right,
+        right_rewriting,
+        condition,
+    )?;
+    arranged(alloc, pairs, order)
+}
+
+/// The join of the rewritings on the condition over their columns.
+fn paired(
+    alloc: Global,
+    kind: JoinKind,
+    left: &Query,
+    left_rewriting: Query,
+    right: &Query,
+    right_rewriting: Query,
+    condition: &Expr,
+) -> Result<Query, NoMemory>
+    ensures made { IfOk result (λ p. IsPaired kind left.now left_rewriting right.now right_rewriting condition.now p) }
+    ensures closed { IfOk result (λ p. no_open_sublink p ≡ (no_open_sublink left_rewriting && no_open_sublink right_rewriting)) }
+{
+    let condition = over_rewritings(alloc, left, &left_rewriting, right, condition)?;
+    joined(alloc, kind, left_rewriting, right_rewriting, condition)
+}
+
+/// The condition on the columns of the inputs, where they stand in the pairs of rows of the rewritings.
+fn over_rewritings(
+    alloc: Global,
+    left: &Query,
+    left_rewriting: &Query,
+    right: &Query,
+    condition: &Expr,
+) -> Result<Expr, NoMemory>
+    ensures { IfOk result (λ made.
+        IsMoved (own_places (width_of left.now) (width_of left_rewriting.now) (width_of right.now)) condition.now made) }
+{
+    let own = own_columns(alloc, left, left_rewriting, right)?;
+    moved(alloc, condition, own.as_slice())
+}
+
+/// The places of the columns of the inputs in the pairs of rows of the rewritings.
+fn own_columns(
+    alloc: Global,
+    left: &Query,
+    left_rewriting: &Query,
+    right: &Query,
+) -> Result<List<usize>, NoMemory>
+    ensures { IfOk result (λ order. order ≡ own_places (width_of left.now) (width_of left_rewriting.now) (width_of right.now)) }
+{
+    let mut order = List::new(alloc);
+    let left_width = column_count(alloc, left)?;
+    add_places(&mut order, 0, left_width)?;
+    let start = column_count(alloc, left_rewriting)?;
+    let right_width = column_count(alloc, right)?;
+    add_places(&mut order, start, start + right_width)?;
+    Ok(order)
+}
+
+/// The places of the columns of the inputs, and then of those of provenance.
+fn all_columns(
+    alloc: Global,
+    left: &Query,
+    left_rewriting: &Query,
+    right: &Query,
+    right_rewriting: &Query,
+) -> Result<List<usize>, NoMemory>
+    ensures { IfOk result (λ order. order ≡
+        own_places (width_of left.now) (width_of left_rewriting.now) (width_of right.now)
+        ++ added_places (width_of left.now) (width_of left_rewriting.now) (width_of right.now) (width_of right_rewriting.now)) }
+{
+    let mut order = own_columns(alloc, left, left_rewriting, right)?;
+    let left_width = column_count(alloc, left)?;
+    let left_end = column_count(alloc, left_rewriting)?;
+    let right_width = column_count(alloc, right)?;
+    let right_end = column_count(alloc, right_rewriting)?;
+    add_places(&mut order, left_width, left_end)?;
+    add_places(&mut order, left_end + right_width, left_end + right_end)?;
+    Ok(order)
+}
