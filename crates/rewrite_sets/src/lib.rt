@@ -1,0 +1,7 @@
+//! The rules that rewrite a node to a plain query with the rows of their PROVENANCE.
+#![tactic(auto)]
+
+mod nodes;
+mod rules;
+
+pub use rules::limit;

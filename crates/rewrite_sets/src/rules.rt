@@ -1,0 +1,27 @@
+//! The rules.
+ghost use Rattle.std.specs.Prelude.{IfOk};
+ghost use Rattle.bag_algebra.specs.Rewriting.{IsRewrite, Stands};
+ghost use Rattle.bag_algebra.specs.declared.query.Query.TheVariants.{Limit};
+ghost use Rattle.bag_algebra.specs.declared.query.Query.{Query as Node};
+
+use crate::nodes::{limited, matched};
+use bag_algebra::Query;
+use joined_rewritings::exact_width;
+use perm_values::{Key, NoMemory};
+use std::alloc::Global;
+
+/// A rewriting of the first rows, as many at most, of what the input stands for: the first rows of the input, each beside
+/// the rewriting's rows that begin with it. It fails only for want of memory.
+pub fn limit(
+    alloc: Global,
+    input: &Query,
+    rewriting: Query,
+    keys: &[Key],
+    count: u64,
+) -> Result<Query, NoMemory>
+    ensures rewrites { IfOk result (λ p. (q : Node) → Stands q input.now → IsRewrite q rewriting → IsRewrite (Limit q keys.now count) p) }
+{
+    let columns = exact_width(input)?;
+    let plain = limited(alloc, input, keys, count)?;
+    matched(alloc, plain, rewriting, columns, columns)
+}
