@@ -1,7 +1,7 @@
 -- The numbers of classes, one row after another.
 use Rattle.std.proofs.Common.{◌≡◌, ◌≢◌, ℕ, zero, suc, ◌<◌, ◌≤◌, Bool, true, false, cond, nat_eq, ◌||◌, List, [], ◌∷◌, ◌++◌, map, length, get_or, Some, refl, sym, ap, subst, ◌∙◌, arith, true≢false}
 use Rattle.std.proofs.lemmas.Bool.Decides.{nat_tests}
-use Rattle.std.proofs.lemmas.List.{map-append, length-map}
+use Rattle.std.proofs.lemmas.List.{map-append}
 use Rattle.std.proofs.lemmas.Option.{slice_get_within}
 use Rattle.std.specs.List.{list_any, slice_get}
 use Rattle.indexmap.specs.IndexSet.{insert_key}
@@ -54,9 +54,6 @@ still_found f keys new b (n ∷ numbers) (u ∷ us) e =
     let rest = still_found f keys new b numbers us (same_tail _ _ _ _ e) in
     λ i. here i ∷ rest i
 
-pub classed-none : (groups : List ℕ) (keys : Bag) → keys ≡ class_keys groups [] → IsClassed groups [] keys []
-classed-none groups keys e = record { classes = e; found = refl }
-
 pub classed-more : (groups : List ℕ) (us : Bag) (keys new : Bag) (numbers : List ℕ) (u : Row) (number : ℕ) → IsClassed groups us keys numbers →
     new ≡ insert_key same_row keys (picked groups u) → ((k : Row) × (slice_get new number ≡ Some k) × (same_row (picked groups u) k ≡ true)) →
     IsClassed groups (us ++ u ∷ []) new (numbers ++ number ∷ [])
@@ -75,10 +72,6 @@ classed-more groups us keys new numbers u number c e stored = record {
     here = stored.1 ∙ ap Some (sym (same_row-is (picked groups u) stored.0 stored.2))
 
 -- ---- numbers are those of keys
-
-pub numbers_long : (groups : List ℕ) (us keys : Bag) (numbers : List ℕ) → IsClassed groups us keys numbers → length numbers ≡ length us
-numbers_long groups us keys numbers c =
-    sym (length-map numbers (slice_get keys)) ∙ ap length c.found ∙ length-map us (λ u. Some (picked groups u))
 
 pub numbers_within : (groups : List ℕ) (us keys : Bag) (numbers : List ℕ) → IsClassed groups us keys numbers → (i d : ℕ) → i < length numbers → get_or numbers i d < length keys
 numbers_within groups us keys numbers c = each numbers us c.found

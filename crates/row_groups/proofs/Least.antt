@@ -1,14 +1,13 @@
 -- The least value, or the greatest, is looked for from the right.
 use Rattle.std.proofs.Common.{◌≡◌, ℕ, ◌+◌, ◌-◌, ◌<◌, ◌≤◌, Bool, true, false, cond, not, ◌&&◌, ◌||◌, nat_le, List, [], ◌∷◌, length, drop, ◌⊎◌, inl, inr, is_gt, refl, sym, ap, subst, ◌∙◌, arith}
 use Rattle.std.proofs.lemmas.Bool.Decides.{nat_tests}
-use Rattle.std.proofs.Math.ListN.{drop_of_length-le}
-use Rattle.std.proofs.lemmas.List.{drop_more, get_or_past}
+use Rattle.std.proofs.lemmas.List.{drop_more}
 use Rattle.null_logic.specs.Comparison.{is_null}
 use Rattle.perm_values.specs.Rows.{value_at}
 use Rattle.perm_values.specs.declared.value.Value.{Value}
 use Rattle.perm_values.specs.declared.value.Value.TheVariants.{Null}
 use Rattle.bag_algebra.specs.Bags.{sorted, placed}
-use Rattle.bag_algebra.specs.Means.{present, first_or_null}
+use Rattle.bag_algebra.specs.Means.{present}
 use Rattle.row_groups.specs.Foremost.{order_of, takes_over}
 
 at_most : (a b : ℕ) → a ≤ b → nat_le a b ≡ true
@@ -28,25 +27,11 @@ Leads vs best order = ((length vs ≤ best) × (order ≡ [])) ⊎ ((best < leng
 pub record IsForemost (greatest : Bool) (vs : List Value) (start best : ℕ) : Type 0 where
   pub leads : Leads vs best (ranked greatest vs start)
 
-pub at_end : (greatest : Bool) (vs : List Value) (start : ℕ) → length vs ≤ start → IsForemost greatest vs start (length vs)
-at_end greatest vs start h = record { leads = inl (omega arith, ap (λ l. sorted (order_of greatest) (present l)) (drop_of_length-le vs h)) }
-
-pub is_first : (greatest : Bool) (vs : List Value) (best : ℕ) → IsForemost greatest vs 0 best →
-    value_at vs best ≡ first_or_null (sorted (order_of greatest) (present vs))
-is_first greatest vs best h =
-    elim h.leads [
-      | inl p ↦ get_or_past vs best Null p.0 ∙ ap first_or_null (sym p.1)
-      | inr p ↦ ap first_or_null (sym p.1.1)
-    ]
-
 -- one value more at the front
 pub one_more : (greatest : Bool) (vs : List Value) (at best : ℕ) → at < length vs → IsForemost greatest vs (at + 1) best →
     IsForemost greatest vs at (cond (takes_over greatest vs at best) at best)
 one_more greatest vs at best low h = record { leads = by (is_null (value_at vs at)) refl h.leads }
   where
-    behind : List Value
-    behind = present (drop (at + 1) vs)
-
     front : (n : Bool) → is_null (value_at vs at) ≡ n →
         ranked greatest vs at ≡ sorted (order_of greatest) (cond (not n) (value_at vs at ∷ present (drop (at + 1) vs)) (present (drop (at + 1) vs)))
     front n e =

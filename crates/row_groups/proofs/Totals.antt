@@ -47,13 +47,6 @@ total-taken vs i v low is = ap total (taken vs i v low is) ∙ total-more (take 
 
 -- ---- the sum of the values that are present
 
-pub sum-none : (vs : List Value) → length (present vs) ≡ 0 → sum_of (present vs) ≡ Good Null
-sum-none vs e = by (present vs) e
-  where
-    by : (ws : List Value) → length ws ≡ 0 → sum_of ws ≡ Good Null
-    by [] e = refl
-    by (w ∷ ws) e = absurd (omega arith)
-
 pub sum-some : (vs : List Value) → length (present vs) ≢ 0 → sum_of (present vs) ≡ cond (fits_64 (total vs)) (Good (Integer (total vs))) (Bad (only OutOfRange))
 sum-some vs some = by (present vs) some ∙ ap (λ z. cond (fits_64 z) (Good (Integer z)) (Bad (only OutOfRange))) (total-present vs)
   where
@@ -90,9 +83,6 @@ same_ref r s = same_value r.now s.now
 -- the keys are the values, each once
 abbrev pub Held : List (Bor Value) → List Value → Type 0
 Held keys vs = map (λ (r : Bor Value). r.now) keys ≡ once_each vs
-
-pub held_none : Held [] []
-held_none = refl
 
 pub held_more : (keys : List (Bor Value)) (vs : List Value) (r : Bor Value) → Held keys vs → Held (insert_key same_ref keys r) (vs ++ r.now ∷ [])
 held_more keys vs r h = by (list_any (same_ref r) keys) refl ∙ sym (once_each_more vs r.now)
