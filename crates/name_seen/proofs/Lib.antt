@@ -1,4 +1,5 @@
 mod AnyColumns
+mod Arms
 mod Levels
 mod Matches
 pub mod OperandLists

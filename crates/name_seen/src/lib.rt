@@ -7,7 +7,9 @@ mod named;
 mod needs;
 mod operands;
 mod scopes;
+mod standing;
 mod stars;
 
 pub use scopes::look_up;
+pub use standing::Standing;
 pub use stars::{star, table_star};
