@@ -1,2 +1,3 @@
+pub mod IntersectRows
 pub mod LimitRows
 pub mod Matched

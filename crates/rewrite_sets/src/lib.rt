@@ -1,7 +1,8 @@
 //! The rules that rewrite a node to a plain query with the rows of their PROVENANCE.
 #![tactic(auto)]
 
+mod columns;
 mod nodes;
 mod rules;
 
-pub use rules::limit;
+pub use rules::{intersect, limit};

@@ -1,9 +1,10 @@
 //! The rules.
 ghost use Rattle.std.specs.Prelude.{IfOk};
 ghost use Rattle.bag_algebra.specs.Rewriting.{IsRewrite, Stands};
-ghost use Rattle.bag_algebra.specs.declared.query.Query.TheVariants.{Limit};
+ghost use Rattle.bag_algebra.specs.declared.query.Query.TheVariants.{Intersect, Limit};
 ghost use Rattle.bag_algebra.specs.declared.query.Query.{Query as Node};
 
+use crate::columns::columns_of;
 use crate::nodes::{limited, matched};
 use bag_algebra::Query;
 use joined_rewritings::exact_width;
@@ -24,4 +25,27 @@ pub fn limit(
     let columns = exact_width(input)?;
     let plain = limited(alloc, input, keys, count)?;
     matched(alloc, plain, rewriting, columns, columns)
+}
+
+/// A rewriting of the rows that stand in both inputs: the rows of the left rewriting, each beside those of the right one
+/// that begin with the same row. How often a row stands in both is free, so ALL changes nothing, and the right input's
+/// rewriting says all of it. It fails only for want of memory.
+pub fn intersect(
+    alloc: Global,
+    all: bool,
+    left: &Query,
+    left_rewriting: Query,
+    right: &Query,
+    right_rewriting: Query,
+) -> Result<Query, NoMemory>
+    ensures rewrites { IfOk result (λ p. IsRewrite left.now left_rewriting → IsRewrite right.now right_rewriting → IsRewrite (Intersect all left.now right.now) p) }
+{
+    let columns = columns_of(left, &left_rewriting)?;
+    matched(
+        alloc,
+        left_rewriting,
+        right_rewriting,
+        columns.own,
+        columns.kept,
+    )
 }
