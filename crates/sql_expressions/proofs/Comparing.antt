@@ -13,7 +13,6 @@ use Rattle.sql_tree.specs.declared.expression.ExprTree.{ExprTree}
 use Rattle.sql_tree.specs.declared.query.QueryTree.{QueryTree}
 use Rattle.sql_expressions.specs.Calls.{between}
 use Rattle.sql_expressions.specs.Tails as tails
-use Rattle.sql_expressions.specs.declared.tail.Tail.{Tail}
 use Rattle.sql_expressions.specs.declared.tail.Tail.TheVariants as tail
 use Rattle.sql_grammar.proofs.Queries.{choice_of}
 use Rattle.sql_grammar.proofs.Steps.{reading-is}

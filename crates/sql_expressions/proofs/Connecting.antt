@@ -1,18 +1,42 @@
 -- Connectives as their functions read them.
-use Rattle.std.proofs.Common.{◌≡◌, List, sym, ◌∙◌}
+use Rattle.std.proofs.Common.{◌≡◌, Bool, true, false, cond, List, [], ◌∷◌, refl, sym, ◌∙◌}
+use Rattle.null_logic.specs.declared.operator.Operator.{Operator}
 use Rattle.null_logic.specs.declared.operator.Operator.TheVariants.{And, Or}
 use Rattle.sql_lexer.specs.declared.token.Token.{Token}
 use Rattle.sql_grammar.specs.Building as b
-use Rattle.sql_grammar.specs.Cursors.{reading}
-use Rattle.sql_grammar.specs.Descent.{mapped}
-use Rattle.sql_grammar.specs.Lists.{listed}
+use Rattle.sql_grammar.specs.Cursors.{reading, sees}
+use Rattle.sql_grammar.specs.Descent.{Outcome, Taken, Stopped, and_then, mapped}
+use Rattle.sql_grammar.specs.Lists.{behind, others, more_listed}
 use Rattle.sql_grammar.specs.Symbols as n
+use Rattle.sql_grammar.specs.declared.sort.Sort.{Sort}
 use Rattle.sql_grammar.specs.declared.sort.Sort.TheVariants as s
+use Rattle.sql_tree.specs.declared.expression.ExprTree.{ExprTree}
+use Rattle.sql_grammar.proofs.Listing.{all_of-done}
 use Rattle.sql_grammar.proofs.Outcomes.{fused}
 use Rattle.sql_grammar.proofs.Steps.{reading-is}
 
-pub both_is : (tokens : List Token) → reading n.Both tokens ≡ mapped (b.connected And) (listed s.And (reading n.Negated) tokens)
-both_is tokens = reading-is n.Both tokens ∙ sym (fused (b.connected And) b.items _)
+-- parts with an operator between them; one part is itself, and no list is made of it
+abbrev pub Connected : Operator → Sort → (List Token → Outcome Token ExprTree) → List Token → Outcome Token ExprTree
+Connected op separator one tokens =
+    and_then (one tokens) (λ part rest. cond (sees (separator ∷ []) rest) (mapped (b.connected op) (more_listed separator one part rest)) (Taken part rest))
 
-pub expr_is : (tokens : List Token) → reading n.Expr tokens ≡ mapped (b.connected Or) (listed s.Or (reading n.Both) tokens)
-expr_is tokens = reading-is n.Expr tokens ∙ sym (fused (b.connected Or) b.items _)
+module _ (op : Operator) (separator : Sort) (one : List Token → Outcome Token ExprTree) where
+  by_next : (part : ExprTree) (rest : List Token) (more : Bool) → sees (separator ∷ []) rest ≡ more
+      → mapped (b.logic op) (mapped (λ xs. (part, xs)) (others separator one rest))
+      ≡ cond more (mapped (b.connected op) (more_listed separator one part rest)) (Taken part rest)
+  by_next part rest true e =
+      fused (b.logic op) (λ xs. (part, xs)) (others separator one rest)
+      ∙ sym (fused (b.connected op) (λ xs. b.items (part, xs)) (others separator one rest))
+  by_next part rest false e = rw (all_of-done (separator ∷ []) (behind separator one) rest e) refl
+
+  connected_is : (o : Outcome Token ExprTree)
+      → mapped (b.logic op) (and_then o (λ part rest. mapped (λ xs. (part, xs)) (others separator one rest)))
+      ≡ and_then o (λ part rest. cond (sees (separator ∷ []) rest) (mapped (b.connected op) (more_listed separator one part rest)) (Taken part rest))
+  connected_is (Stopped rest) = refl
+  connected_is (Taken part rest) = by_next part rest (sees (separator ∷ []) rest) refl
+
+pub both_is : (tokens : List Token) → reading n.Both tokens ≡ Connected And s.And (reading n.Negated) tokens
+both_is tokens = reading-is n.Both tokens ∙ connected_is And s.And (reading n.Negated) (reading n.Negated tokens)
+
+pub expr_is : (tokens : List Token) → reading n.Expr tokens ≡ Connected Or s.Or (reading n.Both) tokens
+expr_is tokens = reading-is n.Expr tokens ∙ connected_is Or s.Or (reading n.Both) (reading n.Both tokens)

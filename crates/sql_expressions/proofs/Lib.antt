@@ -1,4 +1,6 @@
 pub mod Connecting
 pub mod Counts
+pub mod Literals
+pub mod Pairs
 pub mod Primaries
 pub mod Comparing

@@ -7,7 +7,7 @@ use Rattle.sql_expressions.specs.Calls as spelled
 use Rattle.sql_expressions.specs.Calls.{arms, primary_body}
 use Rattle.sql_grammar.specs.Cursors.{reading, past, one, place, sees}
 use Rattle.sql_grammar.specs.Descent.{Outcome, Taken, Stopped, and_then, mapped}
-use Rattle.sql_grammar.specs.Pieces.{by, word_at}
+use Rattle.sql_grammar.specs.Pieces.{word_at}
 use Rattle.sql_grammar.specs.Grammar.{plain_names}
 use Rattle.sql_grammar.specs.Symbols as n
 use Rattle.sql_grammar.specs.Tables.{begins}

@@ -1,5 +1,5 @@
 -- What stands in a primary.
-use Rattle.std.specs.Prelude.{Bool, true, false, Option, Some, None, List, [], ◌∷◌, cond}
+use Rattle.std.specs.Prelude.{Bool, true, false, Some, None, List, [], ◌∷◌, cond}
 use Rattle.sql_lexer.specs.declared.token.Token.{Token}
 use Rattle.sql_grammar.specs.Building as b
 use Rattle.sql_grammar.specs.Building.{Word}
@@ -44,6 +44,18 @@ abbrev pub between : {X : Type 0} → (List Token → Outcome Token X) → List 
 between one tokens =
     and_then (past s.Opening tokens) (λ opening first. and_then (one first) (λ x rest. mapped (λ closing. x) (past s.Closing rest)))
 
+-- what was read, where this word stands behind it
+abbrev pub ended_by : {X : Type 0} → Sort → X → List Token → Outcome Token X
+ended_by sort x tokens = mapped (λ passed. x) (past sort tokens)
+
+-- an expression before this word
+abbrev pub before : Sort → List Token → Outcome Token ExprTree
+before sort tokens = and_then (reading n.Expr tokens) (λ part rest. ended_by sort part rest)
+
+-- two expressions with this word between them
+abbrev pub pair_of : Sort → List Token → Outcome Token (ExprTree × ExprTree)
+pair_of sort tokens = and_then (before sort tokens) (λ first rest. mapped (λ second. (first, second)) (reading n.Expr rest))
+
 abbrev pub enclosed : List Token → Outcome Token ExprTree
 enclosed tokens = between (reading n.Expr) tokens
 
@@ -53,8 +65,11 @@ count_arguments tokens = between (reading n.Counted) tokens
 abbrev pub aggregate_of : Token → List Token → Outcome Token ExprBody
 aggregate_of t tokens = mapped (b.aggregate t) (enclosed tokens)
 
+abbrev pub enclosed_list : List Token → Outcome Token (List ExprTree)
+enclosed_list tokens = between (reading n.Exprs) tokens
+
 abbrev pub coalesce_of : List Token → Outcome Token ExprBody
-coalesce_of tokens = mapped Coalesce (between (reading n.Exprs) tokens)
+coalesce_of tokens = mapped Coalesce (enclosed_list tokens)
 
 abbrev pub two_parts : List Token → Outcome Token (ExprTree × (Word × ExprTree))
 two_parts tokens = by (symbol n.Expr then word s.Comma then symbol n.Expr) tokens
@@ -83,3 +98,7 @@ primary_body tokens =
     (cond (sees (begins n.Coalesce) tokens) (reading n.Coalesce tokens)
     (cond (sees (begins n.NullIf) tokens) (reading n.NullIf tokens)
     (reading n.Reference tokens)))))))))
+
+-- what ends an expression in a list or in parentheses
+abbrev pub ends : List Sort
+ends = s.Comma ∷ s.Closing ∷ []

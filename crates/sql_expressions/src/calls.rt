@@ -7,8 +7,8 @@ ghost use Rattle.sql_grammar.specs.Cursors as spec;
 ghost use Rattle.sql_grammar.specs.Nests.{Nests};
 ghost use Rattle.sql_grammar.specs.Symbols as n;
 
-use crate::grammar::Grammar;
-use perm_values::{Boxed, NoMemory};
+use crate::grammar::{Grammar, ended_by};
+use perm_values::{Boxed, List, NoMemory};
 use sql_grammar::{Cursor, Fault, Sort, name_of, reference, same_sort, sort_of};
 use sql_lexer::Token;
 use sql_tree::{AggWord, ExprBody, ExprTree, Name, QueryTree};
@@ -126,8 +126,7 @@ impl<
     {
         cursor.past(Sort::Opening)?;
         let body = self.counted(cursor)?;
-        cursor.past(Sort::Closing)?;
-        Ok(body)
+        ended_by(cursor, body, Sort::Closing)
     }
 
     #[tactic(auto, using(crate::proofs::Primaries::count_is))]
@@ -152,9 +151,7 @@ impl<
         ensures fewer { IfOk result (λ _. length cursor.new < length cursor.old) }
     {
         cursor.past(Sort::Opening)?;
-        let part = self.nest.expression(cursor)?;
-        cursor.past(Sort::Closing)?;
-        Ok(part)
+        self.before(cursor, Sort::Closing)
     }
 
     fn aggregate_of(&self, cursor: &mut Cursor<'_>, token: &Token) -> Result<ExprBody, Fault>
@@ -185,16 +182,24 @@ impl<
         }
     }
 
+    fn enclosed_list(&self, cursor: &mut Cursor<'_>) -> Result<List<ExprTree>, Fault>
+        requires sound { Nests self.now.nest.most (F.pre self.now.nest.expr) (G.pre self.now.nest.query) (F.post self.now.nest.expr) (G.post self.now.nest.query) }
+        requires below { length cursor.old ≤ self.now.nest.most }
+        ensures given { spec.Reads result (spelled.enclosed_list cursor.old) cursor.new }
+        ensures fewer { IfOk result (λ _. length cursor.new < length cursor.old) }
+    {
+        cursor.past(Sort::Opening)?;
+        let list = self.expressions(cursor)?;
+        ended_by(cursor, list, Sort::Closing)
+    }
+
     fn coalesce_of(&self, cursor: &mut Cursor<'_>) -> Result<ExprBody, Fault>
         requires sound { Nests self.now.nest.most (F.pre self.now.nest.expr) (G.pre self.now.nest.query) (F.post self.now.nest.expr) (G.post self.now.nest.query) }
         requires below { length cursor.old ≤ self.now.nest.most }
         ensures given { spec.Reads result (spelled.coalesce_of cursor.old) cursor.new }
         ensures fewer { IfOk result (λ _. length cursor.new < length cursor.old) }
     {
-        cursor.past(Sort::Opening)?;
-        let list = self.expressions(cursor)?;
-        cursor.past(Sort::Closing)?;
-        Ok(ExprBody::Coalesce(list))
+        Ok(ExprBody::Coalesce(self.enclosed_list(cursor)?))
     }
 
     #[tactic(auto, using(crate::proofs::Primaries::coalesce_is))]
@@ -212,6 +217,7 @@ impl<
         }
     }
 
+    #[tactic(auto, using(crate::proofs::Pairs::null_if_of_is))]
     fn null_if_of(&self, cursor: &mut Cursor<'_>) -> Result<ExprBody, Fault>
         requires sound { Nests self.now.nest.most (F.pre self.now.nest.expr) (G.pre self.now.nest.query) (F.post self.now.nest.expr) (G.post self.now.nest.query) }
         requires below { length cursor.old ≤ self.now.nest.most }
@@ -219,11 +225,8 @@ impl<
         ensures fewer { IfOk result (λ _. length cursor.new < length cursor.old) }
     {
         cursor.past(Sort::Opening)?;
-        let first = self.nest.expression(cursor)?;
-        cursor.past(Sort::Comma)?;
-        let second = self.nest.expression(cursor)?;
-        cursor.past(Sort::Closing)?;
-        Ok(ExprBody::NullIf { first, second })
+        let (first, second) = self.pair(cursor, Sort::Comma)?;
+        ended_by(cursor, ExprBody::NullIf { first, second }, Sort::Closing)
     }
 
     #[tactic(auto, using(crate::proofs::Primaries::null_if_is))]

@@ -3,15 +3,16 @@
 ghost use Rattle.std.specs.Prelude.{◌≡◌, ◌<◌, ◌≤◌, [], ◌∷◌, length, IfOk};
 ghost use Rattle.sql_grammar.specs.Building as b;
 ghost use Rattle.sql_grammar.specs.Cursors as spec;
-ghost use Rattle.sql_grammar.specs.Lists.{all_of, listed as list_read};
+ghost use Rattle.sql_grammar.specs.Lists.{all_of, more_listed as more_read};
 ghost use Rattle.sql_grammar.specs.Nests.{Nests};
 ghost use Rattle.sql_grammar.specs.Symbols as n;
 ghost use Rattle.sql_grammar.specs.declared.sort.Sort.TheVariants as s;
 
 use crate::grammar::{Grammar, node};
+use crate::primary::{ENDS, LITERALS, literal_alone};
 use null_logic::Operator;
 use perm_values::{Boxed, List, NoMemory};
-use sql_grammar::{Cursor, Fault, Sort, listed, repeated};
+use sql_grammar::{Cursor, Fault, Sort, listed, more_listed, repeated};
 use sql_tree::{ExprBody, ExprTree, QueryTree};
 use std::alloc::Global;
 
@@ -87,15 +88,23 @@ impl<
         Ok(negated(cursor.alloc(), at, nots.len() as u64, part)?)
     }
 
-    fn conjuncts(&self, cursor: &mut Cursor<'_>) -> Result<List<ExprTree>, Fault>
+    /// A part, and those that stand behind it, each behind AND.
+    fn conjuncts(
+        &self,
+        cursor: &mut Cursor<'_>,
+        first: Boxed<ExprTree>,
+    ) -> Result<List<ExprTree>, Fault>
         requires sound { Nests self.now.nest.most (F.pre self.now.nest.expr) (G.pre self.now.nest.query) (F.post self.now.nest.expr) (G.post self.now.nest.query) }
         requires below { length cursor.old ≤ self.now.nest.most }
-        ensures given { spec.Reads result (list_read s.And (spec.reading n.Negated) cursor.old) cursor.new }
-        ensures fewer { IfOk result (λ _. length cursor.new < length cursor.old) }
+        ensures given { spec.Reads result (more_read s.And (spec.reading n.Negated) first cursor.old) cursor.new }
+        ensures fewer { IfOk result (λ _. length cursor.new ≤ length cursor.old) }
     {
-        listed(cursor, Sort::And, |cursor: &mut Cursor<'_>| {
-            Ok(self.negated(cursor)?.into_inner())
-        })
+        more_listed(
+            cursor,
+            Sort::And,
+            first.into_inner(),
+            |cursor: &mut Cursor<'_>| Ok(self.negated(cursor)?.into_inner()),
+        )
     }
 
     #[tactic(auto, using(crate::proofs::Connecting::both_is))]
@@ -105,31 +114,61 @@ impl<
         ensures given { spec.Reads result (spec.reading n.Both cursor.old) cursor.new }
         ensures fewer { IfOk result (λ _. length cursor.new < length cursor.old) }
     {
-        let parts = self.conjuncts(cursor)?;
+        let first = self.negated(cursor)?;
+        if !cursor.sees(Sort::And) {
+            return Ok(first);
+        }
+        let parts = self.conjuncts(cursor, first)?;
         Ok(connected(cursor.alloc(), Operator::And, parts)?)
     }
 
-    fn disjuncts(&self, cursor: &mut Cursor<'_>) -> Result<List<ExprTree>, Fault>
+    /// A part, and those that stand behind it, each behind OR.
+    fn disjuncts(
+        &self,
+        cursor: &mut Cursor<'_>,
+        first: Boxed<ExprTree>,
+    ) -> Result<List<ExprTree>, Fault>
         requires sound { Nests self.now.nest.most (F.pre self.now.nest.expr) (G.pre self.now.nest.query) (F.post self.now.nest.expr) (G.post self.now.nest.query) }
         requires below { length cursor.old ≤ self.now.nest.most }
-        ensures given { spec.Reads result (list_read s.Or (spec.reading n.Both) cursor.old) cursor.new }
-        ensures fewer { IfOk result (λ _. length cursor.new < length cursor.old) }
+        ensures given { spec.Reads result (more_read s.Or (spec.reading n.Both) first cursor.old) cursor.new }
+        ensures fewer { IfOk result (λ _. length cursor.new ≤ length cursor.old) }
     {
-        listed(cursor, Sort::Or, |cursor: &mut Cursor<'_>| {
-            Ok(self.both(cursor)?.into_inner())
-        })
+        more_listed(
+            cursor,
+            Sort::Or,
+            first.into_inner(),
+            |cursor: &mut Cursor<'_>| Ok(self.both(cursor)?.into_inner()),
+        )
     }
 
-    /// An expression.
+    /// An expression, read part by part.
     #[tactic(auto, using(crate::proofs::Connecting::expr_is))]
+    fn parts(&self, cursor: &mut Cursor<'_>) -> Result<Boxed<ExprTree>, Fault>
+        requires sound { Nests self.now.nest.most (F.pre self.now.nest.expr) (G.pre self.now.nest.query) (F.post self.now.nest.expr) (G.post self.now.nest.query) }
+        requires below { length cursor.old ≤ self.now.nest.most }
+        ensures given { spec.Reads result (spec.reading n.Expr cursor.old) cursor.new }
+        ensures fewer { IfOk result (λ _. length cursor.new < length cursor.old) }
+    {
+        let first = self.both(cursor)?;
+        if !cursor.sees(Sort::Or) {
+            return Ok(first);
+        }
+        let parts = self.disjuncts(cursor, first)?;
+        Ok(connected(cursor.alloc(), Operator::Or, parts)?)
+    }
+
+    /// An expression. A literal that stands alone is read at once.
     pub fn disjunction(&self, cursor: &mut Cursor<'_>) -> Result<Boxed<ExprTree>, Fault>
         requires sound { Nests self.now.nest.most (F.pre self.now.nest.expr) (G.pre self.now.nest.query) (F.post self.now.nest.expr) (G.post self.now.nest.query) }
         requires below { length cursor.old ≤ self.now.nest.most }
         ensures given { spec.Reads result (spec.reading n.Expr cursor.old) cursor.new }
         ensures fewer { IfOk result (λ _. length cursor.new < length cursor.old) }
     {
-        let parts = self.disjuncts(cursor)?;
-        Ok(connected(cursor.alloc(), Operator::Or, parts)?)
+        if cursor.sees_pair(&LITERALS, &ENDS) {
+            literal_alone(cursor)
+        } else {
+            self.parts(cursor)
+        }
     }
 
     /// Expressions with commas between them.

@@ -1,29 +1,35 @@
 //! Literals, CAST, CASE, EXISTS, parentheses and functions.
 
-ghost use Rattle.std.specs.Prelude.{◌≡◌, ◌<◌, ◌≤◌, [], ◌∷◌, length, IfOk};
+ghost use Rattle.std.specs.Prelude.{◌≡◌, ◌<◌, ◌≤◌, [], ◌∷◌, true, length, IfOk};
 ghost use Rattle.sql_grammar.specs.Building as b;
 ghost use Rattle.sql_expressions.specs.Calls as spelled;
+ghost use Rattle.sql_expressions.specs.Calls.{ends};
 ghost use Rattle.sql_grammar.specs.Cursors as spec;
 ghost use Rattle.sql_grammar.specs.Lists.{all_of};
 ghost use Rattle.sql_grammar.specs.Nests.{Nests};
+ghost use Rattle.sql_grammar.specs.Pieces.{sees_pair};
 ghost use Rattle.sql_grammar.specs.Symbols as n;
+ghost use Rattle.sql_grammar.specs.Tables.{begins};
 ghost use Rattle.sql_grammar.specs.declared.sort.Sort.TheVariants as s;
 
 use crate::calls::column_of;
-use crate::grammar::{Grammar, node};
+use crate::grammar::{Grammar, ended_by, node};
 use perm_values::{Boxed, Copyable, Kind, List, NoMemory};
 use sql_grammar::{Cursor, Fault, Sort, repeated, same_sort, sort_of};
 use sql_lexer::Token;
 use sql_tree::{ArmTree, ExprBody, ExprTree, QueryTree};
 use std::alloc::Global;
 
-const LITERALS: [Sort; 5] = [
+pub(crate) const LITERALS: [Sort; 5] = [
     Sort::Digits,
     Sort::Literal,
     Sort::True,
     Sort::False,
     Sort::Null,
 ];
+
+/// What ends an expression in a list or in parentheses.
+pub(crate) const ENDS: [Sort; 2] = [Sort::Comma, Sort::Closing];
 
 const CAST_KINDS: [Sort; 5] = [
     Sort::Boolean,
@@ -73,6 +79,18 @@ fn literal(cursor: &mut Cursor<'_>) -> Result<ExprBody, Fault>
     Ok(literal_of(cursor.alloc(), token)?)
 }
 
+/// A literal that stands alone, as the expression that it is.
+#[tactic(auto, using(crate::proofs::Literals::literal_alone))]
+pub(crate) fn literal_alone(cursor: &mut Cursor<'_>) -> Result<Boxed<ExprTree>, Fault>
+    requires { sees_pair (begins n.Literal) ends cursor.old ≡ true }
+    ensures given { spec.Reads result (spec.reading n.Expr cursor.old) cursor.new }
+    ensures fewer { IfOk result (λ _. length cursor.new < length cursor.old) }
+{
+    let at = cursor.place();
+    let body = literal(cursor)?;
+    Ok(node(cursor.alloc(), at, body)?)
+}
+
 #[tactic(auto, using(sql_grammar::proofs::Steps::cast_kind_is))]
 fn cast_kind(cursor: &mut Cursor<'_>) -> Result<Kind, Fault>
     ensures given { spec.Reads result (spec.reading n.CastKind cursor.old) cursor.new }
@@ -99,7 +117,7 @@ impl<
     F: Fn(&mut Cursor<'_>) -> Result<Boxed<ExprTree>, Fault>,
     G: Fn(&mut Cursor<'_>) -> Result<Boxed<QueryTree>, Fault>,
 > Grammar<F, G> {
-    #[tactic(auto, using(sql_grammar::proofs::Steps::arm_is))]
+    #[tactic(auto, using(crate::proofs::Pairs::arm_is))]
     fn arm(&self, cursor: &mut Cursor<'_>) -> Result<ArmTree, Fault>
         requires sound { Nests self.now.nest.most (F.pre self.now.nest.expr) (G.pre self.now.nest.query) (F.post self.now.nest.expr) (G.post self.now.nest.query) }
         requires below { length cursor.old ≤ self.now.nest.most }
@@ -107,9 +125,7 @@ impl<
         ensures fewer { IfOk result (λ _. length cursor.new < length cursor.old) }
     {
         cursor.past(Sort::When)?;
-        let condition = self.nest.expression(cursor)?;
-        cursor.past(Sort::Then)?;
-        let value = self.nest.expression(cursor)?;
+        let (condition, value) = self.pair(cursor, Sort::Then)?;
         Ok(ArmTree {
             condition: condition.into_inner(),
             value: value.into_inner(),
@@ -165,8 +181,7 @@ impl<
         cursor.past(Sort::Case)?;
         let arms = self.arms(cursor)?;
         let otherwise = self.otherwise(cursor)?;
-        cursor.past(Sort::End)?;
-        Ok(ExprBody::Case { arms, otherwise })
+        ended_by(cursor, ExprBody::Case { arms, otherwise }, Sort::End)
     }
 
     #[tactic(auto, using(sql_grammar::proofs::Steps::exists_is))]
@@ -202,8 +217,7 @@ impl<
     {
         cursor.past(Sort::Opening)?;
         let body = self.inside(cursor)?;
-        cursor.past(Sort::Closing)?;
-        Ok(body)
+        ended_by(cursor, body, Sort::Closing)
     }
 
     fn body(&self, cursor: &mut Cursor<'_>) -> Result<ExprBody, Fault>

@@ -2,6 +2,7 @@
 use Rattle.std.proofs.Common.{◌≡◌, Bool, true, false, ◌&&◌, ◌||◌, List, [], ◌∷◌, ◌++◌, refl, sym, ◌∙◌}
 use Rattle.std.specs.Cmp.{IsEquivalence}
 use Rattle.std.specs.List.{list_any}
+use Rattle.std.proofs.lemmas.Bool.{or_right}
 use Rattle.std.proofs.lemmas.Map.Views.{list_any-from_Contains}
 use Rattle.sql_grammar.specs.Rules.{◌then◌, ◌or◌, optional, many, placed, symbol, Grammar, RuleOf, ValueOf, Spelled, a_word, a_token, both, first, second, front_first, front_second, absent, present, no_more, one_more, at_place, as_symbol}
 use Rattle.sql_grammar.specs.Descent.{Tables, nullable, starts}
@@ -17,10 +18,6 @@ both_true {a} {b} e = go a b e where
 pub or_left : {a : Bool} (b : Bool) → a ≡ true → a || b ≡ true
 or_left b e = rw e refl
 
-pub or_right : (a : Bool) {b : Bool} → b ≡ true → a || b ≡ true
-or_right true e = refl
-or_right false e = e
-
 any_step : (b c d : Bool) → (c ≡ true → d ≡ true) → b || c ≡ true → b || d ≡ true
 any_step true c d onward e = refl
 any_step false c d onward e = onward e
@@ -31,7 +28,7 @@ any-left p (x ∷ xs) ys e = any_step (p x) (list_any p xs) (list_any p (xs ++ y
 
 pub any-right : {X : Type 0} (p : X → Bool) (xs ys : List X) → list_any p ys ≡ true → list_any p (xs ++ ys) ≡ true
 any-right p [] ys e = e
-any-right p (x ∷ xs) ys e = or_right (p x) (any-right p xs ys e)
+any-right p (x ∷ xs) ys e = or_right (p x) (list_any p (xs ++ ys)) (any-right p xs ys e)
 
 pub none-left : {X : Type 0} (p : X → Bool) (xs ys : List X) → list_any p (xs ++ ys) ≡ false → list_any p xs ≡ false
 none-left p xs ys e = by_test (list_any p xs) refl where
@@ -77,7 +74,7 @@ module _ (g : Grammar) (tables : Tables g) where
   first-begins r s (t ∷ us) a = any-left (g.same (g.sort t)) (starts_of r) (starts_of s) a
 
   second-begins : (r s : RuleOf g) (us : List g.Token) → Begins s us → Begins (r or s) us
-  second-begins r s [] a = or_right (empty_by r) a
+  second-begins r s [] a = or_right (empty_by r) (empty_by s) a
   second-begins r s (t ∷ us) a = any-right (g.same (g.sort t)) (starts_of r) (starts_of s) a
 
   present-begins : (r : RuleOf g) (us : List g.Token) → Begins r us → Begins (optional r) us

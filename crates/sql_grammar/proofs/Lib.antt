@@ -24,3 +24,4 @@ pub mod Swapped
 pub mod TablesHold
 pub mod TokenNumbers
 pub mod Viable
+pub mod WordLengths

@@ -6,7 +6,7 @@ use Rattle.std.proofs.Common.{Err}
 use Rattle.sql_grammar.specs.Cursors.{sees, past, Reads}
 use Rattle.sql_grammar.specs.Descent.{Outcome, Taken, Stopped, and_then, mapped, repeated}
 use Rattle.sql_grammar.specs.Grammar.{sql}
-use Rattle.sql_grammar.specs.Lists.{all_of, behind, others, listed}
+use Rattle.sql_grammar.specs.Lists.{all_of, behind, others, listed, more_listed}
 use Rattle.sql_grammar.specs.Sorts.{sort_of, same_sort}
 use Rattle.sql_grammar.specs.Tables.{sql_tables}
 use Rattle.sql_grammar.specs.declared.fault.Fault.{Fault}
@@ -90,11 +90,14 @@ module _ {X : Type 0} (separator : Sort) (one : List Token → Outcome Token X) 
   pub record Amid (whole : Outcome Token (List X)) (found : List X) (ts : List Token) : Type 0 where
     pub is : whole ≡ mapped (λ xs. found ++ map (λ m. m.1) xs) (others separator one ts)
 
-  pub Amid-first : (ts mid : List Token) (x : X) → one ts ≡ Taken x mid → Amid (listed separator one ts) ([] ++ x ∷ []) mid
-  Amid-first ts mid x e = record {
-    is = ap (λ o. mapped items (and_then o (λ x rest. mapped (λ xs. (x, xs)) (others separator one rest)))) e
-        ∙ mapped-mapped items (λ xs. (x, xs)) (λ xs. (x ∷ []) ++ map (λ m. m.1) xs) (λ xs. refl) (others separator one mid);
-  }
+  pub Amid-first : (first : X) (ts : List Token) → Amid (more_listed separator one first ts) ([] ++ first ∷ []) ts
+  Amid-first first ts = record { is = refl }
+
+  -- a list is read of its first item and of what stands behind it
+  pub listed-first : (ts mid : List Token) (x : X) → one ts ≡ Taken x mid → listed separator one ts ≡ more_listed separator one x mid
+  listed-first ts mid x e =
+      ap (λ o. mapped items (and_then o (λ x rest. mapped (λ xs. (x, xs)) (others separator one rest)))) e
+      ∙ mapped-mapped items (λ xs. (x, xs)) (λ xs. items (x, xs)) (λ xs. refl) (others separator one mid)
 
   pub listed-stopped : (ts rest : List Token) → one ts ≡ Stopped rest → listed separator one ts ≡ Stopped rest
   listed-stopped ts rest e = rw e refl

@@ -22,3 +22,7 @@ others separator one tokens = all_of (separator ∷ []) (behind separator one) t
 abbrev pub listed : {X : Type 0} → Sort → (List Token → Outcome Token X) → List Token → Outcome Token (List X)
 listed separator one tokens =
     mapped items (and_then (one tokens) (λ x rest. mapped (λ xs. (x, xs)) (others separator one rest)))
+
+-- this one, which was read before, and others, each behind a separator
+abbrev pub more_listed : {X : Type 0} → Sort → (List Token → Outcome Token X) → X → List Token → Outcome Token (List X)
+more_listed separator one first tokens = mapped (λ xs. items (first, xs)) (others separator one tokens)

@@ -141,3 +141,7 @@ core_of at provenance distinct (list, (sources, (condition, (groups, having)))) 
 
 abbrev pub sees_table_star : List Token → Bool
 sees_table_star tokens = begins_with sql sql_tables (names ∷ (s.Dot ∷ []) ∷ (s.Star ∷ []) ∷ []) tokens
+
+-- whether a token of these sorts stands next, and one of those behind it
+abbrev pub sees_pair : List Sort → List Sort → List Token → Bool
+sees_pair sorts behind tokens = begins_with sql sql_tables (sorts ∷ behind ∷ []) tokens

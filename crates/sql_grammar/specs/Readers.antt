@@ -4,7 +4,7 @@ use denote.MutBor.{MutBor}
 use Rattle.sql_lexer.specs.declared.token.Token.{Token}
 use Rattle.sql_grammar.specs.Cursors.{Reads}
 use Rattle.sql_grammar.specs.Descent.{Outcome, Taken}
-use Rattle.sql_grammar.specs.Lists.{all_of, listed}
+use Rattle.sql_grammar.specs.Lists.{all_of, listed, more_listed}
 use Rattle.sql_grammar.specs.declared.fault.Fault.{Fault}
 use Rattle.sql_grammar.specs.declared.sort.Sort.{Sort}
 
@@ -25,6 +25,11 @@ pub record IsReader {X : Type 0} (post : Post X) (reading : List Token → Outco
 abbrev pub ReadsList : {X : Type 0} → Post X → Sort → List Token → Result (List X) Fault → List Token → Type 0
 ReadsList {X = X} post separator old result new =
     (reading : List Token → Outcome Token X) → IsReader post reading → Reads result (listed separator reading old) new
+
+-- and of one that was read before and what it reads
+abbrev pub ReadsMore : {X : Type 0} → Post X → Sort → X → List Token → Result (List X) Fault → List Token → Type 0
+ReadsMore {X = X} post separator first old result new =
+    (reading : List Token → Outcome Token X) → IsReader post reading → Reads result (more_listed separator reading first old) new
 
 -- it may be called where no more than a number of tokens is left, and takes one at least
 pub record TakesBelow {X : Type 0} (most : ℕ) (pre : MutBor (List Token) → Type 0) (post : Post X) : Type 0 where

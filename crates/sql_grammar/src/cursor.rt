@@ -1,6 +1,6 @@
 ghost use Rattle.std.specs.Prelude.{◌≡◌, ◌<◌, ◌≤◌, [], ◌∷◌, length, IfOk};
 ghost use Rattle.sql_grammar.specs.Cursors as spec;
-ghost use Rattle.sql_grammar.specs.Pieces.{sees_table_star, word_if, word_at};
+ghost use Rattle.sql_grammar.specs.Pieces.{sees_pair, sees_table_star, word_if, word_at};
 
 use crate::fault::Fault;
 use crate::sort::{NAMES, Sort, is_among, same_sort, sort_of};
@@ -97,6 +97,18 @@ impl<'a> Cursor<'a> {
         match self.sort {
             Some(found) => is_among(found, sorts),
             None => false,
+        }
+    }
+
+    /// Whether the next token is of one of these sorts, and the one behind it of one of those.
+    pub fn sees_pair(&self, sorts: &[Sort], behind: &[Sort]) -> bool
+        ensures { result ≡ sees_pair sorts.now behind.now self.now }
+    {
+        match self.tokens {
+            [first, second, ..] => {
+                is_among(sort_of(first), sorts) && is_among(sort_of(second), behind)
+            }
+            [] | [_] => false,
         }
     }
 

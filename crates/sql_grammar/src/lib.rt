@@ -4,6 +4,7 @@
 mod clauses;
 mod cursor;
 mod fault;
+mod laws;
 mod lists;
 mod names;
 mod nest;
@@ -13,7 +14,8 @@ mod sort;
 
 pub use cursor::Cursor;
 pub use fault::Fault;
-pub use lists::listed;
+pub use laws::reserved_words_are_the_lexers;
+pub use lists::{listed, more_listed};
 pub use names::{name_of, reference};
 pub use nest::Nest;
 pub use repeats::repeated;

@@ -1,10 +1,30 @@
 ghost use Rattle.std.specs.Prelude.{◌≡◌, ◌≤◌, List, length, IfOk};
-ghost use Rattle.sql_grammar.specs.Readers.{IsCallable, ReadsList};
+ghost use Rattle.sql_grammar.specs.Readers.{IsCallable, ReadsList, ReadsMore};
 
 use crate::cursor::Cursor;
 use crate::fault::Fault;
 use crate::sort::Sort;
 use perm_values::List;
+
+/// The first item, which was read before, and more, each behind a separator.
+pub fn more_listed<T: Drop, F: Fn(&mut Cursor<'_>) -> Result<T, Fault>>(
+    cursor: &mut Cursor<'_>,
+    separator: Sort,
+    first: T,
+    item: F,
+) -> Result<List<T>, Fault>
+    requires { IsCallable (length cursor.old) (F.pre item) (F.post item) }
+    ensures given { ReadsMore (F.post item) separator first cursor.old result cursor.new }
+    ensures fewer { IfOk result (λ _. length cursor.new ≤ length cursor.old) }
+{
+    let mut found = List::new(cursor.alloc());
+    found.push(first)?;
+    while cursor.sees(separator) {
+        cursor.past(separator)?;
+        found.push(item(cursor)?)?;
+    }
+    Ok(found)
+}
 
 /// One item and more, each behind a separator.
 pub fn listed<T: Drop, F: Fn(&mut Cursor<'_>) -> Result<T, Fault>>(
@@ -16,11 +36,6 @@ pub fn listed<T: Drop, F: Fn(&mut Cursor<'_>) -> Result<T, Fault>>(
     ensures given { ReadsList (F.post item) separator cursor.old result cursor.new }
     ensures fewer { IfOk result (λ _. length cursor.new ≤ length cursor.old) }
 {
-    let mut found = List::new(cursor.alloc());
-    found.push(item(cursor)?)?;
-    while cursor.sees(separator) {
-        cursor.past(separator)?;
-        found.push(item(cursor)?)?;
-    }
-    Ok(found)
+    let first = item(cursor)?;
+    more_listed(cursor, separator, first, item)
 }

@@ -107,80 +107,99 @@ pub enum Sort {
     NullIf,
 }
 
-/// The words of the grammar, in lower case.
-pub const WORDS: [(&str, Sort); 71] = [
+// The words of the grammar, in lower case, by the number of their letters.
+
+const WORDS_OF_2: [(&str, Sort); 6] = [
+    ("as", Sort::As),
+    ("by", Sort::By),
+    ("in", Sort::In),
+    ("is", Sort::Is),
+    ("on", Sort::On),
+    ("or", Sort::Or),
+];
+
+const WORDS_OF_3: [(&str, Sort); 10] = [
     ("all", Sort::All),
     ("and", Sort::And),
     ("any", Sort::Any),
-    ("as", Sort::As),
     ("asc", Sort::Asc),
-    ("baserelation", Sort::BaseRelation),
-    ("between", Sort::Between),
-    ("by", Sort::By),
-    ("case", Sort::Case),
-    ("cast", Sort::Cast),
-    ("create", Sort::Create),
-    ("cross", Sort::Cross),
-    ("delete", Sort::Delete),
-    ("desc", Sort::Desc),
-    ("distinct", Sort::Distinct),
-    ("drop", Sort::Drop),
-    ("else", Sort::Else),
     ("end", Sort::End),
-    ("except", Sort::Except),
-    ("exists", Sort::Exists),
-    ("false", Sort::False),
-    ("from", Sort::From),
-    ("full", Sort::Full),
-    ("group", Sort::Group),
-    ("having", Sort::Having),
-    ("in", Sort::In),
-    ("inner", Sort::Inner),
-    ("insert", Sort::Insert),
-    ("intersect", Sort::Intersect),
-    ("into", Sort::Into),
-    ("is", Sort::Is),
-    ("join", Sort::Join),
-    ("left", Sort::Left),
-    ("like", Sort::Like),
-    ("limit", Sort::Limit),
     ("not", Sort::Not),
-    ("null", Sort::Null),
-    ("on", Sort::On),
-    ("or", Sort::Or),
-    ("order", Sort::Order),
-    ("outer", Sort::Outer),
-    ("provenance", Sort::Provenance),
-    ("right", Sort::Right),
-    ("select", Sort::Select),
-    ("some", Sort::Some),
-    ("table", Sort::Table),
-    ("then", Sort::Then),
-    ("true", Sort::True),
-    ("union", Sort::Union),
-    ("unknown", Sort::Unknown),
-    ("values", Sort::Values),
-    ("when", Sort::When),
-    ("where", Sort::Where),
-    ("view", Sort::View),
-    ("copy", Sort::Copy),
-    ("header", Sort::Header),
-    ("explain", Sort::Explain),
-    ("rewrite", Sort::Rewrite),
-    ("show", Sort::Show),
-    ("fresh", Sort::Fresh),
-    ("integer", Sort::Integer),
     ("int", Sort::Int),
-    ("bigint", Sort::BigInt),
-    ("text", Sort::Text),
-    ("boolean", Sort::Boolean),
-    ("count", Sort::Count),
     ("sum", Sort::Sum),
     ("min", Sort::Min),
     ("max", Sort::Max),
-    ("coalesce", Sort::Coalesce),
+];
+
+const WORDS_OF_4: [(&str, Sort); 20] = [
+    ("case", Sort::Case),
+    ("cast", Sort::Cast),
+    ("desc", Sort::Desc),
+    ("drop", Sort::Drop),
+    ("else", Sort::Else),
+    ("from", Sort::From),
+    ("full", Sort::Full),
+    ("into", Sort::Into),
+    ("join", Sort::Join),
+    ("left", Sort::Left),
+    ("like", Sort::Like),
+    ("null", Sort::Null),
+    ("some", Sort::Some),
+    ("then", Sort::Then),
+    ("true", Sort::True),
+    ("when", Sort::When),
+    ("view", Sort::View),
+    ("copy", Sort::Copy),
+    ("show", Sort::Show),
+    ("text", Sort::Text),
+];
+
+const WORDS_OF_5: [(&str, Sort); 13] = [
+    ("cross", Sort::Cross),
+    ("false", Sort::False),
+    ("group", Sort::Group),
+    ("inner", Sort::Inner),
+    ("limit", Sort::Limit),
+    ("order", Sort::Order),
+    ("outer", Sort::Outer),
+    ("right", Sort::Right),
+    ("table", Sort::Table),
+    ("union", Sort::Union),
+    ("where", Sort::Where),
+    ("fresh", Sort::Fresh),
+    ("count", Sort::Count),
+];
+
+const WORDS_OF_6: [(&str, Sort); 11] = [
+    ("create", Sort::Create),
+    ("delete", Sort::Delete),
+    ("except", Sort::Except),
+    ("exists", Sort::Exists),
+    ("having", Sort::Having),
+    ("insert", Sort::Insert),
+    ("select", Sort::Select),
+    ("values", Sort::Values),
+    ("header", Sort::Header),
+    ("bigint", Sort::BigInt),
     ("nullif", Sort::NullIf),
 ];
+
+const WORDS_OF_7: [(&str, Sort); 6] = [
+    ("between", Sort::Between),
+    ("unknown", Sort::Unknown),
+    ("explain", Sort::Explain),
+    ("rewrite", Sort::Rewrite),
+    ("integer", Sort::Integer),
+    ("boolean", Sort::Boolean),
+];
+
+const WORDS_OF_8: [(&str, Sort); 2] = [("distinct", Sort::Distinct), ("coalesce", Sort::Coalesce)];
+
+const WORDS_OF_9: [(&str, Sort); 1] = [("intersect", Sort::Intersect)];
+
+const WORDS_OF_10: [(&str, Sort); 1] = [("provenance", Sort::Provenance)];
+
+const WORDS_OF_12: [(&str, Sort); 1] = [("baserelation", Sort::BaseRelation)];
 
 /// The symbols of the grammar, as tokens hold them.
 pub const SYMBOLS: [(&str, Sort); 16] = [
@@ -239,13 +258,37 @@ fn listed(mut table: &[(&str, Sort)], spelled: &str, otherwise: Sort) -> Sort
     otherwise
 }
 
-#[tactic(auto, unfolding(crate::specs::Sorts::word_sort))]
+/// The sort of a word, which is looked up among the words that are as long.
 fn word_sort(word: &str) -> Sort
     ensures { result ≡ spec.word_sort word.now }
 {
-    listed(&WORDS, word, Sort::Plain)
+    let len = word.len();
+    if len == 2 {
+        listed(&WORDS_OF_2, word, Sort::Plain)
+    } else if len == 3 {
+        listed(&WORDS_OF_3, word, Sort::Plain)
+    } else if len == 4 {
+        listed(&WORDS_OF_4, word, Sort::Plain)
+    } else if len == 5 {
+        listed(&WORDS_OF_5, word, Sort::Plain)
+    } else if len == 6 {
+        listed(&WORDS_OF_6, word, Sort::Plain)
+    } else if len == 7 {
+        listed(&WORDS_OF_7, word, Sort::Plain)
+    } else if len == 8 {
+        listed(&WORDS_OF_8, word, Sort::Plain)
+    } else if len == 9 {
+        listed(&WORDS_OF_9, word, Sort::Plain)
+    } else if len == 10 {
+        listed(&WORDS_OF_10, word, Sort::Plain)
+    } else if len == 12 {
+        listed(&WORDS_OF_12, word, Sort::Plain)
+    } else {
+        Sort::Plain
+    }
 }
 
+/// The sort of a symbol.
 #[tactic(auto, unfolding(crate::specs::Sorts::symbol_sort))]
 fn symbol_sort(symbol: &str) -> Sort
     ensures { result ≡ spec.symbol_sort symbol.now }

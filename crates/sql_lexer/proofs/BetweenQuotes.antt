@@ -1,6 +1,6 @@
 -- What stands between quotes, read byte by byte.
 use Rattle.std.proofs.Common.{◌≡◌, ◌≢◌, ℕ, ◌+◌, ◌<◌, ◌≤◌, Bool, true, false, List, [], ◌∷◌, ◌++◌, length, drop, get_or, Option, Some, None, refl, sym, ap, ◌∙◌, ⊎_elim, arith, add_assoc, append_assoc, eq-eqb}
-use Rattle.std.specs.Prelude.{nat_eq}
+use Rattle.std.specs.Prelude.{nat_eq, is_some}
 use Rattle.std.proofs.lemmas.Bool.Decides.{nat_tests}
 use Rattle.std.proofs.lemmas.Bool.{eqb-true, cases_Bool}
 use Rattle.std.proofs.lemmas.List.{drop_more, drop_all, append-nil, length-drop}
@@ -66,6 +66,16 @@ at_close quote at rest inside lt is next =
 pub at_end : (quote at : ℕ) (rest inside : List ℕ) → length rest ≤ at → before inside at (unquoted quote (drop at rest)) ≡ None
 unfolding unquoted
 at_end quote at rest inside past = rw (drop_all at rest past) refl
+
+pub is_some-before : (front : List ℕ) (len : ℕ) (found : Option Unquoted) → is_some (before front len found) ≡ is_some found
+is_some-before front len None = refl
+is_some-before front len (Some found) = refl
+
+-- whether a quote closes, whatever was found in front of a place
+pub closes_behind : (front more : List ℕ) (at next : ℕ) (found rest : Option Unquoted) → before front at found ≡ before more next rest
+    → is_some found ≡ is_some rest
+closes_behind front more at next found rest e =
+    sym (is_some-before front at found) ∙ ap is_some e ∙ is_some-before more next rest
 
 -- a quote is written twice, and any other byte once
 pub doubled_quote : (quote : ℕ) (inside : List ℕ) → doubled quote (quote ∷ inside) ≡ quote ∷ quote ∷ doubled quote inside

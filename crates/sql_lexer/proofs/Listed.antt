@@ -1,9 +1,9 @@
 -- A search through a table of words finds what the table contains.
-use Rattle.std.proofs.Common.{◌≡◌, ℕ, zero, suc, ◌<◌, ◌↔◌, IsTrue, Bool, true, false, ◌||◌, List, [], ◌∷◌, length, map, get_or, Bor, refl, sym, ◌∙◌, ⊎_elim, arith}
+use Rattle.std.proofs.Common.{◌≡◌, ℕ, zero, suc, ◌<◌, ◌↔◌, IsTrue, Bool, true, List, [], ◌∷◌, length, map, get_or, Bor, refl, sym, ◌∙◌, ⊎_elim, arith}
 use Rattle.std.specs.Prelude.{Contains}
 use Rattle.std.specs.List.{list_any}
 use Rattle.std.specs.Str.{bytes_eq}
-use Rattle.std.proofs.lemmas.Bool.{cases_Bool}
+use Rattle.std.proofs.lemmas.Bool.{cases_Bool, or_right}
 use Rattle.std.proofs.lemmas.Slice.Eq.{bytes_eq-Decides}
 
 abbrev texts : List (Bor (List ℕ)) → List (List ℕ)
@@ -18,10 +18,6 @@ found (w ∷ words) word e =
     ⊎_elim (λ is. (0, omega arith, (bytes_eq-Decides w.now word).0 is))
     (λ other. let rest : is_among words word ≡ true = rw other at e in let k = found words word rest in (suc k.0, omega (arith, k.1), k.2))
     (cases_Bool (bytes_eq w.now word))
-
-or_right : (a b : Bool) → b ≡ true → (a || b) ≡ true
-or_right true b e = refl
-or_right false b e = e
 
 finds : (words : List (Bor (List ℕ))) (word : List ℕ) (k : ℕ) → k < length (texts words) → get_or (texts words) k word ≡ word → is_among words word ≡ true
 finds [] word k lt e = absurd (omega arith)

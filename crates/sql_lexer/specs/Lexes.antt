@@ -111,6 +111,15 @@ MayRefuse bytes (Unterminated place) = Refuses bytes (Unterminated place)
 MayRefuse bytes (NumberRange place) = Refuses bytes (NumberRange place)
 MayRefuse bytes NoMemory = Unit {0}
 
+-- the script is text, and a front of it is split into tokens, of which there is one at least
+pub record BeginsWithTokens (bytes : List ℕ) : Type 0 where
+  pub utf8 : IsUtf8 bytes
+  pub front : List Token
+  pub place : ℕ
+  pub rest : List ℕ
+  pub lexes : LexesTo 0 bytes front place rest
+  pub some : 0 < length front
+
 -- the answer is this list, unless memory ran out
 abbrev pub GivesList : Result (List Token) LexError → List Token → Type 0
 GivesList (Ok tokens) list = tokens ≡ list

@@ -88,11 +88,18 @@ unfoldable pub next : ℕ → List ℕ → Front
 next at [] = Nothing
 next at (b ∷ rest) = by_class (class_of b) at b rest
 
--- what a function returned is what stands there, unless memory ran out
+-- a token stands there
+abbrev pub IsFound : Front → Type 0
+IsFound Nothing = ⊥
+IsFound (Ends end []) = ⊥
+IsFound (Ends end (token ∷ more)) = Unit {0}
+IsFound (Fault error) = ⊥
+
+-- what a function returned is what stands there, unless memory ran out for a token that does
 abbrev pub Reads : Result Piece LexError → Front → Type 0
 Reads (Ok (Skipped end)) front = front ≡ Ends end []
 Reads (Ok (Found token)) front = front ≡ Ends token.end (token ∷ [])
-Reads (Err NoMemory) front = Unit {0}
+Reads (Err NoMemory) front = IsFound front
 Reads (Err (NotUtf8 place)) front = front ≡ Fault (NotUtf8 place)
 Reads (Err (BadCharacter place)) front = front ≡ Fault (BadCharacter place)
 Reads (Err (Unterminated place)) front = front ≡ Fault (Unterminated place)

@@ -1,4 +1,4 @@
-ghost use Rattle.std.specs.Prelude.{◌≡◌, ◌<◌, ◌+◌, ◌^◌, ◌∷◌, ◌≤◌, length, IfOk, IfSome};
+ghost use Rattle.std.specs.Prelude.{◌≡◌, ◌<◌, ◌+◌, ◌^◌, ◌∷◌, ◌≤◌, length, is_some, Err, IfOk, IfSome};
 ghost use Rattle.std.specs.Str.{IsUtf8};
 ghost use Rattle.sql_lexer.specs.Bytes.{class_of};
 ghost use Rattle.sql_lexer.specs.Reading as spec;
@@ -41,6 +41,36 @@ fn up_to_quote(alloc: Global, quote: u8, rest: &[u8]) -> Result<Option<Unquoted>
     Ok(None)
 }
 
+/// Whether a quote closes behind an opening one. It takes no memory.
+fn closes(quote: u8, rest: &[u8]) -> bool
+    ensures { result ≡ is_some (spec.unquoted quote rest.now) }
+{
+    let mut at = 0;
+    while at < rest.len() {
+        let byte = rest[at];
+        if byte != quote {
+            at += 1;
+            continue;
+        }
+        if !begins_with(&rest[at + 1..], quote) {
+            return true;
+        }
+        at += 2;
+    }
+    false
+}
+
+/// Why there was no memory for what stands behind an opening quote: none closes it, or memory ran out.
+fn refused(at: usize, quote: u8, rest: &[u8]) -> LexError
+    ensures { spec.Reads (Err result) (spec.closed at quote (spec.unquoted quote rest.now)) }
+{
+    if closes(quote, rest) {
+        LexError::NoMemory
+    } else {
+        LexError::Unterminated(at)
+    }
+}
+
 fn kind_of(quote: u8) -> TokenKind
     ensures { result ≡ spec.kind_of quote }
 {
@@ -58,9 +88,10 @@ pub(crate) fn quoted(alloc: Global, at: usize, quote: u8, rest: &[u8]) -> Result
     requires fits { at + length rest.now + 1 < 2 ^ 64 }
     ensures { spec.Reads result (spec.closed at quote (spec.unquoted quote rest.now)) }
 {
-    match up_to_quote(alloc, quote, rest)? {
-        None => Err(LexError::Unterminated(at)),
-        Some(found) => Ok(Piece::Found(Token {
+    match up_to_quote(alloc, quote, rest) {
+        Err(NoMemory) => Err(refused(at, quote, rest)),
+        Ok(None) => Err(LexError::Unterminated(at)),
+        Ok(Some(found)) => Ok(Piece::Found(Token {
             kind: kind_of(quote),
             start: at,
             end: at + (1 + found.len),

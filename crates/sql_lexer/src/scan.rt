@@ -83,6 +83,17 @@ pub(crate) fn begins_with(rest: &[u8], byte: u8) -> bool
     }
 }
 
+/// Bytes that are UTF-8, as a text. It takes no memory.
+pub(crate) fn as_text(bytes: &[u8]) -> &str
+    requires { IsUtf8 bytes.now }
+    ensures { result.now ≡ bytes.now }
+{
+    match std::str::from_utf8(bytes) {
+        Ok(text) => text,
+        Err(_) => unreachable!(),
+    }
+}
+
 /// The text of bytes that are UTF-8.
 pub(crate) fn text_of(alloc: Global, bytes: &[u8]) -> Result<Chars, NoMemory>
     requires { IsUtf8 bytes.now }

@@ -5,7 +5,7 @@ ghost use Rattle.sql_lexer.specs.Bytes.{is_word, class_of};
 ghost use Rattle.sql_lexer.specs.Reading as spec;
 
 use crate::piece::Piece;
-use crate::scan::{Class, digits_len, text_of, word_len};
+use crate::scan::{Class, as_text, digits_len, text_of, word_len};
 use crate::{LexError, Token, TokenKind};
 use perm_values::{Chars, NoMemory};
 use std::alloc::Global;
@@ -45,13 +45,13 @@ pub(crate) fn number(alloc: Global, at: usize, text: &[u8]) -> Result<Piece, Lex
     ensures { spec.Reads result (spec.number at text.now) }
 {
     let len = digits_len(text);
-    let spelled = text_of(alloc, &text[..len])?;
-    match spelled.as_str().parse::<i64>() {
+    let digits = as_text(&text[..len]);
+    match digits.parse::<i64>() {
         Ok(number) => Ok(Piece::Found(Token {
             kind: TokenKind::Number,
             start: at,
             end: at + len,
-            spelled,
+            spelled: Chars::from_text(alloc, digits)?,
             number,
         })),
         Err(_) => Err(LexError::NumberRange(at)),

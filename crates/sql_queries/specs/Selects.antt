@@ -1,15 +1,26 @@
 -- A SELECT as it is read: its items, and the clauses behind them.
-use Rattle.std.specs.Prelude.{ℕ, Bool, List, Option}
+use Rattle.std.specs.Prelude.{ℕ, Bool, cond, List, [], ◌∷◌, Option, Some, None}
 use Rattle.sql_lexer.specs.declared.token.Token.{Token}
-use Rattle.sql_grammar.specs.Cursors.{reading}
-use Rattle.sql_grammar.specs.Descent.{Outcome, and_then, mapped}
+use Rattle.sql_grammar.specs.Cursors.{reading, sees, past}
+use Rattle.sql_grammar.specs.Descent.{Outcome, Taken, and_then, mapped}
 use Rattle.sql_grammar.specs.Symbols as n
+use Rattle.sql_grammar.specs.declared.sort.Sort.{Sort}
 use Rattle.sql_queries.specs.declared.select.Clauses.{Clauses}
 use Rattle.sql_tree.specs.declared.expression.ExprTree.{ExprTree}
 use Rattle.sql_tree.specs.declared.name.ColRef.{ColRef}
 use Rattle.sql_tree.specs.declared.query.Core.{Core, roll-Core}
 use Rattle.sql_tree.specs.declared.query.SelectItem.{SelectItem}
+use Rattle.sql_tree.specs.declared.query.SelectItem.TheVariants.{Value}
 use Rattle.sql_tree.specs.declared.source.FromTree.{FromTree}
+
+-- an expression of the SELECT list with the name behind it
+abbrev pub named : ExprTree → List Token → Outcome Token SelectItem
+named expr tokens = mapped (λ name. Value expr name) (reading n.Alias tokens)
+
+-- the condition behind this word, if the word stands next
+abbrev pub clause : Sort → List Token → Outcome Token (Option ExprTree)
+clause sort tokens =
+    cond (sees (sort ∷ []) tokens) (and_then (past sort tokens) (λ passed rest. mapped Some (reading n.Expr rest))) (Taken None tokens)
 
 abbrev pub clauses_of : List FromTree → Option ExprTree → List ColRef → Option ExprTree → Clauses
 clauses_of sources condition groups having = record { sources = sources; condition = condition; groups = groups; having = having }

@@ -56,6 +56,18 @@ impl Clauses {
     }
 }
 
+/// An expression of the SELECT list, which was read before, with the name behind it.
+fn named(cursor: &mut Cursor<'_>, expr: Boxed<ExprTree>) -> Result<SelectItem, Fault>
+    ensures given { spec.Reads result (spelled.named expr cursor.old) cursor.new }
+    ensures fewer { IfOk result (λ _. length cursor.new ≤ length cursor.old) }
+{
+    let name = cursor.alias()?;
+    Ok(SelectItem::Value {
+        expr: expr.into_inner(),
+        name,
+    })
+}
+
 impl<
     F: Fn(&mut Cursor<'_>) -> Result<Boxed<ExprTree>, Fault>,
     G: Fn(&mut Cursor<'_>) -> Result<Boxed<QueryTree>, Fault>,
@@ -68,11 +80,7 @@ impl<
         ensures fewer { IfOk result (λ _. length cursor.new < length cursor.old) }
     {
         let expr = self.nest.expression(cursor)?;
-        let name = cursor.alias()?;
-        Ok(SelectItem::Value {
-            expr: expr.into_inner(),
-            name,
-        })
+        named(cursor, expr)
     }
 
     #[tactic(auto, using(sql_grammar::proofs::Queries::item_is))]
@@ -105,6 +113,20 @@ impl<
         )
     }
 
+    /// The condition behind this word, if the word stands next.
+    fn clause(&self, cursor: &mut Cursor<'_>, sort: Sort) -> Result<Option<Boxed<ExprTree>>, Fault>
+        requires sound { Nests self.now.nest.most (F.pre self.now.nest.expr) (G.pre self.now.nest.query) (F.post self.now.nest.expr) (G.post self.now.nest.query) }
+        requires below { length cursor.old ≤ self.now.nest.most }
+        ensures given { spec.Reads result (spelled.clause sort cursor.old) cursor.new }
+        ensures fewer { IfOk result (λ _. length cursor.new ≤ length cursor.old) }
+    {
+        if !cursor.sees(sort) {
+            return Ok(None);
+        }
+        cursor.past(sort)?;
+        Ok(Some(self.nest.expression(cursor)?))
+    }
+
     #[tactic(auto, using(sql_grammar::proofs::Queries::condition_is))]
     pub fn condition(&self, cursor: &mut Cursor<'_>) -> Result<Option<Boxed<ExprTree>>, Fault>
         requires sound { Nests self.now.nest.most (F.pre self.now.nest.expr) (G.pre self.now.nest.query) (F.post self.now.nest.expr) (G.post self.now.nest.query) }
@@ -112,13 +134,7 @@ impl<
         ensures given { spec.Reads result (spec.reading n.Condition cursor.old) cursor.new }
         ensures fewer { IfOk result (λ _. length cursor.new ≤ length cursor.old) }
     {
-        if cursor.sees(Sort::Where) {
-            cursor.past(Sort::Where)?;
-            let condition = self.nest.expression(cursor)?;
-            Ok(Some(condition))
-        } else {
-            Ok(None)
-        }
+        self.clause(cursor, Sort::Where)
     }
 
     #[tactic(auto, using(sql_grammar::proofs::Queries::having_is))]
@@ -128,13 +144,7 @@ impl<
         ensures given { spec.Reads result (spec.reading n.Having cursor.old) cursor.new }
         ensures fewer { IfOk result (λ _. length cursor.new ≤ length cursor.old) }
     {
-        if cursor.sees(Sort::Having) {
-            cursor.past(Sort::Having)?;
-            let condition = self.nest.expression(cursor)?;
-            Ok(Some(condition))
-        } else {
-            Ok(None)
-        }
+        self.clause(cursor, Sort::Having)
     }
 
     /// The clauses behind the items.

@@ -2,7 +2,7 @@ use Rattle.std.proofs.Common.{[], ◌∷◌, arith}
 use Rattle.std.proofs.lemmas.List.{append-nil}
 use Rattle.std.proofs.lemmas.Result.{err_from_is_err_and}
 use Rattle.sql_lexer.specs.Lexes.{nothing}
-use Rattle.sql_lexer.proofs.OneReading.{turn, may_refuse}
+use Rattle.sql_lexer.proofs.OneReading.{turn, may_refuse, begins_with_found, ran_out}
 use Rattle.sql_lexer.proofs.split.split.Goals as goal
 
 pub loop-at-init : goal.loop-at-init
@@ -12,6 +12,15 @@ pub returns-in_err-end-clause-refused : goal.returns-in_err-end-clause-refused
 returns-in_err-end-clause-refused c =
     let p = err_from_is_err_and c.from_residual.result c.from_residual.ensures.1 in
     rw (p.1, p.2) (may_refuse c.args.bytes.now c.loop-at.at c.loop-at.found c.in_err-end.field-0.0 c.requires c.loop-at.invariant.1 c.in_err-end.ensures)
+
+pub returns-in_err-end-clause-memory : goal.returns-in_err-end-clause-memory
+returns-in_err-end-clause-memory c =
+    let p = err_from_is_err_and c.from_residual.result c.from_residual.ensures.1 in
+    rw (p.1, p.2) (λ e. ran_out c.args.bytes.now c.loop-at.at c.loop-at.found c.in_err-end.field-0.0 c.requires c.loop-at.invariant.0 c.loop-at.invariant.1 c.in_err-end.ensures cc)
+
+pub returns-in_err-push-in-Found-clause-memory : goal.returns-in_err-push-in-Found-clause-memory
+returns-in_err-push-in-Found-clause-memory c = λ e.
+    begins_with_found c.args.bytes.now c.loop-at.at c.loop-at.found c.requires c.loop-at.invariant.0 c.loop-at.invariant.1 _ (rw c.in-Found.is at c.in_ok-end.ensures) tt
 
 pub loop-at-smaller-in-Skipped : goal.loop-at-smaller-in-Skipped
 loop-at-smaller-in-Skipped c =
