@@ -142,4 +142,3 @@ pub no_open_sublink-Prov : (input : Query) →
     no_open_sublink (Prov input) ≡ (no_open_sublink input)
 no_open_sublink-Prov input =
     every_node-Prov sublinks_closed input ∙ ap (λ own. own && no_open_sublink input) (ap sublinks_closed (Prov-is input))
-

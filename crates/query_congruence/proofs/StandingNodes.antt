@@ -88,7 +88,7 @@ module _ (n m : Query) where
       ((outer : List (List Kind)) → WellFormed outer n → WellFormed outer m) →
       ((P : ℕ → List Kind → Type 0) → EachTable P n → EachTable P m) →
       ((outer : List (List Kind)) (db : Database) (env : List Row) → WellFormed outer n → TablesFit db n → env_fits env outer ≡ true →
-          SameRows (meaning n db env) (meaning m db env)) →
+      SameRows (meaning n db env) (meaning m db env)) →
       Stands n m
   standing plain kinds formed tables rows = record {
     plain = plain;
@@ -250,10 +250,10 @@ module _ (q b : Query) (s : Stands q b) (r d : Query) (t : Stands r d) where
       (plain-is : (left right : Query) → is_plain (node left right) ≡ (is_plain left && is_plain right))
       (kinds-is : (left right : Query) → kinds_of (node left right) ≡ kinds_of left)
       (formed-is : (outer : List (List Kind)) (left right : Query) →
-          WellFormed outer (node left right) ≡ SetForm (WellFormed outer left) (WellFormed outer right) (kinds_of left) (kinds_of right))
+      WellFormed outer (node left right) ≡ SetForm (WellFormed outer left) (WellFormed outer right) (kinds_of left) (kinds_of right))
       (tables-is : (P : ℕ → List Kind → Type 0) (left right : Query) → EachTable P (node left right) ≡ (EachTable P left × EachTable P right))
       (same : (db : Database) (env : List Row) → SameRows (meaning q db env) (meaning b db env) → SameRows (meaning r db env) (meaning d db env) →
-          SameRows (meaning (node q r) db env) (meaning (node b d) db env)) where
+      SameRows (meaning (node q r) db env) (meaning (node b d) db env)) where
     stands-set : Stands (node q r) (node b d)
     stands-set =
         standing (node q r) (node b d) (plain-is b d ∙ and_from (is_plain b) (is_plain d) s.plain t.plain)
