@@ -6,36 +6,15 @@ use Rattle.bag_algebra.specs.Outcome.{Outcome, Good, Bad, Faults, union, only, h
 use Rattle.expression_values.specs.Answers.{meets, Refuses, Gives}
 use Rattle.expression_values.specs.declared.error.ExecError.{ExecError}
 use Rattle.expression_values.specs.declared.error.ExecError.TheVariants.{Fault, NoMemory}
-
-or_associates : (a b c : Bool) → (a || (b || c)) ≡ ((a || b) || c)
-or_associates true b c = refl
-or_associates false b c = refl
+use Rattle.bag_algebra.proofs.Truths.{or_associates}
+use Rattle.bag_algebra.proofs.Outcomes.{union-first, union-second, has_only}
 
 union_associates : (f g h : Faults) → union f (union g h) ≡ union (union f g) h
 union_associates f g h = λ i. record {
-  divides = or_associates f.divides g.divides h.divides i;
-  range = or_associates f.range g.range h.range i;
-  several = or_associates f.several g.several h.several i;
+  divides = sym (or_associates f.divides g.divides h.divides) i;
+  range = sym (or_associates f.range g.range h.range) i;
+  several = sym (or_associates f.several g.several h.several) i;
 }
-
-or_second : (a : Bool) → (a || true) ≡ true
-or_second true = refl
-or_second false = refl
-
-has_first : (f g : Faults) (k : RunFault) → has f k ≡ true → has (union f g) k ≡ true
-has_first f g DivideByZero e = ap (λ b. b || g.divides) e
-has_first f g OutOfRange e = ap (λ b. b || g.range) e
-has_first f g SeveralRows e = ap (λ b. b || g.several) e
-
-has_second : (f g : Faults) (k : RunFault) → has g k ≡ true → has (union f g) k ≡ true
-has_second f g DivideByZero e = ap (λ b. f.divides || b) e ∙ or_second f.divides
-has_second f g OutOfRange e = ap (λ b. f.range || b) e ∙ or_second f.range
-has_second f g SeveralRows e = ap (λ b. f.several || b) e ∙ or_second f.several
-
-has_only : (k : RunFault) → has (only k) k ≡ true
-has_only DivideByZero = refl
-has_only OutOfRange = refl
-has_only SeveralRows = refl
 
 pub along : {X : Type 0} (o p : Outcome X) (r : Result X ExecError) → o ≡ p → Gives p r → Gives o r
 along o p r e h = subst (λ q. Gives q r) (sym e) h
@@ -55,25 +34,25 @@ pub both_first : {X Y Z : Type 0} (f : X → Y → Z) (a : Outcome X) (b : Outco
 both_first f a b NoMemory h = tt
 both_first f (Good x) b (Fault k) h = absurd (cc h)
 both_first f (Bad g) (Good y) (Fault k) h = h
-both_first f (Bad g) (Bad g') (Fault k) h = has_first g g' k h
+both_first f (Bad g) (Bad g') (Fault k) h = union-first g g' k h
 
 pub both_second : {X Y Z : Type 0} (f : X → Y → Z) (a : Outcome X) (b : Outcome Y) (error : ExecError) → Refuses b error → Refuses (both f a b) error
 both_second f a b NoMemory h = tt
 both_second f a (Good y) (Fault k) h = absurd (cc h)
 both_second f (Good x) (Bad g') (Fault k) h = h
-both_second f (Bad g) (Bad g') (Fault k) h = has_second g g' k h
+both_second f (Bad g) (Bad g') (Fault k) h = union-second g g' k h
 
 pub both_then_first : {X Y Z : Type 0} (a : Outcome X) (b : Outcome Y) (next : X → Y → Outcome Z) (error : ExecError) → Refuses a error → Refuses (both_then a b next) error
 both_then_first a b next NoMemory h = tt
 both_then_first (Good x) b next (Fault k) h = absurd (cc h)
 both_then_first (Bad g) (Good y) next (Fault k) h = h
-both_then_first (Bad g) (Bad g') next (Fault k) h = has_first g g' k h
+both_then_first (Bad g) (Bad g') next (Fault k) h = union-first g g' k h
 
 pub both_then_second : {X Y Z : Type 0} (a : Outcome X) (b : Outcome Y) (next : X → Y → Outcome Z) (error : ExecError) → Refuses b error → Refuses (both_then a b next) error
 both_then_second a b next NoMemory h = tt
 both_then_second a (Good y) next (Fault k) h = absurd (cc h)
 both_then_second (Good x) (Bad g') next (Fault k) h = h
-both_then_second (Bad g) (Bad g') next (Fault k) h = has_second g g' k h
+both_then_second (Bad g) (Bad g') next (Fault k) h = union-second g g' k h
 
 pub and_then_first : {X Y : Type 0} (a : Outcome X) (next : X → Outcome Y) (error : ExecError) → Refuses a error → Refuses (and_then a next) error
 and_then_first a next NoMemory h = tt

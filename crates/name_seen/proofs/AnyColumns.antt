@@ -7,10 +7,7 @@ use Rattle.name_words.specs.declared.scope.Scope.{Scope}
 use Rattle.name_words.specs.declared.scope.ScopeColumn.{ScopeColumn}
 use Rattle.name_seen.specs.Stars.{is_in_item, columns_of}
 use Rattle.name_seen.proofs.Matches.{filtered-more}
-
-or-assoc : (a b c : Bool) → ((a || b) || c) ≡ (a || (b || c))
-or-assoc true b c = refl
-or-assoc false b c = refl
+use Rattle.bag_algebra.proofs.Truths.{or_associates}
 
 any-behind : {X : Type 0} (test : X → Bool) (xs : List X) (chosen : Bool) (x : X)
     → list_any test (xs ++ cond chosen (x ∷ []) []) ≡ (list_any test xs || (chosen && test x))
@@ -20,7 +17,7 @@ any-behind test [] true x = last (test x) where
   last false = refl
 any-behind test [] false x = refl
 any-behind test (y ∷ ys) chosen x =
-    ap (λ rest. test y || rest) (any-behind test ys chosen x) ∙ sym (or-assoc (test y) (list_any test ys) (chosen && test x))
+    ap (λ rest. test y || rest) (any-behind test ys chosen x) ∙ sym (or_associates (test y) (list_any test ys) (chosen && test x))
 
 pub any-more : (test : Placed → Bool) (p : Placed → Bool) (columns : List ScopeColumn) (place : ℕ) (column : ScopeColumn) → place < length columns
     → column ≡ get_or columns place column

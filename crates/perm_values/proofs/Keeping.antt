@@ -16,7 +16,7 @@ pub record Keeps {X : Type 0} (flags : List Bool) (was now : List X) (kept i : �
   pub rest : drop i now ≡ drop i was
   pub counted : kept + count_by (λ flag. flag) (take i flags) ≡ i
 
-unmarked-more : {X : Type 0} (flags : List Bool) (items : List X) (flag : Bool) (item : X) → length flags ≡ length items →
+pub unmarked-more : {X : Type 0} (flags : List Bool) (items : List X) (flag : Bool) (item : X) → length flags ≡ length items →
     unmarked (flags ++ flag ∷ []) (items ++ item ∷ []) ≡ unmarked flags items ++ cond flag [] (item ∷ [])
 unmarked-more [] [] true item e = refl
 unmarked-more [] [] false item e = refl

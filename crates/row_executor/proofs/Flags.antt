@@ -7,6 +7,8 @@ use Rattle.bag_algebra.proofs.BagLaws.{same_row-is, member_decides, member-appen
 use Rattle.row_executor.specs.Marks.{marks_behind, marks_by, left_out, wanted, is_over}
 use Rattle.row_groups.proofs.Once.{once_more}
 use Rattle.expression_values.proofs.Taken.{taken}
+use Rattle.bag_algebra.proofs.Truths.{not_not}
+use Rattle.perm_values.proofs.Keeping.{unmarked-more}
 
 -- ---- one more row
 
@@ -69,14 +71,6 @@ once-marks p us = sym (once_behind p [] us)
 pub filter-all : (us : Bag) → filter (λ u. true) us ≡ us
 filter-all [] = refl
 filter-all (u ∷ us) = ap (λ l. u ∷ l) (filter-all us)
-
-or_assoc : (a b c : Bool) → ((a || b) || c) ≡ (a || (b || c))
-or_assoc true b c = refl
-or_assoc false b c = refl
-
-not_not : (b : Bool) → not (not b) ≡ b
-not_not true = refl
-not_not false = refl
 
 seen_or_held : (us earlier vs : Bag) → marks_behind (left_out (λ u. true)) (us ++ earlier) vs ≡ marks_behind (left_out (wanted false us)) earlier vs
 seen_or_held us earlier [] = refl
@@ -184,15 +178,6 @@ pub beyond-marks : (us vs : Bag) → unmarked (marks_by (is_over false vs) us) u
 beyond-marks us vs = beyond_behind [] vs us vs (at_first vs)
 
 -- ---- one more flag
-
-pub unmarked-more : {X : Type 0} (flags : List Bool) (items : List X) (flag : Bool) (item : X) → length flags ≡ length items →
-    unmarked (flags ++ flag ∷ []) (items ++ item ∷ []) ≡ unmarked flags items ++ cond flag [] (item ∷ [])
-unmarked-more [] [] true item e = refl
-unmarked-more [] [] false item e = refl
-unmarked-more [] (x ∷ items) flag item e = absurd (omega arith)
-unmarked-more (f ∷ flags) [] flag item e = absurd (omega arith)
-unmarked-more (true ∷ flags) (x ∷ items) flag item e = unmarked-more flags items flag item (omega arith)
-unmarked-more (false ∷ flags) (x ∷ items) flag item e = ap (λ l. x ∷ l) (unmarked-more flags items flag item (omega arith))
 
 pub unmarked-taken : {X : Type 0} (flags : List Bool) (items : List X) (i : ℕ) (item : X) (flag : Bool) (found more : List X) → length flags ≡ length items →
     i < length items → item ≡ get_or items i item → flag ≡ get_or flags i flag → found ≡ unmarked (take i flags) (take i items) → more ≡ cond flag [] (item ∷ []) →

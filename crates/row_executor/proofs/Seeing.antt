@@ -8,17 +8,10 @@ use Rattle.bag_algebra.specs.Bags.{Row, Bag, member}
 use Rattle.bag_algebra.proofs.BagLaws.{same_row-is, same_row-sym, any-append, member-append, member-filter}
 use Rattle.row_executor.specs.Marks.{Holds, marks_by, left_out, wanted}
 use Rattle.row_executor.proofs.Flags.{marks-more, filter-more}
+use Rattle.bag_algebra.proofs.Truths.{or_false, or_true, not_not, and_true}
 
 abbrev pub same_ref : Bor Row → Bor Row → Bool
 same_ref r s = same_row r.now s.now
-
-or_false : (b : Bool) → (b || false) ≡ b
-or_false true = refl
-or_false false = refl
-
-or_true : (b : Bool) → (b || true) ≡ true
-or_true true = refl
-or_true false = refl
 
 abbrev found : Row → List (Bor Row) → Bool
 found t keys = list_any (λ (r : Bor Row). same_row t r.now) keys
@@ -59,14 +52,6 @@ module _ (common : Bool) (vs : Bag) (keys : List (Bor Row)) (flags : List Bool) 
         (λ i. s.flags_so_far i ++ flag i ∷ []) ∙ sym (marks-more (left_out (wanted common vs)) us r.now);
   }
     where
-      not_not : (b : Bool) → not (not b) ≡ b
-      not_not true = refl
-      not_not false = refl
-
-      and_true : (b : Bool) → (b && true) ≡ b
-      and_true true = refl
-      and_true false = refl
-
       flag : not (not (found r.now keys)) ≡ (not (wanted common vs r.now) || member r.now us)
       flag = not_not (found r.now keys) ∙ s.seen.members r.now ∙ member-filter r.now (wanted common vs) us ∙ ap (λ b. member r.now us && b) e ∙ and_true (member r.now us)
           ∙ ap (λ b. not b || member r.now us) (sym e)
