@@ -1,7 +1,6 @@
 //! The syntax tree of SQL: what the tokens of a script spell.
 #![tactic(auto)]
 
-mod copies;
 mod expression;
 mod name;
 mod query;

@@ -1,8 +1,7 @@
 use crate::expression::ExprTree;
 use crate::name::{ColRef, Name};
 use crate::source::FromTree;
-use perm_values::{Boxed, Chars, Copyable, List, NoMemory};
-use std::alloc::Global;
+use perm_values::{Boxed, Chars, List};
 
 /// What an ORDER BY key names: an output column by its name, or by its place from 1.
 #[derive(Debug, Drop)]
@@ -11,31 +10,12 @@ pub enum OrderKey {
     Position(i64),
 }
 
-impl Copyable for OrderKey {
-    fn copy(&self, alloc: Global) -> Result<OrderKey, NoMemory> {
-        match self {
-            OrderKey::Named(name) => Ok(OrderKey::Named(name.copy(alloc)?)),
-            OrderKey::Position(position) => Ok(OrderKey::Position(*position)),
-        }
-    }
-}
-
 /// A key of ORDER BY.
 #[derive(Debug, Drop)]
 pub struct OrderTree {
     pub at: usize,
     pub key: OrderKey,
     pub descending: bool,
-}
-
-impl Copyable for OrderTree {
-    fn copy(&self, alloc: Global) -> Result<OrderTree, NoMemory> {
-        Ok(OrderTree {
-            at: self.at,
-            key: self.key.copy(alloc)?,
-            descending: self.descending,
-        })
-    }
 }
 
 /// A set operation.

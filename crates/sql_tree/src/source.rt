@@ -1,8 +1,7 @@
 use crate::expression::ExprTree;
 use crate::name::Name;
 use crate::query::QueryTree;
-use perm_values::{Boxed, Copyable, List, NoMemory};
-use std::alloc::Global;
+use perm_values::{Boxed, List};
 
 /// How a join keeps rows.
 #[derive(Clone, Copy, Debug, PartialEq, Eq)]
@@ -20,18 +19,6 @@ pub enum ScopeMark {
     Plain,
     BaseRelation,
     External { attributes: List<Name> },
-}
-
-impl Copyable for ScopeMark {
-    fn copy(&self, alloc: Global) -> Result<ScopeMark, NoMemory> {
-        match self {
-            ScopeMark::Plain => Ok(ScopeMark::Plain),
-            ScopeMark::BaseRelation => Ok(ScopeMark::BaseRelation),
-            ScopeMark::External { attributes } => Ok(ScopeMark::External {
-                attributes: attributes.copy(alloc)?,
-            }),
-        }
-    }
 }
 
 /// An item of FROM with the joins behind it (ISO/IEC 9075-2, 'joined table').

@@ -1,10 +1,7 @@
-ghost use Rattle.std.specs.Prelude.{◌≡◌, IfOk};
-
 use crate::expression::ExprTree;
 use crate::name::Name;
 use crate::query::QueryTree;
-use perm_values::{Chars, Copyable, Kind, List, NoMemory};
-use std::alloc::Global;
+use perm_values::{Chars, Kind, List};
 
 /// The statements of a script; those without a token are left out.
 #[derive(Debug, Drop)]
@@ -78,111 +75,4 @@ pub struct ColumnDef {
 pub struct ValuesRow {
     pub at: usize,
     pub values: List<ExprTree>,
-}
-
-impl Copyable for Script {
-    fn copy(&self, alloc: Global) -> Result<Script, NoMemory> {
-        Ok(Script {
-            statements: self.statements.copy(alloc)?,
-        })
-    }
-}
-
-impl Copyable for Statement {
-    fn copy(&self, alloc: Global) -> Result<Statement, NoMemory> {
-        Ok(Statement {
-            at: self.at,
-            body: self.body.copy(alloc)?,
-        })
-    }
-}
-
-impl Copyable for StatementBody {
-    fn copy(&self, alloc: Global) -> Result<StatementBody, NoMemory> {
-        match self {
-            StatementBody::CreateTable { table, columns } => {
-                let table = table.copy(alloc)?;
-                let columns = columns.copy(alloc)?;
-                Ok(StatementBody::CreateTable { table, columns })
-            }
-            StatementBody::CreateTableAs { table, query } => {
-                let table = table.copy(alloc)?;
-                let query = query.copy(alloc)?;
-                Ok(StatementBody::CreateTableAs { table, query })
-            }
-            StatementBody::CreateView { view, query } => {
-                let view = view.copy(alloc)?;
-                let query = query.copy(alloc)?;
-                Ok(StatementBody::CreateView { view, query })
-            }
-            StatementBody::Copy {
-                table,
-                file,
-                header,
-                mark,
-            } => {
-                let table = table.copy(alloc)?;
-                let file = file.copy(alloc)?;
-                let mark = mark.copy(alloc)?;
-                Ok(StatementBody::Copy {
-                    table,
-                    file,
-                    header: *header,
-                    mark,
-                })
-            }
-            StatementBody::Insert { table, rows } => {
-                let table = table.copy(alloc)?;
-                let rows = rows.copy(alloc)?;
-                Ok(StatementBody::Insert { table, rows })
-            }
-            StatementBody::Delete { table, condition } => {
-                let table = table.copy(alloc)?;
-                let condition = copy_condition(alloc, condition)?;
-                Ok(StatementBody::Delete { table, condition })
-            }
-            StatementBody::DropTable { table } => Ok(StatementBody::DropTable {
-                table: table.copy(alloc)?,
-            }),
-            StatementBody::DropView { view } => Ok(StatementBody::DropView {
-                view: view.copy(alloc)?,
-            }),
-            StatementBody::Select { query } => Ok(StatementBody::Select {
-                query: query.copy(alloc)?,
-            }),
-            StatementBody::Explain { query } => Ok(StatementBody::Explain {
-                query: query.copy(alloc)?,
-            }),
-            StatementBody::ShowFresh { table } => Ok(StatementBody::ShowFresh {
-                table: table.copy(alloc)?,
-            }),
-        }
-    }
-}
-
-fn copy_condition(alloc: Global, condition: &Option<ExprTree>) -> Result<Option<ExprTree>, NoMemory>
-    ensures { IfOk result (λ copy. copy ≡ condition.now) }
-{
-    match condition {
-        Some(condition) => Ok(Some(condition.copy(alloc)?)),
-        None => Ok(None),
-    }
-}
-
-impl Copyable for ColumnDef {
-    fn copy(&self, alloc: Global) -> Result<ColumnDef, NoMemory> {
-        Ok(ColumnDef {
-            name: self.name.copy(alloc)?,
-            kind: self.kind,
-        })
-    }
-}
-
-impl Copyable for ValuesRow {
-    fn copy(&self, alloc: Global) -> Result<ValuesRow, NoMemory> {
-        Ok(ValuesRow {
-            at: self.at,
-            values: self.values.copy(alloc)?,
-        })
-    }
 }
