@@ -1,6 +1,7 @@
 -- The rows of both rewritings, each with NULLs at the other's provenance columns, are a rewriting of the union.
-use Rattle.std.proofs.Common.{◌≡◌, ◌↔◌, ℕ, ◌+◌, ◌-◌, ◌≤◌, inl, inr, Bool, true, List, [], ◌++◌, map, length, slice_index_or, Contains, refl, sym, ap, ◌∙◌, subst, subst₂, append-nil, append_assoc, arith, length-append}
+use Rattle.std.proofs.Common.{◌≡◌, ◌↔◌, ℕ, ◌+◌, ◌-◌, ◌≤◌, inl, inr, Bool, true, List, [], ◌∷◌, ◌++◌, map, length, slice_index_or, Contains, refl, sym, ap, ◌∙◌, subst, subst₂, append-nil, append_assoc, arith, length-append}
 use Rattle.std.proofs.lemmas.List.Elements.{Contains-append_left, Contains-append_right}
+use Rattle.std.proofs.lemmas.List.{map-id}
 use Rattle.std.specs.List.{range_with_len}
 use Rattle.perm_values.specs.declared.kind.Kind.{Kind}
 use Rattle.perm_values.specs.declared.kind.Kind.TheVariants.{Text}
@@ -16,8 +17,8 @@ use Rattle.bag_algebra.specs.Meaning.{Database, meaning, witnesses}
 use Rattle.bag_algebra.specs.Means.{Witness, all_empty, flat, good_rows}
 use Rattle.bag_algebra.specs.Outcome.{Outcome, Good, Bad, both, both_then, mapped}
 use Rattle.bag_algebra.specs.Patterns.{UnionOf, ProvOf}
-use Rattle.bag_algebra.specs.Rewriting.{IsRewrite, SameSet}
-use Rattle.bag_algebra.specs.TablesRead.{tables_read}
+use Rattle.bag_algebra.specs.Rewriting.{IsRewrite, SameSet, is_plain}
+use Rattle.bag_algebra.specs.TablesRead.{EachTable, tables_read}
 use Rattle.bag_algebra.specs.WellFormed.{WellFormed}
 use Rattle.bag_algebra.specs.declared.query.Query.{Query}
 use Rattle.bag_algebra.specs.declared.query.Query.TheVariants.{Union}
@@ -67,18 +68,43 @@ module _ {X : Type 0} (other : X) (u f : List X) (n : ℕ) (first : length u ≡
       ap (λ count. map (λ place. slice_index_or (u ++ f) place other) (range_with_len n count)) count ∙ behind other u f n first
 
 -- a row of so many columns, the first of them so many, with NULLs behind those
-abbrev row_behind : ℕ → ℕ → ℕ → Row → Row
-row_behind width first added = padded_row (range_with_len 0 first) added (range_with_len first (width - first))
+abbrev row_behind : ℕ → ℕ → List Kind → Row → Row
+row_behind width first [] = λ row. row
+row_behind width first (kind ∷ kinds) = padded_row (range_with_len 0 first) (length (kind ∷ kinds)) (range_with_len first (width - first))
 
-padded-is : (u f : Row) (n k width : ℕ) → length u ≡ n → length (u ++ f) ≡ width → row_behind width n k (u ++ f) ≡ u ++ nulls k ++ f
-padded-is u f n k width first whole = λ i. front Null u f n first i ++ nulls k ++ rest Null u f n first width whole i
+padded-is : (u f : Row) (n width : ℕ) (kinds : List Kind) → length u ≡ n → length (u ++ f) ≡ width → row_behind width n kinds (u ++ f) ≡ u ++ nulls (length kinds) ++ f
+padded-is u f n width [] first whole = ap (λ row. row ++ f) (sym (append-nil u))
+padded-is u f n width (kind ∷ kinds) first whole = λ i. front Null u f n first i ++ nulls (length (kind ∷ kinds)) ++ rest Null u f n first width whole i
 
 padded-kinds : (q : Query) (own more : List Kind) (n : ℕ) (kinds : List Kind) → kinds_of q ≡ own ++ more → length own ≡ n →
     kinds_of (padded_behind q n kinds) ≡ own ++ kinds ++ more
-padded-kinds q own more n kinds e first =
-    kinds_of-padded q (range_with_len 0 n) kinds (range_with_len n (width_of q - n))
-    ∙ (λ i. kinds_in (e i) (range_with_len 0 n) ++ kinds ++ kinds_in (e i) (range_with_len n (length (e i) - n)))
-    ∙ (λ i. front Text own more n first i ++ kinds ++ rest Text own more n first (length (own ++ more)) refl i)
+padded-kinds q own more n [] e first = e ∙ ap (λ own. own ++ more) (sym (append-nil own))
+padded-kinds q own more n (kind ∷ kinds) e first =
+    kinds_of-padded q (range_with_len 0 n) (kind ∷ kinds) (range_with_len n (width_of q - n))
+    ∙ (λ i. kinds_in (e i) (range_with_len 0 n) ++ (kind ∷ kinds) ++ kinds_in (e i) (range_with_len n (length (e i) - n)))
+    ∙ (λ i. front Text own more n first i ++ (kind ∷ kinds) ++ rest Text own more n first (length (own ++ more)) refl i)
+
+padded-plain : (q : Query) (n : ℕ) (kinds : List Kind) → is_plain (padded_behind q n kinds) ≡ is_plain q
+padded-plain q n [] = refl
+padded-plain q n (kind ∷ kinds) = plain-projected q (items_behind q n (kind ∷ kinds))
+
+padded-tables : (P : ℕ → List Kind → Type 0) (q : Query) (n : ℕ) (kinds : List Kind) → EachTable P q → EachTable P (padded_behind q n kinds)
+padded-tables P q n [] each = each
+padded-tables P q n (kind ∷ kinds) each = (each, tt)
+
+padded-formed : (outer : List (List Kind)) (q : Query) (n : ℕ) (kinds : List Kind) → n ≤ width_of q → WellFormed outer q → WellFormed outer (padded_behind q n kinds)
+padded-formed outer q n [] within formed = formed
+padded-formed outer q n (kind ∷ kinds) within formed =
+    formed-padded q (range_with_len 0 n) (kind ∷ kinds) (range_with_len n (width_of q - n)) (places_in-range (width_of q) 0 n (omega arith))
+    (places_in-range (width_of q) n (width_of q - n) (omega arith)) outer formed
+
+padded-meaning : (db : Database) (env : List Row) (q : Query) (n : ℕ) (kinds : List Kind) →
+    meaning (padded_behind q n kinds) db env ≡ mapped (map (row_behind (width_of q) n kinds)) (meaning q db env)
+padded-meaning db env q n [] = same (meaning q db env) where
+  same : (o : Outcome Bag) → o ≡ mapped (map (λ row. row)) o
+  same (Good bag) = ap Good (sym (map-id bag))
+  same (Bad faults) = refl
+padded-meaning db env q n (kind ∷ kinds) = meaning-padded q (range_with_len 0 n) (kind ∷ kinds) (range_with_len n (width_of q - n)) db env
 
 module _ (q r : Query) (given : IsRewrite q r) (outer : List (List Kind)) (formed : WellFormed outer q) where
   provenance-are : provenance_kinds q r ≡ place_kinds (shape q)
@@ -122,17 +148,12 @@ module _ (all : Bool) (left left_rewriting right right_rewriting : Query) (left_
         left-kinds ∙ append_assoc (kinds_of left) (place_kinds (shape left)) (place_kinds (shape right))
         ∙ ap (λ kinds. kinds_of left ++ kinds) (sym (place_kinds-append (shape left) (shape right)))
 
-    formed-side : (r : Query) (n : ℕ) (kinds : List Kind) → n ≤ width_of r → WellFormed outer r → WellFormed outer (padded_behind r n kinds)
-    formed-side r n kinds within f =
-        formed-padded r (range_with_len 0 n) kinds (range_with_len n (width_of r - n)) (places_in-range (width_of r) 0 n (omega arith))
-        (places_in-range (width_of r) n (width_of r - n) (omega arith)) outer f
-
     formed-rewriting : WellFormed outer rewriting
     formed-rewriting =
         let longer = width-rewriting right right_rewriting right_given outer formed.right_side in
         record {
-          left_side = formed-side left_rewriting (width_of left_rewriting) (provenance_kinds right right_rewriting) (omega arith) (left_given.formed outer formed.left_side);
-          right_side = formed-side right_rewriting (width_of right) (provenance_kinds left left_rewriting) (omega arith) (right_given.formed outer formed.right_side);
+          left_side = padded-formed outer left_rewriting (width_of left_rewriting) (provenance_kinds right right_rewriting) (omega arith) (left_given.formed outer formed.left_side);
+          right_side = padded-formed outer right_rewriting (width_of right) (provenance_kinds left left_rewriting) (omega arith) (right_given.formed outer formed.right_side);
           same_kinds = left-kinds ∙ sym right-kinds;
         }
 
@@ -149,22 +170,19 @@ module _ (all : Bool) (left left_rewriting right right_rewriting : Query) (left_
           (union-lists db env t w left right all)
 
       abbrev pad_left : Row → Row
-      pad_left = row_behind (width_of left_rewriting) (width_of left_rewriting) (length (provenance_kinds right right_rewriting))
+      pad_left = row_behind (width_of left_rewriting) (width_of left_rewriting) (provenance_kinds right right_rewriting)
 
       abbrev pad_right : Row → Row
-      pad_right = row_behind (width_of right_rewriting) (width_of right) (length (provenance_kinds left left_rewriting))
+      pad_right = row_behind (width_of right_rewriting) (width_of right) (provenance_kinds left left_rewriting)
 
       meaning-node : meaning node db env ≡ both_then (meaning left db env) (meaning right db env) (λ us vs. Good (union_of all us vs))
       meaning-node = rows-with_lists _ _ ∙ both-then (union_of all) (meaning left db env) (meaning right db env)
 
-      side : (r : Query) (n : ℕ) (kinds : List Kind) → meaning (padded_behind r n kinds) db env ≡ mapped (map (row_behind (width_of r) n (length kinds))) (meaning r db env)
-      side r n kinds = meaning-padded r (range_with_len 0 n) kinds (range_with_len n (width_of r - n)) db env
-
       meaning-rewriting : meaning rewriting db env ≡ both_then (meaning left_rewriting db env) (meaning right_rewriting db env) (λ xs ys. Good (map pad_left xs ++ map pad_right ys))
       meaning-rewriting =
           rows-with_lists _ _
-          ∙ (λ i. both (union_of true) (side left_rewriting (width_of left_rewriting) (provenance_kinds right right_rewriting) i)
-          (side right_rewriting (width_of right) (provenance_kinds left left_rewriting) i))
+          ∙ (λ i. both (union_of true) (padded-meaning db env left_rewriting (width_of left_rewriting) (provenance_kinds right right_rewriting) i)
+          (padded-meaning db env right_rewriting (width_of right) (provenance_kinds left left_rewriting) i))
           ∙ both-of_mapped (union_of true) (map pad_left) (map pad_right) (meaning left_rewriting db env) (meaning right_rewriting db env)
 
       module _ (us xs vs ys : Bag) (left_good : meaning left db env ≡ Good us) (right_good : meaning right db env ≡ Good vs)
@@ -175,7 +193,7 @@ module _ (all : Bool) (left left_rewriting right right_rewriting : Query) (left_
             length-append u (flat l) ∙ (λ k. row-width outer left db env left-fits us left_good u i k + list-width outer left db env left-fits u l c k)
             ∙ sym (width-rewriting left left_rewriting left_given outer formed.left_side) in
             ap pad_left (sym (append-nil (u ++ flat l)))
-            ∙ padded-is (u ++ flat l) [] (width_of left_rewriting) (length (provenance_kinds right right_rewriting)) (width_of left_rewriting) row (ap length (append-nil (u ++ flat l)) ∙ row)
+            ∙ padded-is (u ++ flat l) [] (width_of left_rewriting) (width_of left_rewriting) (provenance_kinds right right_rewriting) row (ap length (append-nil (u ++ flat l)) ∙ row)
             ∙ append-nil ((u ++ flat l) ++ nulls (length (provenance_kinds right right_rewriting)))
             ∙ append_assoc u (flat l) (nulls (length (provenance_kinds right right_rewriting)))
             ∙ ap (λ kinds. u ++ (flat l ++ nulls (length kinds))) right_added
@@ -187,7 +205,7 @@ module _ (all : Bool) (left left_rewriting right right_rewriting : Query) (left_
             let row : length (v ++ flat r) ≡ width_of right_rewriting =
             length-append v (flat r) ∙ (λ k. row-width outer right db env right-fits vs right_good v i k + list-width outer right db env right-fits v r c k)
             ∙ sym (width-rewriting right right_rewriting right_given outer formed.right_side) in
-            padded-is v (flat r) (width_of right) (length (provenance_kinds left left_rewriting)) (width_of right_rewriting) (row-width outer right db env right-fits vs right_good v i) row
+            padded-is v (flat r) (width_of right) (width_of right_rewriting) (provenance_kinds left left_rewriting) (row-width outer right db env right-fits vs right_good v i) row
             ∙ ap (λ kinds. v ++ nulls (length kinds) ++ flat r) left_added
             ∙ ap (λ first. v ++ first ++ flat r) (sym (flat-all_empty (shape left)))
             ∙ append_assoc v (flat (all_empty (shape left))) (flat r)
@@ -262,13 +280,15 @@ module _ (all : Bool) (left left_rewriting right right_rewriting : Query) (left_
 
   rewrite-UnionOf : IsRewrite node rewriting
   rewrite-UnionOf = record {
-    plain = both-true (plain-projected left_rewriting (items_behind left_rewriting (width_of left_rewriting) (provenance_kinds right right_rewriting)) ∙ left_given.plain)
-        (plain-projected right_rewriting (items_behind right_rewriting (width_of right) (provenance_kinds left left_rewriting)) ∙ right_given.plain);
+    plain = both-true (padded-plain left_rewriting (width_of left_rewriting) (provenance_kinds right right_rewriting) ∙ left_given.plain)
+        (padded-plain right_rewriting (width_of right) (provenance_kinds left left_rewriting) ∙ right_given.plain);
     kinds = λ outer formed. kinds-rewriting outer formed;
     formed = λ outer formed. formed-rewriting outer formed;
     tables = (
-      (each_table-kept _ _ (λ id kinds h. Contains-append_left (tables_read left) (tables_read right) _ h) left_rewriting left_given.tables, tt),
-      (each_table-kept _ _ (λ id kinds h. Contains-append_right (tables_read left) (tables_read right) _ h) right_rewriting right_given.tables, tt),
+      padded-tables _ left_rewriting (width_of left_rewriting) (provenance_kinds right right_rewriting)
+          (each_table-kept _ _ (λ id kinds h. Contains-append_left (tables_read left) (tables_read right) _ h) left_rewriting left_given.tables),
+      padded-tables _ right_rewriting (width_of right) (provenance_kinds left left_rewriting)
+          (each_table-kept _ _ (λ id kinds h. Contains-append_right (tables_read left) (tables_read right) _ h) right_rewriting right_given.tables),
     );
     rows = λ outer db env formed tables fitting. same_rows outer formed db env tables fitting;
   }

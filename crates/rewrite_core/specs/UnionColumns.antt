@@ -1,5 +1,5 @@
 -- The columns of a rewriting with NULLs at the places that it lacks.
-use Rattle.std.specs.Prelude.{ℕ, ◌-◌, List, []}
+use Rattle.std.specs.Prelude.{ℕ, ◌-◌, List, [], ◌∷◌}
 use Rattle.std.specs.List.{range_with_len}
 use Rattle.perm_values.specs.declared.kind.Kind.{Kind}
 use Rattle.bag_algebra.specs.Kinds.{kinds_in, kinds_of, width_of}
@@ -17,5 +17,7 @@ provenance_kinds q rewriting = kinds_in (kinds_of rewriting) (provenance_places 
 abbrev pub items_behind : Query → ℕ → List Kind → List Item
 items_behind query first kinds = padded_items (kinds_of query) (range_with_len 0 first) kinds (range_with_len first (width_of query - first))
 
+-- the query with those columns; with no kinds it stays as it is
 abbrev pub padded_behind : Query → ℕ → List Kind → Query
-padded_behind query first kinds = ProjectOf query (items_behind query first kinds) [] end_of-Sublink
+padded_behind query first [] = query
+padded_behind query first (kind ∷ kinds) = ProjectOf query (items_behind query first (kind ∷ kinds)) [] end_of-Sublink

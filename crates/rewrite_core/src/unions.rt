@@ -1,12 +1,13 @@
 //! The rule of unions.
-ghost use Rattle.std.specs.Prelude.{◌≡◌, ◌&&◌, ◌-◌, true, IfOk, IsTrue};
+ghost use Rattle.std.specs.Prelude.{◌≡◌, ◌&&◌, ◌-◌, [], true, IfOk, IsTrue};
 ghost use Rattle.std.specs.List.{range_with_len};
 ghost use Rattle.bag_algebra.specs.ColumnItems.{column_items};
 ghost use Rattle.bag_algebra.specs.EveryNode.{no_open_sublink};
 ghost use Rattle.bag_algebra.specs.Kinds.{kinds_in, kinds_of, width_of};
-ghost use Rattle.bag_algebra.specs.Patterns.{UnionOf};
+ghost use Rattle.bag_algebra.specs.Patterns.{ProjectOf, UnionOf};
 ghost use Rattle.bag_algebra.specs.Rewriting.{IsRewrite};
 ghost use Rattle.bag_algebra.specs.declared.query.Query.TheVariants.{Union};
+ghost use Rattle.bag_algebra.specs.declared.query.Query.{end_of-Sublink};
 ghost use Rattle.rewrite_core.specs.UnionColumns.{items_behind, padded_behind, provenance_kinds};
 
 use crate::columns::{add_places, column_count, columns_at};
@@ -16,9 +17,9 @@ use perm_values::{Boxed, Kind, List, NoMemory};
 use query_parts::{kind_or_text, null_items, projection};
 use std::alloc::Global;
 
-/// A rewriting of a union, with all rows or each once: the rows of both rewritings, each with NULLs at the other's
-/// provenance columns, the left ones first. It has an open sublink only where one of the rewritings has one, and fails
-/// only for want of memory.
+/// A rewriting of a union, with all rows or each once, since how often a row stands in a rewriting is free: the rows of both
+/// rewritings, each with NULLs at the other's provenance columns, the left ones first. It has an open sublink only where one
+/// of the rewritings has one, and fails only for want of memory.
 pub fn union_of(
     alloc: Global,
     all: bool,
@@ -106,9 +107,19 @@ fn right_padded(
     padded_at(alloc, rewriting, first, added)
 }
 
-/// The query with NULLs of the added kinds behind its first columns.
+/// The query with NULLs of the added kinds behind its first columns; with no kinds, the query as it is.
 fn padded_at(alloc: Global, query: Query, first: usize, added: &[Kind]) -> Result<Query, NoMemory>
     ensures made { IfOk result (λ p. p ≡ padded_behind query first added.now) }
+    ensures closed { IfOk result (λ p. no_open_sublink p ≡ no_open_sublink query) }
+{
+    if added.is_empty() {
+        return Ok(query);
+    }
+    widened(alloc, query, first, added)
+}
+
+fn widened(alloc: Global, query: Query, first: usize, added: &[Kind]) -> Result<Query, NoMemory>
+    ensures made { IfOk result (λ p. p ≡ ProjectOf query (items_behind query first added.now) [] end_of-Sublink) }
     ensures closed { IfOk result (λ p. no_open_sublink p ≡ no_open_sublink query) }
 {
     let items = padded_columns(alloc, &query, first, added)?;
