@@ -1,6 +1,6 @@
 -- The join of rewritings on the condition over their columns, with the join's columns before those of provenance, is a
 -- rewriting of the join.
-use Rattle.std.proofs.Common.{◌≡◌, ◌↔◌, ℕ, ◌+◌, ◌≤◌, Bool, true, not, ◌&&◌, List, [], ◌∷◌, ◌++◌, map, length, Contains, refl, sym, ap, ◌∙◌, subst, append-nil, arith, length-append}
+use Rattle.std.proofs.Common.{◌≡◌, ◌↔◌, ℕ, ◌+◌, ◌≤◌, Bool, true, not, List, [], ◌∷◌, ◌++◌, map, length, Contains, refl, sym, ap, ◌∙◌, subst, append-nil, arith, length-append}
 use Rattle.std.proofs.lemmas.List.Elements.{Contains-append_left, Contains-append_right}
 use Rattle.std.specs.List.{list_any}
 use Rattle.perm_values.specs.Rows.{picked}
@@ -33,6 +33,7 @@ use Rattle.contribution.specs.Fitting.{Fitting}
 use Rattle.query_parts.proofs.ColumnQueries.{formed-columns, kinds_of-columns, meaning-columns}
 use Rattle.query_parts.proofs.NodeQueries.{formed-pairs, meaning-pairs, plain-pairs, plain-projected}
 use Rattle.query_parts.specs.MovedColumns.{IsMoved}
+use Rattle.rewrite_core.proofs.Closing.{both-true}
 use Rattle.rewrite_core.proofs.Faults.{SameFaults, kept-alike, gather-bad_alike, good-mapped, mapped-same_faults, same_faults-then}
 use Rattle.rewrite_core.proofs.JoinColumns.{all-columns, all-within, flat-all_empty, length-nulls, nulls-append, own-columns, own-within}
 use Rattle.rewrite_core.proofs.NodeRows.{Flattened, flattened, stands_beside, Made, rewritten-over_both}
@@ -427,7 +428,7 @@ module _ (kind : JoinKind) (left left_rewriting right right_rewriting : Query) (
   rewrite-JoinOf =
       let inputs = tables_read left ++ tables_read right in
       record {
-        plain = plain-projected pairs (column_items (kinds_of pairs) order) ∙ plain-pairs kind left_rewriting right_rewriting on ∙ both-plain left_given.plain right_given.plain;
+        plain = plain-projected pairs (column_items (kinds_of pairs) order) ∙ plain-pairs kind left_rewriting right_rewriting on ∙ both-true left_given.plain right_given.plain;
         kinds = λ outer formed. kinds-rewriting outer formed;
         formed = λ outer formed. formed-rewriting outer formed;
         tables = (
@@ -440,9 +441,6 @@ module _ (kind : JoinKind) (left left_rewriting right right_rewriting : Query) (
         );
         rows = λ outer db env formed tables fitting. same_rows outer formed db env tables fitting;
       }
-    where
-      both-plain : {a b : Bool} → a ≡ true → b ≡ true → (a && b) ≡ true
-      both-plain e f = λ i. e i && f i
 
   pub rewrite-Join : IsRewrite (Join kind left right condition []) rewriting
   rewrite-Join = subst (λ n. IsRewrite n rewriting) (sym (Join_alone-is kind left right condition)) rewrite-JoinOf

@@ -9,4 +9,5 @@ pub mod NodeRows
 pub mod ProjectRows
 pub mod RowColumns
 pub mod RuleRows
+pub mod UnionRows
 pub mod Unlinked

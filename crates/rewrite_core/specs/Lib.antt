@@ -1,2 +1,3 @@
 pub mod JoinColumns
 pub mod ProvenanceColumns
+pub mod UnionColumns

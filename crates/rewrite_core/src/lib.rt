@@ -5,7 +5,9 @@ mod columns;
 mod joins;
 mod nodes;
 mod sources;
+mod unions;
 
 pub use joins::join;
 pub use nodes::{distinct, filter, project};
 pub use sources::base;
+pub use unions::union_of;

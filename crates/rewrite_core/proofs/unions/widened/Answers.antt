@@ -1,0 +1,8 @@
+use Rattle.std.proofs.Common.{◌≡◌, [], IfOk, subst}
+use Rattle.bag_algebra.specs.Patterns.{ProjectOf}
+use Rattle.bag_algebra.specs.declared.query.Query.{end_of-Sublink}
+use Rattle.rewrite_core.proofs.unions.widened.Goals as goal
+
+pub returns-clause-made : goal.returns-clause-made
+returns-clause-made c =
+    subst (λ items. IfOk c.projection.result (λ p. p ≡ ProjectOf c.args.query items [] end_of-Sublink)) c.in_ok-items.ensures c.projection.ensures.made

@@ -1,0 +1,190 @@
+//! The rule of unions.
+ghost use Rattle.std.specs.Prelude.{◌≡◌, ◌&&◌, ◌-◌, [], true, IfOk, IsTrue};
+ghost use Rattle.std.specs.List.{range_with_len};
+ghost use Rattle.bag_algebra.specs.ColumnItems.{column_items};
+ghost use Rattle.bag_algebra.specs.EveryNode.{no_open_sublink};
+ghost use Rattle.bag_algebra.specs.Kinds.{kinds_in, kinds_of, width_of};
+ghost use Rattle.bag_algebra.specs.Patterns.{ProjectOf, UnionOf};
+ghost use Rattle.bag_algebra.specs.Rewriting.{IsRewrite};
+ghost use Rattle.bag_algebra.specs.declared.query.Query.TheVariants.{Union};
+ghost use Rattle.bag_algebra.specs.declared.query.Query.{end_of-Sublink};
+ghost use Rattle.rewrite_core.specs.UnionColumns.{items_behind, padded_behind, provenance_kinds};
+
+use crate::columns::{add_places, column_count, columns_at};
+use bag_algebra::{Item, Query};
+use contribution::kinds;
+use perm_values::{Boxed, Kind, List, NoMemory};
+use query_parts::{kind_or_text, null_items, projection};
+use std::alloc::Global;
+
+/// A rewriting of a union, with all rows or each once, since how often a row stands in a rewriting is free: the rows of both
+/// rewritings, each with NULLs at the other's provenance columns, the left ones first. It has an open sublink only where one
+/// of the rewritings has one, and fails only for want of memory.
+pub fn union_of(
+    alloc: Global,
+    all: bool,
+    left: &Query,
+    left_rewriting: Query,
+    right: &Query,
+    right_rewriting: Query,
+) -> Result<Query, NoMemory>
+    requires left { IsRewrite left.now left_rewriting }
+    requires right { IsRewrite right.now right_rewriting }
+    ensures rewrites { IfOk result (λ p. IsRewrite (Union all left.now right.now) p) }
+    ensures closed { IsTrue (no_open_sublink left_rewriting) → IsTrue (no_open_sublink right_rewriting) →
+        IfOk result (λ p. IsTrue (no_open_sublink p)) }
+{
+    let right_added = added_kinds(alloc, right, &right_rewriting)?;
+    both_padded(
+        alloc,
+        left,
+        left_rewriting,
+        right,
+        right_rewriting,
+        right_added.as_slice(),
+    )
+}
+
+/// The rows of both rewritings, the left ones with NULLs of the added kinds.
+fn both_padded(
+    alloc: Global,
+    left: &Query,
+    left_rewriting: Query,
+    right: &Query,
+    right_rewriting: Query,
+    right_added: &[Kind],
+) -> Result<Query, NoMemory>
+    ensures made { IfOk result (λ p. p ≡ UnionOf true (padded_behind left_rewriting (width_of left_rewriting) right_added.now)
+        (padded_behind right_rewriting (width_of right.now) (provenance_kinds left.now left_rewriting))) }
+    ensures closed { IfOk result (λ p. no_open_sublink p ≡ (no_open_sublink left_rewriting && no_open_sublink right_rewriting)) }
+{
+    let left_added = added_kinds(alloc, left, &left_rewriting)?;
+    let left_side = left_padded(alloc, left_rewriting, right_added)?;
+    beside(
+        alloc,
+        left_side,
+        right,
+        right_rewriting,
+        left_added.as_slice(),
+    )
+}
+
+/// The rows of the left side, and those of the right rewriting with NULLs of the added kinds.
+fn beside(
+    alloc: Global,
+    left_side: Query,
+    right: &Query,
+    right_rewriting: Query,
+    left_added: &[Kind],
+) -> Result<Query, NoMemory>
+    ensures made { IfOk result (λ p. p ≡ UnionOf true left_side (padded_behind right_rewriting (width_of right.now) left_added.now)) }
+    ensures closed { IfOk result (λ p. no_open_sublink p ≡ (no_open_sublink left_side && no_open_sublink right_rewriting)) }
+{
+    let right_side = right_padded(alloc, right, right_rewriting, left_added)?;
+    union_all(alloc, left_side, right_side)
+}
+
+/// The rewriting with NULLs of the added kinds behind all its columns.
+fn left_padded(alloc: Global, rewriting: Query, added: &[Kind]) -> Result<Query, NoMemory>
+    ensures made { IfOk result (λ p. p ≡ padded_behind rewriting (width_of rewriting) added.now) }
+    ensures closed { IfOk result (λ p. no_open_sublink p ≡ no_open_sublink rewriting) }
+{
+    let first = column_count(alloc, &rewriting)?;
+    padded_at(alloc, rewriting, first, added)
+}
+
+/// The rewriting with NULLs of the added kinds behind the query's columns.
+fn right_padded(
+    alloc: Global,
+    query: &Query,
+    rewriting: Query,
+    added: &[Kind],
+) -> Result<Query, NoMemory>
+    ensures made { IfOk result (λ p. p ≡ padded_behind rewriting (width_of query.now) added.now) }
+    ensures closed { IfOk result (λ p. no_open_sublink p ≡ no_open_sublink rewriting) }
+{
+    let first = column_count(alloc, query)?;
+    padded_at(alloc, rewriting, first, added)
+}
+
+/// The query with NULLs of the added kinds behind its first columns; with no kinds, the query as it is.
+fn padded_at(alloc: Global, query: Query, first: usize, added: &[Kind]) -> Result<Query, NoMemory>
+    ensures made { IfOk result (λ p. p ≡ padded_behind query first added.now) }
+    ensures closed { IfOk result (λ p. no_open_sublink p ≡ no_open_sublink query) }
+{
+    if added.is_empty() {
+        return Ok(query);
+    }
+    widened(alloc, query, first, added)
+}
+
+fn widened(alloc: Global, query: Query, first: usize, added: &[Kind]) -> Result<Query, NoMemory>
+    ensures made { IfOk result (λ p. p ≡ ProjectOf query (items_behind query first added.now) [] end_of-Sublink) }
+    ensures closed { IfOk result (λ p. no_open_sublink p ≡ no_open_sublink query) }
+{
+    let items = padded_columns(alloc, &query, first, added)?;
+    projection(alloc, query, items)
+}
+
+/// The query's first columns, NULLs of the added kinds, and its other columns.
+fn padded_columns(
+    alloc: Global,
+    query: &Query,
+    first: usize,
+    added: &[Kind],
+) -> Result<List<Item>, NoMemory>
+    ensures { IfOk result (λ items. items ≡ items_behind query.now first added.now) }
+{
+    let mut items = columns_between(alloc, query, 0, first)?;
+    items.append(null_items(alloc, added)?)?;
+    let end = column_count(alloc, query)?;
+    items.append(columns_between(alloc, query, first, end)?)?;
+    Ok(items)
+}
+
+fn columns_between(
+    alloc: Global,
+    query: &Query,
+    start: usize,
+    end: usize,
+) -> Result<List<Item>, NoMemory>
+    ensures { IfOk result (λ items. items ≡ column_items (kinds_of query.now) (range_with_len start (end - start))) }
+{
+    let mut order = List::new(alloc);
+    add_places(&mut order, start, end)?;
+    columns_at(alloc, query, order.as_slice())
+}
+
+/// The kinds of the columns that the rewriting has behind the query's.
+fn added_kinds(alloc: Global, query: &Query, rewriting: &Query) -> Result<List<Kind>, NoMemory>
+    ensures { IfOk result (λ added. added ≡ provenance_kinds query.now rewriting.now) }
+{
+    let start = column_count(alloc, query)?;
+    let columns = kinds(alloc, rewriting)?;
+    let mut order = List::new(alloc);
+    add_places(&mut order, start, columns.len())?;
+    kinds_at(alloc, columns.as_slice(), order.as_slice())
+}
+
+fn kinds_at(alloc: Global, columns: &[Kind], order: &[usize]) -> Result<List<Kind>, NoMemory>
+    ensures { IfOk result (λ found. found ≡ kinds_in columns.now order.now) }
+{
+    let mut found = List::new(alloc);
+    for place in order {
+        found.push(kind_or_text(columns, *place))?;
+    }
+    Ok(found)
+}
+
+fn union_all(alloc: Global, left: Query, right: Query) -> Result<Query, NoMemory>
+    ensures made { IfOk result (λ p. p ≡ UnionOf true left right) }
+    ensures closed { IfOk result (λ p. no_open_sublink p ≡ (no_open_sublink left && no_open_sublink right)) }
+{
+    let left = Boxed::new(alloc, left)?;
+    let right = Boxed::new(alloc, right)?;
+    Ok(Query::Union {
+        all: true,
+        left,
+        right,
+    })
+}
