@@ -1,3 +1,4 @@
+pub mod ExceptRows
 pub mod IntersectRows
 pub mod LimitRows
 pub mod Matched

@@ -1,0 +1,2 @@
+pub mod ColumnsOf
+pub mod OtherRows

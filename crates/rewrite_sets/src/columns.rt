@@ -1,9 +1,9 @@
 //! How many columns a set operation has, and its left rewriting.
-ghost use Rattle.std.specs.Prelude.{◌≡◌, IfOk};
-ghost use Rattle.bag_algebra.specs.Kinds.{width_of};
+ghost use Rattle.std.specs.Prelude.{IfOk};
+ghost use Rattle.rewrite_sets.specs.ColumnsOf.{ColumnsOf};
 
 use bag_algebra::Query;
-use joined_rewritings::exact_width;
+use joined_rewritings::{exact_width, sum};
 use perm_values::NoMemory;
 
 /// Columns of a set operation and of its left rewriting, which begins with them.
@@ -11,14 +11,22 @@ use perm_values::NoMemory;
 pub(crate) struct Columns {
     pub(crate) own: usize,
     pub(crate) kept: usize,
+    /// Both together.
+    pub(crate) right: usize,
+    /// Those of the set operation, twice.
+    pub(crate) left_out: usize,
 }
 
 /// It fails only where a number of columns is greater than any `usize`.
 pub(crate) fn columns_of(left: &Query, rewriting: &Query) -> Result<Columns, NoMemory>
-    ensures own { IfOk result (λ columns. columns.own ≡ width_of left.now) }
-    ensures kept { IfOk result (λ columns. columns.kept ≡ width_of rewriting.now) }
+    ensures { IfOk result (λ columns. ColumnsOf columns left.now rewriting.now) }
 {
     let own = exact_width(left)?;
     let kept = exact_width(rewriting)?;
-    Ok(Columns { own, kept })
+    Ok(Columns {
+        own,
+        kept,
+        right: sum(kept, own)?,
+        left_out: sum(own, own)?,
+    })
 }

@@ -3,6 +3,7 @@
 
 mod columns;
 mod nodes;
+mod others;
 mod rules;
 
-pub use rules::{intersect, limit};
+pub use rules::{except, intersect, limit};

@@ -1,11 +1,12 @@
 //! The rules.
 ghost use Rattle.std.specs.Prelude.{IfOk};
 ghost use Rattle.bag_algebra.specs.Rewriting.{IsRewrite, Stands};
-ghost use Rattle.bag_algebra.specs.declared.query.Query.TheVariants.{Intersect, Limit};
+ghost use Rattle.bag_algebra.specs.declared.query.Query.TheVariants.{Except, Intersect, Limit};
 ghost use Rattle.bag_algebra.specs.declared.query.Query.{Query as Node};
 
 use crate::columns::columns_of;
 use crate::nodes::{limited, matched};
+use crate::others::{Counted, beside_others, remaining};
 use bag_algebra::Query;
 use joined_rewritings::exact_width;
 use perm_values::{Key, NoMemory};
@@ -48,4 +49,21 @@ pub fn intersect(
         columns.own,
         columns.kept,
     )
+}
+
+/// A rewriting of the rows of the left input that aren't in the right one, or with ALL of those that stand in the left one
+/// more often: each of them beside the left rewriting's rows that begin with it, and beside the right rewriting's rows that
+/// begin with another row; beside NULLs where none does. It fails only for want of memory.
+pub fn except(
+    alloc: Global,
+    all: bool,
+    left: &Query,
+    left_rewriting: Query,
+    right: &Query,
+    right_rewriting: Query,
+) -> Result<Query, NoMemory>
+    ensures rewrites { IfOk result (λ p. (l r : Node) → Stands l left.now → IsRewrite l left_rewriting → Stands r right.now → IsRewrite r right_rewriting → IsRewrite (Except all l r) p) }
+{
+    let Counted { rows, columns } = remaining(alloc, all, left, left_rewriting, right)?;
+    beside_others(alloc, rows, right_rewriting, columns)
 }
