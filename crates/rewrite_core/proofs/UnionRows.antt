@@ -23,7 +23,6 @@ use Rattle.bag_algebra.specs.WellFormed.{WellFormed}
 use Rattle.bag_algebra.specs.declared.query.Query.{Query}
 use Rattle.bag_algebra.specs.declared.query.Query.TheVariants.{Union}
 use Rattle.contribution.proofs.ListedRows.{only_rows}
-use Rattle.contribution.proofs.MembersByIndex.{in-from_contains}
 use Rattle.contribution.proofs.SetMembers.{in-union}
 use Rattle.contribution.specs.Fitting.{Fitting}
 use Rattle.query_parts.proofs.NodeQueries.{plain-projected}
@@ -39,6 +38,7 @@ use Rattle.rewritten.specs.Rewritten.{Beside}
 use Rattle.witness_laws.proofs.NodeLists.{union-lists}
 use Rattle.witness_laws.specs.ListsOfNodes.{UnionList, from_left, from_right}
 use Rattle.witness_laws.specs.SublinkLists.{InAnswer}
+use Rattle.bag_algebra.proofs.MembersByIndex.{in-from_contains}
 
 both-of_mapped : {X Y Z W V : Type 0} (make : Z → W → V) (first : X → Z) (second : Y → W) (o : Outcome X) (s : Outcome Y) →
     both make (mapped first o) (mapped second s) ≡ both_then o s (λ x y. Good (make (first x) (second y)))

@@ -37,13 +37,14 @@ use Rattle.joined_rewritings.proofs.KeptRows.{row-width, list-width, blank-width
 use Rattle.joined_rewritings.specs.KeptColumns.{kept_places, same_as_first, pairs_of, columns_kept}
 use Rattle.query_congruence.proofs.Inputs.{across, except-inputs}
 use Rattle.query_parts.proofs.NodeQueries.{meaning-pairs, formed-pairs, plain-pairs}
-use Rattle.query_parts.proofs.PartForms.{number-row_of_parts, no_parts-have, more_parts-have}
+use Rattle.query_parts.proofs.PartForms.{no_parts-have, more_parts-have}
 use Rattle.rewritten.specs.Rewritten.{Beside}
 use Rattle.witness_laws.proofs.NodeLists.{except-lists}
 use Rattle.witness_laws.specs.ListsOfNodes.{ExceptList, of_other, of_no_other}
 use Rattle.witness_laws.specs.SublinkLists.{InAnswer}
 use Rattle.rewrite_sets.proofs.Matched.{Matching, matched-spread}
 use Rattle.rewrite_sets.specs.OtherRows.{differs_from_first, remaining}
+use Rattle.bag_algebra.specs.BuiltForms.{number_of_parts-built}
 
 -- ---- faults
 
@@ -92,7 +93,7 @@ not-value test u env b e =
 
 not-formed : (scopes : List (List Kind)) (test : Expr) → HasKind scopes [] test kind.Boolean → HasKind scopes [] (Op Not (test ∷ [])) kind.Boolean
 not-formed scopes test h = record {
-  number = number-row_of_parts (test ∷ []);
+  number = number_of_parts-built (test ∷ []);
   parts = more_parts-have scopes [] kind.Boolean test [] h (no_parts-have scopes [] kind.Boolean);
   gives = refl;
 }
