@@ -2,4 +2,5 @@ pub mod JoinedOutcomes
 pub mod JoinedRows
 pub mod KeptRewriting
 pub mod KeptRows
+pub mod OpenSublinks
 pub mod Places

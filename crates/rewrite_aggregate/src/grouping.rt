@@ -1,5 +1,6 @@
 //! The rule.
-ghost use Rattle.std.specs.Prelude.{◌≡◌, ◌+◌, ◌≤◌, IfOk, length, map};
+ghost use Rattle.std.specs.Prelude.{◌≡◌, ◌+◌, ◌≤◌, IfOk, IsTrue, length, map};
+ghost use Rattle.bag_algebra.specs.EveryNode.{no_open_sublink};
 ghost use Rattle.bag_algebra.specs.Kinds.{width_of};
 ghost use Rattle.bag_algebra.specs.Rewriting.{IsRewrite, Stands};
 ghost use Rattle.bag_algebra.specs.declared.query.JoinKind.TheVariants.{Left};
@@ -16,7 +17,7 @@ use std::alloc::Global;
 
 /// A rewriting of the grouping of what the input stands for: each row of the grouping beside the rewriting's rows with the
 /// same group values, two NULLs being the same, and beside NULLs where there is none, which is so for the one row over no
-/// row alone. It fails only for want of memory.
+/// row alone. It has an open sublink only where the input or the rewriting has one, and fails only for want of memory.
 pub fn aggregate(
     alloc: Global,
     input: &Query,
@@ -25,6 +26,8 @@ pub fn aggregate(
     aggregates: &[Aggr],
 ) -> Result<Query, NoMemory>
     ensures rewrites { IfOk result (λ p. (q : Node) → Stands q input.now → IsRewrite q rewriting → IsRewrite (Aggregate q groups.now aggregates.now) p) }
+    ensures closed { IsTrue (no_open_sublink input.now) → IsTrue (no_open_sublink rewriting) →
+        IfOk result (λ p. IsTrue (no_open_sublink p)) }
 {
     let Plain {
         rows,

@@ -1,5 +1,6 @@
 //! The rules.
-ghost use Rattle.std.specs.Prelude.{IfOk};
+ghost use Rattle.std.specs.Prelude.{IfOk, IsTrue};
+ghost use Rattle.bag_algebra.specs.EveryNode.{no_open_sublink};
 ghost use Rattle.bag_algebra.specs.Rewriting.{IsRewrite, Stands};
 ghost use Rattle.bag_algebra.specs.declared.query.Query.TheVariants.{Except, Intersect, Limit};
 ghost use Rattle.bag_algebra.specs.declared.query.Query.{Query as Node};
@@ -13,7 +14,8 @@ use perm_values::{Key, NoMemory};
 use std::alloc::Global;
 
 /// A rewriting of the first rows, as many at most, of what the input stands for: the first rows of the input, each beside
-/// the rewriting's rows that begin with it. It fails only for want of memory.
+/// the rewriting's rows that begin with it. It has an open sublink only where one of the two has one, and fails only for
+/// want of memory.
 pub fn limit(
     alloc: Global,
     input: &Query,
@@ -22,6 +24,8 @@ pub fn limit(
     count: u64,
 ) -> Result<Query, NoMemory>
     ensures rewrites { IfOk result (λ p. (q : Node) → Stands q input.now → IsRewrite q rewriting → IsRewrite (Limit q keys.now count) p) }
+    ensures closed { IsTrue (no_open_sublink input.now) → IsTrue (no_open_sublink rewriting) →
+        IfOk result (λ p. IsTrue (no_open_sublink p)) }
 {
     let columns = exact_width(input)?;
     let plain = limited(alloc, input, keys, count)?;
@@ -30,7 +34,8 @@ pub fn limit(
 
 /// A rewriting of the rows that stand in both inputs: the rows of the left rewriting, each beside those of the right one
 /// that begin with the same row. How often a row stands in both is free, so ALL changes nothing, and the right input's
-/// rewriting says all of it. It fails only for want of memory.
+/// rewriting says all of it. It has an open sublink only where one of the rewritings has one, and fails only for want of
+/// memory.
 pub fn intersect(
     alloc: Global,
     all: bool,
@@ -40,6 +45,8 @@ pub fn intersect(
     right_rewriting: Query,
 ) -> Result<Query, NoMemory>
     ensures rewrites { IfOk result (λ p. IsRewrite left.now left_rewriting → IsRewrite right.now right_rewriting → IsRewrite (Intersect all left.now right.now) p) }
+    ensures closed { IsTrue (no_open_sublink left_rewriting) → IsTrue (no_open_sublink right_rewriting) →
+        IfOk result (λ p. IsTrue (no_open_sublink p)) }
 {
     let columns = columns_of(left, &left_rewriting)?;
     matched(
@@ -53,7 +60,8 @@ pub fn intersect(
 
 /// A rewriting of the rows of the left input that aren't in the right one, or with ALL of those that stand in the left one
 /// more often: each of them beside the left rewriting's rows that begin with it, and beside the right rewriting's rows that
-/// begin with another row; beside NULLs where none does. It fails only for want of memory.
+/// begin with another row; beside NULLs where none does. It has an open sublink only where one of the four queries has one,
+/// and fails only for want of memory.
 pub fn except(
     alloc: Global,
     all: bool,
@@ -63,6 +71,9 @@ pub fn except(
     right_rewriting: Query,
 ) -> Result<Query, NoMemory>
     ensures rewrites { IfOk result (λ p. (l r : Node) → Stands l left.now → IsRewrite l left_rewriting → Stands r right.now → IsRewrite r right_rewriting → IsRewrite (Except all l r) p) }
+    ensures closed { IsTrue (no_open_sublink left.now) → IsTrue (no_open_sublink left_rewriting) →
+        IsTrue (no_open_sublink right.now) → IsTrue (no_open_sublink right_rewriting) →
+        IfOk result (λ p. IsTrue (no_open_sublink p)) }
 {
     let Counted { rows, columns } = remaining(alloc, all, left, left_rewriting, right)?;
     beside_others(alloc, rows, right_rewriting, columns)

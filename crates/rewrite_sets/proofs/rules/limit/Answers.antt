@@ -1,10 +1,13 @@
-use Rattle.std.proofs.Common.{length, sym, ap, subst₂, arith}
+use Rattle.std.proofs.Common.{length, sym, ap, ◌∙◌, subst₂, arith}
 use Rattle.bag_algebra.specs.Built.{kinds_of-Limit}
+use Rattle.bag_algebra.specs.BuiltEvery.{no_open_sublink-Limit}
+use Rattle.bag_algebra.specs.EveryNode.{no_open_sublink}
 use Rattle.bag_algebra.specs.Kinds.{width_of}
 use Rattle.bag_algebra.specs.Rewriting.{IsRewrite, Stands}
 use Rattle.bag_algebra.specs.declared.query.JoinKind.TheVariants.{Inner}
 use Rattle.bag_algebra.specs.declared.query.Query.{Query}
 use Rattle.bag_algebra.specs.declared.query.Query.TheVariants.{Limit}
+use Rattle.joined_rewritings.proofs.OpenSublinks.{closed-kept}
 use Rattle.joined_rewritings.specs.KeptColumns.{same_as_first, pairs_of, columns_kept}
 use Rattle.query_parts.proofs.NodeQueries.{of_made}
 use Rattle.rewrite_sets.proofs.LimitRows.{limit-made}
@@ -14,11 +17,14 @@ pub matched-requires : goal.matched-requires
 matched-requires c =
     omega (arith, c.in_ok-columns.ensures, ap (λ q. width_of q) c.in_ok-plain.ensures, ap length (kinds_of-Limit c.args.input.now c.args.keys.now c.args.count))
 
-pub returns : goal.returns
-returns c = record {
-  rewrites =
-      of_made (λ p. (q : Query) → Stands q c.args.input.now → IsRewrite q c.args.rewriting → IsRewrite (Limit q c.args.keys.now c.args.count) p) c.matched.result _ c.matched.ensures
-      (λ q s r.
-      subst₂ (λ plain n. IsRewrite (Limit q c.args.keys.now c.args.count) (columns_kept (pairs_of Inner plain c.args.rewriting (same_as_first n n)) n n))
-      (sym c.in_ok-plain.ensures) (sym c.in_ok-columns.ensures) (limit-made q c.args.input.now c.args.rewriting c.args.keys.now c.args.count s r));
-}
+pub returns-clause-rewrites : goal.returns-clause-rewrites
+returns-clause-rewrites c =
+    of_made (λ p. (q : Query) → Stands q c.args.input.now → IsRewrite q c.args.rewriting → IsRewrite (Limit q c.args.keys.now c.args.count) p) c.matched.result _ c.matched.ensures
+    (λ q s r.
+    subst₂ (λ plain n. IsRewrite (Limit q c.args.keys.now c.args.count) (columns_kept (pairs_of Inner plain c.args.rewriting (same_as_first n n)) n n))
+    (sym c.in_ok-plain.ensures) (sym c.in_ok-columns.ensures) (limit-made q c.args.input.now c.args.rewriting c.args.keys.now c.args.count s r))
+
+pub returns-clause-closed : goal.returns-clause-closed
+returns-clause-closed c = λ i r.
+    closed-kept Inner _ c.args.rewriting _ (ap no_open_sublink c.in_ok-plain.ensures ∙ no_open_sublink-Limit c.args.input.now c.args.keys.now c.args.count ∙ i) r
+    _ _ c.matched.result c.matched.ensures
