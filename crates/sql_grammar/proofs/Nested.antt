@@ -16,6 +16,11 @@ use Rattle.sql_grammar.proofs.Depth.{read-is}
 use Rattle.sql_grammar.proofs.Steps.{reading-takes}
 use Rattle.sql_grammar.proofs.TablesHold.{told, has_begins, has_falls}
 
+-- a symbol is read by its rule
+pub reading_is : (n : Symbol) (tokens : List Token) → reading n tokens ≡ mapped (build n) (step sql sql_tables reading (body n) tokens)
+unfolding reading
+reading_is n tokens = read-is sql sql_tables told has_begins has_falls n tokens
+
 -- what may be called below a number may be called below a lesser one
 pub nests_below : {a b : ℕ} {expr_pre query_pre : MutBor (List Token) → Type 0}
     {expr_post : MutBor (List Token) → Result ExprTree Fault → MutBor (List Token) → Type 0}

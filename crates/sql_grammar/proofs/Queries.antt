@@ -28,7 +28,7 @@ use Rattle.sql_tree.specs.declared.source.FromTree.{FromTree}
 use Rattle.sql_tree.specs.declared.source.ScopeMark.TheVariants.{Plain, BaseRelation, External}
 use Rattle.sql_tree.specs.declared.query.OrderKey.TheVariants.{Named, Position}
 use Rattle.sql_grammar.proofs.Listing.{mapped-mapped}
-use Rattle.sql_grammar.proofs.Steps.{reading-is}
+use Rattle.sql_grammar.proofs.Nested.{reading_is}
 
 -- ---- choices and sequences
 
@@ -71,7 +71,7 @@ listed_if true tokens o k l =
 -- ---- symbols
 
 pub limit_is : (tokens : List Token) → reading n.Limit tokens ≡ mapped b.limit (step sql sql_tables reading (body n.Limit) tokens)
-limit_is tokens = reading-is n.Limit tokens
+limit_is tokens = reading_is n.Limit tokens
 
 -- an optional choice of two, the first of which a word begins
 pub choice_if : {X Y Z : Type 0} (f : Option (X ⊎ Y) → Z) (sort : Sort) (sorts : List Sort) (tokens : List Token) (x : Outcome Token X) (y : Outcome Token Y)
@@ -101,11 +101,11 @@ choice_of f false x (Stopped rest) = refl
 pub alias_is : (tokens : List Token) → reading n.Alias tokens
     ≡ cond (sees (s.As ∷ []) tokens) (mapped (λ v. b.alias (Some (inl v))) (piece.by (word s.As then symbol n.NameOf) tokens))
     (cond (sees names tokens) (mapped (λ v. b.alias (Some (inr v))) (reading n.NameOf tokens)) (Taken None tokens))
-alias_is tokens = reading-is n.Alias tokens ∙ choice_if b.alias s.As names tokens (piece.by (word s.As then symbol n.NameOf) tokens) (reading n.NameOf tokens)
+alias_is tokens = reading_is n.Alias tokens ∙ choice_if b.alias s.As names tokens (piece.by (word s.As then symbol n.NameOf) tokens) (reading n.NameOf tokens)
 
 pub key_is : (tokens : List Token) → reading n.Key tokens
     ≡ cond (sees names tokens) (piece.named_key tokens) (and_then (one (s.Digits ∷ []) tokens) (λ t rest. piece.ordered t.start (Position t.number) rest))
-key_is tokens = reading-is n.Key tokens ∙ by_test (sees names tokens) (one names tokens) (one (s.Digits ∷ []) tokens) where
+key_is tokens = reading_is n.Key tokens ∙ by_test (sees names tokens) (one names tokens) (one (s.Digits ∷ []) tokens) where
   by_direction : (t : Token ⊎ Token) (at : _) (key : _) → ((d : Option Token) → b.key (t, d) ≡ record { at = at; key = key; descending = b.is_descending d }) → (o : Outcome Token (Option Token))
       → mapped b.key (mapped (λ d. (t, d)) o) ≡ mapped (λ descending. record { at = at; key = key; descending = descending }) (mapped b.is_descending o)
   by_direction t at key e (Stopped rest) = refl
@@ -121,30 +121,30 @@ key_is tokens = reading-is n.Key tokens ∙ by_test (sees names tokens) (one nam
 
 pub order_is : (tokens : List Token) → reading n.Order tokens
     ≡ cond (sees (s.Order ∷ []) tokens) (and_then (past s.Order tokens) (λ _ a. and_then (past s.By a) (λ _ c. piece.keys c))) (Taken [] tokens)
-order_is tokens = reading-is n.Order tokens ∙ listed_if (sees (s.Order ∷ []) tokens) tokens (past s.Order tokens) (past s.By) (piece.by (list_of (symbol n.Key)))
+order_is tokens = reading_is n.Order tokens ∙ listed_if (sees (s.Order ∷ []) tokens) tokens (past s.Order tokens) (past s.By) (piece.by (list_of (symbol n.Key)))
 
 pub groups_is : (tokens : List Token) → reading n.Groups tokens
     ≡ cond (sees (s.Group ∷ []) tokens) (and_then (past s.Group tokens) (λ _ a. and_then (past s.By a) (λ _ c. piece.columns c))) (Taken [] tokens)
-groups_is tokens = reading-is n.Groups tokens ∙ listed_if (sees (s.Group ∷ []) tokens) tokens (past s.Group tokens) (past s.By) (piece.by (list_of (symbol n.ColumnOf)))
+groups_is tokens = reading_is n.Groups tokens ∙ listed_if (sees (s.Group ∷ []) tokens) tokens (past s.Group tokens) (past s.By) (piece.by (list_of (symbol n.ColumnOf)))
 
 pub mark_is : (tokens : List Token) → reading n.Mark tokens
     ≡ cond (sees (s.BaseRelation ∷ []) tokens) (mapped (λ v. BaseRelation) (past s.BaseRelation tokens))
     (cond (sees (s.Provenance ∷ []) tokens) (mapped External (piece.attributes tokens)) (Taken Plain tokens))
 mark_is tokens =
-    reading-is n.Mark tokens
+    reading_is n.Mark tokens
     ∙ choice_if b.scope_mark s.BaseRelation (s.Provenance ∷ []) tokens (past s.BaseRelation tokens) (piece.by (word s.Provenance then in_parentheses (symbol n.Names)) tokens)
     ∙ ap (λ o. cond (sees (s.BaseRelation ∷ []) tokens) (mapped (λ v. BaseRelation) (past s.BaseRelation tokens)) (cond (sees (s.Provenance ∷ []) tokens) o (Taken Plain tokens)))
     (sym (mapped-mapped External (λ v. v.1.1.0) (λ v. b.scope_mark (Some (inr v))) (λ v. refl) (piece.by (word s.Provenance then in_parentheses (symbol n.Names)) tokens)))
 
 pub aliased_is : (tokens : List Token) → reading n.Aliased tokens ≡ cond (sees names tokens) (piece.named_source tokens) (piece.inner_source tokens)
 aliased_is tokens =
-    reading-is n.Aliased tokens
+    reading_is n.Aliased tokens
     ∙ choice_of b.aliased (sees names tokens) (piece.by (symbol n.NameOf then symbol n.Alias) tokens)
     (piece.by (word s.Opening then symbol n.Query then word s.Closing then optional (word s.As) then symbol n.NameOf) tokens)
 
 pub join_is : (tokens : List Token) → reading n.Join tokens ≡ cond (sees join_begins tokens) (piece.joined_on tokens) (piece.crossed tokens)
 join_is tokens =
-    reading-is n.Join tokens
+    reading_is n.Join tokens
     ∙ choice_of b.join_step (sees join_begins tokens) (piece.by (symbol n.JoinKind then symbol n.Source then word s.On then symbol n.Expr) tokens)
     (piece.by (word s.Cross then word s.Join then symbol n.Source) tokens)
 
@@ -161,7 +161,7 @@ sources_if true tokens (Taken tt a) l = by_list (l a) where
 
 pub sources_is : (tokens : List Token) → reading n.Sources tokens
     ≡ cond (sees (s.From ∷ []) tokens) (and_then (past s.From tokens) (λ _ a. piece.from_list a)) (Taken [] tokens)
-sources_is tokens = reading-is n.Sources tokens ∙ sources_if (sees (s.From ∷ []) tokens) tokens (past s.From tokens) (piece.by (list_of (symbol n.From)))
+sources_is tokens = reading_is n.Sources tokens ∙ sources_if (sees (s.From ∷ []) tokens) tokens (past s.From tokens) (piece.by (list_of (symbol n.From)))
 
 -- ---- one part behind another
 
@@ -171,10 +171,10 @@ pair_of f (Stopped rest) k = refl
 pair_of f (Taken x rest) k = mapped-mapped f (λ y. (x, y)) (λ y. f (x, y)) (λ y. refl) (k rest)
 
 pub from_is : (tokens : List Token) → reading n.From tokens ≡ and_then (reading n.Source tokens) (λ first rest. mapped (λ joins. b.from_tree (first, joins)) (piece.joins rest))
-from_is tokens = reading-is n.From tokens ∙ pair_of b.from_tree (reading n.Source tokens) piece.joins
+from_is tokens = reading_is n.From tokens ∙ pair_of b.from_tree (reading n.Source tokens) piece.joins
 
 pub term_is : (tokens : List Token) → reading n.Term tokens ≡ and_then (reading n.Operand tokens) (λ first rest. mapped (λ steps. b.set_chain (first, steps)) (piece.intersections rest))
-term_is tokens = reading-is n.Term tokens ∙ pair_of b.set_chain (reading n.Operand tokens) piece.intersections
+term_is tokens = reading_is n.Term tokens ∙ pair_of b.set_chain (reading n.Operand tokens) piece.intersections
 
 abbrev stepped : {X : Type 0} → (X → SetWord) → X × (Option Word × (ℕ × SetTree)) → SetStep
 stepped word_of v = b.set_step (word_of v.0) v.1.0 v.1.1
@@ -199,11 +199,11 @@ set_step_is (Taken x a) k l word_of = by_word (k a) where
 
 pub intersect_is : (tokens : List Token) → reading n.IntersectStep tokens
     ≡ and_then (past s.Intersect tokens) (λ _ a. and_then (piece.has s.All a) (λ all c. mapped (λ operand. record { word = Intersect; all = all; at = place c; operand = operand }) (reading n.Operand c)))
-intersect_is tokens = reading-is n.IntersectStep tokens ∙ set_step_is (past s.Intersect tokens) (piece.word_at s.All) (reading n.Operand) (λ _. Intersect)
+intersect_is tokens = reading_is n.IntersectStep tokens ∙ set_step_is (past s.Intersect tokens) (piece.word_at s.All) (reading n.Operand) (λ _. Intersect)
 
 pub union_is : (tokens : List Token) → reading n.UnionStep tokens
     ≡ and_then (one (s.Union ∷ s.Except ∷ []) tokens) (λ t a. and_then (piece.has s.All a) (λ all c. mapped (λ operand. record { word = b.set_word t; all = all; at = place c; operand = operand }) (reading n.Term c)))
-union_is tokens = reading-is n.UnionStep tokens ∙ set_step_is (one (s.Union ∷ s.Except ∷ []) tokens) (piece.word_at s.All) (reading n.Term) b.set_word
+union_is tokens = reading_is n.UnionStep tokens ∙ set_step_is (one (s.Union ∷ s.Except ∷ []) tokens) (piece.word_at s.All) (reading n.Term) b.set_word
 
 abbrev query_of : {X : Type 0} → (X → SetTree) → ℕ × (X × (ℕ → SetTree → QueryTree)) → QueryTree
 query_of tree v = v.1.1 v.0 (tree v.1.0)
@@ -213,21 +213,21 @@ rest_is : {X : Type 0} (at : ℕ) (o : Outcome Token X) (tree : X → SetTree)
     → mapped (query_of tree) (mapped (λ y. (at, y)) (and_then o (λ x rest. mapped (λ y. (x, y)) (reading n.QueryRest rest))))
     ≡ and_then o (λ x rest. mapped (λ v. b.query_rest v at (tree x)) (piece.query_rest rest))
 rest_is at (Stopped rest) tree = refl
-rest_is at (Taken x rest) tree = ap (λ o. mapped (query_of tree) (mapped (λ y. (at, y)) (mapped (λ y. (x, y)) o))) (reading-is n.QueryRest rest) ∙ by_rest (piece.query_rest rest) where
+rest_is at (Taken x rest) tree = ap (λ o. mapped (query_of tree) (mapped (λ y. (at, y)) (mapped (λ y. (x, y)) o))) (reading_is n.QueryRest rest) ∙ by_rest (piece.query_rest rest) where
   by_rest : (o : Outcome Token _) → mapped (query_of tree) (mapped (λ y. (at, y)) (mapped (λ y. (x, y)) (mapped b.query_rest o))) ≡ mapped (λ v. b.query_rest v at (tree x)) o
   by_rest (Stopped r) = refl
   by_rest (Taken v r) = refl
 
 pub query_is : (tokens : List Token) → reading n.Query tokens
     ≡ and_then (reading n.Operand tokens) (λ first rest. mapped (λ v. b.query_rest v (place tokens) first) (piece.query_rest rest))
-query_is tokens = reading-is n.Query tokens ∙ rest_is (place tokens) (reading n.Operand tokens) (λ first. first)
+query_is tokens = reading_is n.Query tokens ∙ rest_is (place tokens) (reading n.Operand tokens) (λ first. first)
 
 pub inner_is : (tokens : List Token) → reading n.Inner tokens
     ≡ and_then (reading n.CoreOf tokens) (λ core rest. mapped (λ v. b.query_rest v (place tokens) (b.core_operand core)) (piece.query_rest rest))
-inner_is tokens = reading-is n.Inner tokens ∙ rest_is (place tokens) (reading n.CoreOf tokens) b.core_operand
+inner_is tokens = reading_is n.Inner tokens ∙ rest_is (place tokens) (reading n.CoreOf tokens) b.core_operand
 
 pub operand_is : (tokens : List Token) → reading n.Operand tokens ≡ cond (sees (s.Select ∷ []) tokens) (mapped b.core_operand (reading n.CoreOf tokens)) (piece.parenthesised tokens)
-operand_is tokens = reading-is n.Operand tokens ∙ choice_of b.operand (sees (s.Select ∷ []) tokens) (reading n.CoreOf tokens) (piece.by (in_parentheses (symbol n.Query)) tokens)
+operand_is tokens = reading_is n.Operand tokens ∙ choice_of b.operand (sees (s.Select ∷ []) tokens) (reading n.CoreOf tokens) (piece.by (in_parentheses (symbol n.Query)) tokens)
 
 -- ---- SELECT
 
@@ -243,20 +243,20 @@ clause_if {X} true tokens (Taken tt a) l = by_part (l a) where
 
 pub condition_is : (tokens : List Token) → reading n.Condition tokens
     ≡ cond (sees (s.Where ∷ []) tokens) (and_then (past s.Where tokens) (λ _ a. mapped Some (reading n.Expr a))) (Taken None tokens)
-condition_is tokens = reading-is n.Condition tokens ∙ clause_if (sees (s.Where ∷ []) tokens) tokens (past s.Where tokens) (reading n.Expr)
+condition_is tokens = reading_is n.Condition tokens ∙ clause_if (sees (s.Where ∷ []) tokens) tokens (past s.Where tokens) (reading n.Expr)
 
 pub having_is : (tokens : List Token) → reading n.Having tokens
     ≡ cond (sees (s.Having ∷ []) tokens) (and_then (past s.Having tokens) (λ _ a. mapped Some (reading n.Expr a))) (Taken None tokens)
-having_is tokens = reading-is n.Having tokens ∙ clause_if (sees (s.Having ∷ []) tokens) tokens (past s.Having tokens) (reading n.Expr)
+having_is tokens = reading_is n.Having tokens ∙ clause_if (sees (s.Having ∷ []) tokens) tokens (past s.Having tokens) (reading n.Expr)
 
 pub items_is : (tokens : List Token) → reading n.Items tokens ≡ piece.items tokens
-items_is tokens = reading-is n.Items tokens
+items_is tokens = reading_is n.Items tokens
 
 pub item_is : (tokens : List Token) → reading n.Item tokens
     ≡ cond (sees (s.Star ∷ []) tokens) (mapped (λ t. Star t.start) (one (s.Star ∷ []) tokens))
     (cond (begins_with sql sql_tables (names ∷ (s.Dot ∷ []) ∷ (s.Star ∷ []) ∷ []) tokens) (piece.table_star tokens) (reading n.ItemValue tokens))
 item_is tokens =
-    reading-is n.Item tokens
+    reading_is n.Item tokens
     ∙ by_tests (sees (s.Star ∷ []) tokens) (begins_with sql sql_tables (names ∷ (s.Dot ∷ []) ∷ (s.Star ∷ []) ∷ []) tokens)
     (one (s.Star ∷ []) tokens) (piece.by (token names then word s.Dot then word s.Star) tokens) (reading n.ItemValue tokens)
   where
@@ -271,7 +271,7 @@ item_is tokens =
     by_tests false false x y (Taken v rest) = refl
 
 pub item_value_is : (tokens : List Token) → reading n.ItemValue tokens ≡ and_then (reading n.Expr tokens) (λ expr rest. mapped (λ name. Value expr name) (reading n.Alias rest))
-item_value_is tokens = reading-is n.ItemValue tokens ∙ pair_of b.item_value (reading n.Expr tokens) (reading n.Alias)
+item_value_is tokens = reading_is n.ItemValue tokens ∙ pair_of b.item_value (reading n.Expr tokens) (reading n.Alias)
 
 core_parts : (at : ℕ) (o : Outcome Token Word) (k : List Token → Outcome Token (Option (ℕ × Word))) (l : List Token → Outcome Token (Option Word))
     (m : List Token → Outcome Token (List SelectItem × (List FromTree × (Option ExprTree × (List ColRef × Option ExprTree)))))
@@ -298,7 +298,7 @@ core_parts at (Taken tt a) k l m = by_provenance (k a) where
 
 pub core_is : (tokens : List Token) → reading n.CoreOf tokens
     ≡ and_then (past s.Select tokens) (λ _ a. and_then (piece.provenance a) (λ p c. and_then (piece.has s.Distinct c) (λ d e. mapped (λ v. piece.core_of (place tokens) p d v) (piece.items_on e))))
-core_is tokens = reading-is n.CoreOf tokens ∙ core_parts (place tokens) (past s.Select tokens) (piece.by (optional (placed (word s.Provenance)))) (piece.word_at s.Distinct) piece.items_on
+core_is tokens = reading_is n.CoreOf tokens ∙ core_parts (place tokens) (past s.Select tokens) (piece.by (optional (placed (word s.Provenance)))) (piece.word_at s.Distinct) piece.items_on
 
 -- without steps an operand is itself
 pub set_chain_of : (first : SetTree) (steps : List SetStep) → (steps ≡ [] → ⊥) → b.set_chain (first, steps) ≡ Chain first steps
