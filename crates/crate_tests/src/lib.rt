@@ -16,7 +16,3 @@ mod owners;
 mod places;
 #[cfg(test)]
 mod queries;
-#[cfg(test)]
-mod runs;
-#[cfg(test)]
-mod scripts;
