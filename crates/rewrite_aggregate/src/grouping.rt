@@ -77,7 +77,14 @@ fn beside_class(
     ensures { IfOk result (λ p. p ≡ columns_kept (pairs_of Left plain rewriting (same_groups groups.now kept)) kept columns) }
 {
     let same = same_groups(alloc, groups, kept)?;
-    join_kept(alloc, JoinKind::Left, plain, rewriting, same, kept, columns)
+    join_kept(alloc, outwards(), plain, rewriting, same, kept, columns)
+}
+
+/// A row over no row stands beside NULLs.
+fn outwards() -> JoinKind
+    ensures { result ≡ Left }
+{
+    JoinKind::Left
 }
 
 fn aggregated(

@@ -45,5 +45,12 @@ pub(crate) fn matched(
     ensures { IfOk result (λ p. p ≡ columns_kept (pairs_of Inner left right (same_as_first columns kept)) kept columns) }
 {
     let same = same_as_first(alloc, columns, kept)?;
-    join_kept(alloc, JoinKind::Inner, left, right, same, kept, columns)
+    join_kept(alloc, inwards(), left, right, same, kept, columns)
+}
+
+/// A row that stands on one side alone isn't kept.
+fn inwards() -> JoinKind
+    ensures { result ≡ Inner }
+{
+    JoinKind::Inner
 }
