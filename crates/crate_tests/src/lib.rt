@@ -16,3 +16,9 @@ mod owners;
 mod places;
 #[cfg(test)]
 mod queries;
+#[cfg(test)]
+mod rules;
+#[cfg(test)]
+mod runs;
+#[cfg(test)]
+mod scripts;
