@@ -11,3 +11,4 @@ pub mod RowColumns
 pub mod RuleRows
 pub mod UnionRows
 pub mod Unlinked
+pub mod Unprojected

@@ -1,11 +1,12 @@
 //! Places of columns, and the columns of a query at places.
-ghost use Rattle.std.specs.Prelude.{◌≡◌, ◌-◌, ◌++◌, ◌<◌, ◌^◌, [], IfOk, OnOk};
+ghost use Rattle.std.specs.Prelude.{◌≡◌, ◌-◌, ◌++◌, ◌<◌, ◌^◌, [], IfOk, IsTrue, OnOk};
 ghost use Rattle.std.specs.List.{range_with_len};
 ghost use Rattle.bag_algebra.specs.ColumnItems.{column_items};
 ghost use Rattle.bag_algebra.specs.EveryNode.{no_open_sublink};
 ghost use Rattle.bag_algebra.specs.Kinds.{kinds_of, width_of};
 ghost use Rattle.bag_algebra.specs.Patterns.{ProjectOf};
-ghost use Rattle.bag_algebra.specs.declared.query.Query.{end_of-Sublink};
+ghost use Rattle.bag_algebra.specs.Rewriting.{IsRewrite};
+ghost use Rattle.bag_algebra.specs.declared.query.Query.{Query as Whole, end_of-Sublink};
 
 use bag_algebra::{Item, Query};
 use contribution::kinds;
@@ -34,12 +35,33 @@ pub(crate) fn column_count(alloc: Global, query: &Query) -> Result<usize, NoMemo
 
 /// A projection of the query to its columns at those places. `regroup` asks that the places are in range, which a rule
 /// knows only where its node is well formed.
-pub(crate) fn arranged(alloc: Global, query: Query, order: &[usize]) -> Result<Query, NoMemory>
+fn arranged(alloc: Global, query: Query, order: &[usize]) -> Result<Query, NoMemory>
     ensures made { IfOk result (λ p. p ≡ ProjectOf query (column_items (kinds_of query) order.now) [] end_of-Sublink) }
     ensures closed { IfOk result (λ p. no_open_sublink p ≡ no_open_sublink query) }
 {
     let items = columns_at(alloc, &query, order)?;
     projection(alloc, query, items)
+}
+
+/// The query itself where those are the places of all its columns in order, else the projection to its columns there.
+pub(crate) fn laid(alloc: Global, query: Query, order: &[usize]) -> Result<Query, NoMemory>
+    ensures rewrites { IfOk result (λ p. (q : Whole) →
+        IsRewrite q (ProjectOf query (column_items (kinds_of query) order.now) [] end_of-Sublink) → IsRewrite q p) }
+    ensures closed { IfOk result (λ p. no_open_sublink p ≡ no_open_sublink query) }
+{
+    if is_all_columns(alloc, &query, order)? {
+        return Ok(query);
+    }
+    arranged(alloc, query, order)
+}
+
+fn is_all_columns(alloc: Global, query: &Query, order: &[usize]) -> Result<bool, NoMemory>
+    ensures { IfOk result (λ same. IsTrue same → order.now ≡ range_with_len 0 (width_of query.now)) }
+{
+    let count = column_count(alloc, query)?;
+    let mut all = List::new(alloc);
+    add_places(&mut all, 0, count)?;
+    Ok(order == all.as_slice())
 }
 
 /// The query's columns at those places; one out of range counts as a text.

@@ -4,10 +4,11 @@ ghost use Rattle.bag_algebra.specs.EveryNode.{no_open_sublink};
 ghost use Rattle.bag_algebra.specs.Kinds.{width_of};
 ghost use Rattle.bag_algebra.specs.Rewriting.{IsRewrite};
 ghost use Rattle.bag_algebra.specs.declared.query.Query.TheVariants.{Join};
+ghost use Rattle.bag_algebra.specs.declared.query.Query.{Query as Node};
 ghost use Rattle.query_parts.specs.MovedColumns.{IsMoved};
 ghost use Rattle.rewrite_core.specs.JoinColumns.{own_places, added_places, IsPaired, IsLaidOut};
 
-use crate::columns::{add_places, arranged, column_count};
+use crate::columns::{add_places, column_count, laid};
 use bag_algebra::{Expr, JoinKind, Query};
 use perm_values::{List, NoMemory};
 use query_parts::{joined, moved};
@@ -44,7 +45,7 @@ pub fn join(
     )
 }
 
-/// The join of the rewritings with its columns in that order.
+/// What the join of the rewritings with its columns in that order is a rewriting of, this is too.
 fn laid_out(
     alloc: Global,
     kind: JoinKind,
@@ -55,7 +56,8 @@ fn laid_out(
     condition: &Expr,
     order: &[usize],
 ) -> Result<Query, NoMemory>
-    ensures made { IfOk result (λ p. IsLaidOut kind left.now left_rewriting right.now right_rewriting condition.now order.now p) }
+    ensures rewrites { IfOk result (λ p. (q : Node) → ((whole : Node) →
+        IsLaidOut kind left.now left_rewriting right.now right_rewriting condition.now order.now whole → IsRewrite q whole) → IsRewrite q p) }
     ensures closed { IsTrue (no_open_sublink left_rewriting) → IsTrue (no_open_sublink right_rewriting) →
         IfOk result (λ p. IsTrue (no_open_sublink p)) }
 {
@@ -68,7 +70,7 @@ fn laid_out(
         right_rewriting,
         condition,
     )?;
-    arranged(alloc, pairs, order)
+    laid(alloc, pairs, order)
 }
 
 /// The join of the rewritings on the condition over their columns.

@@ -8,7 +8,7 @@ ghost use Rattle.bag_algebra.specs.declared.query.Label.{Label as Named};
 ghost use Rattle.bag_algebra.specs.declared.query.Query.TheVariants.{Base};
 ghost use Rattle.bag_algebra.specs.declared.query.Query.{Query as Whole};
 
-use crate::columns::{add_places, arranged, column_count};
+use crate::columns::{add_places, column_count, laid};
 use bag_algebra::Query;
 use perm_values::{List, NoMemory};
 use std::alloc::Global;
@@ -20,7 +20,7 @@ pub fn base(alloc: Global, input: Query, places: &[usize]) -> Result<Query, NoMe
     ensures closed { IsTrue (no_open_sublink input) → IfOk result (λ p. IsTrue (no_open_sublink p)) }
 {
     let order = columns_and(alloc, &input, places)?;
-    arranged(alloc, input, order.as_slice())
+    laid(alloc, input, order.as_slice())
 }
 
 /// The places of all columns of the query, and then those.

@@ -10,17 +10,18 @@ use Rattle.rewrite_core.proofs.JoinRows.{rewrite-laid_out}
 use Rattle.rewrite_core.specs.JoinColumns.{own_places, added_places, IsLaidOut}
 use Rattle.rewrite_core.proofs.joins.join.Goals as goal
 
-rewrite-made : (kind : JoinKind) (left left_rewriting right right_rewriting : Query) (condition : Expr) (order : List ℕ) (result : Result Query NoMemory) →
+rewrite-laid : (kind : JoinKind) (left left_rewriting right right_rewriting : Query) (condition : Expr) (order : List ℕ) (result : Result Query NoMemory) →
     IsRewrite left left_rewriting → IsRewrite right right_rewriting →
     order ≡ own_places (width_of left) (width_of left_rewriting) (width_of right) ++ added_places (width_of left) (width_of left_rewriting) (width_of right) (width_of right_rewriting) →
-    IfOk result (λ p. IsLaidOut kind left left_rewriting right right_rewriting condition order p) →
+    IfOk result (λ p. (q : Query) → ((whole : Query) → IsLaidOut kind left left_rewriting right right_rewriting condition order whole → IsRewrite q whole) → IsRewrite q p) →
     IfOk result (λ p. IsRewrite (Join kind left right condition []) p)
-rewrite-made kind left left_rewriting right right_rewriting condition order (Ok p) left_given right_given e made =
-    rewrite-laid_out kind left left_rewriting right right_rewriting condition p left_given right_given
-    (subst (λ order. IsLaidOut kind left left_rewriting right right_rewriting condition order p) e made)
-rewrite-made kind left left_rewriting right right_rewriting condition order (Err error) left_given right_given e made = tt
+rewrite-laid kind left left_rewriting right right_rewriting condition order (Ok p) left_given right_given e laid =
+    laid (Join kind left right condition [])
+    (λ whole made. rewrite-laid_out kind left left_rewriting right right_rewriting condition whole left_given right_given
+    (subst (λ order. IsLaidOut kind left left_rewriting right right_rewriting condition order whole) e made))
+rewrite-laid kind left left_rewriting right right_rewriting condition order (Err error) left_given right_given e laid = tt
 
 pub returns-clause-rewrites : goal.returns-clause-rewrites
 returns-clause-rewrites c =
-    rewrite-made c.args.kind c.args.left.now c.args.left_rewriting c.args.right.now c.args.right_rewriting c.args.condition.now _ c.laid_out.result
-    c.requires.left c.requires.right (c.as_slice.ensures ∙ c.in_ok-order.ensures) c.laid_out.ensures.made
+    rewrite-laid c.args.kind c.args.left.now c.args.left_rewriting c.args.right.now c.args.right_rewriting c.args.condition.now _ c.laid_out.result
+    c.requires.left c.requires.right (c.as_slice.ensures ∙ c.in_ok-order.ensures) c.laid_out.ensures.rewrites

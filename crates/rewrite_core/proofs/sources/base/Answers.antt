@@ -1,4 +1,5 @@
-use Rattle.std.proofs.Common.{◌≡◌, [], IfOk, ◌∙◌, subst}
+use Rattle.std.proofs.Common.{◌≡◌, [], Result, Ok, Err, List, ℕ, IfOk, sym, ◌∙◌, subst}
+use Rattle.perm_values.specs.declared.no_memory.NoMemory.{NoMemory}
 use Rattle.bag_algebra.specs.ColumnItems.{column_items}
 use Rattle.bag_algebra.specs.Kinds.{kinds_of}
 use Rattle.bag_algebra.specs.Patterns.{ProjectOf}
@@ -6,17 +7,22 @@ use Rattle.bag_algebra.specs.Rewriting.{IsRewrite, Stands}
 use Rattle.bag_algebra.specs.declared.query.Label.{Label}
 use Rattle.bag_algebra.specs.declared.query.Query.{Query, end_of-Sublink}
 use Rattle.bag_algebra.specs.declared.query.Query.TheVariants.{Base}
-use Rattle.query_parts.proofs.NodeQueries.{of_made}
-use Rattle.rewrite_core.proofs.BaseRows.{rewrite-Base}
+use Rattle.rewrite_core.proofs.BaseRows.{order_of, columns_of, rewrite-Base}
 use Rattle.rewrite_core.proofs.Closing.{closed-made}
 use Rattle.rewrite_core.proofs.sources.base.Goals as goal
 
+rewrite-laid : (input : Query) (places order : List ℕ) (result : Result Query NoMemory) → order ≡ order_of input places →
+    IfOk result (λ p. (q : Query) → IsRewrite q (ProjectOf input (column_items (kinds_of input) order) [] end_of-Sublink) → IsRewrite q p) →
+    IfOk result (λ p. (q : Query) (label : Label) → Stands q input → IsRewrite (Base q places label) p)
+rewrite-laid input places order (Ok p) e laid = λ q label stands.
+    laid (Base q places label)
+    (subst (λ order. IsRewrite (Base q places label) (ProjectOf input (column_items (kinds_of input) order) [] end_of-Sublink)) (sym e)
+    (rewrite-Base q input places label stands))
+rewrite-laid input places order (Err error) e laid = tt
+
 pub returns-clause-rewrites : goal.returns-clause-rewrites
 returns-clause-rewrites c =
-    of_made (λ p. (q : Query) (label : Label) → Stands q c.args.input → IsRewrite (Base q c.args.places.now label) p) c.arranged.result _
-    (subst (λ order. IfOk c.arranged.result (λ p. p ≡ ProjectOf c.args.input (column_items (kinds_of c.args.input) order) [] end_of-Sublink))
-    (c.as_slice.ensures ∙ c.in_ok-order.ensures) c.arranged.ensures.made)
-    (λ q label stands. rewrite-Base q c.args.input c.args.places.now label stands)
+    rewrite-laid c.args.input c.args.places.now _ c.laid.result (c.as_slice.ensures ∙ c.in_ok-order.ensures) c.laid.ensures.rewrites
 
 pub returns-clause-closed : goal.returns-clause-closed
-returns-clause-closed c = closed-made c.arranged.result c.args.input c.arranged.ensures.closed
+returns-clause-closed c = closed-made c.laid.result c.args.input c.laid.ensures.closed

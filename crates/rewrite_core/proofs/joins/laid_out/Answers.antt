@@ -1,0 +1,24 @@
+use Rattle.std.proofs.Common.{◌≡◌, [], refl, List, ℕ, Result, Ok, Err, IfOk}
+use Rattle.perm_values.specs.declared.no_memory.NoMemory.{NoMemory}
+use Rattle.bag_algebra.specs.ColumnItems.{column_items}
+use Rattle.bag_algebra.specs.Kinds.{kinds_of}
+use Rattle.bag_algebra.specs.Patterns.{ProjectOf}
+use Rattle.bag_algebra.specs.Rewriting.{IsRewrite}
+use Rattle.bag_algebra.specs.declared.expr.Expr.{Expr}
+use Rattle.bag_algebra.specs.declared.query.JoinKind.{JoinKind}
+use Rattle.bag_algebra.specs.declared.query.Query.{Query, end_of-Sublink}
+use Rattle.rewrite_core.specs.JoinColumns.{IsPaired, IsLaidOut}
+use Rattle.rewrite_core.proofs.joins.laid_out.Goals as goal
+
+rewrite-pairs : (kind : JoinKind) (left left_rewriting right right_rewriting pairs : Query) (condition : Expr) (order : List ℕ) (result : Result Query NoMemory) →
+    IsPaired kind left left_rewriting right right_rewriting condition pairs →
+    IfOk result (λ p. (q : Query) → IsRewrite q (ProjectOf pairs (column_items (kinds_of pairs) order) [] end_of-Sublink) → IsRewrite q p) →
+    IfOk result (λ p. (q : Query) → ((whole : Query) → IsLaidOut kind left left_rewriting right right_rewriting condition order whole → IsRewrite q whole) → IsRewrite q p)
+rewrite-pairs kind left left_rewriting right right_rewriting pairs condition order (Ok p) paired laid = λ q whole.
+    laid q (whole (ProjectOf pairs (column_items (kinds_of pairs) order) [] end_of-Sublink) (record { pairs = pairs; paired = paired; columns = refl }))
+rewrite-pairs kind left left_rewriting right right_rewriting pairs condition order (Err error) paired laid = tt
+
+pub returns-clause-rewrites : goal.returns-clause-rewrites
+returns-clause-rewrites c =
+    rewrite-pairs c.args.kind c.args.left.now c.args.left_rewriting c.args.right.now c.args.right_rewriting _ c.args.condition.now c.args.order.now c.laid.result
+    c.in_ok-pairs.ensures.made c.laid.ensures.rewrites
