@@ -1,12 +1,11 @@
 -- Plans of names and literals, and of expressions without an operator at a level.
-use Rattle.std.specs.Prelude.{ℕ, ◌≡◌, pos, List, [], ◌∷◌, refl}
+use Rattle.std.specs.Prelude.{ℕ, pos, List, [], refl}
 use Rattle.sql_lexer.specs.declared.token.Token.{Token}
 use Rattle.sql_lexer.specs.declared.token.TokenKind.TheVariants.{Quoted, Number, Text}
-use Rattle.sql_grammar.specs.Rules.{token, symbol}
+use Rattle.sql_grammar.specs.Rules.{symbol}
 use Rattle.sql_grammar.specs.Symbols as n
-use Rattle.sql_grammar.specs.declared.sort.Sort.TheVariants as s
 use Rattle.sql_plans.specs.Blanks.{Blank, left_out, none, both_blank, blank_symbol}
-use Rattle.sql_plans.specs.Plans.{Plan, OneOf, here, there, a_word, a_token, both, before, behind, first, second, at_start, as_symbol}
+use Rattle.sql_plans.specs.Plans.{Plan, here, there, a_word, a_token, both, before, behind, first, second, at_start, as_symbol}
 use Rattle.sql_plans.specs.Written.{token_of}
 
 -- ---- names and literals
