@@ -1,0 +1,4 @@
+pub mod Blanks
+pub mod Levels
+pub mod Plans
+pub mod Written

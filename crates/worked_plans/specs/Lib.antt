@@ -1,0 +1,2 @@
+pub mod PlannedTexts
+pub mod PlannedTrees
