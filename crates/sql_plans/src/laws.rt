@@ -11,6 +11,8 @@ ghost use Rattle.sql_grammar.specs.Rules.{Spelled, symbol};
 ghost use Rattle.sql_grammar.specs.Sorts.{sort_of};
 ghost use Rattle.sql_grammar.specs.declared.sort.Sort.{Sort};
 ghost use Rattle.sql_grammar.specs.Symbols as n;
+ghost use Rattle.sql_grammar.specs.Symbols.{Symbol};
+ghost use Rattle.sql_parser.specs.Texts.{IsTextOf};
 ghost use Rattle.sql_tree.specs.declared.expression.ExprBody.TheVariants as e;
 ghost use Rattle.sql_plans.specs.Levels.{expression, parens};
 ghost use Rattle.sql_plans.specs.Plans.{Plan, Told, text_of, tokens_of, value};
@@ -37,6 +39,11 @@ pub fn spaced_tokens_are_read()
 /// The text of a plan is split into its tokens, where each token that the plan chooses can be written.
 pub fn a_plan_is_read()
     ensures { (rule : SqlRule) (p : Plan rule) → Told p → IsUtf8 (text_of p) → Lexes (text_of p) (placed 0 (tokens_of p)) }
+{}
+
+/// The text of a plan is a text of the tree that it spells.
+pub fn a_plan_gives_a_text_of_its_tree()
+    ensures { (n : Symbol) (p : Plan (symbol n)) → Told p → IsUtf8 (text_of p) → IsTextOf n (text_of p) (value 0 p) }
 {}
 
 /// An expression without an operator is its part, and one in parentheses is a node of its own.
