@@ -1,5 +1,5 @@
 -- The facts of each node, of the facts of its parts.
-use Rattle.std.specs.Prelude.{◌≡◌, ℕ, Bool, true, false, ◌&&◌, List, [], ◌∷◌, ◌++◌}
+use Rattle.std.specs.Prelude.{◌≡◌, ℕ, Bool, List, [], ◌∷◌, ◌++◌}
 use Rattle.std.proofs.Common.{refl, ap, sym, ◌∙◌, append_assoc, append-nil}
 use Rattle.std.proofs.Math.Bool.{and-true, and_assoc}
 use Rattle.perm_values.specs.declared.key.Key.{Key}

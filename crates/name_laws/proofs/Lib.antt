@@ -1,1 +1,13 @@
+mod Every
 pub mod FactsOf
+mod Induction
+mod Kept
+mod KeptCores
+mod KeptFroms
+mod KeptItems
+mod KeptQueries
+mod KeptTrees
+mod NamedPlaces
+mod Settled
+mod SteadyMeant
+pub mod Trees

@@ -1,7 +1,8 @@
-//! Laws of what a statement means: its kinds, the facts that its provenance rests on, and that what it resolves to is
-//! well formed.
+//! Laws of what a statement means: its kinds, and the facts that its provenance rests on.
 #![tactic(auto)]
 
 mod laws;
 
-pub use laws::nothing_has_no_facts;
+pub use laws::{
+    expressions_keep_their_facts, from_is_known, queries_have_their_kinds, queries_keep_their_facts,
+};
