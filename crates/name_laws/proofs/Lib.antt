@@ -8,6 +8,11 @@ mod KeptItems
 mod KeptQueries
 mod KeptTrees
 mod NamedPlaces
+mod ScopedCores
+mod ScopedFroms
+mod ScopedMeant
+mod ScopedTrees
+mod Scopes
 mod Settled
 mod SteadyMeant
 pub mod Trees

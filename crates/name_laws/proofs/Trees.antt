@@ -15,7 +15,9 @@ use Rattle.name_words.specs.declared.scope.Scope.{Scope}
 use Rattle.name_words.specs.declared.trace.Trace.{Trace}
 use Rattle.name_laws.specs.Facts.{facts_of, sub_facts}
 use Rattle.name_laws.specs.Known.{HasItsKinds, ItemIsKnown, FromIsKnown}
+use Rattle.name_laws.specs.Traced.{IsInScope, AreInScope}
 use Rattle.name_laws.proofs.KeptTrees.{good-part_tree, good-query_tree, good-set_tree, good-core_tree, good-from_item_tree, good-from_tree}
+use Rattle.name_laws.proofs.ScopedTrees.{fits-part_tree, fits-query_tree}
 
 -- ---- kinds
 
@@ -59,3 +61,15 @@ set-steady c tree around wanted = (good-set_tree c tree around).steady wanted []
 pub core-steady : (c : Contents) (tree : Core) (around : Around) (wanted : List Kind)
     → facts_of (((core_of c tree).means around).make wanted) ≡ facts_of (((core_of c tree).means around).make [])
 core-steady c tree around wanted = (good-core_tree c tree around).steady wanted []
+
+-- ---- what may be traced
+
+pub part-in_scope : (c : Contents) (tree : ExprTree) (here : Surroundings) → IsSound c → (means_at (part_of c tree) here).breaks ≡ []
+    → (wanted : Kind) (before : Before) → AreInScope here.trace ((means_at (part_of c tree) here).make wanted before).subs
+unfolding means_at
+part-in_scope c tree here sound whole wanted before = fits-part_tree c tree here sound whole wanted before
+
+pub query-in_scope : (c : Contents) (tree : QueryTree) (around : Around) → IsSound c → (query_means_at (query_of c tree) around).breaks ≡ []
+    → (wanted : List Kind) → IsInScope around.trace ((query_means_at (query_of c tree) around).make wanted)
+unfolding query_means_at
+query-in_scope c tree around sound whole wanted = fits-query_tree c tree around sound whole wanted

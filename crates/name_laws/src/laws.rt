@@ -1,7 +1,9 @@
 //! Each law is the contract of a function that does nothing.
 ghost use Rattle.std.specs.Prelude.{◌≡◌, ℕ, List, []};
+ghost use Rattle.bag_algebra.specs.declared.query.Query.{Query};
 ghost use Rattle.name_laws.specs.Facts.{facts_of, sub_facts};
 ghost use Rattle.name_laws.specs.Known.{HasItsKinds, FromIsKnown};
+ghost use Rattle.name_laws.specs.Traced.{IsInScope, AreInScope};
 ghost use Rattle.name_words.specs.Meanings.{Surroundings, Before, Around, means_at, query_means_at};
 ghost use Rattle.name_words.specs.Trees.{part_of, query_of, from_of};
 ghost use Rattle.name_words.specs.declared.scope.Scope.{Scope};
@@ -36,4 +38,16 @@ pub fn expressions_keep_their_facts()
 pub fn from_is_known()
     ensures { (c : Contents) (tree : FromTree) (outer : List Scope) (trace : Trace) (earlier : List (List ℕ)) → IsSound c
         → ((from_of c tree).means outer trace earlier).breaks ≡ [] → FromIsKnown ((from_of c tree).means outer trace earlier) }
+{}
+
+/// Over a sound catalog, a query that breaks nothing is made to one that is scoped, and that may be traced as it is.
+pub fn queries_are_in_scope()
+    ensures { (c : Contents) (tree : QueryTree) (around : Around) → IsSound c → (query_means_at (query_of c tree) around).breaks ≡ []
+        → (wanted : List Kind) → IsInScope around.trace ((query_means_at (query_of c tree) around).make wanted) }
+{}
+
+/// So are the sublinks of an expression that breaks nothing.
+pub fn sublinks_are_in_scope()
+    ensures { (c : Contents) (tree : ExprTree) (here : Surroundings) → IsSound c → (means_at (part_of c tree) here).breaks ≡ []
+        → (wanted : Kind) (before : Before) → AreInScope here.trace ((means_at (part_of c tree) here).make wanted before).subs }
 {}
