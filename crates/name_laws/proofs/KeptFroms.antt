@@ -1,0 +1,295 @@
+-- What FROM keeps: where it breaks nothing its columns are known, and its places are named.
+use Rattle.std.specs.Prelude.{◌≡◌, ⊤, ℕ, true, List, [], ◌∷◌, ◌++◌, map, length, Option, Some, None, option_map}
+use Rattle.std.proofs.Common.{refl, ap, sym, ◌∙◌, subst, append_assoc}
+use Rattle.std.proofs.lemmas.List.{length-map}
+use Rattle.std.proofs.lemmas.List.FromFn.{length-range_with_len}
+use Rattle.std.specs.List.{list_any}
+use Rattle.std.specs.Option.{option_map_or}
+use Rattle.perm_values.specs.declared.kind.Kind.{Kind}
+use Rattle.perm_values.specs.declared.kind.Kind.TheVariants as kind
+use Rattle.bag_algebra.specs.Built.{kinds_of-Base, kinds_of-Join, shape-Base}
+use Rattle.bag_algebra.specs.Kinds.{kinds_of, shape}
+use Rattle.bag_algebra.specs.WellFormed.{label_width}
+use Rattle.bag_algebra.specs.declared.query.JoinKind.TheVariants as join
+use Rattle.bag_algebra.specs.declared.query.Label.{Label}
+use Rattle.bag_algebra.specs.declared.query.Label.TheVariants.{Relation, External}
+use Rattle.bag_algebra.specs.declared.query.Query.{Query}
+use Rattle.bag_algebra.specs.declared.query.Query.TheVariants.{Table, Base}
+use Rattle.perm_catalog.specs.Changes.{table_named, view_named}
+use Rattle.perm_catalog.specs.Columns.{column_kinds}
+use Rattle.perm_catalog.specs.Contents.{Contents}
+use Rattle.perm_catalog.specs.Sound.{IsSound, IsSoundView}
+use Rattle.perm_catalog.specs.declared.column.Column.{Column}
+use Rattle.perm_catalog.specs.declared.entries.Mark.{Mark}
+use Rattle.perm_catalog.specs.declared.entries.TableEntry.{TableEntry}
+use Rattle.perm_catalog.specs.declared.entries.ViewEntry.{ViewEntry}
+use Rattle.sql_tree.specs.declared.name.Name.{Name}
+use Rattle.sql_tree.specs.declared.source.JoinWord.{JoinWord}
+use Rattle.sql_tree.specs.declared.source.ScopeMark.{ScopeMark}
+use Rattle.sql_tree.specs.declared.source.ScopeMark.TheVariants as mark
+use Rattle.name_words.specs.Cores.{settle}
+use Rattle.name_words.specs.Froms.{names_of, names_at, all_places, table_columns, settled_columns, named_columns, Read, external, read_table, read_view, read_nothing, read_named, read_query, named_so, place_of, texts_of, marked, mark_breaks, trace_under, SourcePart, named as named_source, inner as inner_source, ItemMeant, FromItemPart, read_of, read_names, scope_break, item_meant, FromMeant, JoinPart, FromPart, join_kind, scope_items, both_known, first_item, on_meant, on_breaks, on_made, joined, join_item, join_all, beside_from, from_more, from_all, yes}
+use Rattle.name_words.specs.Meanings.{Around, Meant, Part, OutColumn, QueryMeant, broken_if, settled}
+use Rattle.name_words.specs.Scopes.{KnownColumn, ScopeItem}
+use Rattle.name_words.specs.declared.answer.Break.{Break}
+use Rattle.name_words.specs.declared.scope.Scope.{Scope}
+use Rattle.name_words.specs.declared.trace.Trace.{Trace}
+use Rattle.name_laws.specs.Facts.{Facts}
+use Rattle.name_laws.specs.Known.{ReadIsKnown, ItemIsKnown, FromIsKnown, column_kinds_of, items_kinds}
+use Rattle.name_laws.proofs.Every.{Every, every-append, front-none, back-none}
+use Rattle.name_laws.proofs.FactsOf.{facts-Join_alone}
+use Rattle.name_laws.proofs.Kept.{GoodQuery}
+use Rattle.name_laws.proofs.NamedPlaces.{IsNamed, AreNamed, named-base, named-formed}
+use Rattle.name_laws.proofs.Settled.{kinds-named_columns}
+
+-- ---- sources
+
+pub named-Base : (input : Query) (places : List ℕ) (label : Label) → label_width label ≡ length places → AreNamed (shape (Base input places label))
+named-Base input places label e = subst AreNamed (sym (shape-Base input places label)) (named-base input places label e, tt)
+
+named-external : (query : Query) (names : List (List ℕ)) (places : List ℕ) → AreNamed (shape (external query names places))
+named-external query names places = named-Base query places (External (names_at names places)) (length-map places _)
+
+named-all : {X : Type 0} (query : Query) (name : List ℕ) (names : List (List ℕ)) (columns : List X) → length names ≡ length columns
+    → AreNamed (shape (Base query (all_places columns) (Relation name names)))
+named-all query name names columns e =
+    named-Base query (all_places columns) (Relation name names) (e ∙ sym (length-range_with_len 0 (length columns)))
+
+kinds-table_columns : (columns : List Column) → column_kinds columns ≡ column_kinds_of (table_columns columns)
+kinds-table_columns [] = refl
+kinds-table_columns (c ∷ columns) = ap (λ (kinds : List Kind). c.kind ∷ kinds) (kinds-table_columns columns)
+
+pub kinds-settled_columns : (columns : List OutColumn) → settle columns [] ≡ column_kinds_of (settled_columns columns)
+kinds-settled_columns [] = refl
+kinds-settled_columns (c ∷ columns) = ap (λ (kinds : List Kind). settled c.kind kind.Text ∷ kinds) (kinds-settled_columns columns)
+
+-- the names of a subquery's columns
+abbrev pub out_names : QueryMeant → List (List ℕ)
+out_names m = option_map_or (λ (columns : List OutColumn). names_of (settled_columns columns)) m.columns []
+
+kinds-plain : (query : Query) (names : List (List ℕ)) (places : Option (List ℕ)) → kinds_of (option_map_or (external query names) places query) ≡ kinds_of query
+kinds-plain query names None = refl
+kinds-plain query names (Some places) = kinds_of-Base query places (External (names_at names places))
+
+named-plain : (query : Query) (names : List (List ℕ)) (places : Option (List ℕ)) → AreNamed (shape query) → AreNamed (shape (option_map_or (external query names) places query))
+named-plain query names None h = h
+named-plain query names (Some places) h = named-external query names places
+
+-- a table with the provenance that it stores, if any
+abbrev table_with : ℕ → List ℕ → List Column → Option Mark → Query
+table_with id name columns stored = option_map_or
+    (λ (m : Mark). external (Table id (column_kinds columns)) (names_of (table_columns columns)) m.places) stored
+    (Base (Table id (column_kinds columns)) (all_places columns) (Relation name (names_of (table_columns columns))))
+
+named-table_plain : (id : ℕ) (name : List ℕ) (columns : List Column) (stored : Option Mark) → AreNamed (shape (table_with id name columns stored))
+named-table_plain id name columns None =
+    named-all (Table id (column_kinds columns)) name (names_of (table_columns columns)) columns
+    (length-map (table_columns columns) _ ∙ length-map columns _)
+named-table_plain id name columns (Some m) = named-external (Table id (column_kinds columns)) (names_of (table_columns columns)) m.places
+
+kinds-table_plain : (id : ℕ) (name : List ℕ) (columns : List Column) (stored : Option Mark) → kinds_of (table_with id name columns stored) ≡ column_kinds columns
+kinds-table_plain id name columns None =
+    kinds_of-Base (Table id (column_kinds columns)) (all_places columns) (Relation name (names_of (table_columns columns)))
+kinds-table_plain id name columns (Some m) =
+    kinds_of-Base (Table id (column_kinds columns)) m.places (External (names_at (names_of (table_columns columns)) m.places))
+
+-- ---- what an item reads
+
+module _ (c : Contents) where
+  pub record GoodRead (r : Read) : Type 0 where
+    pub known : IsSound c → r.breaks ≡ [] → ReadIsKnown r
+    pub named : IsSound c → AreNamed (shape r.plain)
+
+  good-read_table : (name : List ℕ) (table : TableEntry) → GoodRead (read_table name table)
+  good-read_table name table = record {
+    known = λ sound whole. record {
+      columns = table_columns table.columns;
+      known = refl;
+      kinds = kinds-table_columns table.columns;
+      plain = kinds-table_plain table.id name table.columns table.mark ∙ kinds-table_columns table.columns;
+    };
+    named = λ sound. named-table_plain table.id name table.columns table.mark;
+  }
+
+  good-read_view : (name : List ℕ) (view : ViewEntry) → (IsSound c → IsSoundView c view) → GoodRead (read_view name view)
+  good-read_view name view sound_view = record {
+    known = λ sound whole.
+        let kinds = sym (kinds-named_columns view.answer.names (kinds_of view.answer.query) (sound_view sound).answer.named) in
+        record {
+          columns = named_columns view.answer.names (kinds_of view.answer.query);
+          known = refl;
+          kinds = kinds;
+          plain = kinds-plain view.answer.query view.answer.names view.places ∙ kinds;
+        };
+    named = λ sound. named-plain view.answer.query view.answer.names view.places (named-formed view.answer.query [] (sound_view sound).answer.closed);
+  }
+
+  good-read_nothing : (name : Name) → GoodRead (read_nothing name)
+  good-read_nothing name = record { known = λ sound whole. absurd (cc whole); named = λ sound. tt }
+
+  pub good-read_named : (name : Name) → GoodRead (read_named c name)
+  good-read_named name = as_table (table_named c name.text) where
+    as_view : (view : Option ViewEntry) → view_named c name.text ≡ view → GoodRead (option_map_or (read_view name.text) view (read_nothing name))
+    as_view None e = good-read_nothing name
+    as_view (Some view) e = good-read_view name.text view (λ sound. sound.views name.text view e)
+
+    as_table : (table : Option TableEntry)
+        → GoodRead (option_map_or (read_table name.text) table (option_map_or (read_view name.text) (view_named c name.text) (read_nothing name)))
+    as_table None = as_view (view_named c name.text) refl
+    as_table (Some table) = good-read_table name.text table
+
+  pub good-read_query : (m : QueryMeant) → GoodQuery (IsSound c) m → GoodRead (read_query m)
+  good-read_query m good = record {
+    known = λ sound whole.
+        let query = good.known sound whole in
+        let kinds = query.kinds [] ∙ kinds-settled_columns query.columns in
+        record {
+          columns = settled_columns query.columns;
+          known = ap (option_map settled_columns) query.known;
+          kinds = kinds;
+          plain = kinds-plain (m.make []) (out_names m) m.places ∙ kinds;
+        };
+    named = λ sound. named-plain (m.make []) (out_names m) m.places (good.named sound []);
+  }
+
+  abbrev pub GoodSource : SourcePart → Type 0
+  GoodSource (named_source name) = ⊤
+  GoodSource (inner_source query) = (around : Around) → GoodQuery (IsSound c) (query.means around)
+
+  pub good-read_of : (m : ScopeMark) (outer : List Scope) (trace : Trace) (source : SourcePart) → GoodSource source → GoodRead (read_of c m outer trace source)
+  good-read_of m outer trace (named_source name) good = good-read_named name
+  good-read_of m outer trace (inner_source query) good =
+      good-read_query (query.means (record { outer = outer; trace = trace_under m trace; provable = true }))
+      (good (record { outer = outer; trace = trace_under m trace; provable = true }))
+
+  -- ---- items
+
+  pub record GoodItem (m : ItemMeant) : Type 0 where
+    pub known : IsSound c → m.breaks ≡ [] → ItemIsKnown m
+    pub named : IsSound c → AreNamed (shape m.query)
+
+  abbrev pub GoodFromItem : FromItemPart → Type 0
+  GoodFromItem item = (outer : List Scope) (trace : Trace) (earlier : List (List ℕ)) → GoodItem (item.means outer trace earlier)
+
+  kinds-marked : (m : ScopeMark) (label : List ℕ) (names : List (List ℕ)) (read : Read) (kinds : List Kind)
+      → kinds_of read.query ≡ kinds → kinds_of read.plain ≡ kinds → kinds_of (marked m label names read) ≡ kinds
+  kinds-marked mark.Plain label names read kinds e f = f
+  kinds-marked mark.BaseRelation label names read kinds e f = kinds_of-Base read.query (all_places names) (Relation label names) ∙ e
+  kinds-marked (mark.External attributes) label names read kinds e f =
+      kinds_of-Base read.query (map (place_of names) (texts_of attributes)) (External (texts_of attributes)) ∙ e
+
+  named-marked : (m : ScopeMark) (label : List ℕ) (names : List (List ℕ)) (read : Read) → AreNamed (shape read.plain) → AreNamed (shape (marked m label names read))
+  named-marked mark.Plain label names read h = h
+  named-marked mark.BaseRelation label names read h = named-all read.query label names names refl
+  named-marked (mark.External attributes) label names read h =
+      named-Base read.query (map (place_of names) (texts_of attributes)) (External (texts_of attributes)) (sym (length-map (texts_of attributes) (place_of names)))
+
+  pub good-item_meant : (at : ℕ) (m : ScopeMark) (trace : Trace) (earlier : List (List ℕ)) (name label : List ℕ) (read : Read) → GoodRead read
+      → GoodItem (item_meant at m trace earlier name label read)
+  good-item_meant at m trace earlier name label read good =
+      let same_name : List Break = broken_if (list_any (named_so name) earlier) 15 at in
+      let attributes : List Break = mark_breaks m (option_map names_of read.columns) in
+      let scoped : List Break = scope_break read.breaks trace read.viewed (marked m label (read_names read) read) at in
+      record {
+        known = λ sound whole.
+            let front = front-none (read.breaks ++ same_name) attributes (front-none ((read.breaks ++ same_name) ++ attributes) scoped whole) in
+            let r = good.known sound (front-none read.breaks same_name front) in
+            record { columns = r.columns; known = r.known; kinds = kinds-marked m label (read_names read) read (column_kinds_of r.columns) r.kinds r.plain };
+        named = λ sound. named-marked m label (read_names read) read (good.named sound);
+      }
+
+  -- ---- joins
+
+  pub record GoodFrom (m : FromMeant) : Type 0 where
+    pub known : IsSound c → m.breaks ≡ [] → FromIsKnown m
+    pub named : IsSound c → AreNamed (shape m.query)
+
+  abbrev pub GoodFromPart : FromPart → Type 0
+  GoodFromPart part = (outer : List Scope) (trace : Trace) (earlier : List (List ℕ)) → GoodFrom (part.means outer trace earlier)
+
+  abbrev pub GoodJoin : JoinPart → Type 0
+  GoodJoin step = GoodFromItem step.item
+
+  append-nothing : (kinds : List Kind) → kinds ≡ kinds ++ []
+  append-nothing [] = refl
+  append-nothing (k ∷ ks) = ap (λ (kinds : List Kind). k ∷ kinds) (append-nothing ks)
+
+  items_kinds-append : (xs ys : List ScopeItem) → items_kinds (xs ++ ys) ≡ items_kinds xs ++ items_kinds ys
+  items_kinds-append [] ys = refl
+  items_kinds-append (x ∷ xs) ys =
+      ap (λ (kinds : List Kind). column_kinds_of x.columns ++ kinds) (items_kinds-append xs ys)
+      ∙ sym (append_assoc (column_kinds_of x.columns) (items_kinds xs) (items_kinds ys))
+
+  pub good-first : (earlier : List (List ℕ)) (m : ItemMeant) → GoodItem m → GoodFrom (first_item earlier m)
+  good-first earlier m good = record {
+    known = λ sound whole.
+        let item = good.known sound whole in
+        record {
+          items = record { name = m.name; columns = item.columns } ∷ [];
+          known = ap (option_map (λ (columns : List KnownColumn). record { name = m.name; columns = columns } ∷ [])) item.known;
+          kinds = item.kinds ∙ append-nothing (column_kinds_of item.columns);
+        };
+    named = good.named;
+  }
+
+  known-both : {X : Type 0} (a b : Option (List X)) (xs ys : List X) → a ≡ Some xs → b ≡ Some ys → both_known a b ≡ Some (xs ++ ys)
+  known-both a b xs ys e f = λ i. both_known (e i) (f i)
+
+  good-joined : (left : FromMeant) (word : JoinWord) (condition : Option Part) (m : ItemMeant) (on : Option Meant) → GoodFrom left → GoodItem m
+      → GoodFrom (joined left word condition m on)
+  good-joined left word condition m on l r = record {
+    known = λ sound whole.
+        let operands = front-none (left.breaks ++ m.breaks) (on_breaks condition on) whole in
+        let from = l.known sound (front-none left.breaks m.breaks operands) in
+        let item = r.known sound (back-none left.breaks m.breaks operands) in
+        let own : List ScopeItem = record { name = m.name; columns = item.columns } ∷ [] in
+        record {
+          items = from.items ++ own;
+          known = known-both left.items (scope_items m) from.items own from.known
+              (ap (option_map (λ (columns : List KnownColumn). record { name = m.name; columns = columns } ∷ [])) item.known);
+          kinds = kinds_of-Join (join_kind word) left.query m.query (on_made on) []
+              ∙ (λ i. from.kinds i ++ (item.kinds ∙ append-nothing (column_kinds_of item.columns)) i)
+              ∙ sym (items_kinds-append from.items own);
+        };
+    named = λ sound. subst (λ (facts : Facts). AreNamed facts.places) (sym (facts-Join_alone (join_kind word) left.query m.query (on_made on)))
+        (every-append IsNamed (shape left.query) (shape m.query) (l.named sound) (r.named sound));
+  }
+
+  pub good-join_all : (outer : List Scope) (trace : Trace) (left : FromMeant) (steps : List JoinPart) → GoodFrom left → Every GoodJoin steps
+      → GoodFrom (join_all outer trace left steps)
+  good-join_all outer trace left [] l h = l
+  good-join_all outer trace left (step ∷ steps) l h =
+      let m : ItemMeant = step.item.means outer trace left.names in
+      let on : Option Meant = on_meant outer trace (both_known left.items (scope_items m)) step.condition in
+      good-join_all outer trace (join_item outer trace left step m) steps
+      (good-joined left step.word step.condition m on l (h.0 outer trace left.names)) h.1
+
+  good-beside : (left right : FromMeant) → GoodFrom left → GoodFrom right → GoodFrom (beside_from left right)
+  good-beside left right l r = record {
+    known = λ sound whole.
+        let a = l.known sound (front-none left.breaks right.breaks whole) in
+        let b = r.known sound (back-none left.breaks right.breaks whole) in
+        record {
+          items = a.items ++ b.items;
+          known = known-both left.items right.items a.items b.items a.known b.known;
+          kinds = kinds_of-Join join.Inner left.query right.query yes []
+              ∙ (λ i. a.kinds i ++ b.kinds i)
+              ∙ sym (items_kinds-append a.items b.items);
+        };
+    named = λ sound. subst (λ (facts : Facts). AreNamed facts.places) (sym (facts-Join_alone join.Inner left.query right.query yes))
+        (every-append IsNamed (shape left.query) (shape right.query) (l.named sound) (r.named sound));
+  }
+
+  good-more : (outer : List Scope) (trace : Trace) (left : FromMeant) (parts : List FromPart) → GoodFrom left → Every GoodFromPart parts
+      → GoodFrom (from_more outer trace left parts)
+  good-more outer trace left [] l h = l
+  good-more outer trace left (part ∷ parts) l h =
+      let right : FromMeant = part.means outer trace left.names in
+      good-more outer trace (beside_from left right) parts (good-beside left right l (h.0 outer trace left.names)) h.1
+
+  pub good-from_all : (outer : List Scope) (trace : Trace) (parts : List FromPart) → Every GoodFromPart parts → GoodFrom (from_all outer trace parts)
+  good-from_all outer trace [] h = record {
+    known = λ sound whole. record { items = []; known = refl; kinds = refl };
+    named = λ sound. tt;
+  }
+  good-from_all outer trace (part ∷ parts) h = good-more outer trace (part.means outer trace []) parts (h.0 outer trace []) h.1

@@ -1,0 +1,160 @@
+-- What set operations, ORDER BY, LIMIT and PROVENANCE keep.
+use Rattle.std.specs.Prelude.{◌≡◌, ℕ, ℤ, Bool, true, false, cond, List, [], ◌∷◌, ◌++◌, map, Option, Some, None, option_map, nat_abs}
+use Rattle.std.proofs.Common.{refl, ap, sym, ◌∙◌, subst}
+use Rattle.perm_values.specs.declared.key.Key.{Key}
+use Rattle.perm_values.specs.declared.kind.Kind.{Kind}
+use Rattle.bag_algebra.specs.Built.{kinds_of-Union, kinds_of-Intersect, kinds_of-Except, kinds_of-Limit, kinds_of-Prov}
+use Rattle.bag_algebra.specs.Kinds.{kinds_of, shape, place_kinds}
+use Rattle.bag_algebra.specs.PlaceNames.{place_names}
+use Rattle.bag_algebra.specs.declared.place.Place.{Place}
+use Rattle.bag_algebra.specs.declared.query.Query.{Query}
+use Rattle.sql_tree.specs.declared.query.OrderTree.{OrderTree}
+use Rattle.sql_tree.specs.declared.query.SetWord.{SetWord}
+use Rattle.sql_tree.specs.declared.query.SetWord.TheVariants as word
+use Rattle.name_words.specs.Cores.{BodyPart, settle, settle_known}
+use Rattle.name_words.specs.Froms.{named_columns}
+use Rattle.name_words.specs.Meanings.{Around, OutColumn, QueryMeant, is_whole}
+use Rattle.name_words.specs.Queries.{SetStepPart, set_of, united_columns, columns_so_far, operand_breaks, set_joined, unprovable, set_chain, keys_of, keys_breaks, limited, out_column, provenance_columns, plain_query, proved_columns, proved_query, is_proving, query_seen}
+use Rattle.name_words.specs.declared.answer.Break.{Break}
+use Rattle.name_words.specs.declared.trace.Trace.TheVariants.{InProvenance as in_provenance}
+use Rattle.name_laws.specs.Facts.{Facts, facts_of, both_facts, proved_facts}
+use Rattle.name_laws.specs.Known.{HasItsKinds}
+use Rattle.name_laws.proofs.Every.{Every, every-append, front-none, back-none}
+use Rattle.name_laws.proofs.FactsOf.{facts-Union, facts-Intersect, facts-Except, facts-Limit, facts-Prov}
+use Rattle.name_laws.proofs.Kept.{GoodQuery}
+use Rattle.name_laws.proofs.NamedPlaces.{IsNamed, AreNamed, length-place_names}
+use Rattle.name_laws.proofs.Settled.{settle-united, settle-known, kinds-named_columns}
+
+-- ---- set operations
+
+kinds-set : (op : SetWord) (all : Bool) (left right : Query) → kinds_of (set_of op all left right) ≡ kinds_of left
+kinds-set word.Union all left right = kinds_of-Union all left right
+kinds-set word.Except all left right = kinds_of-Except all left right
+kinds-set word.Intersect all left right = kinds_of-Intersect all left right
+
+pub facts-set : (op : SetWord) (all : Bool) (left right : Query) → facts_of (set_of op all left right) ≡ both_facts (facts_of left) (facts_of right)
+facts-set word.Union all left right = facts-Union all left right
+facts-set word.Except all left right = facts-Except all left right
+facts-set word.Intersect all left right = facts-Intersect all left right
+
+columns-joined : (l r : Option (List OutColumn)) (left right : List OutColumn) → l ≡ Some left → r ≡ Some right → columns_so_far l r ≡ Some (united_columns left right)
+columns-joined l r left right e f = λ i. columns_so_far (e i) (f i)
+
+kinds-joined : (left right : QueryMeant) (step : SetStepPart) (ls rs : List OutColumn)
+    → columns_so_far left.columns right.columns ≡ Some (united_columns ls rs)
+    → ((wanted : List Kind) → kinds_of (left.make wanted) ≡ settle ls wanted)
+    → (wanted : List Kind) → kinds_of ((set_joined left step right).make wanted) ≡ settle (united_columns ls rs) wanted
+kinds-joined left right step ls rs known kinds wanted =
+    let at : List Kind = settle_known (columns_so_far left.columns right.columns) wanted in
+    kinds-set step.word step.all (left.make at) (right.make at)
+    ∙ kinds at
+    ∙ ap (λ (columns : Option (List OutColumn)). settle ls (settle_known columns wanted)) known
+    ∙ settle-united ls rs wanted
+
+-- ---- ORDER BY and LIMIT
+
+kinds-limited : (limit : Option ℤ) (keys : List Key) (query : Query) → kinds_of (limited limit keys query) ≡ kinds_of query
+kinds-limited None keys query = refl
+kinds-limited (Some n) keys query = kinds_of-Limit query keys (nat_abs n)
+
+pub facts-limited : (limit : Option ℤ) (keys : List Key) (query : Query) → facts_of (limited limit keys query) ≡ facts_of query
+facts-limited None keys query = refl
+facts-limited (Some n) keys query = facts-Limit query keys (nat_abs n)
+
+module _ (Sound : Type 0) where
+  known-joined : (left right : QueryMeant) (step : SetStepPart) → HasItsKinds left → HasItsKinds right → HasItsKinds (set_joined left step right)
+  known-joined left right step l r =
+      let known = columns-joined left.columns right.columns l.columns r.columns l.known r.known in
+      record { columns = united_columns l.columns r.columns; known = known; kinds = kinds-joined left right step l.columns r.columns known l.kinds }
+
+  good-joined : (left right : QueryMeant) (step : SetStepPart) → GoodQuery Sound left → GoodQuery Sound right → GoodQuery Sound (set_joined left step right)
+  good-joined left right step l r = record {
+    known = λ sound whole.
+        let operands = front-none (left.breaks ++ right.breaks) (operand_breaks step.at left.columns right.columns) whole in
+        known-joined left right step (l.known sound (front-none left.breaks right.breaks operands)) (r.known sound (back-none left.breaks right.breaks operands));
+    steady = λ w v.
+        let at : List Kind = settle_known (columns_so_far left.columns right.columns) w in
+        let other : List Kind = settle_known (columns_so_far left.columns right.columns) v in
+        facts-set step.word step.all (left.make at) (right.make at)
+        ∙ (λ i. both_facts (l.steady at other i) (r.steady at other i))
+        ∙ sym (facts-set step.word step.all (left.make other) (right.make other));
+    named = λ sound w.
+        let at : List Kind = settle_known (columns_so_far left.columns right.columns) w in
+        subst (λ (facts : Facts). AreNamed facts.places) (sym (facts-set step.word step.all (left.make at) (right.make at)))
+        (every-append IsNamed (shape (left.make at)) (shape (right.make at)) (l.named sound at) (r.named sound at));
+  }
+
+  abbrev pub GoodBody : BodyPart → Type 0
+  GoodBody body = (around : Around) → GoodQuery Sound (body.means around)
+
+  abbrev pub GoodOperand : SetStepPart → Type 0
+  GoodOperand step = GoodBody step.operand
+
+  pub good-chain : (around : Around) (left : QueryMeant) (steps : List SetStepPart) → GoodQuery Sound left → Every GoodOperand steps → GoodQuery Sound (set_chain around left steps)
+  good-chain around left [] l h = l
+  good-chain around left (step ∷ steps) l h =
+      let right : QueryMeant = step.operand.means (unprovable around) in
+      good-chain around (set_joined left step right) steps (good-joined left right step l (h.0 (unprovable around))) h.1
+
+  -- ---- ORDER BY and LIMIT
+
+  pub good-plain_query : (at : ℕ) (body : QueryMeant) (order : List OrderTree) (limit : Option ℤ) → GoodQuery Sound body → GoodQuery Sound (plain_query at body order limit)
+  good-plain_query at body order limit good =
+      let keys : List Key = keys_of body.columns order in
+      record {
+        known = λ sound whole.
+            let inner = good.known sound (front-none body.breaks (keys_breaks body.columns order) whole) in
+            record { columns = inner.columns; known = inner.known; kinds = λ wanted. kinds-limited limit keys (body.make wanted) ∙ inner.kinds wanted };
+        steady = λ w v. facts-limited limit keys (body.make w) ∙ good.steady w v ∙ sym (facts-limited limit keys (body.make v));
+        named = λ sound w. subst (λ (facts : Facts). AreNamed facts.places) (sym (facts-limited limit keys (body.make w))) (good.named sound w);
+      }
+
+  -- ---- PROVENANCE
+
+  known-proved : (body : QueryMeant) (query : Query) (columns : List OutColumn) → body.breaks ≡ [] → body.columns ≡ Some columns
+      → proved_columns body query ≡ Some (columns ++ provenance_columns query)
+  known-proved body query columns whole known =
+      ap (λ (breaks : List Break). cond (is_whole breaks) (option_map (λ (own : List OutColumn). own ++ provenance_columns query) body.columns) body.columns) whole
+      ∙ ap (option_map (λ (own : List OutColumn). own ++ provenance_columns query)) known
+
+  -- the columns of the places, whose kinds are known
+  kinds-proved : (columns : List OutColumn) (places : List Place) (wanted : List Kind) → AreNamed places
+      → settle (columns ++ map out_column (named_columns (place_names places) (place_kinds places))) wanted ≡ settle columns wanted ++ place_kinds places
+  kinds-proved columns places wanted named =
+      settle-known columns (named_columns (place_names places) (place_kinds places)) wanted
+      ∙ ap (λ (kinds : List Kind). settle columns wanted ++ kinds) (kinds-named_columns (place_names places) (place_kinds places) (length-place_names places named))
+
+  pub good-proved_query : (at : ℕ) (body : QueryMeant) (order : List OrderTree) (limit : Option ℤ) → GoodQuery Sound body
+      → GoodQuery Sound (proved_query at body order limit (limited limit (keys_of body.columns order) (body.make [])))
+  good-proved_query at body order limit good =
+      let keys : List Key = keys_of body.columns order in
+      let query : List Kind → Query = λ w. limited limit keys (body.make w) in
+      let steady : (w v : List Kind) → facts_of (query w) ≡ facts_of (query v) =
+      λ w v. facts-limited limit keys (body.make w) ∙ good.steady w v ∙ sym (facts-limited limit keys (body.make v)) in
+      let named : Sound → AreNamed (shape (query [])) =
+      λ sound. subst (λ (facts : Facts). AreNamed facts.places) (sym (facts-limited limit keys (body.make []))) (good.named sound []) in
+      record {
+        known = λ sound whole.
+            let body_whole = front-none body.breaks (keys_breaks body.columns order) whole in
+            let inner = good.known sound body_whole in
+            record {
+              columns = inner.columns ++ provenance_columns (query []);
+              known = known-proved body (query []) inner.columns body_whole inner.known;
+              kinds = λ wanted.
+                  kinds_of-Prov (query wanted)
+                  ∙ (λ i. (kinds-limited limit keys (body.make wanted) ∙ inner.kinds wanted) i ++ place_kinds (steady wanted [] i).places)
+                  ∙ sym (kinds-proved inner.columns (shape (query [])) wanted (named sound));
+            };
+        steady = λ w v. facts-Prov (query w) ∙ ap proved_facts (steady w v) ∙ sym (facts-Prov (query v));
+        named = λ sound w. subst (λ (facts : Facts). AreNamed facts.places) (sym (facts-Prov (query w))) tt;
+      }
+
+  pub good-query_seen : (around : Around) (at : ℕ) (body : BodyPart) (order : List OrderTree) (limit : Option ℤ) → GoodBody body
+      → GoodQuery Sound (query_seen around at body order limit)
+  good-query_seen around at body order limit good = chosen (is_proving around body) where
+    chosen : (b : Bool) → GoodQuery Sound (cond b
+        (proved_query at (body.means (record around { trace = in_provenance })) order limit
+        (limited limit (keys_of (body.means (record around { trace = in_provenance })).columns order) ((body.means (record around { trace = in_provenance })).make [])))
+        (plain_query at (body.means around) order limit))
+    chosen true = good-proved_query at (body.means (record around { trace = in_provenance })) order limit (good (record around { trace = in_provenance }))
+    chosen false = good-plain_query at (body.means around) order limit (good around)

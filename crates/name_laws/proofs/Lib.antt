@@ -1,0 +1,18 @@
+mod Every
+pub mod FactsOf
+mod Induction
+mod Kept
+mod KeptCores
+mod KeptFroms
+mod KeptItems
+mod KeptQueries
+mod KeptTrees
+mod NamedPlaces
+mod ScopedCores
+mod ScopedFroms
+mod ScopedMeant
+mod ScopedTrees
+mod Scopes
+mod Settled
+mod SteadyMeant
+pub mod Trees
