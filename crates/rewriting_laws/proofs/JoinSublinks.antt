@@ -1,9 +1,8 @@
 -- A join in a well formed query has no sublinks, so what is a rewriting without them is one with them.
-use Rattle.std.proofs.Common.{◌≡◌, ℕ, List, [], ◌∷◌, ◌++◌, Contains, subst, sym}
+use Rattle.std.proofs.Common.{ℕ, List, [], ◌∷◌, Contains, subst, sym}
 use Rattle.perm_values.specs.declared.kind.Kind.{Kind}
 use Rattle.bag_algebra.proofs.TablesRead.{reads_among-itself, reads_among-onward}
-use Rattle.bag_algebra.specs.Built.{Join-is}
-use Rattle.bag_algebra.specs.BuiltForms.{EachTableOfSubs, EachTable-Join, NoneOf, WellFormed-Join}
+use Rattle.bag_algebra.specs.BuiltForms.{EachTable-Join, WellFormed-Join}
 use Rattle.bag_algebra.specs.Rewriting.{IsRewrite}
 use Rattle.bag_algebra.specs.TablesRead.{tables_read, EachTable, ReadsAmong}
 use Rattle.bag_algebra.specs.WellFormed.{WellFormed}

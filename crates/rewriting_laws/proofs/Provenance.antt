@@ -1,8 +1,7 @@
 -- The distinct rows of a rewriting stand for the query's PROVENANCE, in which each row stands once.
-use Rattle.std.proofs.Common.{◌≡◌, ℕ, true, List, ◌++◌, Contains, sym, ap, ◌∙◌, subst}
+use Rattle.std.proofs.Common.{◌≡◌, true, List, sym, ap, ◌∙◌, subst}
 use Rattle.perm_values.specs.declared.kind.Kind.{Kind}
 use Rattle.bag_algebra.proofs.BagLaws.{member-once, once-same_members}
-use Rattle.bag_algebra.proofs.TablesRead.{reads_among-itself, reads_among-onward}
 use Rattle.bag_algebra.specs.Bags.{Row, Bag, once}
 use Rattle.bag_algebra.specs.Built.{Prov-is, Distinct-is, meaning-Distinct, meaning-Prov}
 use Rattle.bag_algebra.specs.Fits.{TablesFit, env_fits}

@@ -18,7 +18,6 @@ use Rattle.bag_algebra.specs.declared.place.Place.{Place}
 use Rattle.bag_algebra.specs.declared.query.Query.{Query}
 use Rattle.contribution.proofs.NoRowLost.{Listed, none_lost}
 use Rattle.contribution.proofs.QueryKinds.{lists_fit-places}
-use Rattle.contribution.specs.Fitting.{Fitting}
 use Rattle.contribution.specs.FitsPlaces.{FitsPlaces, no_place, held, empty}
 use Rattle.rewritten.proofs.BesideLists.{same-from_rewritten}
 use Rattle.rewritten.specs.Rewritten.{Rewritten}
