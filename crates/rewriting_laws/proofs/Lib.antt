@@ -1,0 +1,4 @@
+pub mod Itself
+pub mod JoinSublinks
+pub mod Provenance
+pub mod WithoutPlaces
