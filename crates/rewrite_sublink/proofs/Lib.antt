@@ -1,5 +1,4 @@
 pub mod AllSublinks
-pub mod Closing
 pub mod Contributing
 pub mod Extending
 pub mod Faults
@@ -10,5 +9,4 @@ pub mod NodeRows
 pub mod OneSublink
 pub mod OuterTests
 pub mod ProjectRows
-pub mod Steps
 pub mod TestValues

@@ -1,7 +1,7 @@
-//! The rules that rewrite a node with sublinks to a plain query with the rows of its PROVENANCE (the strategy Gen: Glavic
-//! and Alonso, EDBT 2009).
+//! How a node with sublinks is rewritten to a plain query with the rows of its PROVENANCE (the strategy Gen: Glavic and
+//! Alonso, EDBT 2009): the rewriting, and the laws by which it is one. No code makes it yet.
 #![tactic(auto)]
 
-mod rules;
+mod laws;
 
-pub use rules::{filter_with, project_with};
+pub use laws::{filters_over_candidates_rewrite, projects_over_candidates_rewrite};
