@@ -138,7 +138,7 @@ fn tables(alloc: Global) -> Result<Tables, NoMemory> {
 }
 
 /// The rows of a query, if it is plain.
-pub fn answer(alloc: Global, query: &Query) -> Result<Rows, ExecError> {
+fn answer(alloc: Global, query: &Query) -> Result<Rows, ExecError> {
     let tables = tables(alloc)?;
     if is_plain(query) {
         run_plain(alloc, query, &tables, &Env::new(alloc))

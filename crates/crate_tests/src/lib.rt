@@ -17,8 +17,6 @@ mod places;
 #[cfg(test)]
 mod queries;
 #[cfg(test)]
-mod rules;
-#[cfg(test)]
 mod runs;
 #[cfg(test)]
 mod scripts;
