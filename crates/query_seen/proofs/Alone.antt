@@ -1,6 +1,6 @@
 -- Expressions without sublinks of their own.
 use Rattle.std.specs.Prelude.{◌≡◌, ℕ, List, [], ◌∷◌, Option, Some, None, Result, Ok, Err}
-use Rattle.std.proofs.Common.{refl, ap, sym, ◌∙◌}
+use Rattle.std.proofs.Common.{refl, ap, sym, subst, ◌∙◌}
 use Rattle.perm_values.specs.declared.kind.Kind.{Kind}
 use Rattle.bag_algebra.specs.declared.expr.Expr.{Expr}
 use Rattle.bag_algebra.specs.declared.query.Sublink.{Sublink}
@@ -48,3 +48,8 @@ told-so m old new (Err NoMemory) shown = tt
 pub tells-answered : {X : Type 0} (found : Result X Break) → Tells found (answered found)
 tells-answered (Ok x) = refl
 tells-answered (Err first) = refl
+
+pub told-by : (found kind : Result (Option Kind) Break) (r : Result (Option Kind) Refusal) → kind ≡ found → r ≡ answered kind → Tells found r
+told-by found kind r e is =
+    subst (λ (r : Result (Option Kind) Refusal). Tells found r) (sym is)
+    (subst (λ (k : Result (Option Kind) Break). Tells k (answered kind)) e (tells-answered kind))

@@ -54,6 +54,10 @@ behind-both os ps (Err refusal) r s old middle new first second =
 
 -- ---- one operand
 
+pub part-at : (c : Contents) (tree : ExprTree) → (part_of c tree).at ≡ tree.at
+unfolding token
+part-at c tree = ap (λ (part : Part). part.at) (exprtree-record c tree.at tree.body)
+
 pub operand-is : (c : Contents) (here : Surroundings) (need : Need) (tree : ExprTree)
     → record { at = tree.at; need = need; meant = means_at (part_of c tree) here } ≡ operand here need (part_of c tree)
 unfolding token means_at

@@ -7,9 +7,11 @@ mod facts;
 mod queries;
 mod shown;
 mod sources;
+mod sublinks;
 
 pub use expressions::{
-    expression_seen, kind_of, operand, operands, operands_of_arms, operands_of_steps,
+    chain_gives, expression_seen, first_need, kind_of, operand, operands, operands_of_arms,
+    operands_of_steps,
 };
 pub use facts::Facts;
 pub use queries::{query_seen, set_seen};
