@@ -2,6 +2,8 @@
 //! and Alonso, EDBT 2009).
 #![tactic(auto)]
 
+mod candidates;
+mod matching;
 mod rules;
 
 pub use rules::{filter_with, project_with};

@@ -5,10 +5,15 @@ ghost use Rattle.bag_algebra.specs.Rewriting.{IsRewrite};
 ghost use Rattle.bag_algebra.specs.declared.query.Query.TheVariants.{Filter, Project};
 ghost use Rattle.query_congruence.specs.Standing.{SubsStand};
 ghost use Rattle.query_measures.specs.BuiltScopes.{all_over_tables};
+ghost use Rattle.rewrite_sublink.specs.Candidates.{answer_columns, answer_places, beside_row};
 ghost use Rattle.rewrite_sublink.specs.SubRewritings.{SubsRewritten};
 
+use crate::candidates::with_contributions;
 use bag_algebra::{Expr, Item, Query, Sublink};
-use perm_values::{List, NoMemory};
+use contribution::kinds;
+use joined_rewritings::{columns_from, exact_width, sum};
+use perm_values::{Boxed, Copyable, List, NoMemory};
+use query_parts::{column_items, projection};
 use std::alloc::Global;
 
 /// A rewriting of the input's rows on which the condition is true, where sublinks of any kind stand in it: the condition
@@ -32,7 +37,8 @@ pub fn filter_with(
     ensures rewrites { IfOk result (λ p. IsRewrite (Filter input.now condition.now subs.now) p) }
     ensures closed { subs.now ≡ [] → IsTrue (no_open_sublink rewriting) → IfOk result (λ p. IsTrue (no_open_sublink p)) }
 {
-    Err(NoMemory)
+    let rows = own_rows(alloc, rewriting, condition, standing)?;
+    with_contributions(alloc, rows, subs, standing, sub_rewritings.as_slice())
 }
 
 /// A rewriting of what the items make of the input's rows, where sublinks of any kind stand in them: the items over the
@@ -56,5 +62,95 @@ pub fn project_with(
     ensures rewrites { IfOk result (λ p. IsRewrite (Project input.now items.now subs.now) p) }
     ensures closed { subs.now ≡ [] → IsTrue (no_open_sublink rewriting) → IfOk result (λ p. IsTrue (no_open_sublink p)) }
 {
-    Err(NoMemory)
+    let own = exact_width(input)?;
+    let row = exact_width(&rewriting)?;
+    let rows = own_items(alloc, rewriting, items, standing)?;
+    let whole = with_contributions(alloc, rows, subs, standing, sub_rewritings.as_slice())?;
+    answer_columns(alloc, whole, own, row, items.len())
+}
+
+/// The rows of the rewriting on which the condition is true, with what stands for the sublinks.
+fn own_rows(
+    alloc: Global,
+    rewriting: Query,
+    condition: &Expr,
+    standing: &[Sublink],
+) -> Result<Query, NoMemory>
+    ensures { IfOk result (λ p. p ≡ Filter rewriting condition.now standing.now) }
+{
+    let condition = condition.copy(alloc)?;
+    let subs = copied(alloc, standing)?;
+    let input = Boxed::new(alloc, rewriting)?;
+    Ok(Query::Filter {
+        input,
+        condition,
+        subs,
+    })
+}
+
+/// The rows of the rewriting with the items behind them, and what stands for the sublinks.
+fn own_items(
+    alloc: Global,
+    rewriting: Query,
+    items: &[Item],
+    standing: &[Sublink],
+) -> Result<Query, NoMemory>
+    ensures { IfOk result (λ p. p ≡ Project rewriting (beside_row rewriting items.now) standing.now) }
+{
+    let items = beside_row(alloc, &rewriting, items)?;
+    let subs = copied(alloc, standing)?;
+    let input = Boxed::new(alloc, rewriting)?;
+    Ok(Query::Project { input, items, subs })
+}
+
+fn beside_row(alloc: Global, query: &Query, items: &[Item]) -> Result<List<Item>, NoMemory>
+    ensures { IfOk result (λ all. all ≡ beside_row query.now items.now) }
+{
+    let columns = kinds(alloc, query)?;
+    let places = columns_from(alloc, 0, columns.len())?;
+    let mut all = column_items(alloc, columns.as_slice(), places.as_slice())?;
+    all.append(copied(alloc, items)?)?;
+    Ok(all)
+}
+
+fn copied<T: Copyable>(alloc: Global, items: &[T]) -> Result<List<T>, NoMemory>
+    ensures { IfOk result (λ list. list ≡ items.now) }
+{
+    let mut list = List::new(alloc);
+    for item in items {
+        list.push(item.copy(alloc)?)?;
+    }
+    Ok(list)
+}
+
+/// The items, the provenance of the rewriting, and what the sublinks contribute.
+fn answer_columns(
+    alloc: Global,
+    query: Query,
+    own: usize,
+    row: usize,
+    made: usize,
+) -> Result<Query, NoMemory>
+    ensures { IfOk result (λ p. p ≡ answer_columns query own row made) }
+{
+    let columns = kinds(alloc, &query)?;
+    let places = answer_places(alloc, own, row, made, columns.len())?;
+    let items = column_items(alloc, columns.as_slice(), places.as_slice())?;
+    projection(alloc, query, items)
+}
+
+fn answer_places(
+    alloc: Global,
+    own: usize,
+    row: usize,
+    made: usize,
+    all: usize,
+) -> Result<List<usize>, NoMemory>
+    ensures { IfOk result (λ places. places ≡ answer_places own row made all) }
+{
+    let behind = sum(row, made)?;
+    let mut places = columns_from(alloc, row, made)?;
+    places.append(columns_from(alloc, own, row.saturating_sub(own))?)?;
+    places.append(columns_from(alloc, behind, all.saturating_sub(behind))?)?;
+    Ok(places)
 }

@@ -1,0 +1,12 @@
+use Rattle.std.proofs.Common.{◌≡◌, ◌∙◌, [], ap}
+use Rattle.bag_algebra.specs.Kinds.{width_of}
+use Rattle.bag_algebra.specs.Patterns.{JoinOf}
+use Rattle.bag_algebra.specs.declared.query.JoinKind.TheVariants.{Inner}
+use Rattle.bag_algebra.specs.declared.query.Query.{end_of-Sublink}
+use Rattle.rewrite_sublink.proofs.candidates.beside_candidates.Goals as goal
+
+pub returns-clause-pairs : goal.returns-clause-pairs
+returns-clause-pairs c = c.in_ok-pairs.ensures.made ∙ (λ i. JoinOf Inner c.args.rows (c.in_ok-base.ensures.made i) (c.always.ensures i) [] end_of-Sublink)
+
+pub returns-clause-count : goal.returns-clause-count
+returns-clause-count c = c.in_ok-count.ensures ∙ ap (λ q. width_of q) c.in_ok-base.ensures.made
