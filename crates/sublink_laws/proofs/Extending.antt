@@ -31,10 +31,10 @@ use Rattle.joined_rewritings.specs.KeptColumns.{pairs_of}
 use Rattle.query_congruence.specs.Standing.{SubStands, SubsStand}
 use Rattle.query_measures.specs.BuiltScopes.{all_over_tables}
 use Rattle.query_parts.proofs.NodeQueries.{meaning-pairs}
-use Rattle.rewrite_sublink.proofs.MatchingRows.{gather-kept}
-use Rattle.rewrite_sublink.proofs.OneSublink.{stand, base, base-rows, candidate-width, test, test-good, passing-contributes, contributing-passes, contributing-in_base}
-use Rattle.rewrite_sublink.specs.Candidates.{matching, tested, deciding, test_condition, test_subs, contributed, all_contributed}
-use Rattle.rewrite_sublink.specs.SubRewritings.{SubsRewritten}
+use Rattle.sublink_laws.proofs.MatchingRows.{gather-kept}
+use Rattle.sublink_laws.proofs.OneSublink.{stand, base, base-rows, candidate-width, test, test-good, passing-contributes, contributing-passes, contributing-in_base}
+use Rattle.sublink_laws.specs.Candidates.{matching, tested, deciding, test_condition, test_subs, contributed, all_contributed}
+use Rattle.sublink_laws.specs.SubRewritings.{SubsRewritten}
 use Rattle.witness_laws.proofs.Contributed.{all_good, each_contributes-from, one_of_each}
 use Rattle.witness_laws.proofs.PairedLists.{OneOfEach}
 use Rattle.witness_laws.specs.SublinkLists.{Contributes, EachContributes, no_sublink, one_more}

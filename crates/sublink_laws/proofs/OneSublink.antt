@@ -44,10 +44,10 @@ use Rattle.joined_rewritings.proofs.KeptRewriting.{rewriting-related}
 use Rattle.joined_rewritings.proofs.KeptRows.{row-width, list-width}
 use Rattle.joined_rewritings.proofs.Places.{at-between}
 use Rattle.rewritten.specs.Rewritten.{Beside}
-use Rattle.rewrite_sublink.proofs.Contributing.{matching_rows, contributions, is_candidate, from-candidate, in-candidate}
-use Rattle.rewrite_sublink.proofs.MatchingRows.{meaning-matching}
-use Rattle.rewrite_sublink.proofs.TestValues.{passes_of, chosen-passing, test-value}
-use Rattle.rewrite_sublink.specs.Candidates.{deciding, matching, test_condition, test_subs}
+use Rattle.sublink_laws.proofs.Contributing.{matching_rows, contributions, is_candidate, from-candidate, in-candidate}
+use Rattle.sublink_laws.proofs.MatchingRows.{meaning-matching}
+use Rattle.sublink_laws.proofs.TestValues.{passes_of, chosen-passing, test-value}
+use Rattle.sublink_laws.specs.Candidates.{deciding, matching, test_condition, test_subs}
 use Rattle.witness_laws.proofs.Contributed.{contributed, contributes-from, in-contributed}
 use Rattle.witness_laws.specs.SublinkLists.{Contributes, by_row, by_no_row}
 

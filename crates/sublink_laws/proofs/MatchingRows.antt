@@ -21,9 +21,9 @@ use Rattle.bag_algebra.specs.declared.query.Query.TheVariants.{Single}
 use Rattle.contribution.specs.CrossBase.{always}
 use Rattle.joined_rewritings.proofs.Places.{at-between, within-range}
 use Rattle.query_parts.proofs.NodeQueries.{meaning-pairs, meaning-chosen, formed-pairs, formed-chosen}
-use Rattle.rewrite_sublink.proofs.Contributing.{padded_rows, matching_rows}
-use Rattle.rewrite_sublink.proofs.OuterTests.{outer_tests-value, outer_tests-formed}
-use Rattle.rewrite_sublink.specs.Candidates.{same_as_outer, or_nulls, matching}
+use Rattle.sublink_laws.proofs.Contributing.{padded_rows, matching_rows}
+use Rattle.sublink_laws.proofs.OuterTests.{outer_tests-value, outer_tests-formed}
+use Rattle.sublink_laws.specs.Candidates.{same_as_outer, or_nulls, matching}
 
 -- ---- conditions that are good on each row
 

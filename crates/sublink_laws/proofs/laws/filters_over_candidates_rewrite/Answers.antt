@@ -1,6 +1,6 @@
-use Rattle.rewrite_sublink.proofs.AllSublinks.{ready}
-use Rattle.rewrite_sublink.proofs.FilterRows.{rewrite-Filter_with}
-use Rattle.rewrite_sublink.proofs.laws.filters_over_candidates_rewrite.Goals as goal
+use Rattle.sublink_laws.proofs.AllSublinks.{ready}
+use Rattle.sublink_laws.proofs.FilterRows.{rewrite-Filter_with}
+use Rattle.sublink_laws.proofs.laws.filters_over_candidates_rewrite.Goals as goal
 
 pub returns : goal.returns
 returns c = λ q rewriting condition subs standing rewritings over given stand rewritten.

@@ -1,5 +1,5 @@
 //! How a node with sublinks is rewritten to a plain query with the rows of its PROVENANCE (the strategy Gen: Glavic and
-//! Alonso, EDBT 2009): the rewriting, and the laws by which it is one. No code makes it yet.
+//! Alonso, EDBT 2009): the rewriting as a definition, and the laws by which it is one.
 #![tactic(auto)]
 
 mod laws;

@@ -48,12 +48,12 @@ use Rattle.query_parts.proofs.NodeQueries.{plain-projected}
 use Rattle.query_parts.specs.ItemKinds.{item_kinds}
 use Rattle.rewritten.proofs.BesideLists.{same-from_rewritten}
 use Rattle.rewritten.specs.Rewritten.{Beside}
-use Rattle.rewrite_sublink.proofs.AllSublinks.{Ready, AllGoodOn, Reached, good-longer, contributes-longer, contributes-shorter, kinds-all, bad-all, plain-all, tables-all, formed-all, reached, stand-plain, stand-tables, stand-form, stand-kinds, stand-agree}
-use Rattle.rewrite_sublink.proofs.Extending.{Extended}
-use Rattle.rewrite_sublink.proofs.Forming.{by, names-more}
-use Rattle.rewrite_sublink.proofs.Faults.{SameFaults, same_faults-made, each-bad_alike, in-each}
-use Rattle.rewrite_sublink.proofs.NodeRows.{row-begins, first-of_good, Flattened, flattened, listed, Reaching, reaching-over}
-use Rattle.rewrite_sublink.specs.Candidates.{all_contributed, beside_row, answer_places, answer_columns}
+use Rattle.sublink_laws.proofs.AllSublinks.{Ready, AllGoodOn, Reached, good-longer, contributes-longer, contributes-shorter, kinds-all, bad-all, plain-all, tables-all, formed-all, reached, stand-plain, stand-tables, stand-form, stand-kinds, stand-agree}
+use Rattle.sublink_laws.proofs.Extending.{Extended}
+use Rattle.sublink_laws.proofs.Forming.{by, names-more}
+use Rattle.sublink_laws.proofs.Faults.{SameFaults, same_faults-made, each-bad_alike, in-each}
+use Rattle.sublink_laws.proofs.NodeRows.{row-begins, first-of_good, Flattened, flattened, listed, Reaching, reaching-over}
+use Rattle.sublink_laws.specs.Candidates.{all_contributed, beside_row, answer_places, answer_columns}
 use Rattle.witness_laws.proofs.AnswerRows.{answer-in, answer-from}
 use Rattle.witness_laws.proofs.NodeLists.{project-lists}
 use Rattle.witness_laws.specs.ListsOfNodes.{Followed, ProjectList}

@@ -37,12 +37,12 @@ use Rattle.query_congruence.proofs.Sublinks.{answers-same}
 use Rattle.query_measures.specs.BuiltScopes.{all_plain, is_plain-Filter}
 use Rattle.rewritten.proofs.BesideLists.{same-from_rewritten}
 use Rattle.rewritten.specs.Rewritten.{Beside}
-use Rattle.rewrite_sublink.proofs.AllSublinks.{Ready, AllGoodOn, Reached, good-longer, contributes-longer, contributes-shorter, kinds-all, bad-all, plain-all, tables-all, formed-all, reached, stand-plain, stand-tables, stand-form, stand-kinds, stand-agree}
-use Rattle.rewrite_sublink.proofs.Extending.{Extended}
-use Rattle.rewrite_sublink.proofs.Forming.{by, names-more}
-use Rattle.rewrite_sublink.proofs.Faults.{SameFaults, kept-alike, gather-bad_alike}
-use Rattle.rewrite_sublink.proofs.NodeRows.{row-begins, first-good, Flattened, flattened, listed, Reaching, reaching-over}
-use Rattle.rewrite_sublink.specs.Candidates.{all_contributed}
+use Rattle.sublink_laws.proofs.AllSublinks.{Ready, AllGoodOn, Reached, good-longer, contributes-longer, contributes-shorter, kinds-all, bad-all, plain-all, tables-all, formed-all, reached, stand-plain, stand-tables, stand-form, stand-kinds, stand-agree}
+use Rattle.sublink_laws.proofs.Extending.{Extended}
+use Rattle.sublink_laws.proofs.Forming.{by, names-more}
+use Rattle.sublink_laws.proofs.Faults.{SameFaults, kept-alike, gather-bad_alike}
+use Rattle.sublink_laws.proofs.NodeRows.{row-begins, first-good, Flattened, flattened, listed, Reaching, reaching-over}
+use Rattle.sublink_laws.specs.Candidates.{all_contributed}
 use Rattle.witness_laws.proofs.NodeLists.{filter-lists}
 use Rattle.witness_laws.specs.ListsOfNodes.{Followed}
 use Rattle.witness_laws.specs.SublinkLists.{InAnswer, EachContributes}

@@ -33,8 +33,8 @@ use Rattle.query_measures.specs.BuiltScopes.{all_plain, is_plain-Filter}
 use Rattle.query_parts.proofs.ColumnQueries.{all-first, all-nothing, formed-columns}
 use Rattle.query_parts.proofs.NodeQueries.{meaning-pairs, formed-pairs, plain-pairs, plain-chosen, plain-projected}
 use Rattle.bag_algebra.specs.ColumnItems.{column_items}
-use Rattle.rewrite_sublink.proofs.MatchingRows.{formed-matching}
-use Rattle.rewrite_sublink.specs.Candidates.{matching, or_nulls, same_as_outer, first_column, deciding, deciding_arm, test_condition, test_subs, contributed}
+use Rattle.sublink_laws.proofs.MatchingRows.{formed-matching}
+use Rattle.sublink_laws.specs.Candidates.{matching, or_nulls, same_as_outer, first_column, deciding, deciding_arm, test_condition, test_subs, contributed}
 
 -- what one type has, an equal one has
 pub by : {A B : Type 0} → A ≡ B → A → B

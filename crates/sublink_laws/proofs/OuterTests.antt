@@ -23,7 +23,7 @@ use Rattle.bag_algebra.specs.declared.expr.Expr.TheVariants.{Col}
 use Rattle.query_parts.proofs.ColumnQueries.{all-rest, kind_there}
 use Rattle.query_parts.proofs.PartForms.{no_parts-have, more_parts-have}
 use Rattle.query_parts.specs.Conjunctions.{all_hold}
-use Rattle.rewrite_sublink.specs.Candidates.{outer_test, outer_tests}
+use Rattle.sublink_laws.specs.Candidates.{outer_test, outer_tests}
 
 -- ---- one more test
 

@@ -9,8 +9,8 @@ ghost use Rattle.bag_algebra.specs.declared.query.Query.{Query};
 ghost use Rattle.bag_algebra.specs.declared.query.Sublink.{Sublink};
 ghost use Rattle.query_congruence.specs.Standing.{SubsStand};
 ghost use Rattle.query_measures.specs.BuiltScopes.{all_over_tables};
-ghost use Rattle.rewrite_sublink.specs.Candidates.{all_contributed, answer_columns, beside_row};
-ghost use Rattle.rewrite_sublink.specs.SubRewritings.{SubsRewritten};
+ghost use Rattle.sublink_laws.specs.Candidates.{all_contributed, answer_columns, beside_row};
+ghost use Rattle.sublink_laws.specs.SubRewritings.{SubsRewritten};
 
 /// A Filter whose sublinks, of any kind and in any number, have their sources over tables: what it keeps of its input's
 /// rewriting, and then for each sublink in turn the candidates of its cross base that are one of its contributions, is a

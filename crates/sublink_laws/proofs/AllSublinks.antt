@@ -33,10 +33,10 @@ use Rattle.contribution.proofs.LongerKinds.{NamesAlso, well_formed-longer}
 use Rattle.query_congruence.specs.Agreeing.{SubsAgree}
 use Rattle.query_congruence.specs.Standing.{SubsStand}
 use Rattle.query_measures.specs.BuiltScopes.{all_over_tables, all_plain}
-use Rattle.rewrite_sublink.proofs.Extending.{Extended, GoodOn, one-reached}
-use Rattle.rewrite_sublink.proofs.Forming.{by, whole, fitting-longer, kinds-contributed, bad-contributed, plain-contributed, tables-contributed, formed-contributed}
-use Rattle.rewrite_sublink.specs.Candidates.{all_contributed, contributed}
-use Rattle.rewrite_sublink.specs.SubRewritings.{SubsRewritten}
+use Rattle.sublink_laws.proofs.Extending.{Extended, GoodOn, one-reached}
+use Rattle.sublink_laws.proofs.Forming.{by, whole, fitting-longer, kinds-contributed, bad-contributed, plain-contributed, tables-contributed, formed-contributed}
+use Rattle.sublink_laws.specs.Candidates.{all_contributed, contributed}
+use Rattle.sublink_laws.specs.SubRewritings.{SubsRewritten}
 use Rattle.witness_laws.proofs.Contributed.{AllGood, all_good, each_contributes-from, one_of_each}
 use Rattle.witness_laws.proofs.PairedLists.{OneOfEach}
 use Rattle.witness_laws.specs.SublinkLists.{Contributes, EachContributes, no_sublink, one_more}
