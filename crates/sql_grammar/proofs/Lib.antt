@@ -1,4 +1,5 @@
 pub mod Begins
+pub mod Between
 pub mod Complete
 pub mod Decided
 pub mod Depth

@@ -71,7 +71,7 @@ module _ {X : Type 0} (sorts : List Sort) (one : List Token → Outcome Token X)
   all_of-done (t ∷ ts) e = rw e refl
 
 module _ {X : Type 0} (separator : Sort) (one : List Token → Outcome Token X) where
-  behind-takes : Keeps one → Takes (behind separator one)
+  pub behind-takes : Keeps one → Takes (behind separator one)
   behind-takes keeps = record { fewer = go } where
     by_one : (ts mid : List Token) (y : Word × X) (new : List Token) (o : Outcome Token X) → one mid ≡ o → mapped (λ x. (tt, x)) o ≡ Taken y new → length new ≤ length mid
     by_one ts mid y new (Taken x rest) e f = let g : rest ≡ new = cc in omega (arith, keeps.fewer mid x rest e, ap length g)

@@ -28,7 +28,7 @@ use Rattle.sql_tree.specs.declared.source.FromTree.{FromTree}
 use Rattle.sql_tree.specs.declared.source.ScopeMark.TheVariants.{Plain, BaseRelation, External}
 use Rattle.sql_tree.specs.declared.query.OrderKey.TheVariants.{Named, Position}
 use Rattle.sql_grammar.proofs.Listing.{mapped-mapped}
-use Rattle.sql_grammar.proofs.Nested.{reading_is}
+use Rattle.sql_grammar.proofs.Steps.{reading_is}
 
 -- ---- choices and sequences
 

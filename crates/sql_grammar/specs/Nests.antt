@@ -1,5 +1,5 @@
 -- The functions that read an expression and a query, as the rules of the grammar get them.
-use Rattle.std.specs.Prelude.{ℕ, ◌<◌, length, List, Result}
+use Rattle.std.specs.Prelude.{ℕ, ◌<◌, ◌≤◌, length, List, Result}
 use denote.Ref.{MutBor}
 use Rattle.sql_lexer.specs.declared.token.Token.{Token}
 use Rattle.sql_grammar.specs.Cursors.{reading, Reads}
@@ -13,6 +13,12 @@ use Rattle.sql_tree.specs.declared.query.QueryTree.{QueryTree}
 pub record ReadsBelow (most : ℕ) (one : Symbol) (pre : MutBor (List Token) → Type 0)
     (post : MutBor (List Token) → Result (Tree one) Fault → MutBor (List Token) → Type 0) : Type 0 where
   pub callable : (old : MutBor (List Token)) → length old.now < most → pre old
+  pub reads : (old new : MutBor (List Token)) (result : Result (Tree one) Fault) → post old result new → Reads result (reading one old.now) new.now
+
+-- where no more tokens than a number are left, it may be called, and then reads the symbol
+pub record ReadsUpTo (most : ℕ) (one : Symbol) (pre : MutBor (List Token) → Type 0)
+    (post : MutBor (List Token) → Result (Tree one) Fault → MutBor (List Token) → Type 0) : Type 0 where
+  pub callable : (old : MutBor (List Token)) → length old.now ≤ most → pre old
   pub reads : (old new : MutBor (List Token)) (result : Result (Tree one) Fault) → post old result new → Reads result (reading one old.now) new.now
 
 pub record Nests (most : ℕ) (expr_pre query_pre : MutBor (List Token) → Type 0)

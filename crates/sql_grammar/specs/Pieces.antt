@@ -4,7 +4,7 @@ use Rattle.std.proofs.Common.{inl, inr}
 use Rattle.sql_lexer.specs.declared.token.Token.{Token}
 use Rattle.sql_grammar.specs.Building as b
 use Rattle.sql_grammar.specs.Building.{Word}
-use Rattle.sql_grammar.specs.Cursors.{reading, one}
+use Rattle.sql_grammar.specs.Cursors.{reading, past, one}
 use Rattle.sql_grammar.specs.Descent.{Outcome, and_then, mapped, begins_with, step}
 use Rattle.sql_grammar.specs.Grammar.{SqlRule, Given, sql, in_parentheses}
 use Rattle.sql_grammar.specs.Lists.{all_of, listed}
@@ -40,6 +40,11 @@ word_if false = None
 
 abbrev pub word_at : Sort → List Token → Outcome Token (Option Word)
 word_at sort tokens = by (optional (word sort)) tokens
+
+-- between parentheses
+abbrev pub between : {X : Type 0} → (List Token → Outcome Token X) → List Token → Outcome Token X
+between one tokens =
+    and_then (past s.Opening tokens) (λ opening first. and_then (one first) (λ x rest. mapped (λ closing. x) (past s.Closing rest)))
 
 -- the direction of a key
 abbrev pub direction : List Token → Outcome Token Bool

@@ -28,7 +28,7 @@ fn outer_of(token: &Token) -> JoinWord
 }
 
 impl<'a> Cursor<'a> {
-    #[tactic(auto, using(crate::proofs::Nested::reading_is))]
+    #[tactic(auto, using(crate::proofs::Steps::reading_is))]
     pub fn join_kind(&mut self) -> Result<JoinWord, Fault>
         ensures given { spec.Reads result (spec.reading n.JoinKind self.old) self.new }
         ensures fewer { IfOk result (λ _. length self.new < length self.old) }

@@ -105,9 +105,7 @@ impl<'a> Cursor<'a> {
         ensures { result ≡ sees_pair sorts.now behind.now self.now }
     {
         match self.tokens {
-            [first, second, ..] => {
-                is_among(sort_of(first), sorts) && is_among(sort_of(second), behind)
-            }
+            [_, second, ..] => self.sees_any(sorts) && is_among(sort_of(second), behind),
             [] | [_] => false,
         }
     }

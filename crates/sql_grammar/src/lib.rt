@@ -17,6 +17,6 @@ pub use fault::Fault;
 pub use laws::reserved_words_are_the_lexers;
 pub use lists::{listed, more_listed};
 pub use names::{name_of, reference};
-pub use nest::Nest;
+pub use nest::{Nest, node};
 pub use repeats::repeated;
 pub use sort::{NAMES, Sort, is_among, same_sort, sort_of};

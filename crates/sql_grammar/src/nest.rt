@@ -1,15 +1,18 @@
 //! Expressions hold queries, and queries expressions: a rule that holds either gets what reads them, and is proved by itself.
 
 ghost use Rattle.std.specs.Prelude.{◌≡◌, ◌<◌, ◌≤◌, length, IfOk};
+ghost use Rattle.sql_grammar.specs.Building as b;
 ghost use Rattle.sql_grammar.specs.Cursors as spec;
 ghost use Rattle.sql_grammar.specs.Nests.{Nests};
 ghost use Rattle.sql_grammar.specs.Symbols as n;
 
 use crate::cursor::Cursor;
 use crate::fault::Fault;
+use crate::lists::listed;
 use crate::sort::Sort;
-use perm_values::Boxed;
-use sql_tree::{ExprTree, QueryTree};
+use perm_values::{Boxed, List, NoMemory};
+use sql_tree::{ExprBody, ExprTree, QueryTree};
+use std::alloc::Global;
 
 /// What reads an expression and what reads a query, where fewer than `most` tokens are left.
 #[derive(Clone, Copy)]
@@ -58,7 +61,7 @@ impl<
         }
     }
 
-    #[tactic(auto, using(crate::proofs::Nested::reading_is))]
+    #[tactic(auto, using(crate::proofs::Steps::reading_is))]
     pub fn in_parentheses(&self, cursor: &mut Cursor<'_>) -> Result<Boxed<QueryTree>, Fault>
         requires sound { Nests self.now.most (F.pre self.now.expr) (G.pre self.now.query) (F.post self.now.expr) (G.post self.now.query) }
         requires below { length cursor.old ≤ self.now.most }
@@ -70,4 +73,23 @@ impl<
         cursor.past(Sort::Closing)?;
         Ok(query)
     }
+
+    /// Expressions with commas between them.
+    pub fn expressions(&self, cursor: &mut Cursor<'_>) -> Result<List<ExprTree>, Fault>
+        requires sound { Nests self.now.most (F.pre self.now.expr) (G.pre self.now.query) (F.post self.now.expr) (G.post self.now.query) }
+        requires below { length cursor.old < self.now.most }
+        ensures given { spec.Reads result (spec.reading n.Exprs cursor.old) cursor.new }
+        ensures fewer { IfOk result (λ _. length cursor.new < length cursor.old) }
+    {
+        listed(cursor, Sort::Comma, |cursor: &mut Cursor<'_>| {
+            Ok(self.expression(cursor)?.into_inner())
+        })
+    }
+}
+
+/// A node in a box.
+pub fn node(alloc: Global, at: usize, body: ExprBody) -> Result<Boxed<ExprTree>, NoMemory>
+    ensures { IfOk result (λ tree. tree ≡ b.node at body) }
+{
+    Boxed::new(alloc, ExprTree { at, body })
 }

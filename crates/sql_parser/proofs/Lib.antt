@@ -1,3 +1,4 @@
+pub mod Literals
 pub mod Regularity
 pub mod Stating
 pub mod Tabled

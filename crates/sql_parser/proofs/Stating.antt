@@ -14,7 +14,7 @@ use Rattle.sql_grammar.specs.declared.sort.Sort.TheVariants as s
 use Rattle.sql_tree.specs.declared.statement.Statement.{Statement}
 use Rattle.sql_tree.specs.declared.statement.StatementBody.TheVariants as st
 use Rattle.sql_grammar.proofs.Outcomes.{fused, pushed, pulled, nested, chosen}
-use Rattle.sql_grammar.proofs.Steps.{reading-is, reading-keeps}
+use Rattle.sql_grammar.proofs.Steps.{reading_is, reading-keeps}
 
 pub null_mark_is : (null : Option (Bor Token)) → b.null_mark (marked null) ≡ mark_of null
 null_mark_is None = refl
@@ -22,16 +22,16 @@ null_mark_is (Some t) = refl
 
 pub columns_is : (tokens : List Token) → reading n.Columns tokens
     ≡ and_then (past s.Opening tokens) (λ word first. and_then (listed s.Comma (reading n.Column) first) (λ list rest. mapped (λ end. list) (past s.Closing rest)))
-columns_is tokens = reading-is n.Columns tokens ∙ simp (fused, pushed, pulled, nested)
+columns_is tokens = reading_is n.Columns tokens ∙ simp (fused, pushed, pulled, nested)
 
 pub insert_is : (tokens : List Token) → reading n.Insert tokens
     ≡ and_then (past s.Insert tokens) (λ word first. and_then (past s.Into first) (λ into second. and_then (reading n.NameOf second) (λ table third.
     and_then (past s.Values third) (λ values rest. mapped (λ list. st.Insert table list) (listed s.Comma (reading n.Row) rest)))))
-insert_is tokens = reading-is n.Insert tokens ∙ simp (fused, pushed, pulled, nested)
+insert_is tokens = reading_is n.Insert tokens ∙ simp (fused, pushed, pulled, nested)
 
 pub statement_is : (tokens : List Token) → reading n.StatementOf tokens ≡ mapped (λ body. record { at = place tokens; body = body }) (statement_body tokens)
 statement_is tokens =
-    reading-is n.StatementOf tokens
+    reading_is n.StatementOf tokens
     ∙ fused (build n.StatementOf) (λ x. (place tokens, x)) _
     ∙ sym (fused (λ body. b.statement (place tokens, body)) (b.one_of (b.one_of (b.one_of (b.one_of (b.one_of (b.one_of (b.one_of st.Select))))))) _)
     ∙ ap (mapped (λ body. b.statement (place tokens, body)))
@@ -45,7 +45,7 @@ statement_is tokens =
 
 pub script_is : (tokens : List Token) → reading n.ScriptOf tokens
     ≡ mapped (λ list. record { statements = b.present list }) (listed s.Semicolon optional_statement tokens)
-script_is tokens = reading-is n.ScriptOf tokens ∙ sym (fused (λ (list : List (Option Statement)). record { statements = b.present list }) b.items _)
+script_is tokens = reading_is n.ScriptOf tokens ∙ sym (fused (λ (list : List (Option Statement)). record { statements = b.present list }) b.items _)
 
 pub optional_statement-keeps : (old : List Token) (x : Option Statement) (new : List Token) → optional_statement old ≡ Taken x new → length new ≤ length old
 optional_statement-keeps old x new e = by_sort (sees (begins n.StatementOf) old) (reading n.StatementOf old) refl e where

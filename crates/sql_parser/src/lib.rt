@@ -1,6 +1,7 @@
 //! Reads the syntax tree of a script from its tokens (ISO/IEC 9075-2, cut to the grammar in `sql_grammar/specs/Grammar.antt`).
 #![tactic(auto)]
 
+mod expression;
 mod laws;
 mod nesting;
 mod parser;

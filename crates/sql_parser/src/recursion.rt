@@ -4,6 +4,7 @@ ghost use Rattle.std.specs.Prelude.{◌≡◌, ◌<◌, ◌≤◌, length, IfOk}
 ghost use Rattle.sql_grammar.specs.Cursors as spec;
 ghost use Rattle.sql_grammar.specs.Symbols as n;
 
+use crate::expression::expression;
 use perm_values::Boxed;
 use sql_grammar::{Cursor, Fault, Nest};
 use sql_tree::{ExprTree, QueryTree};
@@ -15,7 +16,7 @@ pub(crate) fn expr(cursor: &mut Cursor<'_>) -> Result<Boxed<ExprTree>, Fault>
 {
     let most = cursor.left();
     let nest = Nest { expr, query, most };
-    sql_expressions::Grammar { nest }.disjunction(cursor)
+    expression(&nest, cursor)
 }
 
 #[cycle(grammar)]

@@ -10,9 +10,9 @@ ghost use Rattle.sql_grammar.specs.declared.sort.Sort.TheVariants as s;
 
 use crate::recursion::{condition, expr, query};
 use perm_values::{Boxed, Chars, Copyable, Kind, List, NoMemory};
-use sql_expressions::kind_of;
 use sql_grammar::{Cursor, Fault, Sort, listed};
 use sql_lexer::Token;
+use sql_primaries::kind_of;
 use sql_tree::{ColumnDef, ExprTree, Script, Statement, StatementBody, ValuesRow};
 use std::alloc::Global;
 

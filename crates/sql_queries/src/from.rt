@@ -47,7 +47,7 @@ impl<
         }
     }
 
-    #[tactic(auto, using(sql_grammar::proofs::Nested::reading_is))]
+    #[tactic(auto, using(sql_grammar::proofs::Steps::reading_is))]
     fn from_item(&self, cursor: &mut Cursor<'_>) -> Result<Boxed<FromItem>, Fault>
         requires sound { Nests self.now.nest.most (F.pre self.now.nest.expr) (G.pre self.now.nest.query) (F.post self.now.nest.expr) (G.post self.now.nest.query) }
         requires below { length cursor.old ≤ self.now.nest.most }

@@ -1,0 +1,15 @@
+use Rattle.std.proofs.Common.{rules, refl}
+use Rattle.sql_grammar.specs.Cursors.{reading}
+use Rattle.sql_grammar.specs.Symbols as n
+use Rattle.sql_grammar.proofs.Steps.{reading-keeps, reading-takes, exprs_is}
+use Rattle.sql_grammar.proofs.Fewer.{fewer_of}
+use Rattle.sql_grammar.proofs.nest.Nest.expressions.Goals as goal
+
+pub returns-clause-given : goal.returns-clause-given
+returns-clause-given g c = rw (exprs_is c.args.cursor.now)
+    (c.listed.ensures.given (reading n.Expr) (record { reads = λ old new r met. search rules; fewer = reading-keeps n.Expr }))
+
+pub returns-clause-fewer : goal.returns-clause-fewer
+returns-clause-fewer g c =
+    fewer_of c.listed.result (reading n.Exprs c.args.cursor.now) c.args.cursor.now c.listed.new.cursor
+    (λ x e. reading-takes n.Exprs refl c.args.cursor.now x c.listed.new.cursor e) (returns-clause-given g c)

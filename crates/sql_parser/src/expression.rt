@@ -1,0 +1,97 @@
+//! The levels of expressions, each over the one below: connectives over predicates, predicates over sums, sums over primaries.
+
+ghost use Rattle.std.specs.Prelude.{◌≡◌, ◌<◌, ◌≤◌, true, length, IfOk};
+ghost use Rattle.sql_grammar.specs.Cursors as spec;
+ghost use Rattle.sql_grammar.specs.Nests.{Nests};
+ghost use Rattle.sql_grammar.specs.Pieces.{sees_pair};
+ghost use Rattle.sql_grammar.specs.Symbols as n;
+ghost use Rattle.sql_grammar.specs.Tables.{begins};
+ghost use Rattle.sql_parser.specs.Literals.{ends};
+
+use perm_values::Boxed;
+use sql_grammar::{Cursor, Fault, Nest, Sort, node};
+use sql_operators::{Connectives, Sums};
+use sql_predicates::Predicates;
+use sql_primaries::{Grammar, LITERALS, literal};
+use sql_tree::{ExprTree, QueryTree};
+
+/// What ends an expression in a list or in parentheses.
+const ENDS: [Sort; 2] = [Sort::Comma, Sort::Closing];
+
+/// A literal that stands alone, as the expression that it is.
+#[tactic(auto, using(crate::proofs::Literals::literal_alone))]
+fn literal_alone(cursor: &mut Cursor<'_>) -> Result<Boxed<ExprTree>, Fault>
+    requires { sees_pair (begins n.Literal) ends cursor.old ≡ true }
+    ensures given { spec.Reads result (spec.reading n.Expr cursor.old) cursor.new }
+    ensures fewer { IfOk result (λ _. length cursor.new < length cursor.old) }
+{
+    let at = cursor.place();
+    let body = literal(cursor)?;
+    Ok(node(cursor.alloc(), at, body)?)
+}
+
+fn sum<
+    F: Fn(&mut Cursor<'_>) -> Result<Boxed<ExprTree>, Fault> + Copy,
+    G: Fn(&mut Cursor<'_>) -> Result<Boxed<QueryTree>, Fault> + Copy,
+>(nest: &Nest<F, G>, cursor: &mut Cursor<'_>) -> Result<Boxed<ExprTree>, Fault>
+    requires sound { Nests nest.now.most (F.pre nest.now.expr) (G.pre nest.now.query) (F.post nest.now.expr) (G.post nest.now.query) }
+    requires below { length cursor.old ≤ nest.now.most }
+    ensures given { spec.Reads result (spec.reading n.Sum cursor.old) cursor.new }
+    ensures fewer { IfOk result (λ _. length cursor.new < length cursor.old) }
+{
+    let primary = |cursor: &mut Cursor<'_>| Grammar { nest: *nest }.primary(cursor);
+    let sums = Sums {
+        primary,
+        most: nest.most,
+    };
+    sums.sum(cursor)
+}
+
+fn test<
+    F: Fn(&mut Cursor<'_>) -> Result<Boxed<ExprTree>, Fault> + Copy,
+    G: Fn(&mut Cursor<'_>) -> Result<Boxed<QueryTree>, Fault> + Copy,
+>(nest: &Nest<F, G>, cursor: &mut Cursor<'_>) -> Result<Boxed<ExprTree>, Fault>
+    requires sound { Nests nest.now.most (F.pre nest.now.expr) (G.pre nest.now.query) (F.post nest.now.expr) (G.post nest.now.query) }
+    requires below { length cursor.old ≤ nest.now.most }
+    ensures given { spec.Reads result (spec.reading n.Test cursor.old) cursor.new }
+    ensures fewer { IfOk result (λ _. length cursor.new < length cursor.old) }
+{
+    let predicates = Predicates {
+        sum: |cursor: &mut Cursor<'_>| sum(nest, cursor),
+        nest: *nest,
+    };
+    predicates.test(cursor)
+}
+
+fn disjunction<
+    F: Fn(&mut Cursor<'_>) -> Result<Boxed<ExprTree>, Fault> + Copy,
+    G: Fn(&mut Cursor<'_>) -> Result<Boxed<QueryTree>, Fault> + Copy,
+>(nest: &Nest<F, G>, cursor: &mut Cursor<'_>) -> Result<Boxed<ExprTree>, Fault>
+    requires sound { Nests nest.now.most (F.pre nest.now.expr) (G.pre nest.now.query) (F.post nest.now.expr) (G.post nest.now.query) }
+    requires below { length cursor.old ≤ nest.now.most }
+    ensures given { spec.Reads result (spec.reading n.Expr cursor.old) cursor.new }
+    ensures fewer { IfOk result (λ _. length cursor.new < length cursor.old) }
+{
+    let connectives = Connectives {
+        test: |cursor: &mut Cursor<'_>| test(nest, cursor),
+        most: nest.most,
+    };
+    connectives.disjunction(cursor)
+}
+
+/// An expression. A literal that stands alone is read at once.
+pub(crate) fn expression<
+    F: Fn(&mut Cursor<'_>) -> Result<Boxed<ExprTree>, Fault> + Copy,
+    G: Fn(&mut Cursor<'_>) -> Result<Boxed<QueryTree>, Fault> + Copy,
+>(nest: &Nest<F, G>, cursor: &mut Cursor<'_>) -> Result<Boxed<ExprTree>, Fault>
+    requires sound { Nests nest.now.most (F.pre nest.now.expr) (G.pre nest.now.query) (F.post nest.now.expr) (G.post nest.now.query) }
+    requires below { length cursor.old ≤ nest.now.most }
+    ensures given { spec.Reads result (spec.reading n.Expr cursor.old) cursor.new }
+    ensures fewer { IfOk result (λ _. length cursor.new < length cursor.old) }
+{
+    if cursor.sees_pair(&LITERALS, &ENDS) {
+        literal_alone(cursor)
+    } else {
+        disjunction(nest, cursor)
+    }
+}
