@@ -1,5 +1,5 @@
 mod AnyColumns
-mod Arms
+pub mod Arms
 mod Levels
 mod Matches
 pub mod OperandLists
