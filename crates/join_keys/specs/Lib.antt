@@ -1,0 +1,5 @@
+pub mod Agreeing
+pub mod Equated
+pub mod Hashed
+pub mod Joins
+pub mod Places
