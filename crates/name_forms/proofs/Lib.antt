@@ -1,0 +1,21 @@
+mod Aggregates
+mod Arms
+mod Bodies
+mod Columns
+mod CoreSteps
+mod Cores
+mod FormedParts
+mod Forms
+mod Froms
+mod GoodMeant
+mod Grouped
+mod Holding
+mod Items
+pub mod TreeLaws
+mod Needs
+mod Opened
+mod OpenedLimits
+mod Queries
+mod Standing
+mod Sublinks
+mod Trees
