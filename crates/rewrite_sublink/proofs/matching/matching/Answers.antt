@@ -1,0 +1,8 @@
+use Rattle.std.proofs.Common.{◌≡◌, [], IfOk, subst₂}
+use Rattle.bag_algebra.specs.Patterns.{FilterOf}
+use Rattle.bag_algebra.specs.declared.query.Query.{end_of-Sublink}
+use Rattle.rewrite_sublink.proofs.matching.matching.Goals as goal
+
+pub returns : goal.returns
+returns c =
+    subst₂ (λ rows test. IfOk c.filtered.result (λ p. p ≡ FilterOf rows test [] end_of-Sublink)) c.in_ok-rows.ensures c.in_ok-same.ensures c.filtered.ensures.made

@@ -1,0 +1,17 @@
+use Rattle.std.proofs.Common.{◌≡◌, ◌∙◌, IfOk, length, subst}
+use Rattle.bag_algebra.specs.declared.query.Query.{Query}
+use Rattle.rewrite_sublink.proofs.rules.items_with.Goals as goal
+use Rattle.sublink_laws.specs.Candidates.{all_contributed, answer_columns}
+
+pub with_contributions-requires : goal.with_contributions-requires
+with_contributions-requires c = record {
+  over_tables = c.requires.over_tables;
+  as_many = c.requires.as_many;
+  rewritten = c.requires.rewritten;
+}
+
+pub returns : goal.returns
+returns c =
+    let whole = c.in_ok-whole.ensures ∙ (λ j. all_contributed (c.in_ok-rows.ensures j) c.args.subs.now c.args.standing.now c.args.rewritings.now) in
+    subst (λ (p : Query). IfOk c.answer_columns.result (λ q. q ≡ p))
+    (λ i. answer_columns (whole i) (c.in_ok-own.ensures i) (c.in_ok-row.ensures i) (length c.args.items.now)) c.answer_columns.ensures

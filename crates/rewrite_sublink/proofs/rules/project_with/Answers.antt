@@ -1,0 +1,43 @@
+use Rattle.std.proofs.Common.{◌≡◌, ◌∙◌, IfOk, IsTrue, length, sym, ap, subst}
+use Rattle.bag_algebra.specs.EveryNode.{no_open_sublink}
+use Rattle.bag_algebra.specs.Kinds.{width_of}
+use Rattle.bag_algebra.specs.Rewriting.{IsRewrite}
+use Rattle.bag_algebra.specs.declared.query.Query.TheVariants.{Project}
+use Rattle.query_parts.proofs.NodeQueries.{of_made}
+use Rattle.sublink_laws.proofs.AllSublinks.{ready}
+use Rattle.sublink_laws.proofs.ProjectRows.{rewrite-Project_with}
+use Rattle.rewrite_sublink.proofs.Closing.{stand-length, rewritten-length, closed-project}
+use Rattle.rewrite_sublink.proofs.rules.project_with.Goals as goal
+use Rattle.sublink_laws.specs.Candidates.{all_contributed, answer_columns, beside_row}
+
+pub items_with-requires : goal.items_with-requires
+items_with-requires c = record {
+  over_tables = c.requires.over_tables;
+  as_many = stand-length c.args.subs.now c.args.standing.now c.requires.standing;
+  rewritten = rewritten-length c.args.subs.now c.args.sub_rewritings c.requires.rewritten ∙ sym (ap length c.as_slice-rewritings.ensures);
+}
+
+pub returns-clause-rewrites : goal.returns-clause-rewrites
+returns-clause-rewrites c =
+    let r = c.args.rewriting in
+    let subs = c.args.subs.now in
+    let standing = c.args.standing.now in
+    of_made (IsRewrite (Project c.args.input.now c.args.items.now subs)) c.items_with.result
+    (answer_columns (all_contributed (Project r (beside_row r c.args.items.now) standing) subs standing c.args.sub_rewritings) (width_of c.args.input.now) (width_of r) (length c.args.items.now))
+    (subst (λ rewritings. IfOk c.items_with.result (λ q. q ≡
+    answer_columns (all_contributed (Project r (beside_row r c.args.items.now) standing) subs standing rewritings) (width_of c.args.input.now) (width_of r) (length c.args.items.now)))
+    c.as_slice-rewritings.ensures c.items_with.ensures)
+    (rewrite-Project_with c.args.input.now r c.args.items.now subs standing c.args.sub_rewritings c.requires.input
+    (ready subs standing c.args.sub_rewritings c.requires.standing c.requires.rewritten c.requires.over_tables))
+
+pub returns-clause-closed : goal.returns-clause-closed
+returns-clause-closed c = λ none closed.
+    let r = c.args.rewriting in
+    let subs = c.args.subs.now in
+    let standing = c.args.standing.now in
+    of_made (λ p. IsTrue (no_open_sublink p)) c.items_with.result
+    (answer_columns (all_contributed (Project r (beside_row r c.args.items.now) standing) subs standing c.args.sub_rewritings) (width_of c.args.input.now) (width_of r) (length c.args.items.now))
+    (subst (λ rewritings. IfOk c.items_with.result (λ q. q ≡
+    answer_columns (all_contributed (Project r (beside_row r c.args.items.now) standing) subs standing rewritings) (width_of c.args.input.now) (width_of r) (length c.args.items.now)))
+    c.as_slice-rewritings.ensures c.items_with.ensures)
+    (closed-project r (beside_row r c.args.items.now) subs standing c.args.sub_rewritings (width_of c.args.input.now) (width_of r) (length c.args.items.now) c.requires.standing none closed)
