@@ -1,0 +1,6 @@
+use Rattle.bag_algebra.specs.Rewriting.{Stands}
+use Rattle.rewrite_steps.proofs.MadeQueries.{opened}
+use Rattle.rewrite_steps.proofs.rules.limit_rule.Goals as goal
+
+pub returns : goal.returns
+returns c q h k = c.limit_beside.ensures q (opened (λ b. Stands q b) c.args.plain _ c.in_ok-plain.was h) k
