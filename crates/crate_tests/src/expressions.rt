@@ -104,7 +104,7 @@ fn constant(alloc: Global) -> Result<Boxed<Query>, NoMemory> {
 }
 
 /// `SELECT c FROM r WHERE c = 1`
-fn filter(alloc: Global) -> Result<Boxed<Query>, NoMemory> {
+pub fn filter(alloc: Global) -> Result<Boxed<Query>, NoMemory> {
     let condition = equals(alloc, 1)?;
     let input = source(alloc, "r")?;
     let query = Query::Filter {
@@ -115,7 +115,7 @@ fn filter(alloc: Global) -> Result<Boxed<Query>, NoMemory> {
     Boxed::new(alloc, query)
 }
 
-fn once(alloc: Global) -> Result<Boxed<Query>, NoMemory> {
+pub fn once(alloc: Global) -> Result<Boxed<Query>, NoMemory> {
     distinct(alloc, table(alloc)?)
 }
 
@@ -138,7 +138,7 @@ fn tables(alloc: Global) -> Result<Tables, NoMemory> {
 }
 
 /// The rows of a query, if it is plain.
-fn answer(alloc: Global, query: &Query) -> Result<Rows, ExecError> {
+pub fn answer(alloc: Global, query: &Query) -> Result<Rows, ExecError> {
     let tables = tables(alloc)?;
     if is_plain(query) {
         run_plain(alloc, query, &tables, &Env::new(alloc))

@@ -17,6 +17,8 @@ mod places;
 #[cfg(test)]
 mod queries;
 #[cfg(test)]
+mod rewriting;
+#[cfg(test)]
 mod runs;
 #[cfg(test)]
 mod scripts;
