@@ -1,9 +1,12 @@
 //! What stands for a query, and what is a rewriting of it.
-ghost use Rattle.std.specs.Prelude.{IfOk, IsTrue};
+ghost use Rattle.std.specs.Prelude.{◌≡◌, IfOk, IsTrue};
 ghost use Rattle.bag_algebra.specs.Rewriting.{IsRewrite, Stands};
 ghost use Rattle.bag_algebra.specs.Scoped.{is_scoped, traceable};
+ghost use Rattle.bag_algebra.specs.declared.query.Query.TheVariants.{Prov};
+ghost use Rattle.bag_algebra.specs.declared.query.Query.{Query as Node};
 ghost use Rattle.query_congruence.specs.Standing.{SubsStand};
 ghost use Rattle.query_measures.specs.BuiltScopes.{all_scoped, all_traceable};
+ghost use Rattle.rewrite_driver.specs.FirstColumns.{KeepsRows};
 ghost use Rattle.sublink_laws.specs.SubRewritings.{SubsRewritten};
 
 use bag_algebra::{Query, Sublink};
@@ -18,10 +21,12 @@ use std::alloc::Global;
 
 /// A plain query that stands for the query, in whose place it may run: of the same kinds, well formed under all outer kinds
 /// under which the query is, reading the query's tables alone, with the same rows, as often, or the same faults, on every
-/// database and under all outer rows that fit. It fails only for want of memory.
+/// database and under all outer rows that fit. Where the query is the PROVENANCE of another, its first columns are, as a set,
+/// the other's rows. It fails only for want of memory.
 pub fn eliminate(alloc: Global, query: Query) -> Result<Query, NoMemory>
     requires { IsTrue (is_scoped query) }
-    ensures { IfOk result (λ plain. Stands query plain) }
+    ensures stands { IfOk result (λ plain. Stands query plain) }
+    ensures no_row_lost { (q : Node) → query ≡ Prov q → IfOk result (λ plain. KeepsRows q plain) }
 {
     stand(alloc, &query)
 }
