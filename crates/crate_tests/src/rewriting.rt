@@ -1,4 +1,4 @@
-//! PROVENANCE taken out of queries (`rewrite_driver`), over the rows 1, 2, 1 and NULL: how many rows are left of the plain
+//! PROVENANCE taken out of queries (`rewrite_driver`), over the values 1, 2, 1 and NULL: how many rows are left of the plain
 //! query. Each stands once beside each of its witness lists.
 use crate::expressions::{answer, filter, once};
 use crate::queries::{pair, provenance, source, where_exists};

@@ -1,14 +1,12 @@
 -- The rows that flags leave are those of the definitions.
-use Rattle.std.proofs.Common.{◌≡◌, ℕ, zero, suc, ◌+◌, ◌-◌, ◌<◌, ◌≤◌, Bool, true, false, cond, not, ◌&&◌, ◌||◌, nat_lt, List, [], ◌∷◌, ◌++◌, filter, length, get_or, take, length-take, min, refl, sym, ap, ◌∙◌, arith, append_assoc, append-nil, true≢false}
+use Rattle.std.proofs.Common.{◌≡◌, suc, ◌+◌, ◌-◌, ◌≤◌, Bool, true, false, cond, not, ◌&&◌, ◌||◌, nat_lt, List, [], ◌∷◌, ◌++◌, filter, length, refl, sym, ap, ◌∙◌, arith, append_assoc, append-nil, true≢false}
 use Rattle.perm_values.specs.Marked.{unmarked}
 use Rattle.perm_values.specs.Rows.{same_row}
 use Rattle.bag_algebra.specs.Bags.{Row, Bag, count, member, once, without_first, in_both, beyond, intersect_of, except_of}
 use Rattle.bag_algebra.proofs.BagLaws.{same_row-is, member_decides, member-append, member-filter, count-append, count-of_none}
 use Rattle.row_executor.specs.Marks.{marks_behind, marks_by, left_out, wanted, is_over}
 use Rattle.row_groups.proofs.Once.{once_more}
-use Rattle.expression_values.proofs.Taken.{taken}
 use Rattle.bag_algebra.proofs.Truths.{not_not}
-use Rattle.perm_values.proofs.Keeping.{unmarked-more}
 
 -- ---- one more row
 
@@ -177,15 +175,7 @@ in_both-marks us vs = in_both_behind [] vs us vs (at_first vs)
 pub beyond-marks : (us vs : Bag) → unmarked (marks_by (is_over false vs) us) us ≡ beyond us vs
 beyond-marks us vs = beyond_behind [] vs us vs (at_first vs)
 
--- ---- one more flag
-
-pub unmarked-taken : {X : Type 0} (flags : List Bool) (items : List X) (i : ℕ) (item : X) (flag : Bool) (found more : List X) → length flags ≡ length items →
-    i < length items → item ≡ get_or items i item → flag ≡ get_or flags i flag → found ≡ unmarked (take i flags) (take i items) → more ≡ cond flag [] (item ∷ []) →
-    found ++ more ≡ unmarked (take (i + 1) flags) (take (i + 1) items)
-unmarked-taken flags items i item flag found more same low here flagged e f =
-    ap (λ l. l ++ more) e ∙ ap (λ l. unmarked (take i flags) (take i items) ++ l) f
-    ∙ sym (unmarked-more (take i flags) (take i items) flag item (length-take i flags ∙ ap (min i) same ∙ sym (length-take i items)))
-    ∙ sym (ap (λ l. unmarked l (take (i + 1) items)) (taken flags i flag (omega arith) flagged) ∙ ap (unmarked (take i flags ++ flag ∷ [])) (taken items i item low here))
+-- ---- counts and lengths
 
 pub count-length : (t : Row) (us : Bag) → count t us ≤ length us
 count-length t [] = omega arith
@@ -194,15 +184,6 @@ count-length t (u ∷ us) = by (same_row u t) (count-length t us)
     by : (b : Bool) → count t us ≤ length us → cond b (suc (count t us)) (count t us) ≤ suc (length us)
     by true h = omega arith
     by false h = omega arith
-
-pub unmarked-skipped : {X : Type 0} (flags : List Bool) (items : List X) (i : ℕ) → length flags ≡ length items → i < length items → get_or flags i false ≡ true →
-    unmarked (take i flags) (take i items) ≡ unmarked (take (suc i) flags) (take (suc i) items)
-unmarked-skipped [] [] i same low e = absurd (omega arith)
-unmarked-skipped [] (x ∷ items) i same low e = absurd (omega arith)
-unmarked-skipped (f ∷ flags) [] i same low e = absurd (omega arith)
-unmarked-skipped (f ∷ flags) (x ∷ items) zero same low e = rw e refl
-unmarked-skipped (f ∷ flags) (x ∷ items) (suc i) same low e =
-    ap (λ l. cond f l (x ∷ l)) (unmarked-skipped flags items i (omega arith) (omega arith) e)
 
 -- ---- what the flags of a set operation leave
 

@@ -1,5 +1,5 @@
 use Rattle.std.proofs.Common.{false, [], ◌∷◌, refl, sym, ◌∙◌, add-one}
-use Rattle.row_executor.proofs.Flags.{unmarked-taken, unmarked-skipped}
+use Rattle.join_keys.proofs.Joining.{unmarked-taken, unmarked-skipped}
 use Rattle.row_executor.proofs.input.copied_without.Goals as goal
 use Rattle.row_executor.proofs.input.copied_without.Goals.{then-not-doomed-i+in_ok-copy+in_ok-push, else-not-doomed-i}
 
