@@ -1,0 +1,4 @@
+pub mod Added
+pub mod Expressed
+pub mod Inner
+pub mod Queried

@@ -1,0 +1,407 @@
+//! The kinds of expressions where they stand.
+ghost use Rattle.std.specs.Prelude.{◌≡◌, List as Items, [], ◌∷◌, map, flat_map};
+ghost use Rattle.perm_catalog.specs.Contents.{Contents};
+ghost use Rattle.name_words.specs.Expressions.{step_operand, arm_operands, first_need, chain_gives};
+ghost use Rattle.name_words.specs.Meanings.{Meant, means_at, query_means_at};
+ghost use Rattle.name_words.specs.Operands.{operand};
+ghost use Rattle.name_words.specs.Scopes.{look_up, ungrouped};
+ghost use Rattle.name_words.specs.Sublinks.{aggregated, around_of, column_meant, in_argument, in_tested};
+ghost use Rattle.name_words.specs.Trees.{part_of, step_of, arm_of, query_of};
+ghost use Rattle.name_seen.specs.Named.{scopes_of};
+ghost use Rattle.name_seen.specs.Seen.{seen};
+ghost use Rattle.name_seen.specs.Standing.{standing_in, surroundings};
+ghost use Rattle.name_words.specs.declared.scope.Scope.{Scope};
+ghost use Rattle.query_seen.specs.Inner.{InnerLooked, InnerSeen};
+ghost use Rattle.query_seen.specs.Expressed.{Tells, ExpressionSeen, OperandsBehind, answered, kind_over, operands_with};
+
+use crate::facts::Facts;
+use crate::queries::query_seen;
+use crate::sublinks::{
+    InnerColumns, add_inner, exists_over, scalar_over, tested_over, trace_below,
+};
+use name_seen::{
+    Around, Here, Operands, Refusal, Standing, aggregated_kind, column_kind, count_kind, gives_of,
+    look_up, need_of, ungrouped,
+};
+use name_words::{Break, Gives, Need};
+use null_logic::Operator;
+use perm_values::Kind;
+use sql_tree::{AggWord, ArmTree, ColRef, ExprBody, ExprStep, ExprTree, QueryTree};
+
+/// The kind of an expression where it stands, none where it may be any, or its first break. The facts of its sublinks
+/// come behind those so far.
+#[cycle(seen)]
+pub fn expression_seen(
+    tree: &ExprTree,
+    here: &Here,
+    facts: &mut Facts,
+) -> Result<Option<Kind>, Refusal>
+    ensures { ExpressionSeen (means_at (part_of here.now.catalog.now tree.now) (surroundings here.now)) facts.old facts.new result }
+{
+    match &tree.body {
+        ExprBody::Null => Ok(None),
+        ExprBody::NullOf(kind) => Ok(Some(*kind)),
+        ExprBody::Integer(_) => Ok(Some(Kind::Integer)),
+        ExprBody::Text(_) => Ok(Some(Kind::Text)),
+        ExprBody::Truth(_) => Ok(Some(Kind::Boolean)),
+        ExprBody::Column(reference) => column(reference, here),
+        ExprBody::Paren(part) => expression_seen(part.get(), here, facts),
+        ExprBody::Nots { part, .. } => {
+            let need = need_of(Operator::Not, true);
+            let seen = operand(part.get(), need, Ok(Operands::none()), here, facts);
+            kind_over(gives_of(Operator::Not, true), seen)
+        }
+        ExprBody::Signs { part, .. } => {
+            let need = need_of(Operator::Negate, true);
+            let seen = operand(part.get(), need, Ok(Operands::none()), here, facts);
+            kind_over(gives_of(Operator::Negate, true), seen)
+        }
+        ExprBody::Logic { op, parts } => {
+            let need = need_of(*op, false);
+            let seen = operands(parts.as_slice(), need, Ok(Operands::none()), here, facts);
+            kind_over(gives_of(*op, false), seen)
+        }
+        ExprBody::Chain { first, steps } => {
+            let need = first_need(steps.as_slice());
+            let seen = operand(first.get(), need, Ok(Operands::none()), here, facts);
+            let seen = operands_of_steps(steps.as_slice(), seen, here, facts);
+            kind_over(chain_gives(steps.as_slice()), seen)
+        }
+        ExprBody::Compared { op, first, second } => {
+            let need = need_of(Operator::Compare(*op), false);
+            let seen = operand(first.get(), need, Ok(Operands::none()), here, facts);
+            let seen = operand(second.get(), need, seen, here, facts);
+            kind_over(gives_of(Operator::Compare(*op), false), seen)
+        }
+        ExprBody::Like { text, pattern, .. } => {
+            let need = need_of(Operator::Like, false);
+            let seen = operand(text.get(), need, Ok(Operands::none()), here, facts);
+            let seen = operand(pattern.get(), need, seen, here, facts);
+            kind_over(gives_of(Operator::Like, false), seen)
+        }
+        ExprBody::Between {
+            part,
+            low,
+            high,
+            ..
+        } => {
+            let need = need_of(Operator::Between, false);
+            let seen = operand(part.get(), need, Ok(Operands::none()), here, facts);
+            let seen = operand(low.get(), need, seen, here, facts);
+            let seen = operand(high.get(), need, seen, here, facts);
+            kind_over(gives_of(Operator::Between, false), seen)
+        }
+        ExprBody::InList { part, list, .. } => {
+            let need = need_of(Operator::InList, false);
+            let seen = operand(part.get(), need, Ok(Operands::none()), here, facts);
+            let seen = operands(list.as_slice(), need, seen, here, facts);
+            kind_over(gives_of(Operator::InList, false), seen)
+        }
+        ExprBody::InQuery { part, query, .. } => {
+            let tested = tested_kind(part.get(), here);
+            let inner = inner_seen(query.get(), tree.at, here, facts);
+            tested_over(tested, query.get().at, inner)
+        }
+        ExprBody::Quantified { part, query, .. } => {
+            let tested = tested_kind(part.get(), here);
+            let inner = inner_seen(query.get(), tree.at, here, facts);
+            tested_over(tested, query.get().at, inner)
+        }
+        ExprBody::IsNull { part, .. } => {
+            let seen = operand(part.get(), Need::Free, Ok(Operands::none()), here, facts);
+            kind_over(Gives::Always(Kind::Boolean), seen)
+        }
+        ExprBody::IsTruth { part, .. } => {
+            let need = Need::OfKind(Kind::Boolean);
+            let seen = operand(part.get(), need, Ok(Operands::none()), here, facts);
+            kind_over(Gives::Always(Kind::Boolean), seen)
+        }
+        ExprBody::IsDistinct { first, second, .. } => {
+            let seen = operand(first.get(), Need::Alike, Ok(Operands::none()), here, facts);
+            let seen = operand(second.get(), Need::Alike, seen, here, facts);
+            kind_over(Gives::Always(Kind::Boolean), seen)
+        }
+        ExprBody::Case { arms, otherwise } => {
+            let seen = operands_of_arms(arms.as_slice(), Ok(Operands::none()), here, facts);
+            match otherwise {
+                None => kind_over(Gives::Common, seen),
+                Some(tree) => {
+                    let seen = operand(tree.get(), Need::Alike, seen, here, facts);
+                    kind_over(Gives::Common, seen)
+                }
+            }
+        }
+        ExprBody::Coalesce(list) => {
+            let none = Ok(Operands::none());
+            let seen = operands(list.as_slice(), Need::Alike, none, here, facts);
+            kind_over(Gives::Common, seen)
+        }
+        ExprBody::NullIf { first, second } => {
+            let seen = operand(first.get(), Need::Alike, Ok(Operands::none()), here, facts);
+            let seen = operand(second.get(), Need::Alike, seen, here, facts);
+            kind_over(Gives::Common, seen)
+        }
+        ExprBody::Aggregate { function, argument } => match argument {
+            None => answered(count_kind(here.standing.aggregates, tree.at, *function)),
+            Some(argument) => {
+                let kind = argument_kind(argument.get(), here);
+                aggregated(here, tree.at, *function, argument.get().at, kind)
+            }
+        },
+        ExprBody::Exists(query) => { exists_over(inner_seen(query.get(), tree.at, here, facts)) }
+        ExprBody::Scalar(query) => {
+            let inner = inner_seen(query.get(), tree.at, here, facts);
+            scalar_over(query.get().at, inner)
+        }
+    }
+}
+
+/// The kind of an expression whose sublinks are of no account, or its first break.
+#[cycle(seen)]
+pub fn kind_of(tree: &ExprTree, here: &Here) -> Result<Option<Kind>, Refusal>
+    ensures { Tells (seen (means_at (part_of here.now.catalog.now tree.now) (surroundings here.now))) result }
+{
+    let mut facts = Facts::none(here.alloc);
+    expression_seen(tree, here, &mut facts)
+}
+
+/// The kind of the left operand of a sublink, in which no sublink stands.
+#[cycle(seen)]
+fn tested_kind(tree: &ExprTree, here: &Here) -> Result<Option<Kind>, Refusal>
+    ensures { Tells (seen (means_at (part_of here.now.catalog.now tree.now) (in_tested (surroundings here.now)))) result }
+{
+    let inner = Here {
+        alloc: here.alloc,
+        catalog: &*here.catalog,
+        scopes: &*here.scopes,
+        standing: in_tested(here.standing),
+    };
+    kind_of(tree, &inner)
+}
+
+/// The kind of the argument of an aggregate.
+#[cycle(seen)]
+fn argument_kind(tree: &ExprTree, here: &Here) -> Result<Option<Kind>, Refusal>
+    ensures { Tells (seen (means_at (part_of here.now.catalog.now tree.now) (in_argument (surroundings here.now)))) result }
+{
+    let scopes = ungrouped(&*here.scopes);
+    let inner = Here {
+        alloc: here.alloc,
+        catalog: &*here.catalog,
+        scopes: &scopes,
+        standing: in_argument(here.standing),
+    };
+    kind_of(tree, &inner)
+}
+
+/// The columns of the query of a sublink at this offset, or that no sublink stands here. Its facts come behind those so
+/// far.
+#[tactic(auto, using(crate::proofs::Sublinked::looked_so, crate::proofs::Sublinked::looked_not))]
+fn inner_seen(
+    query: &QueryTree,
+    at: usize,
+    here: &Here,
+    facts: &mut Facts,
+) -> Result<InnerColumns, Refusal>
+    ensures { InnerLooked here.now.standing.sublinks (query_means_at (query_of here.now.catalog.now query.now) (around_of (surroundings here.now))) at facts.old facts.new result }
+{
+    if !here.standing.sublinks {
+        return Err(Refusal::Break(Break { code: 24, at }));
+    }
+    inner_looked(query, here, facts)
+}
+
+/// The columns of the query of a sublink. Its facts come behind those so far.
+fn inner_looked(query: &QueryTree, here: &Here, facts: &mut Facts) -> Result<InnerColumns, Refusal>
+    ensures { InnerSeen (query_means_at (query_of here.now.catalog.now query.now) (around_of (surroundings here.now))) facts.old facts.new result }
+{
+    let around = Around {
+        alloc: here.alloc,
+        catalog: &*here.catalog,
+        outer: &*here.scopes,
+        trace: trace_below(here.standing.trace),
+        provable: false,
+    };
+    match query_seen(query, &around) {
+        Ok(shown) => add_inner(shown, facts),
+        Err(refusal) => Err(refusal),
+    }
+}
+
+/// One more operand behind those so far, which were answered or refused.
+#[cycle(seen)]
+pub fn operand(
+    tree: &ExprTree,
+    need: Need,
+    so_far: Result<Operands, Refusal>,
+    here: &Here,
+    facts: &mut Facts,
+) -> Result<Operands, Refusal>
+    ensures { OperandsBehind (operand (surroundings here.now) need (part_of here.now.catalog.now tree.now) ∷ []) so_far facts.old facts.new result }
+{
+    match so_far {
+        Ok(operands) => operands_with(operands, need, tree.at, expression_seen(tree, here, facts)),
+        Err(refusal) => Err(refusal),
+    }
+}
+
+/// Operands of one need behind those so far.
+#[cycle(seen)]
+pub fn operands(
+    trees: &[ExprTree],
+    need: Need,
+    so_far: Result<Operands, Refusal>,
+    here: &Here,
+    facts: &mut Facts,
+) -> Result<Operands, Refusal>
+    ensures { OperandsBehind (map (operand (surroundings here.now) need) (map (part_of here.now.catalog.now) trees.now)) so_far facts.old facts.new result }
+{
+    let mut seen = so_far;
+    for tree in trees {
+        seen = operand(tree, need, seen, here, facts);
+    }
+    seen
+}
+
+/// The operands of the steps of a chain behind those so far.
+#[cycle(seen)]
+pub fn operands_of_steps(
+    steps: &[ExprStep],
+    so_far: Result<Operands, Refusal>,
+    here: &Here,
+    facts: &mut Facts,
+) -> Result<Operands, Refusal>
+    ensures { OperandsBehind (map (step_operand (surroundings here.now)) (map (step_of here.now.catalog.now) steps.now)) so_far facts.old facts.new result }
+{
+    let mut seen = so_far;
+    for step in steps {
+        let need = need_of(Operator::Arith(step.op), false);
+        seen = operand(&step.part, need, seen, here, facts);
+    }
+    seen
+}
+
+/// The conditions and values of the arms of a CASE behind those so far.
+#[cycle(seen)]
+pub fn operands_of_arms(
+    arms: &[ArmTree],
+    so_far: Result<Operands, Refusal>,
+    here: &Here,
+    facts: &mut Facts,
+) -> Result<Operands, Refusal>
+    ensures { OperandsBehind (flat_map (arm_operands (surroundings here.now)) (map (arm_of here.now.catalog.now) arms.now)) so_far facts.old facts.new result }
+{
+    let mut seen = so_far;
+    for arm in arms {
+        let condition = Need::OfKind(Kind::Boolean);
+        seen = operand(&arm.condition, condition, seen, here, facts);
+        seen = operand(&arm.value, Need::Alike, seen, here, facts);
+    }
+    seen
+}
+
+/// The operands with one more, whose kind was answered or refused.
+fn operands_with(
+    operands: Operands,
+    need: Need,
+    at: usize,
+    kind: Result<Option<Kind>, Refusal>,
+) -> Result<Operands, Refusal>
+    ensures { result ≡ operands_with operands need at kind }
+{
+    match kind {
+        Ok(kind) => Ok(operands.with(need, at, kind)),
+        Err(refusal) => Err(refusal),
+    }
+}
+
+/// The kind of what is made of operands that were answered or refused, or that their kinds differ.
+fn kind_over(gives: Gives, operands: Result<Operands, Refusal>) -> Result<Option<Kind>, Refusal>
+    ensures { result ≡ kind_over gives operands }
+{
+    match operands {
+        Ok(operands) => answered(operands.whole(gives)),
+        Err(refusal) => Err(refusal),
+    }
+}
+
+fn answered(kind: Result<Option<Kind>, Break>) -> Result<Option<Kind>, Refusal>
+    ensures { result ≡ answered kind }
+{
+    match kind {
+        Ok(kind) => Ok(kind),
+        Err(first) => Err(Refusal::Break(first)),
+    }
+}
+
+/// The kind of the column that a reference means, or why it means none.
+fn column(reference: &ColRef, here: &Here) -> Result<Option<Kind>, Refusal>
+    ensures { Tells (seen (column_meant (surroundings here.now) reference.now.at (look_up 0 (scopes_of here.now.scopes.now) reference.now))) result }
+{
+    match look_up(&*here.scopes, 0, reference) {
+        Ok(found) => answered(column_kind(here.standing.argument, reference.at, found)),
+        Err(_) => Err(Refusal::NoMemory),
+    }
+}
+
+/// What the first step of a chain needs of the operand before it.
+pub fn first_need(steps: &[ExprStep]) -> Need
+    ensures { (c : Contents) → result ≡ first_need (map (step_of c) steps.now) }
+{
+    match steps.first() {
+        None => Need::Free,
+        Some(step) => need_of(Operator::Arith(step.op), false),
+    }
+}
+
+/// What a chain of these steps gives.
+pub fn chain_gives(steps: &[ExprStep]) -> Gives
+    ensures { (c : Contents) → result ≡ chain_gives (map (step_of c) steps.now) }
+{
+    match steps.first() {
+        None => Gives::Common,
+        Some(step) => gives_of(Operator::Arith(step.op), false),
+    }
+}
+
+fn in_tested(standing: Standing) -> Standing
+    ensures { (scopes : Items Scope) → standing_in scopes result ≡ in_tested (standing_in scopes standing) }
+{
+    Standing {
+        trace: standing.trace,
+        aggregates: standing.aggregates,
+        sublinks: false,
+        argument: standing.argument,
+    }
+}
+
+fn in_argument(standing: Standing) -> Standing
+    ensures { (scopes : Items Scope) → standing_in (ungrouped scopes) result ≡ in_argument (standing_in scopes standing) }
+{
+    Standing {
+        trace: standing.trace,
+        aggregates: false,
+        sublinks: false,
+        argument: true,
+    }
+}
+
+/// The kind of an aggregate of an argument at this offset, whose kind was answered or refused.
+fn aggregated(
+    here: &Here,
+    at: usize,
+    word: AggWord,
+    argument_at: usize,
+    kind: Result<Option<Kind>, Refusal>,
+) -> Result<Option<Kind>, Refusal>
+    ensures { (argument : Meant) → Tells (seen argument) kind →
+        Tells (seen (aggregated (surroundings here.now) at word argument_at argument)) result }
+{
+    match kind {
+        Ok(kind) => {
+            let allowed = here.standing.aggregates;
+            answered(aggregated_kind(allowed, at, word, argument_at, kind))
+        }
+        Err(refusal) => Err(refusal),
+    }
+}
