@@ -1,6 +1,7 @@
-pub mod AnyColumns
-pub mod Levels
-pub mod Matches
+mod AnyColumns
+pub mod Arms
+mod Levels
+mod Matches
 pub mod OperandLists
-pub mod OperatorRows
+mod OperatorRows
 pub mod SeenAs

@@ -1,5 +1,5 @@
 -- Words on what a name means in one scope.
-use Rattle.std.specs.Prelude.{ℕ, Bool, cond, List, [], ◌∷◌, Option, Some, None}
+use Rattle.std.specs.Prelude.{ℕ, Bool, cond, List, [], ◌∷◌, take, Option, Some, None}
 use Rattle.perm_values.specs.declared.kind.Kind.{Kind}
 use Rattle.name_words.specs.Scopes.{Placed, place_among}
 use Rattle.name_words.specs.declared.scope.Found.{Found}
@@ -35,7 +35,7 @@ found_if_any level scope Often = Some (found_of level scope Often)
 abbrev pub here_only : Bool → Scope → Scope
 here_only bare scope = cond bare (record scope { groups = None }) scope
 
--- from the inside out
+-- from the inside out, no further than is seen
 abbrev pub scopes_of : Scopes → List Scope
 scopes_of Outermost = []
-scopes_of (Inner' scope bare p outer) = here_only bare scope.now ∷ scopes_of outer
+scopes_of (Inner' scope bare depth p outer) = take depth (here_only bare scope.now ∷ scopes_of outer)

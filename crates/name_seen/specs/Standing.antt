@@ -1,6 +1,11 @@
 -- Where an expression and where a query stand.
 use Rattle.std.specs.Prelude.{List}
-use Rattle.name_words.specs.Meanings.{Surroundings, Around}
+use Rattle.perm_catalog.specs.Contents.{Contents}
+use Rattle.sql_tree.specs.declared.expression.ExprTree.{ExprTree}
+use Rattle.name_words.specs.Meanings.{Surroundings, Around, means_at}
+use Rattle.name_words.specs.Operands.{Operand}
+use Rattle.name_words.specs.Trees.{part_of}
+use Rattle.name_words.specs.declared.need.Need.{Need}
 use Rattle.name_words.specs.declared.scope.Scope.{Scope}
 use Rattle.name_seen.specs.Named.{scopes_of}
 use Rattle.name_seen.specs.declared.standing.Around.{Around as Standpoint}
@@ -21,3 +26,7 @@ surroundings here = standing_in (scopes_of here.scopes.now) here.standing
 
 abbrev pub around_of : Standpoint → Around
 around_of around = record { outer = scopes_of around.outer.now; trace = around.trace; provable = around.provable }
+
+-- an operand as the definition sees it
+abbrev pub operand_at : Contents → Surroundings → Need → ExprTree → Operand
+operand_at c here need tree = record { at = tree.at; need = need; meant = means_at (part_of c tree) here }

@@ -17,6 +17,6 @@ pub use named::{Named, item_number, named_in};
 pub use needs::{gives_of, need_of};
 pub use operands::Operands;
 pub use refusal::Refusal;
-pub use scopes::{Scopes, look_up, place_among, ungrouped};
+pub use scopes::{Scopes, inside, look_up, place_among, ungrouped};
 pub use standing::{Around, Here, Standing};
 pub use stars::{star, table_star};

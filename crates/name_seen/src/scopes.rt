@@ -1,4 +1,4 @@
-ghost use Rattle.std.specs.Prelude.{◌≡◌, IfOk, option_map, nat_eq, position};
+ghost use Rattle.std.specs.Prelude.{◌≡◌, ◌≤◌, ◌<◌, ◌+◌, ◌^◌, ◌∷◌, IfOk, length, take, option_map, nat_eq, position};
 ghost use Rattle.name_words.specs.Scopes.{look_up, meant_in, place_among, found_among, ungrouped};
 ghost use Rattle.name_seen.specs.Named.{found_of, found_if_any, here_only, scopes_of};
 
@@ -7,16 +7,46 @@ use name_words::{Found, FoundColumn, Scope};
 use perm_values::NoMemory;
 use sql_tree::ColRef;
 
-/// The scopes around an expression, from the inside out. `bare`: whether the rows of the core are seen before they are
-/// grouped, as by WHERE and by an argument of an aggregate.
+/// The scopes that an expression sees, from the inside out. `bare`: whether the rows of the core are seen before they are
+/// grouped, as by WHERE and by an argument of an aggregate. `depth`: how many scopes are seen from here, this one and
+/// those around it.
 #[derive(Clone, Copy)]
 pub enum Scopes<'a> {
     Outermost,
     Inner {
         scope: &'a Scope,
         bare: bool,
+        depth: usize,
         outer: &'a Scopes<'a>,
     },
+}
+
+/// The scope inside the others. It fails only where their number is none that can be counted.
+pub fn inside<'a>(
+    scope: &'a Scope,
+    bare: bool,
+    outer: &'a Scopes<'a>,
+) -> Result<Scopes<'a>, NoMemory>
+    ensures { IfOk result (λ scopes. scopes_of scopes ≡ here_only bare scope.now ∷ scopes_of outer.now) }
+{
+    match depth(outer).checked_add(1) {
+        None => Err(NoMemory),
+        Some(depth) => Ok(Scopes::Inner {
+            scope,
+            bare,
+            depth,
+            outer,
+        }),
+    }
+}
+
+fn depth(scopes: &Scopes) -> usize
+    ensures { length (scopes_of scopes.now) ≤ result }
+{
+    match scopes {
+        Scopes::Outermost => 0,
+        Scopes::Inner { depth, .. } => *depth,
+    }
 }
 
 /// The same scopes, with the innermost rows before they are grouped.
@@ -25,28 +55,49 @@ pub fn ungrouped<'a>(scopes: &'a Scopes<'a>) -> Scopes<'a>
 {
     match scopes {
         Scopes::Outermost => Scopes::Outermost,
-        Scopes::Inner { scope, outer, .. } => Scopes::Inner {
+        Scopes::Inner {
+            scope,
+            depth,
+            outer,
+            ..
+        } => Scopes::Inner {
             scope,
             bare: true,
+            depth: *depth,
             outer,
         },
     }
 }
 
-/// What a reference to a column means: it is looked for from the innermost scope, which has this level, to the
-/// outermost. It fails only where a level is no number.
-pub fn look_up(scopes: &Scopes, level: usize, reference: &ColRef) -> Result<Found, NoMemory>
-    ensures { IfOk result (λ found. found ≡ look_up level (scopes_of scopes.now) reference.now) }
+/// What a reference to a column means: it is looked for from the innermost scope to the outermost.
+pub fn look_up(scopes: &Scopes, reference: &ColRef) -> Found
+    ensures { result ≡ look_up 0 (scopes_of scopes.now) reference.now }
+{
+    look_up_from(scopes, 0, depth(scopes), reference)
+}
+
+/// What a reference means in as many of these scopes as are left, the innermost of which has this level.
+fn look_up_from(scopes: &Scopes, level: usize, left: usize, reference: &ColRef) -> Found
+    requires { level + left < 2 ^ 64 }
+    ensures { result ≡ look_up level (take left (scopes_of scopes.now)) reference.now }
 {
     match scopes {
-        Scopes::Outermost => Ok(Found::Absent),
-        Scopes::Inner { scope, bare, outer } => match found_in(scope, level, *bare, reference) {
-            Some(found) => Ok(found),
-            None => match level.checked_add(1) {
-                Some(next) => look_up(outer, next, reference),
-                None => Err(NoMemory),
-            },
-        },
+        Scopes::Outermost => Found::Absent,
+        Scopes::Inner {
+            scope,
+            bare,
+            depth,
+            outer,
+        } => {
+            let left = left.min(*depth);
+            if left == 0 {
+                return Found::Absent;
+            }
+            match found_in(scope, level, *bare, reference) {
+                Some(found) => found,
+                None => look_up_from(outer, level + 1, left - 1, reference),
+            }
+        }
     }
 }
 

@@ -1,4 +1,0 @@
-pub mod Added
-pub mod Expressed
-pub mod Inner
-pub mod Queried

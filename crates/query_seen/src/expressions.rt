@@ -1,32 +1,26 @@
 //! The kinds of expressions where they stand.
-ghost use Rattle.std.specs.Prelude.{◌≡◌, List as Items, [], ◌∷◌, map, flat_map};
-ghost use Rattle.perm_catalog.specs.Contents.{Contents};
-ghost use Rattle.name_words.specs.Expressions.{step_operand, arm_operands, first_need, chain_gives};
-ghost use Rattle.name_words.specs.Meanings.{Meant, means_at, query_means_at};
+ghost use Rattle.std.specs.Prelude.{[], ◌∷◌, map, flat_map};
+ghost use Rattle.name_words.specs.Expressions.{step_operand, arm_operands};
+ghost use Rattle.name_words.specs.Meanings.{means_at, query_means_at};
 ghost use Rattle.name_words.specs.Operands.{operand};
-ghost use Rattle.name_words.specs.Scopes.{look_up, ungrouped};
-ghost use Rattle.name_words.specs.Sublinks.{aggregated, around_of, column_meant, in_argument, in_tested};
+ghost use Rattle.name_words.specs.Sublinks.{around_of, in_argument, in_tested};
 ghost use Rattle.name_words.specs.Trees.{part_of, step_of, arm_of, query_of};
-ghost use Rattle.name_seen.specs.Named.{scopes_of};
 ghost use Rattle.name_seen.specs.Seen.{seen};
-ghost use Rattle.name_seen.specs.Standing.{standing_in, surroundings};
-ghost use Rattle.name_words.specs.declared.scope.Scope.{Scope};
-ghost use Rattle.query_seen.specs.Inner.{InnerLooked, InnerSeen};
-ghost use Rattle.query_seen.specs.Expressed.{Tells, ExpressionSeen, OperandsBehind, answered, kind_over, operands_with};
+ghost use Rattle.name_seen.specs.Standing.{surroundings};
+ghost use Rattle.expression_seen.specs.Inner.{InnerLooked, InnerSeen};
+ghost use Rattle.expression_seen.specs.Expressed.{Tells, ExpressionSeen, OperandsBehind};
 
-use crate::facts::Facts;
 use crate::queries::query_seen;
-use crate::sublinks::{
-    InnerColumns, add_inner, exists_over, scalar_over, tested_over, trace_below,
+use expression_seen::{
+    Facts, InnerColumns, add_inner, aggregated, answered, chain_gives, column, exists_over,
+    first_need, in_argument, in_tested, kind_over, operands_with, scalar_over, tested_over,
+    trace_below,
 };
-use name_seen::{
-    Around, Here, Operands, Refusal, Standing, aggregated_kind, column_kind, count_kind, gives_of,
-    look_up, need_of, ungrouped,
-};
+use name_seen::{Around, Here, Operands, Refusal, count_kind, gives_of, need_of, ungrouped};
 use name_words::{Break, Gives, Need};
 use null_logic::Operator;
 use perm_values::Kind;
-use sql_tree::{AggWord, ArmTree, ColRef, ExprBody, ExprStep, ExprTree, QueryTree};
+use sql_tree::{ArmTree, ExprBody, ExprStep, ExprTree, QueryTree};
 
 /// The kind of an expression where it stands, none where it may be any, or its first break. The facts of its sublinks
 /// come behind those so far.
@@ -196,7 +190,7 @@ fn argument_kind(tree: &ExprTree, here: &Here) -> Result<Option<Kind>, Refusal>
 
 /// The columns of the query of a sublink at this offset, or that no sublink stands here. Its facts come behind those so
 /// far.
-#[tactic(auto, using(crate::proofs::Sublinked::looked_so, crate::proofs::Sublinked::looked_not))]
+#[tactic(auto, using(expression_seen::proofs::Sublinked::looked_so, expression_seen::proofs::Sublinked::looked_not))]
 fn inner_seen(
     query: &QueryTree,
     at: usize,
@@ -298,110 +292,4 @@ pub fn operands_of_arms(
         seen = operand(&arm.value, Need::Alike, seen, here, facts);
     }
     seen
-}
-
-/// The operands with one more, whose kind was answered or refused.
-fn operands_with(
-    operands: Operands,
-    need: Need,
-    at: usize,
-    kind: Result<Option<Kind>, Refusal>,
-) -> Result<Operands, Refusal>
-    ensures { result ≡ operands_with operands need at kind }
-{
-    match kind {
-        Ok(kind) => Ok(operands.with(need, at, kind)),
-        Err(refusal) => Err(refusal),
-    }
-}
-
-/// The kind of what is made of operands that were answered or refused, or that their kinds differ.
-fn kind_over(gives: Gives, operands: Result<Operands, Refusal>) -> Result<Option<Kind>, Refusal>
-    ensures { result ≡ kind_over gives operands }
-{
-    match operands {
-        Ok(operands) => answered(operands.whole(gives)),
-        Err(refusal) => Err(refusal),
-    }
-}
-
-fn answered(kind: Result<Option<Kind>, Break>) -> Result<Option<Kind>, Refusal>
-    ensures { result ≡ answered kind }
-{
-    match kind {
-        Ok(kind) => Ok(kind),
-        Err(first) => Err(Refusal::Break(first)),
-    }
-}
-
-/// The kind of the column that a reference means, or why it means none.
-fn column(reference: &ColRef, here: &Here) -> Result<Option<Kind>, Refusal>
-    ensures { Tells (seen (column_meant (surroundings here.now) reference.now.at (look_up 0 (scopes_of here.now.scopes.now) reference.now))) result }
-{
-    match look_up(&*here.scopes, 0, reference) {
-        Ok(found) => answered(column_kind(here.standing.argument, reference.at, found)),
-        Err(_) => Err(Refusal::NoMemory),
-    }
-}
-
-/// What the first step of a chain needs of the operand before it.
-pub fn first_need(steps: &[ExprStep]) -> Need
-    ensures { (c : Contents) → result ≡ first_need (map (step_of c) steps.now) }
-{
-    match steps.first() {
-        None => Need::Free,
-        Some(step) => need_of(Operator::Arith(step.op), false),
-    }
-}
-
-/// What a chain of these steps gives.
-pub fn chain_gives(steps: &[ExprStep]) -> Gives
-    ensures { (c : Contents) → result ≡ chain_gives (map (step_of c) steps.now) }
-{
-    match steps.first() {
-        None => Gives::Common,
-        Some(step) => gives_of(Operator::Arith(step.op), false),
-    }
-}
-
-fn in_tested(standing: Standing) -> Standing
-    ensures { (scopes : Items Scope) → standing_in scopes result ≡ in_tested (standing_in scopes standing) }
-{
-    Standing {
-        trace: standing.trace,
-        aggregates: standing.aggregates,
-        sublinks: false,
-        argument: standing.argument,
-    }
-}
-
-fn in_argument(standing: Standing) -> Standing
-    ensures { (scopes : Items Scope) → standing_in (ungrouped scopes) result ≡ in_argument (standing_in scopes standing) }
-{
-    Standing {
-        trace: standing.trace,
-        aggregates: false,
-        sublinks: false,
-        argument: true,
-    }
-}
-
-/// The kind of an aggregate of an argument at this offset, whose kind was answered or refused.
-fn aggregated(
-    here: &Here,
-    at: usize,
-    word: AggWord,
-    argument_at: usize,
-    kind: Result<Option<Kind>, Refusal>,
-) -> Result<Option<Kind>, Refusal>
-    ensures { (argument : Meant) → Tells (seen argument) kind →
-        Tells (seen (aggregated (surroundings here.now) at word argument_at argument)) result }
-{
-    match kind {
-        Ok(kind) => {
-            let allowed = here.standing.aggregates;
-            answered(aggregated_kind(allowed, at, word, argument_at, kind))
-        }
-        Err(refusal) => Err(refusal),
-    }
 }

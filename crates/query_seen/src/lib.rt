@@ -3,17 +3,9 @@
 #![tactic(auto)]
 
 mod expressions;
-mod facts;
 mod queries;
-mod shown;
-mod sources;
-mod sublinks;
 
 pub use expressions::{
-    chain_gives, expression_seen, first_need, kind_of, operand, operands, operands_of_arms,
-    operands_of_steps,
+    expression_seen, kind_of, operand, operands, operands_of_arms, operands_of_steps,
 };
-pub use facts::Facts;
 pub use queries::{query_seen, set_seen};
-pub use shown::{QueryShown, ShownColumn};
-pub use sources::from_scope;

@@ -2,10 +2,9 @@
 ghost use Rattle.name_words.specs.Meanings.{query_means_at};
 ghost use Rattle.name_words.specs.Trees.{set_of_tree, query_of};
 ghost use Rattle.name_seen.specs.Standing.{around_of};
-ghost use Rattle.query_seen.specs.Queried.{ColumnsSeen, QuerySeen};
+ghost use Rattle.expression_seen.specs.Queried.{ColumnsSeen, QuerySeen};
 
-use crate::facts::Facts;
-use crate::shown::{QueryShown, ShownColumn};
+use expression_seen::{Facts, QueryShown, ShownColumn};
 use name_seen::{Around, Refusal};
 use perm_values::List;
 use sql_tree::{QueryTree, SetTree};

@@ -23,53 +23,54 @@ use Rattle.name_words.specs.declared.need.Need.TheVariants.{Alike as alike, Free
 use Rattle.name_words.proofs.Forms.{means-null, means-nullof, means-integer, means-text, means-truth, means-column, means-paren, means-nots, means-signs, means-logic, means-chain, means-compared, means-like, means-between, means-inlist, means-isnull, means-istruth, means-isdistinct, means-case-none, means-case-some, means-coalesce, means-exists, means-inquery, means-nullif, means-quantified, means-scalar}
 use Rattle.name_seen.specs.Named.{scopes_of}
 use Rattle.name_seen.specs.Standing.{surroundings}
-use Rattle.query_seen.specs.Expressed.{OperandsBehind, kind_over}
-use Rattle.query_seen.specs.Inner.{exists_over, scalar_over, tested_over}
-use Rattle.query_seen.proofs.Alone.{null-alone, known-alone, column-alone, told-so}
-use Rattle.query_seen.proofs.Behind.{behind-both, behind-nothing, meant-so, means-is, node-over, operand-seen}
-use Rattle.query_seen.proofs.Forms.{mapped-more, flat-more, step-is, arm-is, without-else}
-use Rattle.query_seen.proofs.Sublinked.{exists-looked, query-at, result-so, scalar-looked, tested-seen}
+use Rattle.expression_seen.specs.Expressed.{OperandsBehind, kind_over}
+use Rattle.expression_seen.specs.Inner.{exists_over, scalar_over, tested_over}
+use Rattle.expression_seen.proofs.Alone.{null-alone, known-alone, column-alone, told-so}
+use Rattle.name_seen.proofs.Arms.{means-is}
+use Rattle.expression_seen.proofs.Behind.{behind-both, behind-nothing, meant-so, node-over, operand-seen}
+use Rattle.expression_seen.proofs.Forms.{mapped-more, flat-more, step-is, arm-is, without-else}
+use Rattle.expression_seen.proofs.Sublinked.{exists-looked, query-at, result-so, scalar-looked, tested-seen}
 use Rattle.query_seen.proofs.expressions.+seen.Goals as goal
 
 pub expression_seen-returns-in-Null : goal.expression_seen-returns-in-Null
 expression_seen-returns-in-Null t c =
-    meant-so (means_at (part_of c.args.here.now.catalog.now c.args.tree.now) (surroundings c.args.here.now)) _ c.args.facts.old c.args.facts.old (Ok None)
-    (means-null c.args.here.now.catalog.now (surroundings c.args.here.now) c.args.tree.now c.in-Null.is) (null-alone c.args.facts.old)
+    meant-so (means_at (part_of c.args.here.now.catalog.now c.args.tree.now) (surroundings c.args.here.now)) _ c.args.facts.now c.args.facts.now (Ok None)
+    (means-null c.args.here.now.catalog.now (surroundings c.args.here.now) c.args.tree.now c.in-Null.is) (null-alone c.args.facts.now)
 
 pub expression_seen-returns-in-NullOf : goal.expression_seen-returns-in-NullOf
 expression_seen-returns-in-NullOf t c =
-    meant-so (means_at (part_of c.args.here.now.catalog.now c.args.tree.now) (surroundings c.args.here.now)) _ c.args.facts.old c.args.facts.old (Ok (Some c.in-NullOf.kind))
-    (means-nullof c.args.here.now.catalog.now (surroundings c.args.here.now) c.args.tree.now c.in-NullOf.kind c.in-NullOf.is) (known-alone c.in-NullOf.kind (null_at c.in-NullOf.kind) c.args.facts.old)
+    meant-so (means_at (part_of c.args.here.now.catalog.now c.args.tree.now) (surroundings c.args.here.now)) _ c.args.facts.now c.args.facts.now (Ok (Some c.in-NullOf.kind))
+    (means-nullof c.args.here.now.catalog.now (surroundings c.args.here.now) c.args.tree.now c.in-NullOf.kind c.in-NullOf.is) (known-alone c.in-NullOf.kind (null_at c.in-NullOf.kind) c.args.facts.now)
 
 pub expression_seen-returns-in-Integer : goal.expression_seen-returns-in-Integer
 expression_seen-returns-in-Integer t c =
-    meant-so (means_at (part_of c.args.here.now.catalog.now c.args.tree.now) (surroundings c.args.here.now)) _ c.args.facts.old c.args.facts.old (Ok (Some kind.Integer))
-    (means-integer c.args.here.now.catalog.now (surroundings c.args.here.now) c.args.tree.now c.in-Integer.field-0 c.in-Integer.is) (known-alone kind.Integer (Lit (v.Integer c.in-Integer.field-0) kind.Integer) c.args.facts.old)
+    meant-so (means_at (part_of c.args.here.now.catalog.now c.args.tree.now) (surroundings c.args.here.now)) _ c.args.facts.now c.args.facts.now (Ok (Some kind.Integer))
+    (means-integer c.args.here.now.catalog.now (surroundings c.args.here.now) c.args.tree.now c.in-Integer.field-0 c.in-Integer.is) (known-alone kind.Integer (Lit (v.Integer c.in-Integer.field-0) kind.Integer) c.args.facts.now)
 
 pub expression_seen-returns-in-Text : goal.expression_seen-returns-in-Text
 expression_seen-returns-in-Text t c =
-    meant-so (means_at (part_of c.args.here.now.catalog.now c.args.tree.now) (surroundings c.args.here.now)) _ c.args.facts.old c.args.facts.old (Ok (Some kind.Text))
-    (means-text c.args.here.now.catalog.now (surroundings c.args.here.now) c.args.tree.now c.in-Text.field-0 c.in-Text.is) (known-alone kind.Text (Lit (v.Text c.in-Text.field-0) kind.Text) c.args.facts.old)
+    meant-so (means_at (part_of c.args.here.now.catalog.now c.args.tree.now) (surroundings c.args.here.now)) _ c.args.facts.now c.args.facts.now (Ok (Some kind.Text))
+    (means-text c.args.here.now.catalog.now (surroundings c.args.here.now) c.args.tree.now c.in-Text.field-0 c.in-Text.is) (known-alone kind.Text (Lit (v.Text c.in-Text.field-0) kind.Text) c.args.facts.now)
 
 pub expression_seen-returns-in-Truth : goal.expression_seen-returns-in-Truth
 expression_seen-returns-in-Truth t c =
-    meant-so (means_at (part_of c.args.here.now.catalog.now c.args.tree.now) (surroundings c.args.here.now)) _ c.args.facts.old c.args.facts.old (Ok (Some kind.Boolean))
-    (means-truth c.args.here.now.catalog.now (surroundings c.args.here.now) c.args.tree.now c.in-Truth.field-0 c.in-Truth.is) (known-alone kind.Boolean (Lit (v.Boolean c.in-Truth.field-0) kind.Boolean) c.args.facts.old)
+    meant-so (means_at (part_of c.args.here.now.catalog.now c.args.tree.now) (surroundings c.args.here.now)) _ c.args.facts.now c.args.facts.now (Ok (Some kind.Boolean))
+    (means-truth c.args.here.now.catalog.now (surroundings c.args.here.now) c.args.tree.now c.in-Truth.field-0 c.in-Truth.is) (known-alone kind.Boolean (Lit (v.Boolean c.in-Truth.field-0) kind.Boolean) c.args.facts.now)
 
 pub expression_seen-returns-in-Column : goal.expression_seen-returns-in-Column
 expression_seen-returns-in-Column t c =
-    meant-so (means_at (part_of c.args.here.now.catalog.now c.args.tree.now) (surroundings c.args.here.now)) _ c.args.facts.old c.args.facts.old c.column.result
-    (means-column c.args.here.now.catalog.now (surroundings c.args.here.now) c.args.tree.now c.in-Column.reference c.in-Column.is) (column-alone (surroundings c.args.here.now) c.in-Column.reference.at (look_up 0 (scopes_of c.args.here.now.scopes.now) c.in-Column.reference) c.args.facts.old c.column.result c.column.ensures)
+    meant-so (means_at (part_of c.args.here.now.catalog.now c.args.tree.now) (surroundings c.args.here.now)) _ c.args.facts.now c.args.facts.now c.column.result
+    (means-column c.args.here.now.catalog.now (surroundings c.args.here.now) c.args.tree.now c.in-Column.reference c.in-Column.is) (column-alone (surroundings c.args.here.now) c.in-Column.reference.at (look_up 0 (scopes_of c.args.here.now.scopes.now) c.in-Column.reference) c.args.facts.now c.column.result c.column.ensures)
 
 pub expression_seen-returns-in-Paren : goal.expression_seen-returns-in-Paren
 expression_seen-returns-in-Paren t c =
-    meant-so (means_at (part_of c.args.here.now.catalog.now c.args.tree.now) (surroundings c.args.here.now)) _ c.args.facts.old c.expression_seen.new.facts c.expression_seen.result
+    meant-so (means_at (part_of c.args.here.now.catalog.now c.args.tree.now) (surroundings c.args.here.now)) _ c.args.facts.now c.expression_seen.new.facts c.expression_seen.result
     ((means-paren c.args.here.now.catalog.now (surroundings c.args.here.now) c.args.tree.now c.in-Paren.part c.in-Paren.is) ∙ means-is (part_of c.args.here.now.catalog.now c.in-Paren.part) (surroundings c.args.here.now)) (rw c.get.ensures at c.expression_seen.ensures)
 
 pub expression_seen-returns-in-Nots : goal.expression_seen-returns-in-Nots
 expression_seen-returns-in-Nots t c =
     node-over (gives_of x.Not true) (λ (es : List Expr). times x.Not c.in-Nots.count (first_of es))
-    (operand (surroundings c.args.here.now) (need_of x.Not true) (part_of c.args.here.now.catalog.now c.in-Nots.part) ∷ []) (means_at (part_of c.args.here.now.catalog.now c.args.tree.now) (surroundings c.args.here.now)) c.args.facts.old c.operand-seen.new.facts c.operand-seen.result c.kind_over.result
+    (operand (surroundings c.args.here.now) (need_of x.Not true) (part_of c.args.here.now.catalog.now c.in-Nots.part) ∷ []) (means_at (part_of c.args.here.now.catalog.now c.args.tree.now) (surroundings c.args.here.now)) c.args.facts.now c.operand-seen.new.facts c.operand-seen.result c.kind_over.result
     (means-nots c.args.here.now.catalog.now (surroundings c.args.here.now) c.args.tree.now c.in-Nots.count c.in-Nots.part c.in-Nots.is)
     (rw (c.need_of-need.ensures, c.get-in-Nots.ensures, c.none.ensures) at c.operand-seen.ensures)
     (c.kind_over.ensures ∙ ap (λ (g : Gives). kind_over g c.operand-seen.result) c.gives_of.ensures)
@@ -77,7 +78,7 @@ expression_seen-returns-in-Nots t c =
 pub expression_seen-returns-in-Signs : goal.expression_seen-returns-in-Signs
 expression_seen-returns-in-Signs t c =
     node-over (gives_of x.Negate true) (λ (es : List Expr). times x.Negate c.in-Signs.count (first_of es))
-    (operand (surroundings c.args.here.now) (need_of x.Negate true) (part_of c.args.here.now.catalog.now c.in-Signs.part) ∷ []) (means_at (part_of c.args.here.now.catalog.now c.args.tree.now) (surroundings c.args.here.now)) c.args.facts.old c.operand-seen-in-Signs.new.facts c.operand-seen-in-Signs.result c.kind_over-in-Signs.result
+    (operand (surroundings c.args.here.now) (need_of x.Negate true) (part_of c.args.here.now.catalog.now c.in-Signs.part) ∷ []) (means_at (part_of c.args.here.now.catalog.now c.args.tree.now) (surroundings c.args.here.now)) c.args.facts.now c.operand-seen-in-Signs.new.facts c.operand-seen-in-Signs.result c.kind_over-in-Signs.result
     (means-signs c.args.here.now.catalog.now (surroundings c.args.here.now) c.args.tree.now c.in-Signs.count c.in-Signs.part c.in-Signs.is)
     (rw (c.need_of-need-in-Signs.ensures, c.get-in-Signs.ensures, c.none-in-Signs.ensures) at c.operand-seen-in-Signs.ensures)
     (c.kind_over-in-Signs.ensures ∙ ap (λ (g : Gives). kind_over g c.operand-seen-in-Signs.result) c.gives_of-in-Signs.ensures)
@@ -85,7 +86,7 @@ expression_seen-returns-in-Signs t c =
 pub expression_seen-returns-in-Logic : goal.expression_seen-returns-in-Logic
 expression_seen-returns-in-Logic t c =
     node-over (gives_of c.in-Logic.op false) (Op c.in-Logic.op)
-    (map (operand (surroundings c.args.here.now) (need_of c.in-Logic.op false)) (map (part_of c.args.here.now.catalog.now) c.in-Logic.parts)) (means_at (part_of c.args.here.now.catalog.now c.args.tree.now) (surroundings c.args.here.now)) c.args.facts.old c.operands-seen.new.facts c.operands-seen.result c.kind_over-in-Logic.result
+    (map (operand (surroundings c.args.here.now) (need_of c.in-Logic.op false)) (map (part_of c.args.here.now.catalog.now) c.in-Logic.parts)) (means_at (part_of c.args.here.now.catalog.now c.args.tree.now) (surroundings c.args.here.now)) c.args.facts.now c.operands-seen.new.facts c.operands-seen.result c.kind_over-in-Logic.result
     (means-logic c.args.here.now.catalog.now (surroundings c.args.here.now) c.args.tree.now c.in-Logic.op c.in-Logic.parts c.in-Logic.is)
     (rw (c.need_of-need-in-Logic.ensures, c.as_slice.ensures, c.none-in-Logic.ensures) at c.operands-seen.ensures)
     (c.kind_over-in-Logic.ensures ∙ ap (λ (g : Gives). kind_over g c.operands-seen.result) c.gives_of-in-Logic.ensures)
@@ -93,36 +94,36 @@ expression_seen-returns-in-Logic t c =
 pub expression_seen-returns-in-Chain : goal.expression_seen-returns-in-Chain
 expression_seen-returns-in-Chain t c =
     node-over (chain_gives (map (step_of c.args.here.now.catalog.now) c.in-Chain.steps)) (chain_made (map (step_of c.args.here.now.catalog.now) c.in-Chain.steps))
-    (operand (surroundings c.args.here.now) (first_need (map (step_of c.args.here.now.catalog.now) c.in-Chain.steps)) (part_of c.args.here.now.catalog.now c.in-Chain.first) ∷ map (step_operand (surroundings c.args.here.now)) (map (step_of c.args.here.now.catalog.now) c.in-Chain.steps)) (means_at (part_of c.args.here.now.catalog.now c.args.tree.now) (surroundings c.args.here.now)) c.args.facts.old c.operands_of_steps-seen.new.facts c.operands_of_steps-seen.result c.kind_over-in-Chain.result
+    (operand (surroundings c.args.here.now) (first_need (map (step_of c.args.here.now.catalog.now) c.in-Chain.steps)) (part_of c.args.here.now.catalog.now c.in-Chain.first) ∷ map (step_operand (surroundings c.args.here.now)) (map (step_of c.args.here.now.catalog.now) c.in-Chain.steps)) (means_at (part_of c.args.here.now.catalog.now c.args.tree.now) (surroundings c.args.here.now)) c.args.facts.now c.operands_of_steps-seen.new.facts c.operands_of_steps-seen.result c.kind_over-in-Chain.result
     (means-chain c.args.here.now.catalog.now (surroundings c.args.here.now) c.args.tree.now c.in-Chain.first c.in-Chain.steps c.in-Chain.is)
-    (behind-both (operand (surroundings c.args.here.now) (first_need (map (step_of c.args.here.now.catalog.now) c.in-Chain.steps)) (part_of c.args.here.now.catalog.now c.in-Chain.first) ∷ []) (map (step_operand (surroundings c.args.here.now)) (map (step_of c.args.here.now.catalog.now) c.in-Chain.steps)) (Ok no_operand) c.operand-seen-in-Chain.result c.operands_of_steps-seen.result c.args.facts.old c.operand-seen-in-Chain.new.facts c.operands_of_steps-seen.new.facts
+    (behind-both (operand (surroundings c.args.here.now) (first_need (map (step_of c.args.here.now.catalog.now) c.in-Chain.steps)) (part_of c.args.here.now.catalog.now c.in-Chain.first) ∷ []) (map (step_operand (surroundings c.args.here.now)) (map (step_of c.args.here.now.catalog.now) c.in-Chain.steps)) (Ok no_operand) c.operand-seen-in-Chain.result c.operands_of_steps-seen.result c.args.facts.now c.operand-seen-in-Chain.new.facts c.operands_of_steps-seen.new.facts
     (rw (c.first_need-need.ensures c.args.here.now.catalog.now, c.as_slice-in-Chain.ensures, c.get-in-Chain.ensures, c.none-in-Chain.ensures) at c.operand-seen-in-Chain.ensures) (rw c.as_slice-in-Chain-2.ensures at c.operands_of_steps-seen.ensures))
     (c.kind_over-in-Chain.ensures ∙ ap (λ (g : Gives). kind_over g c.operands_of_steps-seen.result) (c.chain_gives.ensures c.args.here.now.catalog.now ∙ ap (λ (ss : List ExprStep). chain_gives (map (step_of c.args.here.now.catalog.now) ss)) c.as_slice-in-Chain-3.ensures))
 
 pub expression_seen-returns-in-Compared : goal.expression_seen-returns-in-Compared
 expression_seen-returns-in-Compared t c =
     node-over (gives_of (x.Compare c.in-Compared.op) false) (Op (x.Compare c.in-Compared.op))
-    (operand (surroundings c.args.here.now) (need_of (x.Compare c.in-Compared.op) false) (part_of c.args.here.now.catalog.now c.in-Compared.first) ∷ operand (surroundings c.args.here.now) (need_of (x.Compare c.in-Compared.op) false) (part_of c.args.here.now.catalog.now c.in-Compared.second) ∷ []) (means_at (part_of c.args.here.now.catalog.now c.args.tree.now) (surroundings c.args.here.now)) c.args.facts.old c.operand-seen-in-Compared-2.new.facts c.operand-seen-in-Compared-2.result c.kind_over-in-Compared.result
+    (operand (surroundings c.args.here.now) (need_of (x.Compare c.in-Compared.op) false) (part_of c.args.here.now.catalog.now c.in-Compared.first) ∷ operand (surroundings c.args.here.now) (need_of (x.Compare c.in-Compared.op) false) (part_of c.args.here.now.catalog.now c.in-Compared.second) ∷ []) (means_at (part_of c.args.here.now.catalog.now c.args.tree.now) (surroundings c.args.here.now)) c.args.facts.now c.operand-seen-in-Compared-2.new.facts c.operand-seen-in-Compared-2.result c.kind_over-in-Compared.result
     (means-compared c.args.here.now.catalog.now (surroundings c.args.here.now) c.args.tree.now c.in-Compared.op c.in-Compared.first c.in-Compared.second c.in-Compared.is)
-    (behind-both (operand (surroundings c.args.here.now) (need_of (x.Compare c.in-Compared.op) false) (part_of c.args.here.now.catalog.now c.in-Compared.first) ∷ []) (operand (surroundings c.args.here.now) (need_of (x.Compare c.in-Compared.op) false) (part_of c.args.here.now.catalog.now c.in-Compared.second) ∷ []) (Ok no_operand) c.operand-seen-in-Compared.result c.operand-seen-in-Compared-2.result c.args.facts.old c.operand-seen-in-Compared.new.facts c.operand-seen-in-Compared-2.new.facts
+    (behind-both (operand (surroundings c.args.here.now) (need_of (x.Compare c.in-Compared.op) false) (part_of c.args.here.now.catalog.now c.in-Compared.first) ∷ []) (operand (surroundings c.args.here.now) (need_of (x.Compare c.in-Compared.op) false) (part_of c.args.here.now.catalog.now c.in-Compared.second) ∷ []) (Ok no_operand) c.operand-seen-in-Compared.result c.operand-seen-in-Compared-2.result c.args.facts.now c.operand-seen-in-Compared.new.facts c.operand-seen-in-Compared-2.new.facts
     (rw (c.need_of-need-in-Compared.ensures, c.get-in-Compared.ensures, c.none-in-Compared.ensures) at c.operand-seen-in-Compared.ensures) (rw (c.need_of-need-in-Compared.ensures, c.get-in-Compared-2.ensures) at c.operand-seen-in-Compared-2.ensures))
     (c.kind_over-in-Compared.ensures ∙ ap (λ (g : Gives). kind_over g c.operand-seen-in-Compared-2.result) c.gives_of-in-Compared.ensures)
 
 pub expression_seen-returns-in-Like : goal.expression_seen-returns-in-Like
 expression_seen-returns-in-Like t c =
     node-over (gives_of x.Like false) (λ (es : List Expr). negated_if c.in-Like.negated (Op x.Like es))
-    (operand (surroundings c.args.here.now) (need_of x.Like false) (part_of c.args.here.now.catalog.now c.in-Like.text) ∷ operand (surroundings c.args.here.now) (need_of x.Like false) (part_of c.args.here.now.catalog.now c.in-Like.pattern) ∷ []) (means_at (part_of c.args.here.now.catalog.now c.args.tree.now) (surroundings c.args.here.now)) c.args.facts.old c.operand-seen-in-Like-2.new.facts c.operand-seen-in-Like-2.result c.kind_over-in-Like.result
+    (operand (surroundings c.args.here.now) (need_of x.Like false) (part_of c.args.here.now.catalog.now c.in-Like.text) ∷ operand (surroundings c.args.here.now) (need_of x.Like false) (part_of c.args.here.now.catalog.now c.in-Like.pattern) ∷ []) (means_at (part_of c.args.here.now.catalog.now c.args.tree.now) (surroundings c.args.here.now)) c.args.facts.now c.operand-seen-in-Like-2.new.facts c.operand-seen-in-Like-2.result c.kind_over-in-Like.result
     (means-like c.args.here.now.catalog.now (surroundings c.args.here.now) c.args.tree.now c.in-Like.negated c.in-Like.text c.in-Like.pattern c.in-Like.is)
-    (behind-both (operand (surroundings c.args.here.now) (need_of x.Like false) (part_of c.args.here.now.catalog.now c.in-Like.text) ∷ []) (operand (surroundings c.args.here.now) (need_of x.Like false) (part_of c.args.here.now.catalog.now c.in-Like.pattern) ∷ []) (Ok no_operand) c.operand-seen-in-Like.result c.operand-seen-in-Like-2.result c.args.facts.old c.operand-seen-in-Like.new.facts c.operand-seen-in-Like-2.new.facts
+    (behind-both (operand (surroundings c.args.here.now) (need_of x.Like false) (part_of c.args.here.now.catalog.now c.in-Like.text) ∷ []) (operand (surroundings c.args.here.now) (need_of x.Like false) (part_of c.args.here.now.catalog.now c.in-Like.pattern) ∷ []) (Ok no_operand) c.operand-seen-in-Like.result c.operand-seen-in-Like-2.result c.args.facts.now c.operand-seen-in-Like.new.facts c.operand-seen-in-Like-2.new.facts
     (rw (c.need_of-need-in-Like.ensures, c.get-in-Like.ensures, c.none-in-Like.ensures) at c.operand-seen-in-Like.ensures) (rw (c.need_of-need-in-Like.ensures, c.get-in-Like-2.ensures) at c.operand-seen-in-Like-2.ensures))
     (c.kind_over-in-Like.ensures ∙ ap (λ (g : Gives). kind_over g c.operand-seen-in-Like-2.result) c.gives_of-in-Like.ensures)
 
 pub expression_seen-returns-in-Between : goal.expression_seen-returns-in-Between
 expression_seen-returns-in-Between t c =
     node-over (gives_of x.Between false) (λ (es : List Expr). negated_if c.in-Between.negated (Op x.Between es))
-    (operand (surroundings c.args.here.now) (need_of x.Between false) (part_of c.args.here.now.catalog.now c.in-Between.part) ∷ operand (surroundings c.args.here.now) (need_of x.Between false) (part_of c.args.here.now.catalog.now c.in-Between.low) ∷ operand (surroundings c.args.here.now) (need_of x.Between false) (part_of c.args.here.now.catalog.now c.in-Between.high) ∷ []) (means_at (part_of c.args.here.now.catalog.now c.args.tree.now) (surroundings c.args.here.now)) c.args.facts.old c.operand-seen-in-Between-3.new.facts c.operand-seen-in-Between-3.result c.kind_over-in-Between.result
+    (operand (surroundings c.args.here.now) (need_of x.Between false) (part_of c.args.here.now.catalog.now c.in-Between.part) ∷ operand (surroundings c.args.here.now) (need_of x.Between false) (part_of c.args.here.now.catalog.now c.in-Between.low) ∷ operand (surroundings c.args.here.now) (need_of x.Between false) (part_of c.args.here.now.catalog.now c.in-Between.high) ∷ []) (means_at (part_of c.args.here.now.catalog.now c.args.tree.now) (surroundings c.args.here.now)) c.args.facts.now c.operand-seen-in-Between-3.new.facts c.operand-seen-in-Between-3.result c.kind_over-in-Between.result
     (means-between c.args.here.now.catalog.now (surroundings c.args.here.now) c.args.tree.now c.in-Between.negated c.in-Between.part c.in-Between.low c.in-Between.high c.in-Between.is)
-    (behind-both (operand (surroundings c.args.here.now) (need_of x.Between false) (part_of c.args.here.now.catalog.now c.in-Between.part) ∷ []) (operand (surroundings c.args.here.now) (need_of x.Between false) (part_of c.args.here.now.catalog.now c.in-Between.low) ∷ operand (surroundings c.args.here.now) (need_of x.Between false) (part_of c.args.here.now.catalog.now c.in-Between.high) ∷ []) (Ok no_operand) c.operand-seen-in-Between.result c.operand-seen-in-Between-3.result c.args.facts.old c.operand-seen-in-Between.new.facts c.operand-seen-in-Between-3.new.facts
+    (behind-both (operand (surroundings c.args.here.now) (need_of x.Between false) (part_of c.args.here.now.catalog.now c.in-Between.part) ∷ []) (operand (surroundings c.args.here.now) (need_of x.Between false) (part_of c.args.here.now.catalog.now c.in-Between.low) ∷ operand (surroundings c.args.here.now) (need_of x.Between false) (part_of c.args.here.now.catalog.now c.in-Between.high) ∷ []) (Ok no_operand) c.operand-seen-in-Between.result c.operand-seen-in-Between-3.result c.args.facts.now c.operand-seen-in-Between.new.facts c.operand-seen-in-Between-3.new.facts
     (rw (c.need_of-need-in-Between.ensures, c.get-in-Between.ensures, c.none-in-Between.ensures) at c.operand-seen-in-Between.ensures) (behind-both (operand (surroundings c.args.here.now) (need_of x.Between false) (part_of c.args.here.now.catalog.now c.in-Between.low) ∷ []) (operand (surroundings c.args.here.now) (need_of x.Between false) (part_of c.args.here.now.catalog.now c.in-Between.high) ∷ []) c.operand-seen-in-Between.result c.operand-seen-in-Between-2.result c.operand-seen-in-Between-3.result c.operand-seen-in-Between.new.facts c.operand-seen-in-Between-2.new.facts c.operand-seen-in-Between-3.new.facts
     (rw (c.need_of-need-in-Between.ensures, c.get-in-Between-2.ensures) at c.operand-seen-in-Between-2.ensures) (rw (c.need_of-need-in-Between.ensures, c.get-in-Between-3.ensures) at c.operand-seen-in-Between-3.ensures)))
     (c.kind_over-in-Between.ensures ∙ ap (λ (g : Gives). kind_over g c.operand-seen-in-Between-3.result) c.gives_of-in-Between.ensures)
@@ -130,16 +131,16 @@ expression_seen-returns-in-Between t c =
 pub expression_seen-returns-in-InList : goal.expression_seen-returns-in-InList
 expression_seen-returns-in-InList t c =
     node-over (gives_of x.InList false) (λ (es : List Expr). negated_if c.in-InList.negated (Op x.InList es))
-    (operand (surroundings c.args.here.now) (need_of x.InList false) (part_of c.args.here.now.catalog.now c.in-InList.part) ∷ map (operand (surroundings c.args.here.now) (need_of x.InList false)) (map (part_of c.args.here.now.catalog.now) c.in-InList.list)) (means_at (part_of c.args.here.now.catalog.now c.args.tree.now) (surroundings c.args.here.now)) c.args.facts.old c.operands-seen-in-InList.new.facts c.operands-seen-in-InList.result c.kind_over-in-InList.result
+    (operand (surroundings c.args.here.now) (need_of x.InList false) (part_of c.args.here.now.catalog.now c.in-InList.part) ∷ map (operand (surroundings c.args.here.now) (need_of x.InList false)) (map (part_of c.args.here.now.catalog.now) c.in-InList.list)) (means_at (part_of c.args.here.now.catalog.now c.args.tree.now) (surroundings c.args.here.now)) c.args.facts.now c.operands-seen-in-InList.new.facts c.operands-seen-in-InList.result c.kind_over-in-InList.result
     (means-inlist c.args.here.now.catalog.now (surroundings c.args.here.now) c.args.tree.now c.in-InList.negated c.in-InList.part c.in-InList.list c.in-InList.is)
-    (behind-both (operand (surroundings c.args.here.now) (need_of x.InList false) (part_of c.args.here.now.catalog.now c.in-InList.part) ∷ []) (map (operand (surroundings c.args.here.now) (need_of x.InList false)) (map (part_of c.args.here.now.catalog.now) c.in-InList.list)) (Ok no_operand) c.operand-seen-in-InList.result c.operands-seen-in-InList.result c.args.facts.old c.operand-seen-in-InList.new.facts c.operands-seen-in-InList.new.facts
+    (behind-both (operand (surroundings c.args.here.now) (need_of x.InList false) (part_of c.args.here.now.catalog.now c.in-InList.part) ∷ []) (map (operand (surroundings c.args.here.now) (need_of x.InList false)) (map (part_of c.args.here.now.catalog.now) c.in-InList.list)) (Ok no_operand) c.operand-seen-in-InList.result c.operands-seen-in-InList.result c.args.facts.now c.operand-seen-in-InList.new.facts c.operands-seen-in-InList.new.facts
     (rw (c.need_of-need-in-InList.ensures, c.get-in-InList.ensures, c.none-in-InList.ensures) at c.operand-seen-in-InList.ensures) (rw (c.need_of-need-in-InList.ensures, c.as_slice-in-InList.ensures) at c.operands-seen-in-InList.ensures))
     (c.kind_over-in-InList.ensures ∙ ap (λ (g : Gives). kind_over g c.operands-seen-in-InList.result) c.gives_of-in-InList.ensures)
 
 pub expression_seen-returns-in-IsNull : goal.expression_seen-returns-in-IsNull
 expression_seen-returns-in-IsNull t c =
     node-over (always kind.Boolean) (λ (es : List Expr). negated_if c.in-IsNull.negated (IsNull (first_of es)))
-    (operand (surroundings c.args.here.now) free (part_of c.args.here.now.catalog.now c.in-IsNull.part) ∷ []) (means_at (part_of c.args.here.now.catalog.now c.args.tree.now) (surroundings c.args.here.now)) c.args.facts.old c.operand-seen-in-IsNull.new.facts c.operand-seen-in-IsNull.result c.kind_over-in-IsNull.result
+    (operand (surroundings c.args.here.now) free (part_of c.args.here.now.catalog.now c.in-IsNull.part) ∷ []) (means_at (part_of c.args.here.now.catalog.now c.args.tree.now) (surroundings c.args.here.now)) c.args.facts.now c.operand-seen-in-IsNull.new.facts c.operand-seen-in-IsNull.result c.kind_over-in-IsNull.result
     (means-isnull c.args.here.now.catalog.now (surroundings c.args.here.now) c.args.tree.now c.in-IsNull.negated c.in-IsNull.part c.in-IsNull.is)
     (rw (c.get-in-IsNull.ensures, c.none-in-IsNull.ensures) at c.operand-seen-in-IsNull.ensures)
     c.kind_over-in-IsNull.ensures
@@ -147,7 +148,7 @@ expression_seen-returns-in-IsNull t c =
 pub expression_seen-returns-in-IsTruth : goal.expression_seen-returns-in-IsTruth
 expression_seen-returns-in-IsTruth t c =
     node-over (always kind.Boolean) (λ (es : List Expr). negated_if c.in-IsTruth.negated (IsTruth c.in-IsTruth.truth (first_of es)))
-    (operand (surroundings c.args.here.now) (of_kind kind.Boolean) (part_of c.args.here.now.catalog.now c.in-IsTruth.part) ∷ []) (means_at (part_of c.args.here.now.catalog.now c.args.tree.now) (surroundings c.args.here.now)) c.args.facts.old c.operand-seen-in-IsTruth.new.facts c.operand-seen-in-IsTruth.result c.kind_over-in-IsTruth.result
+    (operand (surroundings c.args.here.now) (of_kind kind.Boolean) (part_of c.args.here.now.catalog.now c.in-IsTruth.part) ∷ []) (means_at (part_of c.args.here.now.catalog.now c.args.tree.now) (surroundings c.args.here.now)) c.args.facts.now c.operand-seen-in-IsTruth.new.facts c.operand-seen-in-IsTruth.result c.kind_over-in-IsTruth.result
     (means-istruth c.args.here.now.catalog.now (surroundings c.args.here.now) c.args.tree.now c.in-IsTruth.negated c.in-IsTruth.truth c.in-IsTruth.part c.in-IsTruth.is)
     (rw (c.get-in-IsTruth.ensures, c.none-in-IsTruth.ensures) at c.operand-seen-in-IsTruth.ensures)
     c.kind_over-in-IsTruth.ensures
@@ -155,16 +156,16 @@ expression_seen-returns-in-IsTruth t c =
 pub expression_seen-returns-in-IsDistinct : goal.expression_seen-returns-in-IsDistinct
 expression_seen-returns-in-IsDistinct t c =
     node-over (always kind.Boolean) (λ (es : List Expr). negated_if (not c.in-IsDistinct.negated) (Same (first_of es) (second_of es)))
-    (operand (surroundings c.args.here.now) alike (part_of c.args.here.now.catalog.now c.in-IsDistinct.first) ∷ operand (surroundings c.args.here.now) alike (part_of c.args.here.now.catalog.now c.in-IsDistinct.second) ∷ []) (means_at (part_of c.args.here.now.catalog.now c.args.tree.now) (surroundings c.args.here.now)) c.args.facts.old c.operand-seen-in-IsDistinct-2.new.facts c.operand-seen-in-IsDistinct-2.result c.kind_over-in-IsDistinct.result
+    (operand (surroundings c.args.here.now) alike (part_of c.args.here.now.catalog.now c.in-IsDistinct.first) ∷ operand (surroundings c.args.here.now) alike (part_of c.args.here.now.catalog.now c.in-IsDistinct.second) ∷ []) (means_at (part_of c.args.here.now.catalog.now c.args.tree.now) (surroundings c.args.here.now)) c.args.facts.now c.operand-seen-in-IsDistinct-2.new.facts c.operand-seen-in-IsDistinct-2.result c.kind_over-in-IsDistinct.result
     (means-isdistinct c.args.here.now.catalog.now (surroundings c.args.here.now) c.args.tree.now c.in-IsDistinct.negated c.in-IsDistinct.first c.in-IsDistinct.second c.in-IsDistinct.is)
-    (behind-both (operand (surroundings c.args.here.now) alike (part_of c.args.here.now.catalog.now c.in-IsDistinct.first) ∷ []) (operand (surroundings c.args.here.now) alike (part_of c.args.here.now.catalog.now c.in-IsDistinct.second) ∷ []) (Ok no_operand) c.operand-seen-in-IsDistinct.result c.operand-seen-in-IsDistinct-2.result c.args.facts.old c.operand-seen-in-IsDistinct.new.facts c.operand-seen-in-IsDistinct-2.new.facts
+    (behind-both (operand (surroundings c.args.here.now) alike (part_of c.args.here.now.catalog.now c.in-IsDistinct.first) ∷ []) (operand (surroundings c.args.here.now) alike (part_of c.args.here.now.catalog.now c.in-IsDistinct.second) ∷ []) (Ok no_operand) c.operand-seen-in-IsDistinct.result c.operand-seen-in-IsDistinct-2.result c.args.facts.now c.operand-seen-in-IsDistinct.new.facts c.operand-seen-in-IsDistinct-2.new.facts
     (rw (c.get-in-IsDistinct.ensures, c.none-in-IsDistinct.ensures) at c.operand-seen-in-IsDistinct.ensures) (rw c.get-in-IsDistinct-2.ensures at c.operand-seen-in-IsDistinct-2.ensures))
     c.kind_over-in-IsDistinct.ensures
 
 pub expression_seen-returns-in-Coalesce : goal.expression_seen-returns-in-Coalesce
 expression_seen-returns-in-Coalesce t c =
     node-over common (Op x.Coalesce)
-    (map (operand (surroundings c.args.here.now) alike) (map (part_of c.args.here.now.catalog.now) c.in-Coalesce.list)) (means_at (part_of c.args.here.now.catalog.now c.args.tree.now) (surroundings c.args.here.now)) c.args.facts.old c.operands-seen-in-Coalesce.new.facts c.operands-seen-in-Coalesce.result c.kind_over-in-Coalesce.result
+    (map (operand (surroundings c.args.here.now) alike) (map (part_of c.args.here.now.catalog.now) c.in-Coalesce.list)) (means_at (part_of c.args.here.now.catalog.now c.args.tree.now) (surroundings c.args.here.now)) c.args.facts.now c.operands-seen-in-Coalesce.new.facts c.operands-seen-in-Coalesce.result c.kind_over-in-Coalesce.result
     (means-coalesce c.args.here.now.catalog.now (surroundings c.args.here.now) c.args.tree.now c.in-Coalesce.list c.in-Coalesce.is)
     (rw (c.as_slice-in-Coalesce.ensures, c.none-in-Coalesce.ensures) at c.operands-seen-in-Coalesce.ensures)
     c.kind_over-in-Coalesce.ensures
@@ -172,61 +173,61 @@ expression_seen-returns-in-Coalesce t c =
 pub expression_seen-returns-in-NullIf : goal.expression_seen-returns-in-NullIf
 expression_seen-returns-in-NullIf t c =
     node-over common (Op x.NullIf)
-    (operand (surroundings c.args.here.now) alike (part_of c.args.here.now.catalog.now c.in-NullIf.first) ∷ operand (surroundings c.args.here.now) alike (part_of c.args.here.now.catalog.now c.in-NullIf.second) ∷ []) (means_at (part_of c.args.here.now.catalog.now c.args.tree.now) (surroundings c.args.here.now)) c.args.facts.old c.operand-seen-in-NullIf-2.new.facts c.operand-seen-in-NullIf-2.result c.kind_over-in-NullIf.result
+    (operand (surroundings c.args.here.now) alike (part_of c.args.here.now.catalog.now c.in-NullIf.first) ∷ operand (surroundings c.args.here.now) alike (part_of c.args.here.now.catalog.now c.in-NullIf.second) ∷ []) (means_at (part_of c.args.here.now.catalog.now c.args.tree.now) (surroundings c.args.here.now)) c.args.facts.now c.operand-seen-in-NullIf-2.new.facts c.operand-seen-in-NullIf-2.result c.kind_over-in-NullIf.result
     (means-nullif c.args.here.now.catalog.now (surroundings c.args.here.now) c.args.tree.now c.in-NullIf.first c.in-NullIf.second c.in-NullIf.is)
-    (behind-both (operand (surroundings c.args.here.now) alike (part_of c.args.here.now.catalog.now c.in-NullIf.first) ∷ []) (operand (surroundings c.args.here.now) alike (part_of c.args.here.now.catalog.now c.in-NullIf.second) ∷ []) (Ok no_operand) c.operand-seen-in-NullIf.result c.operand-seen-in-NullIf-2.result c.args.facts.old c.operand-seen-in-NullIf.new.facts c.operand-seen-in-NullIf-2.new.facts
+    (behind-both (operand (surroundings c.args.here.now) alike (part_of c.args.here.now.catalog.now c.in-NullIf.first) ∷ []) (operand (surroundings c.args.here.now) alike (part_of c.args.here.now.catalog.now c.in-NullIf.second) ∷ []) (Ok no_operand) c.operand-seen-in-NullIf.result c.operand-seen-in-NullIf-2.result c.args.facts.now c.operand-seen-in-NullIf.new.facts c.operand-seen-in-NullIf-2.new.facts
     (rw (c.get-in-NullIf.ensures, c.none-in-NullIf.ensures) at c.operand-seen-in-NullIf.ensures) (rw c.get-in-NullIf-2.ensures at c.operand-seen-in-NullIf-2.ensures))
     c.kind_over-in-NullIf.ensures
 
 pub expression_seen-returns-in-None : goal.expression_seen-returns-in-None
 expression_seen-returns-in-None t c =
-    node-over common (case_made (map (arm_of c.args.here.now.catalog.now) c.in-Case.arms)) (flat_map (arm_operands (surroundings c.args.here.now)) (map (arm_of c.args.here.now.catalog.now) c.in-Case.arms) ++ else_operand (surroundings c.args.here.now) None ∷ []) (means_at (part_of c.args.here.now.catalog.now c.args.tree.now) (surroundings c.args.here.now)) c.args.facts.old c.operands_of_arms-seen.new.facts c.operands_of_arms-seen.result c.kind_over-in-None.result
+    node-over common (case_made (map (arm_of c.args.here.now.catalog.now) c.in-Case.arms)) (flat_map (arm_operands (surroundings c.args.here.now)) (map (arm_of c.args.here.now.catalog.now) c.in-Case.arms) ++ else_operand (surroundings c.args.here.now) None ∷ []) (means_at (part_of c.args.here.now.catalog.now c.args.tree.now) (surroundings c.args.here.now)) c.args.facts.now c.operands_of_arms-seen.new.facts c.operands_of_arms-seen.result c.kind_over-in-None.result
     (means-case-none c.args.here.now.catalog.now (surroundings c.args.here.now) c.args.tree.now c.in-Case.arms (c.in-Case.is ∙ ap (λ o. e.Case c.in-Case.arms o) c.in-None.is))
-    (behind-both (flat_map (arm_operands (surroundings c.args.here.now)) (map (arm_of c.args.here.now.catalog.now) c.in-Case.arms)) (else_operand (surroundings c.args.here.now) None ∷ []) (Ok no_operand) c.operands_of_arms-seen.result c.operands_of_arms-seen.result c.args.facts.old c.operands_of_arms-seen.new.facts c.operands_of_arms-seen.new.facts
+    (behind-both (flat_map (arm_operands (surroundings c.args.here.now)) (map (arm_of c.args.here.now.catalog.now) c.in-Case.arms)) (else_operand (surroundings c.args.here.now) None ∷ []) (Ok no_operand) c.operands_of_arms-seen.result c.operands_of_arms-seen.result c.args.facts.now c.operands_of_arms-seen.new.facts c.operands_of_arms-seen.new.facts
     (rw (c.as_slice-in-Case.ensures, c.none-in-Case.ensures) at c.operands_of_arms-seen.ensures) (without-else (surroundings c.args.here.now) c.operands_of_arms-seen.result c.operands_of_arms-seen.new.facts))
     c.kind_over-in-None.ensures
 
 pub expression_seen-returns-in-Some : goal.expression_seen-returns-in-Some
 expression_seen-returns-in-Some t c =
-    node-over common (case_made (map (arm_of c.args.here.now.catalog.now) c.in-Case.arms)) (flat_map (arm_operands (surroundings c.args.here.now)) (map (arm_of c.args.here.now.catalog.now) c.in-Case.arms) ++ operand (surroundings c.args.here.now) alike (part_of c.args.here.now.catalog.now c.in-Some.tree) ∷ []) (means_at (part_of c.args.here.now.catalog.now c.args.tree.now) (surroundings c.args.here.now)) c.args.facts.old c.operand-seen-in-Some.new.facts c.operand-seen-in-Some.result c.kind_over-in-Some.result
+    node-over common (case_made (map (arm_of c.args.here.now.catalog.now) c.in-Case.arms)) (flat_map (arm_operands (surroundings c.args.here.now)) (map (arm_of c.args.here.now.catalog.now) c.in-Case.arms) ++ operand (surroundings c.args.here.now) alike (part_of c.args.here.now.catalog.now c.in-Some.tree) ∷ []) (means_at (part_of c.args.here.now.catalog.now c.args.tree.now) (surroundings c.args.here.now)) c.args.facts.now c.operand-seen-in-Some.new.facts c.operand-seen-in-Some.result c.kind_over-in-Some.result
     (means-case-some c.args.here.now.catalog.now (surroundings c.args.here.now) c.args.tree.now c.in-Case.arms c.in-Some.tree (c.in-Case.is ∙ ap (λ o. e.Case c.in-Case.arms o) c.in-Some.is))
-    (behind-both (flat_map (arm_operands (surroundings c.args.here.now)) (map (arm_of c.args.here.now.catalog.now) c.in-Case.arms)) (operand (surroundings c.args.here.now) alike (part_of c.args.here.now.catalog.now c.in-Some.tree) ∷ []) (Ok no_operand) c.operands_of_arms-seen.result c.operand-seen-in-Some.result c.args.facts.old c.operands_of_arms-seen.new.facts c.operand-seen-in-Some.new.facts
+    (behind-both (flat_map (arm_operands (surroundings c.args.here.now)) (map (arm_of c.args.here.now.catalog.now) c.in-Case.arms)) (operand (surroundings c.args.here.now) alike (part_of c.args.here.now.catalog.now c.in-Some.tree) ∷ []) (Ok no_operand) c.operands_of_arms-seen.result c.operand-seen-in-Some.result c.args.facts.now c.operands_of_arms-seen.new.facts c.operand-seen-in-Some.new.facts
     (rw (c.as_slice-in-Case.ensures, c.none-in-Case.ensures) at c.operands_of_arms-seen.ensures) (rw c.get-in-Some.ensures at c.operand-seen-in-Some.ensures))
     c.kind_over-in-Some.ensures
 
 pub operand-returns-in-Ok : goal.operand-returns-in-Ok
 operand-returns-in-Ok t c =
-    operand-seen c.args.here.now.catalog.now (surroundings c.args.here.now) c.args.need c.args.tree.now c.in-Ok.operands c.args.facts.old c.expression_seen.new.facts c.expression_seen.result c.operands_with.result
+    operand-seen c.args.here.now.catalog.now (surroundings c.args.here.now) c.args.need c.args.tree.now c.in-Ok.operands c.args.facts.now c.expression_seen.new.facts c.expression_seen.result c.operands_with.result
     c.expression_seen.ensures c.operands_with.ensures
 
 pub operands-loop-tree-init : goal.operands-loop-tree-init
-operands-loop-tree-init t c = behind-nothing c.args.so_far c.args.facts.old
+operands-loop-tree-init t c = behind-nothing c.args.so_far c.args.facts.now
 
 pub operands-loop-tree-preserved : goal.operands-loop-tree-preserved
 operands-loop-tree-preserved t c =
-    mapped-more (operand (surroundings c.args.here.now) c.args.need) (part_of c.args.here.now.catalog.now) c.args.trees.now c.loop-tree.tree-index c.tree-item.result c.args.so_far c.loop-tree.seen c.operand-seen.result c.args.facts.old c.loop-tree.facts c.operand-seen.new.facts c.loop-tree-test.true c.tree-item.is c.loop-tree.invariant
+    mapped-more (operand (surroundings c.args.here.now) c.args.need) (part_of c.args.here.now.catalog.now) c.args.trees.now c.loop-tree.tree-index c.tree-item.result c.args.so_far c.loop-tree.seen c.operand-seen.result c.args.facts.now c.loop-tree.facts c.operand-seen.new.facts c.loop-tree-test.true c.tree-item.is c.loop-tree.invariant
     c.operand-seen.ensures
 
 pub operands-returns : goal.operands-returns
 operands-returns t c = rw (take_all c.loop-tree.tree-index c.args.trees.now c.loop-tree-test.false) at c.loop-tree.invariant
 
 pub operands_of_steps-loop-step-init : goal.operands_of_steps-loop-step-init
-operands_of_steps-loop-step-init t c = behind-nothing c.args.so_far c.args.facts.old
+operands_of_steps-loop-step-init t c = behind-nothing c.args.so_far c.args.facts.now
 
 pub operands_of_steps-loop-step-preserved : goal.operands_of_steps-loop-step-preserved
 operands_of_steps-loop-step-preserved t c =
-    mapped-more (step_operand (surroundings c.args.here.now)) (step_of c.args.here.now.catalog.now) c.args.steps.now c.loop-step.step-index c.step-item.result c.args.so_far c.loop-step.seen c.operand-seen.result c.args.facts.old c.loop-step.facts c.operand-seen.new.facts c.loop-step-test.true c.step-item.is c.loop-step.invariant
+    mapped-more (step_operand (surroundings c.args.here.now)) (step_of c.args.here.now.catalog.now) c.args.steps.now c.loop-step.step-index c.step-item.result c.args.so_far c.loop-step.seen c.operand-seen.result c.args.facts.now c.loop-step.facts c.operand-seen.new.facts c.loop-step-test.true c.step-item.is c.loop-step.invariant
     (subst (λ (o : Operand). OperandsBehind (o ∷ []) c.loop-step.seen c.loop-step.facts c.operand-seen.new.facts c.operand-seen.result) (step-is c.args.here.now.catalog.now (surroundings c.args.here.now) c.step-item.result) (rw c.need_of-need.ensures at c.operand-seen.ensures))
 
 pub operands_of_steps-returns : goal.operands_of_steps-returns
 operands_of_steps-returns t c = rw (take_all c.loop-step.step-index c.args.steps.now c.loop-step-test.false) at c.loop-step.invariant
 
 pub operands_of_arms-loop-arm-init : goal.operands_of_arms-loop-arm-init
-operands_of_arms-loop-arm-init t c = behind-nothing c.args.so_far c.args.facts.old
+operands_of_arms-loop-arm-init t c = behind-nothing c.args.so_far c.args.facts.now
 
 pub operands_of_arms-loop-arm-preserved : goal.operands_of_arms-loop-arm-preserved
 operands_of_arms-loop-arm-preserved t c =
-    flat-more (arm_operands (surroundings c.args.here.now)) (arm_of c.args.here.now.catalog.now) c.args.arms.now c.loop-arm.arm-index c.arm-item.result c.args.so_far c.loop-arm.seen c.operand-seen-2.result c.args.facts.old c.loop-arm.facts c.operand-seen-2.new.facts c.loop-arm-test.true c.arm-item.is c.loop-arm.invariant
+    flat-more (arm_operands (surroundings c.args.here.now)) (arm_of c.args.here.now.catalog.now) c.args.arms.now c.loop-arm.arm-index c.arm-item.result c.args.so_far c.loop-arm.seen c.operand-seen-2.result c.args.facts.now c.loop-arm.facts c.operand-seen-2.new.facts c.loop-arm-test.true c.arm-item.is c.loop-arm.invariant
     (subst (λ (os : List Operand). OperandsBehind os c.loop-arm.seen c.loop-arm.facts c.operand-seen-2.new.facts c.operand-seen-2.result) (arm-is c.args.here.now.catalog.now (surroundings c.args.here.now) c.arm-item.result)
     (behind-both (operand (surroundings c.args.here.now) (of_kind kind.Boolean) (part_of c.args.here.now.catalog.now c.arm-item.result.condition) ∷ []) (operand (surroundings c.args.here.now) alike (part_of c.args.here.now.catalog.now c.arm-item.result.value) ∷ []) c.loop-arm.seen c.operand-seen.result c.operand-seen-2.result c.loop-arm.facts c.operand-seen.new.facts c.operand-seen-2.new.facts
     c.operand-seen.ensures c.operand-seen-2.ensures))
@@ -246,33 +247,33 @@ argument_kind-returns t c =
 
 pub expression_seen-returns-in-Exists : goal.expression_seen-returns-in-Exists
 expression_seen-returns-in-Exists t c =
-    meant-so (means_at (part_of c.args.here.now.catalog.now c.args.tree.now) (surroundings c.args.here.now)) _ c.args.facts.old c.inner_seen.new.facts c.exists_over.result
+    meant-so (means_at (part_of c.args.here.now.catalog.now c.args.tree.now) (surroundings c.args.here.now)) _ c.args.facts.now c.inner_seen.new.facts c.exists_over.result
     (means-exists c.args.here.now.catalog.now (surroundings c.args.here.now) c.args.tree.now c.in-Exists.query c.in-Exists.is)
-    (result-so _ c.args.facts.old c.inner_seen.new.facts (exists_over c.inner_seen.result) c.exists_over.result c.exists_over.ensures (exists-looked (surroundings c.args.here.now) c.args.tree.now.at (query_of c.args.here.now.catalog.now c.in-Exists.query) c.args.facts.old c.inner_seen.new.facts c.inner_seen.result
+    (result-so _ c.args.facts.now c.inner_seen.new.facts (exists_over c.inner_seen.result) c.exists_over.result c.exists_over.ensures (exists-looked (surroundings c.args.here.now) c.args.tree.now.at (query_of c.args.here.now.catalog.now c.in-Exists.query) c.args.facts.now c.inner_seen.new.facts c.inner_seen.result
     (rw c.get-in-Exists.ensures at c.inner_seen.ensures)))
 
 pub expression_seen-returns-in-Scalar : goal.expression_seen-returns-in-Scalar
 expression_seen-returns-in-Scalar t c =
-    meant-so (means_at (part_of c.args.here.now.catalog.now c.args.tree.now) (surroundings c.args.here.now)) _ c.args.facts.old c.inner_seen-inner-in-Scalar.new.facts c.scalar_over.result
+    meant-so (means_at (part_of c.args.here.now.catalog.now c.args.tree.now) (surroundings c.args.here.now)) _ c.args.facts.now c.inner_seen-inner-in-Scalar.new.facts c.scalar_over.result
     (means-scalar c.args.here.now.catalog.now (surroundings c.args.here.now) c.args.tree.now c.in-Scalar.query c.in-Scalar.is)
-    (result-so _ c.args.facts.old c.inner_seen-inner-in-Scalar.new.facts (scalar_over (query_of c.args.here.now.catalog.now c.in-Scalar.query).at c.inner_seen-inner-in-Scalar.result) c.scalar_over.result (c.scalar_over.ensures ∙ ap (λ (at : ℕ). scalar_over at c.inner_seen-inner-in-Scalar.result) (ap (λ (q : QueryTree). q.at) c.get-in-Scalar-2.ensures ∙ sym (query-at c.args.here.now.catalog.now c.in-Scalar.query)))
-    (scalar-looked (surroundings c.args.here.now) c.args.tree.now.at (query_of c.args.here.now.catalog.now c.in-Scalar.query) c.args.facts.old c.inner_seen-inner-in-Scalar.new.facts c.inner_seen-inner-in-Scalar.result
+    (result-so _ c.args.facts.now c.inner_seen-inner-in-Scalar.new.facts (scalar_over (query_of c.args.here.now.catalog.now c.in-Scalar.query).at c.inner_seen-inner-in-Scalar.result) c.scalar_over.result (c.scalar_over.ensures ∙ ap (λ (at : ℕ). scalar_over at c.inner_seen-inner-in-Scalar.result) (ap (λ (q : QueryTree). q.at) c.get-in-Scalar-2.ensures ∙ sym (query-at c.args.here.now.catalog.now c.in-Scalar.query)))
+    (scalar-looked (surroundings c.args.here.now) c.args.tree.now.at (query_of c.args.here.now.catalog.now c.in-Scalar.query) c.args.facts.now c.inner_seen-inner-in-Scalar.new.facts c.inner_seen-inner-in-Scalar.result
     (rw c.get-in-Scalar.ensures at c.inner_seen-inner-in-Scalar.ensures)))
 
 pub expression_seen-returns-in-InQuery : goal.expression_seen-returns-in-InQuery
 expression_seen-returns-in-InQuery t c =
-    meant-so (means_at (part_of c.args.here.now.catalog.now c.args.tree.now) (surroundings c.args.here.now)) _ c.args.facts.old c.inner_seen-inner.new.facts c.tested_over.result
+    meant-so (means_at (part_of c.args.here.now.catalog.now c.args.tree.now) (surroundings c.args.here.now)) _ c.args.facts.now c.inner_seen-inner.new.facts c.tested_over.result
     (means-inquery c.args.here.now.catalog.now (surroundings c.args.here.now) c.args.tree.now c.in-InQuery.negated c.in-InQuery.part c.in-InQuery.query c.in-InQuery.is)
-    (result-so _ c.args.facts.old c.inner_seen-inner.new.facts (tested_over c.tested_kind-tested.result (query_of c.args.here.now.catalog.now c.in-InQuery.query).at c.inner_seen-inner.result) c.tested_over.result (c.tested_over.ensures ∙ ap (λ (at : ℕ). tested_over c.tested_kind-tested.result at c.inner_seen-inner.result) (ap (λ (q : QueryTree). q.at) c.get-in-InQuery-3.ensures ∙ sym (query-at c.args.here.now.catalog.now c.in-InQuery.query)))
+    (result-so _ c.args.facts.now c.inner_seen-inner.new.facts (tested_over c.tested_kind-tested.result (query_of c.args.here.now.catalog.now c.in-InQuery.query).at c.inner_seen-inner.result) c.tested_over.result (c.tested_over.ensures ∙ ap (λ (at : ℕ). tested_over c.tested_kind-tested.result at c.inner_seen-inner.result) (ap (λ (q : QueryTree). q.at) c.get-in-InQuery-3.ensures ∙ sym (query-at c.args.here.now.catalog.now c.in-InQuery.query)))
     (tested-seen (surroundings c.args.here.now) c.args.tree.now.at (in_kind c.in-InQuery.negated (cond c.in-InQuery.negated NotEqual Equal)) (part_of c.args.here.now.catalog.now c.in-InQuery.part) (query_of c.args.here.now.catalog.now c.in-InQuery.query)
-    c.args.facts.old c.inner_seen-inner.new.facts c.tested_kind-tested.result c.inner_seen-inner.result
+    c.args.facts.now c.inner_seen-inner.new.facts c.tested_kind-tested.result c.inner_seen-inner.result
     (rw c.get-in-InQuery.ensures at c.tested_kind-tested.ensures) (rw c.get-in-InQuery-2.ensures at c.inner_seen-inner.ensures)))
 
 pub expression_seen-returns-in-Quantified : goal.expression_seen-returns-in-Quantified
 expression_seen-returns-in-Quantified t c =
-    meant-so (means_at (part_of c.args.here.now.catalog.now c.args.tree.now) (surroundings c.args.here.now)) _ c.args.facts.old c.inner_seen-inner-in-Quantified.new.facts c.tested_over-in-Quantified.result
+    meant-so (means_at (part_of c.args.here.now.catalog.now c.args.tree.now) (surroundings c.args.here.now)) _ c.args.facts.now c.inner_seen-inner-in-Quantified.new.facts c.tested_over-in-Quantified.result
     (means-quantified c.args.here.now.catalog.now (surroundings c.args.here.now) c.args.tree.now c.in-Quantified.every c.in-Quantified.op c.in-Quantified.part c.in-Quantified.query c.in-Quantified.is)
-    (result-so _ c.args.facts.old c.inner_seen-inner-in-Quantified.new.facts (tested_over c.tested_kind-tested-in-Quantified.result (query_of c.args.here.now.catalog.now c.in-Quantified.query).at c.inner_seen-inner-in-Quantified.result) c.tested_over-in-Quantified.result (c.tested_over-in-Quantified.ensures ∙ ap (λ (at : ℕ). tested_over c.tested_kind-tested-in-Quantified.result at c.inner_seen-inner-in-Quantified.result) (ap (λ (q : QueryTree). q.at) c.get-in-Quantified-3.ensures ∙ sym (query-at c.args.here.now.catalog.now c.in-Quantified.query)))
+    (result-so _ c.args.facts.now c.inner_seen-inner-in-Quantified.new.facts (tested_over c.tested_kind-tested-in-Quantified.result (query_of c.args.here.now.catalog.now c.in-Quantified.query).at c.inner_seen-inner-in-Quantified.result) c.tested_over-in-Quantified.result (c.tested_over-in-Quantified.ensures ∙ ap (λ (at : ℕ). tested_over c.tested_kind-tested-in-Quantified.result at c.inner_seen-inner-in-Quantified.result) (ap (λ (q : QueryTree). q.at) c.get-in-Quantified-3.ensures ∙ sym (query-at c.args.here.now.catalog.now c.in-Quantified.query)))
     (tested-seen (surroundings c.args.here.now) c.args.tree.now.at (in_kind c.in-Quantified.every c.in-Quantified.op) (part_of c.args.here.now.catalog.now c.in-Quantified.part) (query_of c.args.here.now.catalog.now c.in-Quantified.query)
-    c.args.facts.old c.inner_seen-inner-in-Quantified.new.facts c.tested_kind-tested-in-Quantified.result c.inner_seen-inner-in-Quantified.result
+    c.args.facts.now c.inner_seen-inner-in-Quantified.new.facts c.tested_kind-tested-in-Quantified.result c.inner_seen-inner-in-Quantified.result
     (rw c.get-in-Quantified.ensures at c.tested_kind-tested-in-Quantified.ensures) (rw c.get-in-Quantified-2.ensures at c.inner_seen-inner-in-Quantified.ensures)))

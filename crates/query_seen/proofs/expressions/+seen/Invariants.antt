@@ -4,7 +4,7 @@ use Rattle.name_words.specs.Expressions.{step_operand, arm_operands}
 use Rattle.name_words.specs.Operands.{operand}
 use Rattle.name_words.specs.Trees.{part_of, step_of, arm_of}
 use Rattle.name_seen.specs.Standing.{surroundings}
-use Rattle.query_seen.specs.Expressed.{OperandsBehind}
+use Rattle.expression_seen.specs.Expressed.{OperandsBehind}
 use Rattle.query_seen.proofs.expressions.+seen.Given as goal
 
 -- the operands so far

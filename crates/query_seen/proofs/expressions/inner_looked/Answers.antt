@@ -1,4 +1,4 @@
-use Rattle.query_seen.proofs.Sublinked.{inner-refused}
+use Rattle.expression_seen.proofs.Sublinked.{inner-refused}
 use Rattle.query_seen.proofs.expressions.inner_looked.Goals as goal
 
 pub returns-in-Ok : goal.returns-in-Ok

@@ -1,0 +1,14 @@
+pub mod Adding
+pub mod Aggregating
+pub mod Alone
+pub mod Attributed
+pub mod Behind
+pub mod Firsts
+pub mod Forms
+pub mod Gathering
+pub mod Joined
+pub mod Placed
+pub mod Scoping
+pub mod Settled
+pub mod Sourced
+pub mod Sublinked
