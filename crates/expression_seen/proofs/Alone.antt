@@ -16,7 +16,8 @@ use Rattle.name_seen.specs.Seen.{seen}
 use Rattle.name_seen.specs.declared.refusal.Refusal.{Refusal}
 use Rattle.name_seen.specs.declared.refusal.Refusal.TheVariants.{Break as Broken, NoMemory}
 use Rattle.expression_seen.specs.Added.{facts_in}
-use Rattle.expression_seen.specs.Expressed.{Tells, ExpressionSeen, answered}
+use Rattle.clauses_seen.specs.Told.{Tells}
+use Rattle.expression_seen.specs.Expressed.{ExpressionSeen, answered}
 use Rattle.expression_seen.specs.declared.facts.Facts.{Facts as Gathered}
 
 pub alone : (m : Meant) (facts : Gathered) (r : Result (Option Kind) Refusal) → Tells (seen m) r

@@ -10,7 +10,7 @@ use Rattle.name_words.specs.Froms.{attribute_breaks, texts_of}
 use Rattle.name_words.specs.declared.answer.Break.{Break}
 use Rattle.name_seen.specs.Seen.{first_or}
 use Rattle.expression_seen.specs.Marks.{attribute_break}
-use Rattle.expression_seen.proofs.Firsts.{dropped, first-stays}
+use Rattle.clauses_seen.proofs.Firsts.{dropped, first-stays}
 
 texts-more : (attributes : List Name) (at : ℕ) (attribute : Name) → at < length attributes → attribute ≡ get_or attributes at attribute
     → reverse (texts_of (take (at + 1) attributes)) ≡ attribute.text ∷ reverse (texts_of (take at attributes))

@@ -15,7 +15,7 @@ use Rattle.expression_seen.specs.Added.{facts_in}
 use Rattle.expression_seen.specs.Queried.{FromWhole}
 use Rattle.expression_seen.specs.Readings.{ItemAdded, item_scope, scope_beside}
 use Rattle.expression_seen.specs.declared.facts.Facts.{Facts as Gathered}
-use Rattle.expression_seen.proofs.Firsts.{first-stays_first, all-none}
+use Rattle.clauses_seen.proofs.Firsts.{first-stays_first, all-none}
 use Rattle.expression_seen.proofs.Scoping.{scope-beside-is}
 use Rattle.expression_seen.proofs.Sourced.{beside-known, both-add}
 

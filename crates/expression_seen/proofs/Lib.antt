@@ -1,9 +1,7 @@
 pub mod Adding
-pub mod Aggregating
 pub mod Alone
 pub mod Attributed
 pub mod Behind
-pub mod Firsts
 pub mod Forms
 pub mod Gathering
 pub mod Joined

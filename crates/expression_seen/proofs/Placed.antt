@@ -17,7 +17,7 @@ use Rattle.expression_seen.specs.Marks.{IsMarked}
 use Rattle.expression_seen.specs.Readings.{IsRead, ItemAdded, item_scope, known_names, scope_beside}
 use Rattle.expression_seen.specs.declared.facts.Facts.{Facts as Gathered}
 use Rattle.expression_seen.specs.declared.reading.Reading.{Reading}
-use Rattle.expression_seen.proofs.Firsts.{both-none, first-behind, first-stays}
+use Rattle.clauses_seen.proofs.Firsts.{both-none, first-behind, first-stays}
 use Rattle.expression_seen.proofs.Sourced.{marked-is}
 
 abbrev pub repeated_break : ℕ → List (List ℕ) → List ℕ → List Break

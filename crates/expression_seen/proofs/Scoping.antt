@@ -38,7 +38,6 @@ columns-behind n (x ∷ xs) ys =
 abbrev scope_with : List (List ℕ) → List ScopeColumn → Scope
 scope_with items columns = record { items = items; columns = columns; groups = None }
 
-
 length-names : (items : List ScopeItem) → length (scope_of items).items ≡ length items
 length-names [] = refl
 length-names (item ∷ items) = ap suc (length-names items)

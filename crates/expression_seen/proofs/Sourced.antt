@@ -27,7 +27,7 @@ use Rattle.expression_seen.specs.Queried.{FromWhole}
 use Rattle.expression_seen.specs.Readings.{IsRead, known_names, scope_beside}
 use Rattle.expression_seen.specs.declared.facts.Facts.{Facts as Gathered}
 use Rattle.expression_seen.specs.declared.reading.Reading.{Reading}
-use Rattle.expression_seen.proofs.Firsts.{first-stays, first-behind, both-none}
+use Rattle.clauses_seen.proofs.Firsts.{first-stays, first-behind, both-none}
 use Rattle.expression_seen.proofs.Scoping.{scope-beside-is, all-behind}
 
 -- ---- marks

@@ -19,16 +19,18 @@ use Rattle.name_seen.specs.declared.refusal.Refusal.{Refusal}
 use Rattle.name_seen.specs.declared.refusal.Refusal.TheVariants.{Break as Broken, NoMemory}
 use Rattle.name_seen.proofs.SeenAs.{seen-as}
 use Rattle.expression_seen.specs.Added.{facts_in}
-use Rattle.expression_seen.specs.Expressed.{ExpressionSeen, Tells, answered}
+use Rattle.clauses_seen.specs.Told.{Tells}
+use Rattle.expression_seen.specs.Expressed.{ExpressionSeen, answered}
 use Rattle.expression_seen.specs.Inner.{InnerIs, InnerLooked, InnerSeen, exists_over, scalar_over, tested_by, tested_over, first_shown}
-use Rattle.expression_seen.specs.Queried.{QuerySeen, QueryWhole, columns_of}
+use Rattle.clauses_seen.specs.Columns.{columns_of}
+use Rattle.expression_seen.specs.Queried.{QuerySeen, QueryWhole}
 use Rattle.expression_seen.specs.declared.facts.Facts.{Facts as Gathered}
 use Rattle.expression_seen.specs.declared.shown.QueryShown.{QueryShown}
-use Rattle.expression_seen.specs.declared.shown.ShownColumn.{ShownColumn}
+use Rattle.clauses_seen.specs.declared.column.ShownColumn.{ShownColumn}
 use Rattle.expression_seen.specs.declared.sublinks.InnerColumns.{InnerColumns}
 use Rattle.expression_seen.proofs.Alone.{alone}
 use Rattle.expression_seen.proofs.Behind.{answered-seen}
-use Rattle.expression_seen.proofs.Firsts.{first-stays, first-behind, first-stays_first, first-stays_second, first-behind_two}
+use Rattle.clauses_seen.proofs.Firsts.{first-stays, first-behind, first-stays_first, first-stays_second, first-behind_two}
 
 first-so : {X Y : Type 0} (xs : List Break) (v : X) (w : Y) (first : Break) → first_or xs v ≡ Err first → first_or xs w ≡ Err first
 first-so [] v w first e = absurd (cc)

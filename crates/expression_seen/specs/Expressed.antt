@@ -14,12 +14,6 @@ use Rattle.name_seen.specs.declared.refusal.Refusal.TheVariants.{Break as Broken
 use Rattle.expression_seen.specs.Added.{facts_in}
 use Rattle.expression_seen.specs.declared.facts.Facts.{Facts as Gathered}
 
--- the code answers what is found; want of memory says nothing
-abbrev pub Tells : {X : Type 0} → Result X Break → Result X Refusal → Type 0
-Tells found (Ok x) = found ≡ Ok x
-Tells found (Err (Broken first)) = found ≡ Err first
-Tells found (Err NoMemory) = Unit {0}
-
 -- ---- an expression
 
 -- behind the facts so far stand those of its sublinks, of whatever kind it is made and whatever stands before it

@@ -11,7 +11,7 @@ use Rattle.name_seen.specs.declared.refusal.Refusal.TheVariants.{Break as Broken
 use Rattle.expression_seen.specs.Added.{facts_in}
 use Rattle.expression_seen.specs.Expressed.{answered}
 use Rattle.expression_seen.specs.declared.facts.Facts.{Facts as Gathered}
-use Rattle.expression_seen.specs.declared.shown.ShownColumn.{ShownColumn}
+use Rattle.clauses_seen.specs.declared.column.ShownColumn.{ShownColumn}
 use Rattle.expression_seen.specs.declared.sublinks.InnerColumns.{InnerColumns}
 
 abbrev pub first_shown : List ShownColumn → Option Kind

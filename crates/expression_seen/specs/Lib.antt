@@ -1,5 +1,4 @@
 pub mod Added
-pub mod Aggregates
 pub mod Expressed
 pub mod Inner
 pub mod Marks

@@ -1,28 +1,23 @@
 -- What the code answers of FROM, of a tree of set operations and of a query, or the first break.
-use Rattle.std.specs.Prelude.{◌≡◌, ℕ, false, List, [], ◌++◌, map, Option, Some, Result, Ok, Err}
+use Rattle.std.specs.Prelude.{◌≡◌, ℕ, false, List, [], ◌++◌, Option, Some, Result, Ok, Err}
 use Rattle.perm_values.specs.declared.kind.Kind.{Kind}
 use Rattle.bag_algebra.specs.Kinds.{kinds_of}
 use Rattle.bag_algebra.specs.Scoped.{is_table}
 use Rattle.name_words.specs.Cores.{settle}
 use Rattle.name_words.specs.Froms.{FromMeant}
-use Rattle.name_words.specs.Meanings.{OutColumn, QueryMeant}
+use Rattle.name_words.specs.Meanings.{QueryMeant}
 use Rattle.name_words.specs.Scopes.{ScopeItem, scope_of}
 use Rattle.name_words.specs.declared.answer.Break.{Break}
 use Rattle.name_words.specs.declared.scope.Scope.{Scope}
 use Rattle.name_laws.specs.Facts.{facts_of, both_facts}
+use Rattle.clauses_seen.specs.Columns.{columns_of}
 use Rattle.name_seen.specs.Seen.{first_or}
 use Rattle.name_seen.specs.declared.refusal.Refusal.{Refusal}
 use Rattle.name_seen.specs.declared.refusal.Refusal.TheVariants.{Break as Broken, NoMemory}
 use Rattle.expression_seen.specs.Added.{facts_in}
 use Rattle.expression_seen.specs.declared.facts.Facts.{Facts as Gathered}
 use Rattle.expression_seen.specs.declared.shown.QueryShown.{QueryShown}
-use Rattle.expression_seen.specs.declared.shown.ShownColumn.{ShownColumn}
-
-abbrev pub column_of : ShownColumn → OutColumn
-column_of column = record { name = column.name; kind = column.kind }
-
-abbrev pub columns_of : List ShownColumn → List OutColumn
-columns_of columns = map column_of columns
+use Rattle.clauses_seen.specs.declared.column.ShownColumn.{ShownColumn}
 
 -- ---- FROM
 

@@ -10,7 +10,8 @@ ghost use Rattle.name_words.specs.declared.scope.Scope.{Scope};
 ghost use Rattle.name_seen.specs.Named.{scopes_of};
 ghost use Rattle.name_seen.specs.Seen.{seen};
 ghost use Rattle.name_seen.specs.Standing.{standing_in, surroundings};
-ghost use Rattle.expression_seen.specs.Expressed.{Tells, answered, kind_over, operands_with};
+ghost use Rattle.clauses_seen.specs.Told.{Tells};
+ghost use Rattle.expression_seen.specs.Expressed.{answered, kind_over, operands_with};
 
 use name_seen::{
     Here, Operands, Refusal, Standing, aggregated_kind, column_kind, gives_of, look_up, need_of,

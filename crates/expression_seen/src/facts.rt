@@ -28,11 +28,7 @@ impl Facts {
     }
 
     /// Those of a source of this place, which reads a table or something else.
-    pub fn of_source(
-        alloc: Global,
-        place: Place,
-        reads_table: bool,
-    ) -> Result<Facts, NoMemory>
+    pub fn of_source(alloc: Global, place: Place, reads_table: bool) -> Result<Facts, NoMemory>
         ensures { IfOk result (λ facts. facts_in facts ≡ source_facts place reads_table) }
     {
         let mut places = List::new(alloc);

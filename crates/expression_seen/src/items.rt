@@ -50,7 +50,11 @@ pub fn add_items(alloc: Global, left: &mut Scope, right: Scope) -> Result<(), No
 }
 
 /// The columns, with as many items before theirs.
-fn moved(alloc: Global, columns: &[ScopeColumn], count: usize) -> Result<List<ScopeColumn>, NoMemory>
+fn moved(
+    alloc: Global,
+    columns: &[ScopeColumn],
+    count: usize,
+) -> Result<List<ScopeColumn>, NoMemory>
     ensures { IfOk result (λ moved. moved ≡ map (moved_by count) columns.now) }
 {
     let mut moved = List::new(alloc);
@@ -87,7 +91,13 @@ pub fn put_item(
         (label_of (source_of c item.now.source) item.now.alias) read) scope.old facts.old facts.new scope.new result }
 {
     let name = scope_name(around.alloc, item)?;
-    item_break(item, &name, earlier, scope.items.as_slice(), reading.columns.as_slice())?;
+    item_break(
+        item,
+        &name,
+        earlier,
+        scope.items.as_slice(),
+        reading.columns.as_slice(),
+    )?;
     let marked = with_mark(around.alloc, item, reading)?;
     scope_break(around.trace, marked.viewed, &marked.plain, item.at)?;
     put_read(around.alloc, scope, name, marked, facts)?;
@@ -152,7 +162,12 @@ fn put_read(
     add_item(alloc, scope, name, columns.as_slice())
 }
 
-fn add_item(alloc: Global, scope: &mut Scope, name: Chars, columns: &[Column]) -> Result<(), NoMemory>
+fn add_item(
+    alloc: Global,
+    scope: &mut Scope,
+    name: Chars,
+    columns: &[Column],
+) -> Result<(), NoMemory>
     ensures { OnOk result (scope.new ≡ scope_beside scope.old (item_scope name columns.now)) }
 {
     let number = scope.items.len();

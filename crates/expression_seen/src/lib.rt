@@ -2,31 +2,22 @@
 //! the scopes of FROM, and the facts that provenance rests on.
 #![tactic(auto)]
 
-mod aggregates;
-mod clauses;
-mod counted;
 mod expressions;
 mod facts;
 mod items;
-mod keys;
 mod marks;
-mod operands;
 mod reading;
 mod shown;
 mod sublinks;
 mod viewed;
 
-pub use aggregates::has_aggregate;
-pub use clauses::{condition_over, group_places, grouped, groups_break, word_break};
 pub use expressions::{
     aggregated, answered, chain_gives, column, first_need, in_argument, in_tested, kind_over,
     operands_with,
 };
 pub use facts::Facts;
 pub use items::{add_items, no_items, put_item};
-pub use keys::keys_break;
 pub use marks::trace_under;
-pub use operands::{operand_break, unite};
 pub use reading::{Reading, read_named, read_shown};
-pub use shown::{QueryShown, ShownColumn};
+pub use shown::QueryShown;
 pub use sublinks::{InnerColumns, add_inner, exists_over, scalar_over, tested_over, trace_below};

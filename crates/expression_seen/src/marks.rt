@@ -15,11 +15,11 @@ ghost use Rattle.expression_seen.specs.Added.{facts_in};
 ghost use Rattle.expression_seen.specs.Marks.{IsMarked, attribute_break, places_of};
 ghost use Rattle.expression_seen.specs.Readings.{known_names, relation_facts};
 
-use crate::counted::count_break;
 use crate::facts::Facts;
 use crate::reading::{Reading, names_of, relation};
 use crate::viewed::kinds_at;
 use bag_algebra::{Label, Place};
+use clauses_seen::count_break;
 use name_words::{Break, Trace};
 use perm_catalog::Column;
 use perm_values::{Chars, Copyable, List, NoMemory};
@@ -126,7 +126,13 @@ fn labelled(alloc: Global, item: &FromItem, reading: &Reading) -> Result<Facts, 
 {
     let label = label_of(alloc, item)?;
     let names = names_of(alloc, reading.columns.as_slice())?;
-    relation(alloc, &label, names, reading.kinds.as_slice(), reading.is_table)
+    relation(
+        alloc,
+        &label,
+        names,
+        reading.kinds.as_slice(),
+        reading.is_table,
+    )
 }
 
 /// The facts of a source of these attributes.

@@ -8,13 +8,15 @@ ghost use Rattle.name_words.specs.Froms.{named_columns, names_at, read_named, re
 ghost use Rattle.name_words.specs.Meanings.{QueryMeant};
 ghost use Rattle.perm_catalog.specs.Columns.{column_kinds};
 ghost use Rattle.expression_seen.specs.Added.{facts_in};
-ghost use Rattle.expression_seen.specs.Queried.{QueryWhole, columns_of};
+ghost use Rattle.clauses_seen.specs.Columns.{columns_of};
+ghost use Rattle.expression_seen.specs.Queried.{QueryWhole};
 ghost use Rattle.expression_seen.specs.Readings.{IsRead, ReadSeen, known_names, external_facts, relation_facts};
 
 use crate::facts::Facts;
-use crate::shown::{QueryShown, ShownColumn};
+use crate::shown::QueryShown;
 use crate::viewed::{facts_of, is_table, kinds_at};
 use bag_algebra::{Label, Place};
+use clauses_seen::ShownColumn;
 use contribution::kinds;
 use name_seen::Refusal;
 use name_words::Break;

@@ -1,12 +1,6 @@
 use crate::facts::Facts;
-use perm_values::{Chars, Kind, List};
-
-/// A column that a query shows; without a kind it is of any.
-#[derive(Debug, Drop)]
-pub struct ShownColumn {
-    pub name: Chars,
-    pub kind: Option<Kind>,
-}
+use clauses_seen::ShownColumn;
+use perm_values::List;
 
 /// What a query shows before it is made: its columns, the places of its provenance columns where it asks for
 /// provenance, and its facts.

@@ -5,7 +5,8 @@ ghost use Rattle.expression_seen.specs.Inner.{InnerSeen, exists_over, first_show
 ghost use Rattle.expression_seen.specs.Queried.{QueryWhole};
 
 use crate::facts::Facts;
-use crate::shown::{QueryShown, ShownColumn};
+use crate::shown::QueryShown;
+use clauses_seen::ShownColumn;
 use name_seen::{Refusal, unites};
 use name_words::{Break, Trace};
 use perm_values::Kind;
@@ -67,10 +68,7 @@ pub fn exists_over(inner: Result<InnerColumns, Refusal>) -> Result<Option<Kind>,
 }
 
 /// The kind of a query at this offset as a value, or that it has not one column.
-pub fn scalar_over(
-    at: usize,
-    inner: Result<InnerColumns, Refusal>,
-) -> Result<Option<Kind>, Refusal>
+pub fn scalar_over(at: usize, inner: Result<InnerColumns, Refusal>) -> Result<Option<Kind>, Refusal>
     ensures { result ≡ scalar_over at inner }
 {
     match inner {

@@ -29,9 +29,11 @@ fn add_facts(alloc: Global, query: &Query, facts: &mut Facts) -> Result<(), NoMe
     match query {
         Query::Table { .. } => Ok(()),
         Query::Single => Ok(()),
-        Query::Base { input, places, label } => {
-            add_source(alloc, input.get(), places.as_slice(), label, facts)
-        }
+        Query::Base {
+            input,
+            places,
+            label,
+        } => { add_source(alloc, input.get(), places.as_slice(), label, facts) }
         Query::Filter { input, subs, .. } => {
             add_facts(alloc, input.get(), facts)?;
             add_sub_facts(alloc, subs.as_slice(), facts)
@@ -40,7 +42,12 @@ fn add_facts(alloc: Global, query: &Query, facts: &mut Facts) -> Result<(), NoMe
             add_facts(alloc, input.get(), facts)?;
             add_sub_facts(alloc, subs.as_slice(), facts)
         }
-        Query::Join { left, right, subs, .. } => {
+        Query::Join {
+            left,
+            right,
+            subs,
+            ..
+        } => {
             add_facts(alloc, left.get(), facts)?;
             add_facts(alloc, right.get(), facts)?;
             add_sub_facts(alloc, subs.as_slice(), facts)
@@ -113,7 +120,11 @@ fn add_source(
 }
 
 /// The kinds at these places.
-pub(crate) fn kinds_at(alloc: Global, kinds: &[Kind], places: &[usize]) -> Result<List<Kind>, NoMemory>
+pub(crate) fn kinds_at(
+    alloc: Global,
+    kinds: &[Kind],
+    places: &[usize],
+) -> Result<List<Kind>, NoMemory>
     ensures { IfOk result (λ found. found ≡ kinds_in kinds.now places.now) }
 {
     let mut found = List::new(alloc);

@@ -45,7 +45,7 @@ not-there bare level scope rest reference e =
 
 -- ---- as many scopes as are left
 
-none-kept : {X : Type 0} (n : ℕ) → take n [] ≡ [] {A = X}
+none-kept : {X : Type 0} (n : ℕ) → ◌≡◌ {A = List X} (take n []) []
 none-kept zero = refl
 none-kept (suc n) = refl
 

@@ -8,7 +8,8 @@ ghost use Rattle.name_words.specs.Trees.{part_of, step_of, arm_of, query_of};
 ghost use Rattle.name_seen.specs.Seen.{seen};
 ghost use Rattle.name_seen.specs.Standing.{surroundings};
 ghost use Rattle.expression_seen.specs.Inner.{InnerLooked, InnerSeen};
-ghost use Rattle.expression_seen.specs.Expressed.{Tells, ExpressionSeen, OperandsBehind};
+ghost use Rattle.clauses_seen.specs.Told.{Tells};
+ghost use Rattle.expression_seen.specs.Expressed.{ExpressionSeen, OperandsBehind};
 
 use crate::queries::query_seen;
 use expression_seen::{

@@ -4,7 +4,8 @@ ghost use Rattle.name_words.specs.Trees.{set_of_tree, query_of};
 ghost use Rattle.name_seen.specs.Standing.{around_of};
 ghost use Rattle.expression_seen.specs.Queried.{ColumnsSeen, QuerySeen};
 
-use expression_seen::{Facts, QueryShown, ShownColumn};
+use clauses_seen::ShownColumn;
+use expression_seen::{Facts, QueryShown};
 use name_seen::{Around, Refusal};
 use perm_values::List;
 use sql_tree::{QueryTree, SetTree};

@@ -7,7 +7,8 @@ use Rattle.name_seen.specs.Seen.{seen}
 use Rattle.name_seen.specs.Standing.{surroundings}
 use Rattle.name_seen.specs.declared.refusal.Refusal.{Refusal}
 use Rattle.name_seen.proofs.SeenAs.{seen-as}
-use Rattle.expression_seen.specs.Expressed.{Tells, answered}
+use Rattle.clauses_seen.specs.Told.{Tells}
+use Rattle.expression_seen.specs.Expressed.{answered}
 use Rattle.expression_seen.proofs.Alone.{tells-answered}
 use Rattle.expression_seen.proofs.Sublinked.{argument-refused}
 use Rattle.expression_seen.proofs.expressions.aggregated.Goals as goal

@@ -1,6 +1,6 @@
 use Rattle.std.proofs.Common.{◌≡◌, take}
 use Rattle.name_words.specs.Froms.{settled_columns, table_columns}
-use Rattle.expression_seen.specs.Queried.{columns_of}
+use Rattle.clauses_seen.specs.Columns.{columns_of}
 use Rattle.expression_seen.proofs.reading.settled_columns.Given as goal
 
 abbrev pub invariant-loop-column : goal.invariant-loop-column

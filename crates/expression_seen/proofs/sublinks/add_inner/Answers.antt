@@ -3,7 +3,7 @@ use Rattle.std.proofs.Common.{ap, ◌∙◌}
 use Rattle.name_laws.specs.Facts.{Facts, both_facts}
 use Rattle.expression_seen.specs.Added.{facts_in}
 use Rattle.expression_seen.specs.Inner.{first_shown}
-use Rattle.expression_seen.specs.declared.shown.ShownColumn.{ShownColumn}
+use Rattle.clauses_seen.specs.declared.column.ShownColumn.{ShownColumn}
 use Rattle.expression_seen.proofs.Sublinked.{inner-is}
 use Rattle.expression_seen.proofs.sublinks.add_inner.Goals as goal
 

@@ -1,8 +1,8 @@
 use Rattle.std.proofs.Common.{◌≡◌, drop}
 use Rattle.std.specs.Prelude.{Some, flat_map}
 use Rattle.name_words.specs.Queries.{key_break, keys_breaks}
-use Rattle.expression_seen.specs.Queried.{columns_of}
-use Rattle.expression_seen.proofs.keys.keys_break.Given as goal
+use Rattle.clauses_seen.specs.Columns.{columns_of}
+use Rattle.clauses_seen.proofs.keys.keys_break.Given as goal
 
 -- the keys so far break nothing
 abbrev pub invariant-loop-tree : goal.invariant-loop-tree

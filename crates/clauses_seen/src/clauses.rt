@@ -4,7 +4,7 @@ ghost use Rattle.name_seen.specs.Seen.{first_or, seen};
 ghost use Rattle.name_words.specs.Cores.{group_break, group_found, group_place, word_breaks};
 ghost use Rattle.name_words.specs.Froms.{condition_breaks};
 ghost use Rattle.name_words.specs.Meanings.{Around as Place, Meant};
-ghost use Rattle.expression_seen.specs.Expressed.{Tells};
+ghost use Rattle.clauses_seen.specs.Told.{Tells};
 
 use name_seen::{Refusal, Scopes, condition_kind, look_up};
 use name_words::{Break, Found, Scope};
@@ -73,7 +73,11 @@ fn group_found(scope: &Scope, group: &ColRef) -> Found
 }
 
 /// The places of the GROUP BY columns, in the order written.
-pub fn group_places(alloc: Global, scope: &Scope, groups: &[ColRef]) -> Result<List<usize>, NoMemory>
+pub fn group_places(
+    alloc: Global,
+    scope: &Scope,
+    groups: &[ColRef],
+) -> Result<List<usize>, NoMemory>
     ensures { IfOk result (λ places. places ≡ filter_map (group_place scope.now) groups.now) }
 {
     let mut places = List::new(alloc);

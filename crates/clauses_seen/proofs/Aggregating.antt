@@ -13,7 +13,7 @@ use Rattle.name_words.specs.Expressions.{Body, StepPart, ArmPart, arm_parts, opt
 use Rattle.name_words.specs.Meanings.{Part}
 use Rattle.name_words.specs.Trees.{body_of, part_of, step_of, arm_of}
 use Rattle.name_words.proofs.Equations.{token, exprtree-record, exprstep-record, armtree-record}
-use Rattle.expression_seen.specs.Aggregates.{is_aggregating, otherwise_aggregates, step_aggregates}
+use Rattle.clauses_seen.specs.Aggregates.{is_aggregating, otherwise_aggregates, step_aggregates}
 
 pub of-body : (c : Contents) (tree : ExprTree) (body : Body) → body_of c tree.body ≡ body → is_aggregating (part_of c tree) ≡ body.aggregating
 unfolding token
@@ -62,21 +62,21 @@ pub any-more : {X Y : Type 0} (test : Y → Bool) (p : X → Y) (xs : List X) (i
     → list_any test (map p (take (i + 1) xs)) ≡ (list_any test (map p (take i xs)) || test (p x))
 any-more test p xs i x within e =
     ap (λ (ys : List _). list_any test (map p ys)) (take_more xs i x within ∙ ap (λ y. take i xs ++ y ∷ []) (sym e)) ∙ behind test p (take i xs) x where
-  behind : {X Y : Type 0} (test : Y → Bool) (p : X → Y) (xs : List X) (x : X) → list_any test (map p (xs ++ x ∷ [])) ≡ (list_any test (map p xs) || test (p x))
-  behind test p [] x = or-none (test (p x))
-  behind test p (y ∷ xs) x = ap (λ (rest : Bool). test (p y) || rest) (behind test p xs x) ∙ sym (or_associates (test (p y)) (list_any test (map p xs)) (test (p x)))
+      behind : {X Y : Type 0} (test : Y → Bool) (p : X → Y) (xs : List X) (x : X) → list_any test (map p (xs ++ x ∷ [])) ≡ (list_any test (map p xs) || test (p x))
+      behind test p [] x = or-none (test (p x))
+      behind test p (y ∷ xs) x = ap (λ (rest : Bool). test (p y) || rest) (behind test p xs x) ∙ sym (or_associates (test (p y)) (list_any test (map p xs)) (test (p x)))
 
 pub any-flat-more : {X Y Z : Type 0} (test : Z → Bool) (f : Y → List Z) (p : X → Y) (xs : List X) (i : ℕ) (x : X) → i < length xs → x ≡ get_or xs i x
     → list_any test (flat_map f (map p (take (i + 1) xs))) ≡ (list_any test (flat_map f (map p (take i xs))) || list_any test (f (p x)))
 any-flat-more test f p xs i x within e =
     ap (λ (ys : List _). list_any test (flat_map f (map p ys))) (take_more xs i x within ∙ ap (λ y. take i xs ++ y ∷ []) (sym e)) ∙ flat_behind test f p (take i xs) x where
-  flat_behind : {X Y Z : Type 0} (test : Z → Bool) (f : Y → List Z) (p : X → Y) (xs : List X) (x : X)
-      → list_any test (flat_map f (map p (xs ++ x ∷ []))) ≡ (list_any test (flat_map f (map p xs)) || list_any test (f (p x)))
-  flat_behind test f p [] x = ap (list_any test) (append-nil (f (p x)))
-  flat_behind test f p (y ∷ xs) x =
-      list_any-append test (f (p y)) (flat_map f (map p (xs ++ x ∷ []))) ∙ ap (λ (rest : Bool). list_any test (f (p y)) || rest) (flat_behind test f p xs x)
-      ∙ sym (or_associates (list_any test (f (p y))) (list_any test (flat_map f (map p xs))) (list_any test (f (p x))))
-      ∙ ap (λ (before : Bool). before || list_any test (f (p x))) (sym (list_any-append test (f (p y)) (flat_map f (map p xs))))
+      flat_behind : {X Y Z : Type 0} (test : Z → Bool) (f : Y → List Z) (p : X → Y) (xs : List X) (x : X)
+          → list_any test (flat_map f (map p (xs ++ x ∷ []))) ≡ (list_any test (flat_map f (map p xs)) || list_any test (f (p x)))
+      flat_behind test f p [] x = ap (list_any test) (append-nil (f (p x)))
+      flat_behind test f p (y ∷ xs) x =
+          list_any-append test (f (p y)) (flat_map f (map p (xs ++ x ∷ []))) ∙ ap (λ (rest : Bool). list_any test (f (p y)) || rest) (flat_behind test f p xs x)
+          ∙ sym (or_associates (list_any test (f (p y))) (list_any test (flat_map f (map p xs))) (list_any test (f (p x))))
+          ∙ ap (λ (before : Bool). before || list_any test (f (p x))) (sym (list_any-append test (f (p y)) (flat_map f (map p xs))))
 
 pub case-parts : (parts : List Part) (otherwise : Option Part) (a b : Bool) → a ≡ list_any is_aggregating parts → b ≡ list_any is_aggregating (optional_part otherwise)
     → (a || b) ≡ list_any is_aggregating (parts ++ optional_part otherwise)

@@ -4,8 +4,8 @@ use Rattle.std.specs.List.{list_any}
 use Rattle.name_words.specs.Expressions.{arm_parts}
 use Rattle.name_words.specs.Trees.{part_of, step_of, arm_of}
 use Rattle.perm_catalog.specs.Contents.{Contents}
-use Rattle.expression_seen.specs.Aggregates.{is_aggregating, step_aggregates}
-use Rattle.expression_seen.proofs.aggregates.+aggregates.Given as goal
+use Rattle.clauses_seen.specs.Aggregates.{is_aggregating, step_aggregates}
+use Rattle.clauses_seen.proofs.aggregates.+aggregates.Given as goal
 
 -- whether one stands in those so far
 abbrev pub invariant-any_aggregates-loop-tree : goal.invariant-any_aggregates-loop-tree

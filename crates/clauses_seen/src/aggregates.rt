@@ -5,7 +5,7 @@ ghost use Rattle.name_words.specs.Expressions.{arm_parts};
 ghost use Rattle.name_words.specs.Meanings.{Part};
 ghost use Rattle.name_words.specs.Trees.{part_of, step_of, arm_of};
 ghost use Rattle.perm_catalog.specs.Contents.{Contents};
-ghost use Rattle.expression_seen.specs.Aggregates.{is_aggregating, otherwise_aggregates, step_aggregates};
+ghost use Rattle.clauses_seen.specs.Aggregates.{is_aggregating, otherwise_aggregates, step_aggregates};
 
 use perm_values::Boxed;
 use sql_tree::{ArmTree, ExprBody, ExprStep, ExprTree};
@@ -26,21 +26,32 @@ pub fn has_aggregate(tree: &ExprTree) -> bool
         ExprBody::Nots { part, .. } => has_aggregate(part.get()),
         ExprBody::Signs { part, .. } => has_aggregate(part.get()),
         ExprBody::Logic { parts, .. } => any_aggregates(parts.as_slice()),
-        ExprBody::Chain { first, steps } => has_aggregate(first.get()) | any_step_aggregates(steps.as_slice()),
-        ExprBody::Compared { first, second, .. } => has_aggregate(first.get()) | has_aggregate(second.get()),
-        ExprBody::Like { text, pattern, .. } => has_aggregate(text.get()) | has_aggregate(pattern.get()),
-        ExprBody::Between { part, low, high, .. } => has_aggregate(part.get()) | has_aggregate(low.get()) | has_aggregate(high.get()),
-        ExprBody::InList { part, list, .. } => has_aggregate(part.get()) | any_aggregates(list.as_slice()),
+        ExprBody::Chain { first, steps } => has_aggregate(first.get())
+            | any_step_aggregates(steps.as_slice()),
+        ExprBody::Compared { first, second, .. } => has_aggregate(first.get())
+            | has_aggregate(second.get()),
+        ExprBody::Like { text, pattern, .. } => has_aggregate(text.get())
+            | has_aggregate(pattern.get()),
+        ExprBody::Between {
+            part,
+            low,
+            high,
+            ..
+        } => has_aggregate(part.get()) | has_aggregate(low.get()) | has_aggregate(high.get()),
+        ExprBody::InList { part, list, .. } => has_aggregate(part.get())
+            | any_aggregates(list.as_slice()),
         ExprBody::InQuery { part, .. } => has_aggregate(part.get()),
         ExprBody::Quantified { part, .. } => has_aggregate(part.get()),
         ExprBody::IsNull { part, .. } => has_aggregate(part.get()),
         ExprBody::IsTruth { part, .. } => has_aggregate(part.get()),
-        ExprBody::IsDistinct { first, second, .. } => has_aggregate(first.get()) | has_aggregate(second.get()),
+        ExprBody::IsDistinct { first, second, .. } => has_aggregate(first.get())
+            | has_aggregate(second.get()),
         ExprBody::Case { arms, otherwise } => {
             any_arm_aggregates(arms.as_slice()) | otherwise_aggregates(otherwise)
         }
         ExprBody::Coalesce(list) => any_aggregates(list.as_slice()),
-        ExprBody::NullIf { first, second } => has_aggregate(first.get()) | has_aggregate(second.get()),
+        ExprBody::NullIf { first, second } => has_aggregate(first.get())
+            | has_aggregate(second.get()),
         ExprBody::Aggregate { .. } => true,
         ExprBody::Exists(_) => false,
         ExprBody::Scalar(_) => false,

@@ -11,9 +11,9 @@ use Rattle.name_words.specs.Expressions.{arm_parts, optional_part}
 use Rattle.name_words.specs.Meanings.{Part}
 use Rattle.name_words.specs.Trees.{body_of, part_of, step_of, arm_of}
 use Rattle.name_words.proofs.Equations.{token, exprbody-null, exprbody-nullof, exprbody-integer, exprbody-text, exprbody-truth, exprbody-column, exprbody-paren, exprbody-nots, exprbody-signs, exprbody-logic, exprbody-chain, exprbody-compared, exprbody-like, exprbody-between, exprbody-inlist, exprbody-inquery, exprbody-quantified, exprbody-isnull, exprbody-istruth, exprbody-isdistinct, exprbody-case-none, exprbody-case-some, exprbody-coalesce, exprbody-nullif, exprbody-aggregate-none, exprbody-aggregate-some, exprbody-exists, exprbody-scalar}
-use Rattle.expression_seen.specs.Aggregates.{is_aggregating, otherwise_aggregates, step_aggregates}
-use Rattle.expression_seen.proofs.Aggregating.{any-flat-more, any-more, arm-is, case-parts, got, of-body, one-part, part-and, step-is, steps-are, three-parts, two-parts}
-use Rattle.expression_seen.proofs.aggregates.+aggregates.Goals as goal
+use Rattle.clauses_seen.specs.Aggregates.{is_aggregating, otherwise_aggregates, step_aggregates}
+use Rattle.clauses_seen.proofs.Aggregating.{any-flat-more, any-more, arm-is, case-parts, got, of-body, one-part, part-and, step-is, steps-are, three-parts, two-parts}
+use Rattle.clauses_seen.proofs.aggregates.+aggregates.Goals as goal
 
 pub has_aggregate-returns-in-Null : goal.has_aggregate-returns-in-Null
 unfolding token

@@ -3,10 +3,10 @@ ghost use Rattle.std.specs.Prelude.{◌≡◌, Some, count_by, not};
 ghost use Rattle.name_words.specs.Meanings.{broken_if};
 ghost use Rattle.name_seen.specs.Seen.{first_or};
 ghost use Rattle.name_words.specs.Queries.{is_named, is_position, key_break, keys_breaks};
-ghost use Rattle.expression_seen.specs.Queried.{columns_of};
+ghost use Rattle.clauses_seen.specs.Columns.{columns_of};
 
+use crate::column::ShownColumn;
 use crate::counted::count_break;
-use crate::shown::ShownColumn;
 use name_words::Break;
 use perm_values::Chars;
 use sql_tree::{OrderKey, OrderTree};

@@ -5,7 +5,7 @@ ghost use Rattle.name_words.specs.Meanings.{broken_if};
 use name_words::Break;
 
 /// That a name at this offset names no column, or more than one.
-pub(crate) fn count_break(count: usize, at: usize) -> Result<(), Break>
+pub fn count_break(count: usize, at: usize) -> Result<(), Break>
     ensures { result ≡ first_or (broken_if (nat_eq count 0) 11 at ++ broken_if (nat_lt 1 count) 12 at) tt }
 {
     if count == 0 {

@@ -1,7 +1,7 @@
 use Rattle.std.proofs.Common.{◌≡◌, drop}
 use Rattle.std.specs.Prelude.{flat_map}
 use Rattle.name_words.specs.Cores.{group_break}
-use Rattle.expression_seen.proofs.clauses.groups_break.Given as goal
+use Rattle.clauses_seen.proofs.clauses.groups_break.Given as goal
 
 -- the groups so far break nothing
 abbrev pub invariant-loop-group : goal.invariant-loop-group

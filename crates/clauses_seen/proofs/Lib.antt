@@ -1,0 +1,2 @@
+pub mod Aggregating
+pub mod Firsts

@@ -1,0 +1,3 @@
+pub mod Aggregates
+pub mod Columns
+pub mod Told
