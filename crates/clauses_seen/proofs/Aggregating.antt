@@ -6,13 +6,15 @@ use Rattle.std.proofs.lemmas.List.{take_more}
 use Rattle.std.proofs.lemmas.List.Folds.{list_any-append}
 use Rattle.bag_algebra.proofs.Truths.{or_associates}
 use Rattle.perm_catalog.specs.Contents.{Contents}
+use Rattle.sql_tree.specs.declared.expression.AggWord.{AggWord}
 use Rattle.sql_tree.specs.declared.expression.ArmTree.{ArmTree}
+use Rattle.sql_tree.specs.declared.expression.ExprBody.TheVariants as e
 use Rattle.sql_tree.specs.declared.expression.ExprStep.{ExprStep}
 use Rattle.sql_tree.specs.declared.expression.ExprTree.{ExprTree}
 use Rattle.name_words.specs.Expressions.{Body, StepPart, ArmPart, arm_parts, optional_part}
 use Rattle.name_words.specs.Meanings.{Part}
 use Rattle.name_words.specs.Trees.{body_of, part_of, step_of, arm_of}
-use Rattle.name_words.proofs.Equations.{token, exprtree-record, exprstep-record, armtree-record}
+use Rattle.name_words.proofs.Equations.{token, exprbody-case-none, exprbody-case-some, exprbody-aggregate-none, exprbody-aggregate-some, exprtree-record, exprstep-record, armtree-record}
 use Rattle.clauses_seen.specs.Aggregates.{is_aggregating, otherwise_aggregates, step_aggregates}
 
 pub of-body : (c : Contents) (tree : ExprTree) (body : Body) → body_of c tree.body ≡ body → is_aggregating (part_of c tree) ≡ body.aggregating
@@ -81,3 +83,19 @@ any-flat-more test f p xs i x within e =
 pub case-parts : (parts : List Part) (otherwise : Option Part) (a b : Bool) → a ≡ list_any is_aggregating parts → b ≡ list_any is_aggregating (optional_part otherwise)
     → (a || b) ≡ list_any is_aggregating (parts ++ optional_part otherwise)
 case-parts parts otherwise a b e f = (λ i. e i || f i) ∙ sym (list_any-append is_aggregating parts (optional_part otherwise))
+
+pub case-is : (c : Contents) (tree : ExprTree) (arms : List ArmTree) (otherwise : Option ExprTree) (a b : Bool) → tree.body ≡ e.Case arms otherwise
+    → a ≡ list_any is_aggregating (flat_map arm_parts (map (arm_of c) arms)) → b ≡ otherwise_aggregates c otherwise → (a || b) ≡ is_aggregating (part_of c tree)
+unfolding token
+case-is c tree arms None a b is in_arms behind =
+    case-parts (flat_map arm_parts (map (arm_of c) arms)) None a b in_arms behind
+    ∙ sym (of-body c tree _ (ap (body_of c) is ∙ exprbody-case-none c arms))
+case-is c tree arms (Some last) a b is in_arms behind =
+    case-parts (flat_map arm_parts (map (arm_of c) arms)) (Some (part_of c last)) a b in_arms (one-part b (is_aggregating (part_of c last)) behind)
+    ∙ sym (of-body c tree _ (ap (body_of c) is ∙ exprbody-case-some c arms last))
+
+pub aggregate-is : (c : Contents) (tree : ExprTree) (function : AggWord) (argument : Option ExprTree) → tree.body ≡ e.Aggregate function argument
+    → true ≡ is_aggregating (part_of c tree)
+unfolding token
+aggregate-is c tree function None is = sym (of-body c tree _ (ap (body_of c) is ∙ exprbody-aggregate-none c function))
+aggregate-is c tree function (Some argument) is = sym (of-body c tree _ (ap (body_of c) is ∙ exprbody-aggregate-some c function argument))

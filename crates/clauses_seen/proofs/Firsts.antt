@@ -1,5 +1,5 @@
 -- The first break of breaks in a row.
-use Rattle.std.specs.Prelude.{◌≡◌, ℕ, suc, ◌+◌, ◌<◌, List, [], ◌∷◌, ◌++◌, length, flat_map, Result, Ok, Err}
+use Rattle.std.specs.Prelude.{◌≡◌, ℕ, suc, ◌+◌, ◌<◌, List, [], ◌∷◌, ◌++◌, length, flat_map, Ok, Err}
 use Rattle.std.proofs.Common.{refl, ap, sym, ◌∙◌, drop, get_or, drop-cons, add-one}
 use Rattle.name_words.specs.declared.answer.Break.{Break}
 use Rattle.name_seen.specs.Seen.{first_or}

@@ -1,2 +1,3 @@
 pub mod Aggregating
 pub mod Firsts
+pub mod Placed

@@ -1,18 +1,14 @@
-use Rattle.std.specs.Prelude.{◌≡◌, ◌||◌, false, List, [], ◌∷◌, ◌++◌, map, flat_map, None, Some}
+use Rattle.std.specs.Prelude.{List, map, flat_map}
 use Rattle.std.specs.List.{list_any}
-use Rattle.std.proofs.Common.{refl, ap, sym, ◌∙◌, take}
-use Rattle.std.proofs.lemmas.List.{take_all}
-use Rattle.perm_catalog.specs.Contents.{Contents}
+use Rattle.std.proofs.Common.{ap, sym, ◌∙◌}
 use Rattle.sql_tree.specs.declared.expression.ArmTree.{ArmTree}
 use Rattle.sql_tree.specs.declared.expression.ExprStep.{ExprStep}
 use Rattle.sql_tree.specs.declared.expression.ExprTree.{ExprTree}
-use Rattle.sql_tree.specs.declared.expression.ExprBody.TheVariants as e
-use Rattle.name_words.specs.Expressions.{arm_parts, optional_part}
-use Rattle.name_words.specs.Meanings.{Part}
+use Rattle.name_words.specs.Expressions.{arm_parts}
 use Rattle.name_words.specs.Trees.{body_of, part_of, step_of, arm_of}
-use Rattle.name_words.proofs.Equations.{token, exprbody-null, exprbody-nullof, exprbody-integer, exprbody-text, exprbody-truth, exprbody-column, exprbody-paren, exprbody-nots, exprbody-signs, exprbody-logic, exprbody-chain, exprbody-compared, exprbody-like, exprbody-between, exprbody-inlist, exprbody-inquery, exprbody-quantified, exprbody-isnull, exprbody-istruth, exprbody-isdistinct, exprbody-case-none, exprbody-case-some, exprbody-coalesce, exprbody-nullif, exprbody-aggregate-none, exprbody-aggregate-some, exprbody-exists, exprbody-scalar}
-use Rattle.clauses_seen.specs.Aggregates.{is_aggregating, otherwise_aggregates, step_aggregates}
-use Rattle.clauses_seen.proofs.Aggregating.{any-flat-more, any-more, arm-is, case-parts, got, of-body, one-part, part-and, step-is, steps-are, three-parts, two-parts}
+use Rattle.name_words.proofs.Equations.{token, exprbody-null, exprbody-nullof, exprbody-integer, exprbody-text, exprbody-truth, exprbody-column, exprbody-paren, exprbody-nots, exprbody-signs, exprbody-logic, exprbody-chain, exprbody-compared, exprbody-like, exprbody-between, exprbody-inlist, exprbody-inquery, exprbody-quantified, exprbody-isnull, exprbody-istruth, exprbody-isdistinct, exprbody-coalesce, exprbody-nullif, exprbody-exists, exprbody-scalar}
+use Rattle.clauses_seen.specs.Aggregates.{is_aggregating, step_aggregates}
+use Rattle.clauses_seen.proofs.Aggregating.{aggregate-is, any-flat-more, any-more, arm-is, case-is, got, of-body, one-part, part-and, step-is, steps-are, three-parts, two-parts}
 use Rattle.clauses_seen.proofs.aggregates.+aggregates.Goals as goal
 
 pub has_aggregate-returns-in-Null : goal.has_aggregate-returns-in-Null
@@ -157,3 +153,26 @@ pub has_aggregate-returns-in-Scalar : goal.has_aggregate-returns-in-Scalar
 unfolding token
 has_aggregate-returns-in-Scalar t c = λ contents.
     sym (of-body contents c.args.tree.now _ (ap (body_of contents) c.in-Scalar.is ∙ exprbody-scalar contents c.in-Scalar.field-0))
+
+pub any_step_aggregates-loop-step-preserved : goal.any_step_aggregates-loop-step-preserved
+any_step_aggregates-loop-step-preserved t c = λ contents.
+    part-and _ _ _ _ (c.loop-step.invariant contents) (c.has_aggregate-found.ensures contents ∙ step-is contents c.step-item.result)
+    ∙ sym (any-more step_aggregates (step_of contents) c.args.steps.now c.loop-step.step-index c.step-item.result c.loop-step-test.true c.step-item.is)
+
+pub any_arm_aggregates-loop-arm-preserved : goal.any_arm_aggregates-loop-arm-preserved
+any_arm_aggregates-loop-arm-preserved t c = λ contents.
+    part-and _ _ _ _ (c.loop-arm.invariant contents)
+    (two-parts _ _ _ _ (c.has_aggregate.ensures contents) (c.has_aggregate-in-loop-arm.ensures contents) ∙ arm-is contents c.arm-item.result)
+    ∙ sym (any-flat-more is_aggregating arm_parts (arm_of contents) c.args.arms.now c.loop-arm.arm-index c.arm-item.result c.loop-arm-test.true c.arm-item.is)
+
+pub has_aggregate-returns-in-Case : goal.has_aggregate-returns-in-Case
+unfolding token
+has_aggregate-returns-in-Case t c = λ contents.
+    case-is contents c.args.tree.now c.in-Case.arms c.in-Case.otherwise c.any_arm_aggregates.result c.otherwise_aggregates.result c.in-Case.is
+    (c.any_arm_aggregates.ensures contents ∙ ap (λ (arms : List ArmTree). list_any is_aggregating (flat_map arm_parts (map (arm_of contents) arms))) c.as_slice-in-Case.ensures)
+    (c.otherwise_aggregates.ensures contents)
+
+pub has_aggregate-returns-in-Aggregate : goal.has_aggregate-returns-in-Aggregate
+unfolding token
+has_aggregate-returns-in-Aggregate t c = λ contents.
+    aggregate-is contents c.args.tree.now c.in-Aggregate.function c.in-Aggregate.argument c.in-Aggregate.is
