@@ -1,3 +1,4 @@
 pub mod Aggregating
 pub mod Firsts
 pub mod Placed
+pub mod Uniting

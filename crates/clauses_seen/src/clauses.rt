@@ -1,6 +1,7 @@
 //! Clauses of a core, over expressions that were answered or refused.
-ghost use Rattle.std.specs.Prelude.{◌≡◌, [], IfOk, Some, cond, filter_map, flat_map};
+ghost use Rattle.std.specs.Prelude.{◌≡◌, [], Err, IfOk, Some, cond, filter_map, flat_map};
 ghost use Rattle.name_seen.specs.Seen.{first_or, seen};
+ghost use Rattle.name_seen.specs.declared.refusal.Refusal.TheVariants.{NoMemory as Short};
 ghost use Rattle.name_words.specs.Cores.{group_break, group_found, group_place, word_breaks};
 ghost use Rattle.name_words.specs.Froms.{condition_breaks};
 ghost use Rattle.name_words.specs.Meanings.{Around as Place, Meant};
@@ -27,7 +28,8 @@ pub fn word_break(provable: bool, word: Option<usize>) -> Result<(), Break>
 
 /// That a condition at this offset, whose kind was answered or refused, breaks a rule.
 pub fn condition_over(at: usize, kind: Result<Option<Kind>, Refusal>) -> Result<(), Refusal>
-    ensures { (meant : Meant) → Tells (seen meant) kind → Tells (first_or (condition_breaks at meant) tt) result }
+    ensures tells { (meant : Meant) → Tells (seen meant) kind → Tells (first_or (condition_breaks at meant) tt) result }
+    ensures short { result ≡ Err Short → kind ≡ Err Short }
 {
     match kind {
         Ok(kind) => Ok(condition_kind(at, kind)?),

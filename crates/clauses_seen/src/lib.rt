@@ -7,9 +7,11 @@ mod clauses;
 mod column;
 mod counted;
 mod keys;
+mod operands;
 
 pub use aggregates::has_aggregate;
 pub use clauses::{condition_over, group_places, grouped, groups_break, word_break};
 pub use column::ShownColumn;
 pub use counted::count_break;
 pub use keys::keys_break;
+pub use operands::{operand_break, unite};
