@@ -1,7 +1,6 @@
-mod AnyColumns
-mod Arms
-mod Levels
-mod Matches
+pub mod AnyColumns
+pub mod Levels
+pub mod Matches
 pub mod OperandLists
-mod OperatorRows
+pub mod OperatorRows
 pub mod SeenAs

@@ -1,13 +1,14 @@
 -- Words on what a name means in one scope.
 use Rattle.std.specs.Prelude.{ℕ, Bool, cond, List, [], ◌∷◌, Option, Some, None}
-use mathlib.Core.List.{reverse}
 use Rattle.perm_values.specs.declared.kind.Kind.{Kind}
-use Rattle.name_words.specs.Scopes.{Placed, place_among, ungrouped}
+use Rattle.name_words.specs.Scopes.{Placed, place_among}
 use Rattle.name_words.specs.declared.scope.Found.{Found}
 use Rattle.name_words.specs.declared.scope.Found.TheVariants.{Absent, Ambiguous, Column}
 use Rattle.name_words.specs.declared.scope.Scope.{Scope}
 use Rattle.name_seen.specs.declared.named.Named.{Named}
 use Rattle.name_seen.specs.declared.named.Named.TheVariants.{Nowhere, Once, Often}
+use Rattle.name_seen.specs.declared.scopes.Scopes.{Scopes}
+use Rattle.name_seen.specs.declared.scopes.Scopes.TheVariants.{Outermost, Inner'}
 
 abbrev pub named_of : List Placed → Named
 named_of [] = Nowhere
@@ -34,9 +35,7 @@ found_if_any level scope Often = Some (found_of level scope Often)
 abbrev pub here_only : Bool → Scope → Scope
 here_only bare scope = cond bare (record scope { groups = None }) scope
 
-abbrev pub innermost_bare : Bool → List Scope → List Scope
-innermost_bare bare scopes = cond bare (ungrouped scopes) scopes
-
--- from the inside out, where the innermost comes last
-abbrev pub seen_scopes : Bool → List Scope → List Scope
-seen_scopes bare scopes = innermost_bare bare (reverse scopes)
+-- from the inside out
+abbrev pub scopes_of : Scopes → List Scope
+scopes_of Outermost = []
+scopes_of (Inner' scope bare p outer) = here_only bare scope.now ∷ scopes_of outer

@@ -13,7 +13,7 @@ use sql_tree::AggWord;
 
 /// The kind of the column that a reference at this offset means, or why it is none: it means no column or two, one that
 /// is not grouped, or from the argument of an aggregate one of an outer scope.
-pub(crate) fn column_kind(argument: bool, at: usize, found: Found) -> Result<Option<Kind>, Break>
+pub fn column_kind(argument: bool, at: usize, found: Found) -> Result<Option<Kind>, Break>
     ensures { (here : Surroundings) → here.argument ≡ argument → result ≡ seen (column_meant here at found) }
 {
     match found {
@@ -79,7 +79,7 @@ fn settled(kind: Option<Kind>) -> Kind
 }
 
 /// The kind of `COUNT(*)`, or that no aggregate stands here.
-pub(crate) fn count_kind(allowed: bool, at: usize, word: AggWord) -> Result<Option<Kind>, Break>
+pub fn count_kind(allowed: bool, at: usize, word: AggWord) -> Result<Option<Kind>, Break>
     ensures { (here : Surroundings) → here.aggregates ≡ allowed → result ≡ seen (rows_counted here at word) }
 {
     if !allowed {
@@ -90,7 +90,7 @@ pub(crate) fn count_kind(allowed: bool, at: usize, word: AggWord) -> Result<Opti
 
 /// The kind of an aggregate at this offset, whose argument breaks nothing and is of this kind; or that no aggregate
 /// stands here, or takes such an argument.
-pub(crate) fn aggregated_kind(
+pub fn aggregated_kind(
     allowed: bool,
     at: usize,
     word: AggWord,
@@ -113,7 +113,7 @@ pub(crate) fn aggregated_kind(
 }
 
 /// That a condition at this offset, which breaks nothing, is of this kind and no truth value.
-pub(crate) fn condition_kind(at: usize, kind: Option<Kind>) -> Result<(), Break>
+pub fn condition_kind(at: usize, kind: Option<Kind>) -> Result<(), Break>
     ensures { (meant : Meant) → IsSeenAs kind meant → result ≡ first_or (condition_breaks at meant) tt }
 {
     if !unites(Some(Kind::Boolean), kind) {

@@ -3,7 +3,7 @@ ghost use Rattle.name_words.specs.Meanings.{is_same_kind, unites, united_kind};
 
 use perm_values::Kind;
 
-pub(crate) fn is_same_kind(left: Kind, right: Kind) -> bool
+pub fn is_same_kind(left: Kind, right: Kind) -> bool
     ensures { result ≡ is_same_kind left right }
 {
     match left {
@@ -14,7 +14,7 @@ pub(crate) fn is_same_kind(left: Kind, right: Kind) -> bool
 }
 
 /// Whether the kinds are the same, or one is any.
-pub(crate) fn unites(left: Option<Kind>, right: Option<Kind>) -> bool
+pub fn unites(left: Option<Kind>, right: Option<Kind>) -> bool
     ensures { result ≡ unites left right }
 {
     match left {
@@ -27,7 +27,7 @@ pub(crate) fn unites(left: Option<Kind>, right: Option<Kind>) -> bool
 }
 
 /// The kind that both have, where they unite.
-pub(crate) fn united_kind(left: Option<Kind>, right: Option<Kind>) -> Option<Kind>
+pub fn united_kind(left: Option<Kind>, right: Option<Kind>) -> Option<Kind>
     ensures { result ≡ united_kind left right }
 {
     match left {

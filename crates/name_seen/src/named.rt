@@ -9,7 +9,7 @@ use perm_values::{Chars, Kind};
 
 /// Which columns of a scope a name means: none, one with its place in the rows and its kind, or several.
 #[derive(Clone, Copy, Debug, PartialEq, Eq)]
-pub(crate) enum Named {
+pub enum Named {
     Nowhere,
     Once { place: usize, kind: Kind },
     Often,
@@ -32,7 +32,7 @@ impl Named {
 }
 
 /// The number of the first item of this name.
-pub(crate) fn item_number(scope: &Scope, name: &Chars) -> Option<usize>
+pub fn item_number(scope: &Scope, name: &Chars) -> Option<usize>
     ensures { result ≡ item_number name.now scope.now }
 {
     scope.items.as_slice().iter().position(|item| name == item)
@@ -48,7 +48,7 @@ fn is_meant(column: &ScopeColumn, item: Option<usize>, name: &Chars, place: usiz
 }
 
 /// The columns that a name means, those of one item or of all.
-pub(crate) fn named_in(scope: &Scope, item: Option<usize>, name: &Chars) -> Named
+pub fn named_in(scope: &Scope, item: Option<usize>, name: &Chars) -> Named
     ensures { result ≡ named_of (columns_meant_by item name.now scope.now) }
 {
     let columns = scope.columns.as_slice();

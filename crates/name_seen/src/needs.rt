@@ -17,7 +17,7 @@ fn row_of(op: Operator, prefix: bool) -> Option<OpRow>
 }
 
 /// What the operator needs of each of its operands.
-pub(crate) fn need_of(op: Operator, prefix: bool) -> Need
+pub fn need_of(op: Operator, prefix: bool) -> Need
     ensures { result ≡ need_of op prefix }
 {
     match row_of(op, prefix) {
@@ -38,7 +38,7 @@ fn need_for(needs: Needs) -> Need
 }
 
 /// What the operator gives.
-pub(crate) fn gives_of(op: Operator, prefix: bool) -> Gives
+pub fn gives_of(op: Operator, prefix: bool) -> Gives
     ensures { result ≡ gives_of op prefix }
 {
     match row_of(op, prefix) {

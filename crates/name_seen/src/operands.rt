@@ -8,13 +8,14 @@ use perm_values::Kind;
 /// What the operands of a node come to so far: the kind to which those that are to be alike were united, and the offset
 /// of the first that doesn't have the kind that it needs or doesn't unite with those before it.
 #[derive(Clone, Copy, Debug, PartialEq, Eq)]
-pub(crate) struct Operands {
-    common: Option<Kind>,
-    unfit: Option<usize>,
+pub struct Operands {
+    pub common: Option<Kind>,
+    pub unfit: Option<usize>,
 }
 
 impl Operands {
-    pub(crate) fn none() -> Operands
+    /// Of no operand.
+    pub fn none() -> Operands
         ensures { result ≡ no_operand }
     {
         Operands {
@@ -24,7 +25,7 @@ impl Operands {
     }
 
     /// With one more operand, of this kind.
-    pub(crate) fn with(self, need: Need, at: usize, kind: Option<Kind>) -> Operands
+    pub fn with(self, need: Need, at: usize, kind: Option<Kind>) -> Operands
         ensures { result ≡ with_operand need at kind self }
     {
         match need {
@@ -50,7 +51,7 @@ impl Operands {
     }
 
     /// The kind of the whole, or that kinds differ at the first operand that doesn't fit.
-    pub(crate) fn whole(self, gives: Gives) -> Result<Option<Kind>, Break>
+    pub fn whole(self, gives: Gives) -> Result<Option<Kind>, Break>
         ensures { result ≡ whole_of gives self }
     {
         match self.unfit {

@@ -1,31 +1,53 @@
-ghost use Rattle.std.specs.Prelude.{◌≡◌, ◌&&◌, option_map, nat_eq, position};
-ghost use Rattle.name_words.specs.Scopes.{look_up, meant_in, place_among, found_among};
-ghost use Rattle.name_seen.specs.Named.{found_of, found_if_any, here_only, seen_scopes};
+ghost use Rattle.std.specs.Prelude.{◌≡◌, IfOk, option_map, nat_eq, position};
+ghost use Rattle.name_words.specs.Scopes.{look_up, meant_in, place_among, found_among, ungrouped};
+ghost use Rattle.name_seen.specs.Named.{found_of, found_if_any, here_only, scopes_of};
 
 use crate::named::{Named, item_number, named_in};
 use name_words::{Found, FoundColumn, Scope};
+use perm_values::NoMemory;
 use sql_tree::ColRef;
 
-/// What a reference to a column means: it is looked for from the innermost scope, which comes last, to the outermost.
-/// `bare`: whether the innermost rows are seen before they are grouped, as by an argument of an aggregate.
-pub fn look_up(scopes: &[Scope], bare: bool, reference: &ColRef) -> Found
-    ensures { result ≡ look_up 0 (seen_scopes bare scopes.now) reference.now }
-{
-    let count = scopes.len();
-    for level in 0..count {
-        let scope = &scopes[count - 1 - level];
-        match found_in(scope, level, is_bare_at(bare, level), reference) {
-            Some(found) => return found,
-            None => {}
-        }
-    }
-    Found::Absent
+/// The scopes around an expression, from the inside out. `bare`: whether the rows of the core are seen before they are
+/// grouped, as by WHERE and by an argument of an aggregate.
+#[derive(Clone, Copy)]
+pub enum Scopes<'a> {
+    Outermost,
+    Inner {
+        scope: &'a Scope,
+        bare: bool,
+        outer: &'a Scopes<'a>,
+    },
 }
 
-fn is_bare_at(bare: bool, level: usize) -> bool
-    ensures { result ≡ (bare && nat_eq level 0) }
+/// The same scopes, with the innermost rows before they are grouped.
+pub fn ungrouped<'a>(scopes: &'a Scopes<'a>) -> Scopes<'a>
+    ensures { scopes_of result ≡ ungrouped (scopes_of scopes.now) }
 {
-    bare && level == 0
+    match scopes {
+        Scopes::Outermost => Scopes::Outermost,
+        Scopes::Inner { scope, outer, .. } => Scopes::Inner {
+            scope,
+            bare: true,
+            outer,
+        },
+    }
+}
+
+/// What a reference to a column means: it is looked for from the innermost scope, which has this level, to the
+/// outermost. It fails only where a level is no number.
+pub fn look_up(scopes: &Scopes, level: usize, reference: &ColRef) -> Result<Found, NoMemory>
+    ensures { IfOk result (λ found. found ≡ look_up level (scopes_of scopes.now) reference.now) }
+{
+    match scopes {
+        Scopes::Outermost => Ok(Found::Absent),
+        Scopes::Inner { scope, bare, outer } => match found_in(scope, level, *bare, reference) {
+            Some(found) => Ok(found),
+            None => match level.checked_add(1) {
+                Some(next) => look_up(outer, next, reference),
+                None => Err(NoMemory),
+            },
+        },
+    }
 }
 
 /// What a reference means in one scope, if it is looked for there.
@@ -66,8 +88,8 @@ fn found_at(scope: &Scope, level: usize, bare: bool, named: Named) -> Found
     }
 }
 
-/// Where a column stands in the rows of its core.
-pub(crate) fn place_among(scope: &Scope, bare: bool, place: usize) -> Option<usize>
+/// Where a column stands in the rows of its core, or in those before they are grouped.
+pub fn place_among(scope: &Scope, bare: bool, place: usize) -> Option<usize>
     ensures { result ≡ place_among (here_only bare scope.now).groups place }
 {
     if bare {
