@@ -1,8 +1,1 @@
-pub mod Arms
-pub mod Chains
-pub mod FormsMade
-pub mod ItemLists
-pub mod Linking
-pub mod Parts
-pub mod Times
-pub mod United
+pub mod FirstPass

@@ -1,6 +1,2 @@
-pub mod Chained
-pub mod Cored
-pub mod Listed
-pub mod Makes
 pub mod Shown
 pub mod Standpoints

@@ -10,25 +10,21 @@ ghost use Rattle.name_words.specs.Trees.{arm_of, core_of, part_of, query_of, set
 ghost use Rattle.name_words.specs.Meanings.{QueryMeant as Meaning};
 ghost use Rattle.name_words.specs.Queries.{set_chain};
 ghost use Rattle.name_seen.specs.Standing.{around_of as standing_of, surroundings};
-ghost use Rattle.name_made.specs.Chained.{Serves};
-ghost use Rattle.name_made.specs.Makes.{Links, Makes, MakesArms, MakesMore, MakesQuery, MakesSteps};
+ghost use Rattle.name_nodes.specs.Chained.{Serves};
+ghost use Rattle.name_nodes.specs.Makes.{Links, Makes, MakesArms, MakesMore, MakesQuery, MakesSteps};
 
-use crate::aggregates::{aggregate_made, argument_wanted, count_made, group_count};
-use crate::columns::column_made;
-use crate::exprs::{
-    integer_value, negated_if, null_at, null_test, same_test, text_value, times, truth_test,
-    truth_value,
-};
-use crate::nodes::set_joined;
-use crate::queries::{chain_kinds, finished, inside_of, is_proving, limit_keys, unprovable};
-use crate::standing::{around_sublink, in_argument, in_tested};
-use crate::sublinks::{in_kind, in_list_kind, sublink_made};
+use crate::queries::{chain_kinds, inside_of, is_proving, limit_keys, unprovable};
+use crate::standing::{around_sublink, group_count, in_argument, in_tested};
 use crate::united::{
     alike_behind, alike_of_all, alike_of_arms, alike_of_case, alike_of_three, alike_of_two,
-    chain_start, kind_or_any, scalar_kind, tested_kind, wanted_of,
+    kind_or_any, scalar_kind, tested_kind,
 };
-use crate::within::Within;
 use bag_algebra::{Arm, ChainStep, Expr, Query, SubKind};
+use name_nodes::{
+    Within, aggregate_made, argument_wanted, chain_start, column_made, count_made, finished,
+    in_kind, in_list_kind, integer_value, negated_if, null_at, null_test, same_test, set_joined,
+    sublink_made, text_value, times, truth_test, truth_value, wanted_of,
+};
 use name_seen::{Around, Here, gives_of, look_up, need_of, ungrouped};
 use name_words::{Gives, Need};
 use null_logic::Operator;
@@ -213,7 +209,7 @@ pub fn made(
             })
         }
         ExprBody::Aggregate { function, argument } => match argument {
-            None => count_made(*function, here, found),
+            None => count_made(group_count(here.scopes), *function, found),
             Some(argument) => aggregated(argument.get(), *function, here, found),
         },
         ExprBody::Exists(query) => exists_made(query.get(), here, found),

@@ -2,7 +2,6 @@
 ghost use Rattle.std.specs.Prelude.{◌≡◌, [], cond, is_some, slice_index_or, IfOk};
 ghost use Rattle.perm_values.specs.declared.kind.Kind.TheVariants.{Text as Words};
 ghost use Rattle.bag_algebra.specs.declared.query.Query.{Query as Plan};
-ghost use Rattle.bag_algebra.specs.declared.query.Query.TheVariants.{Prov as Proved};
 ghost use Rattle.perm_catalog.specs.Contents.{Contents as Held};
 ghost use Rattle.name_words.specs.Cores.{settle, settle_known};
 ghost use Rattle.name_words.specs.Meanings.{settled};
@@ -14,8 +13,6 @@ ghost use Rattle.query_seen.specs.Queried.{columns_of};
 ghost use Rattle.name_made.specs.Standpoints.{inside};
 
 use crate::keys::keys_of;
-use crate::nodes::{limited, proved};
-use bag_algebra::Query;
 use name_seen::{Around, Refusal};
 use name_words::Trace;
 use perm_values::{Key, Kind, List, NoMemory};
@@ -142,21 +139,4 @@ fn settled_kind(column: &ShownColumn, wanted: &[Kind], place: usize) -> Kind
             Kind::Text
         }
     }
-}
-
-/// The query of this body.
-pub(crate) fn finished(
-    alloc: Global,
-    body: Query,
-    keys: List<Key>,
-    limit: Option<i64>,
-    proving: bool,
-) -> Result<Query, NoMemory>
-    ensures { IfOk result (λ made. made ≡ cond proving (Proved (limited limit keys body)) (limited limit keys body)) }
-{
-    let query = limited(alloc, limit, keys, body)?;
-    if proving {
-        return proved(alloc, query);
-    }
-    Ok(query)
 }

@@ -1,13 +1,14 @@
 //! Where the parts of an expression stand.
-ghost use Rattle.std.specs.Prelude.{◌≡◌, false};
+ghost use Rattle.std.specs.Prelude.{◌≡◌, ◌<◌, ◌^◌, false, length};
+ghost use Rattle.std.specs.Option.{option_map_or};
 ghost use Rattle.name_words.specs.Meanings.{trace_below};
 ghost use Rattle.name_words.specs.Sublinks.{around_of as around_sublink, in_argument, in_tested};
-ghost use Rattle.name_seen.specs.Named.{scopes_of};
+ghost use Rattle.name_seen.specs.Named.{here_only, scopes_of};
 ghost use Rattle.name_seen.specs.Standing.{around_of, surroundings};
-ghost use Rattle.name_words.specs.Scopes.{ungrouped};
+ghost use Rattle.name_words.specs.Scopes.{group_count, ungrouped};
 
 use name_seen::{Around, Here, Scopes, Standing};
-use name_words::Trace;
+use name_words::{Scope, Trace};
 
 /// In a sublink of what is traced.
 fn trace_below(trace: Trace) -> Trace
@@ -69,5 +70,29 @@ pub(crate) fn in_argument<'a>(here: &Here<'a>, scopes: &'a Scopes<'a>) -> Here<'
             sublinks: false,
             argument: true,
         },
+    }
+}
+
+/// How many columns by which the innermost rows are grouped stand before the aggregates.
+pub(crate) fn group_count(scopes: &Scopes) -> usize
+    ensures value { result ≡ group_count (scopes_of scopes.now) }
+    ensures bound { result < 2 ^ 63 }
+{
+    match scopes {
+        Scopes::Outermost => 0,
+        Scopes::Inner { scope, bare, .. } => groups_of(scope, *bare),
+    }
+}
+
+fn groups_of(scope: &Scope, bare: bool) -> usize
+    ensures value { result ≡ option_map_or length (here_only bare scope.now).groups 0 }
+    ensures bound { result < 2 ^ 63 }
+{
+    if bare {
+        return 0;
+    }
+    match &scope.groups {
+        None => 0,
+        Some(groups) => groups.len(),
     }
 }

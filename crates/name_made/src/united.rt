@@ -1,23 +1,22 @@
 //! The kinds that operands take, as the first pass finds them.
 ghost use Rattle.std.specs.Prelude.{◌≡◌, ◌∷◌, ◌++◌, [], IfOk, map, flat_map};
-ghost use Rattle.perm_catalog.specs.Contents.{Contents as Held};
-ghost use Rattle.perm_values.specs.declared.kind.Kind.{Kind as Sort};
 ghost use Rattle.perm_values.specs.declared.kind.Kind.TheVariants.{Text as Words};
-ghost use Rattle.name_words.specs.Expressions.{arm_operands, else_operand, first_need};
+ghost use Rattle.name_words.specs.Expressions.{arm_operands, else_operand};
 ghost use Rattle.name_words.specs.Meanings.{means_at, query_means_at, seen_kind, settled, united_kind};
-ghost use Rattle.name_words.specs.Operands.{alike_wanted, operand, united, wanted_of};
+ghost use Rattle.name_words.specs.Operands.{alike_wanted, operand, united};
 ghost use Rattle.name_words.specs.Sublinks.{around_of, first_kind, in_tested, tested_kind};
-ghost use Rattle.name_words.specs.Trees.{arm_of, part_of, query_of, step_of};
+ghost use Rattle.name_words.specs.Trees.{arm_of, part_of, query_of};
 ghost use Rattle.name_words.specs.declared.need.Need.TheVariants.{Alike as Same};
 ghost use Rattle.name_seen.specs.Standing.{surroundings};
 ghost use Rattle.name_made.specs.Shown.{kind_of_first};
 
 use crate::standing::{around_sublink, in_tested};
+use name_nodes::{alike_wanted, settled};
 use name_seen::{Here, Refusal};
 use name_words::{Gives, Need};
 use perm_values::{Kind, NoMemory};
 use query_seen::{ShownColumn, kind_of, query_seen};
-use sql_tree::{ArmTree, ExprStep, ExprTree, QueryTree};
+use sql_tree::{ArmTree, ExprTree, QueryTree};
 
 /// The kind of an expression; what breaks is of any.
 pub(crate) fn kind_or_any(tree: &ExprTree, here: &Here) -> Result<Option<Kind>, NoMemory>
@@ -77,26 +76,6 @@ fn arms_united(arms: &[ArmTree], here: &Here) -> Result<Option<Kind>, NoMemory>
         kind = united_with(kind, Need::Alike, &arm.value, here)?;
     }
     Ok(kind)
-}
-
-/// The kind itself, or the wanted one for any. It takes no memory.
-pub(crate) fn settled(kind: Option<Kind>, wanted: Kind) -> Kind
-    ensures { result ≡ settled kind wanted }
-{
-    match kind {
-        None => wanted,
-        Some(kind) => kind,
-    }
-}
-
-/// The kind that is wanted of operands which are to be alike: the one that is wanted of the whole, if they give it.
-fn alike_wanted(gives: Gives, wanted: Kind) -> Kind
-    ensures { result ≡ alike_wanted gives wanted }
-{
-    match gives {
-        Gives::Always(_) => Kind::Text,
-        Gives::Common => wanted,
-    }
 }
 
 /// The kind that all operands of one need take, if they are to be alike.
@@ -234,27 +213,5 @@ pub(crate) fn tested_kind(
     match kind_or_any(tested, &in_tested(here))? {
         Some(kind) => Ok(kind),
         None => scalar_kind(query, Kind::Text, here),
-    }
-}
-
-/// The kind that is wanted of an operand of this need.
-pub(crate) fn wanted_of(alike: Kind, need: Need) -> Kind
-    ensures { result ≡ wanted_of alike need }
-{
-    match need {
-        Need::OfKind(kind) => kind,
-        Need::Alike => alike,
-        Need::Free => Kind::Text,
-    }
-}
-
-/// The kind that a chain wants of its first operand: what its first step does.
-pub(crate) fn chain_start(steps: &[ExprStep]) -> Kind
-    ensures { (c : Held) (alike : Sort) → result ≡ wanted_of alike (first_need (map (step_of c) steps.now)) }
-{
-    if steps.is_empty() {
-        Kind::Text
-    } else {
-        Kind::Integer
     }
 }

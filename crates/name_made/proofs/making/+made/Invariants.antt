@@ -5,8 +5,8 @@ use Rattle.name_words.specs.Operands.{operand}
 use Rattle.name_words.specs.Queries.{set_chain}
 use Rattle.name_words.specs.Trees.{arm_of, part_of, set_step_of, step_of}
 use Rattle.name_seen.specs.Standing.{around_of, surroundings}
-use Rattle.name_made.specs.Chained.{Serves}
-use Rattle.name_made.specs.Makes.{MakesArms, MakesMore, MakesQuery, MakesSteps}
+use Rattle.name_nodes.specs.Chained.{Serves}
+use Rattle.name_nodes.specs.Makes.{MakesArms, MakesMore, MakesQuery, MakesSteps}
 use Rattle.name_made.proofs.making.+made.Given as goal
 
 -- the operands so far are made

@@ -1,0 +1,4 @@
+pub mod Chained
+pub mod Cored
+pub mod Listed
+pub mod Makes
