@@ -13,6 +13,9 @@ use Rattle.bag_algebra.specs.declared.expr.Expr.{Expr}
 use Rattle.bag_algebra.specs.declared.expr.Expr.TheVariants.{Chain, Case}
 use Rattle.perm_values.specs.declared.kind.Kind.{Kind}
 use Rattle.perm_values.specs.declared.kind.Kind.TheVariants as kind
+use Rattle.perm_catalog.specs.Contents.{Contents}
+use Rattle.sql_tree.specs.declared.expression.ExprStep.{ExprStep}
+use Rattle.name_words.specs.Trees.{step_of}
 use Rattle.name_words.specs.Expressions.{StepPart, ArmPart, arm_operands, case_made, arms_made, rest_made, chain_gives, chain_made, first_need, first_of, step_operand, steps_made}
 use Rattle.name_words.specs.Meanings.{Built, Meant, Part, Surroundings, means_at, settled}
 use Rattle.name_words.specs.Operands.{Operand, alike_wanted, need_of, node, operand, united, wanted_of}
@@ -114,6 +117,14 @@ no-step alike = refl
 
 pub first-step : (alike : Kind) (step : StepPart) (steps : List StepPart) → wanted_of alike (first_need (step ∷ steps)) ≡ kind.Integer
 first-step alike step steps = ap (wanted_of alike) (arith-need step.op)
+
+-- a chain's first operand takes the kind that its first step needs
+pub start-none : (c : Contents) (alike : Kind) (steps : List ExprStep) → steps ≡ [] → kind.Text ≡ wanted_of alike (first_need (map (step_of c) steps))
+start-none c alike steps is = sym (ap (λ (steps : List ExprStep). wanted_of alike (first_need (map (step_of c) steps))) is)
+
+pub start-some : (c : Contents) (alike : Kind) (steps : List ExprStep) → (steps ≡ [] → ⊥) → kind.Integer ≡ wanted_of alike (first_need (map (step_of c) steps))
+start-some c alike [] some = absurd (some refl)
+start-some c alike (step ∷ steps) some = sym (first-step alike (step_of c step) (map (step_of c) steps))
 
 pub step-wanted : (alike : Kind) (op : Arith) → wanted_of alike (need_of (x.Arith op) false) ≡ kind.Integer
 step-wanted alike op = ap (wanted_of alike) (arith-need op)

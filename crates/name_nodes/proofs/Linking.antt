@@ -1,9 +1,9 @@
 -- What a sublink is made of, its query made around it.
-use Rattle.std.specs.Prelude.{◌≡◌, ℕ, Bool, true, false, cond, not, List, [], ◌∷◌, ◌++◌, length, Option, Some, None}
+use Rattle.std.specs.Prelude.{◌≡◌, ℕ, ◌+◌, Bool, true, false, cond, not, List, [], ◌∷◌, ◌++◌, length, Option, Some, None}
 use Rattle.std.proofs.Common.{refl, ap, sym, subst, ◌∙◌}
 use Rattle.std.proofs.lemmas.List.{append-nil}
 use Rattle.bag_algebra.specs.declared.expr.Expr.{Expr}
-use Rattle.bag_algebra.specs.declared.expr.Expr.TheVariants.{Sub}
+use Rattle.bag_algebra.specs.declared.expr.Expr.TheVariants.{Col, Sub}
 use Rattle.bag_algebra.specs.declared.query.Aggr.{Aggr}
 use Rattle.bag_algebra.specs.declared.query.SubKind.{SubKind}
 use Rattle.bag_algebra.specs.declared.query.SubKind.TheVariants as sub
@@ -11,8 +11,9 @@ use Rattle.bag_algebra.specs.declared.query.Sublink.{Sublink}
 use Rattle.perm_values.specs.declared.kind.Kind.{Kind}
 use Rattle.perm_values.specs.declared.kind.Kind.TheVariants as kind
 use Rattle.sql_tree.specs.declared.expression.AggWord.{AggWord}
+use Rattle.name_words.specs.Scopes.{group_count}
 use Rattle.name_words.specs.Meanings.{Built, Meant, Part, QueryMeant, QueryPart, Surroundings, means_at, query_means_at, broken, broken_if, seen_kind, settled}
-use Rattle.name_words.specs.Sublinks.{aggregate_made, aggregated, argument_wanted, rows_counted, takes_kind, around_of, breaking, exists_meant, first_kind, if_standing, in_tested, scalar_meant, sub_built, tested_break, tested_kind, tested_looked, tested_meant, tested_unlooked}
+use Rattle.name_words.specs.Sublinks.{aggregate_kind, aggregate_made, function_of, aggregated, argument_wanted, rows_counted, takes_kind, around_of, breaking, exists_meant, first_kind, if_standing, in_tested, scalar_meant, sub_built, tested_break, tested_kind, tested_looked, tested_meant, tested_unlooked}
 use Rattle.name_nodes.specs.Makes.{before_of, nothing_found, with_found, IsBuilt, Makes, Links}
 use Rattle.name_nodes.specs.declared.within.Within.{Within}
 use Rattle.name_nodes.proofs.Arms.{broken-made}
@@ -102,6 +103,18 @@ tested-made here at kind part query common wanted e left old mid new stands is m
     (looked-made here.sublinks kind (part.means (in_tested here)) query.at (query.means (around_of here)) common wanted e left old mid new stands is made links)
 
 -- ---- aggregates
+
+-- an aggregate behind the groups and the aggregates so far
+pub aggregate-built : (here : Surroundings) (word : AggWord) (kind : Option Kind) (argument : Option Expr) (groups : ℕ) (old new : Within)
+    → group_count here.scopes ≡ groups
+    → new ≡ record old { aggregates = old.aggregates ++ record { function = function_of word; argument = argument; kind = aggregate_kind word kind } ∷ [] }
+    → IsBuilt (aggregate_made here word kind argument (before_of old)) (Col 0 (groups + length old.aggregates)) old new
+aggregate-built here word kind argument groups old new counted is =
+    let more = old.aggregates ++ record { function = function_of word; argument = argument; kind = aggregate_kind word kind } ∷ [] in
+    record {
+      expr = ap (λ (n : ℕ). Col 0 (n + length old.aggregates)) (sym counted);
+      found = is ∙ ap (λ (subs : List Sublink). record { subs = subs; aggregates = more }) (sym (append-nil old.subs));
+    }
 
 pub counted-made : (may_link : Bool) (here : Surroundings) (at : ℕ) (word : AggWord) (wanted : Kind) (e : Expr) (old new : Within)
     → IsBuilt (aggregate_made here word None None (before_of old)) e old new → Makes may_link (rows_counted here at word) wanted e old new
