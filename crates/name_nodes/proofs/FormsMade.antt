@@ -4,7 +4,7 @@ use Rattle.std.proofs.Common.{refl, ap, sym, subst, ◌∙◌}
 use Rattle.null_logic.specs.declared.compare.Compare.{Compare}
 use Rattle.null_logic.specs.declared.compare.Compare.TheVariants as compare
 use Rattle.null_logic.specs.declared.operator.Operator.{Operator}
-use Rattle.null_logic.specs.declared.operator.Operator.TheVariants as x
+use Rattle.null_logic.specs.declared.operator.Operator.TheVariants as operator
 use Rattle.null_logic.specs.declared.truth.Truth.{Truth}
 use Rattle.bag_algebra.specs.declared.expr.Arm.{Arm}
 use Rattle.bag_algebra.specs.declared.expr.ChainStep.{ChainStep}
@@ -21,7 +21,7 @@ use Rattle.sql_tree.specs.declared.expression.ExprStep.{ExprStep}
 use Rattle.sql_tree.specs.declared.expression.ExprTree.{ExprTree}
 use Rattle.sql_tree.specs.declared.name.ColRef.{ColRef}
 use Rattle.sql_tree.specs.declared.query.QueryTree.{QueryTree}
-use Rattle.name_words.specs.Expressions.{arm_operands, else_operand, first_need, in_kind, negated_if, null_meant, times}
+use Rattle.name_words.specs.Expressions.{arm_operands, else_operand, first_need, first_of, in_kind, negated_if, null_meant, second_of, times}
 use Rattle.name_words.specs.Meanings.{Meant, Surroundings, means_at, query_means_at, settled}
 use Rattle.name_words.specs.Operands.{Operand, alike_wanted, gives_of, need_of, node, operand, united, wanted_of}
 use Rattle.name_words.specs.Scopes.{look_up}
@@ -100,28 +100,28 @@ paren-form c here may_link tree part wanted made old new is makes =
     as-meant c here may_link tree wanted made old new _ (means-paren c here tree part is) (part-made may_link (part_of c part) here wanted made old new makes)
 
 pub nots-form : (c : Contents) (here : Surroundings) (may_link : Bool) (tree part : ExprTree) (n : ℕ) (wanted : Kind) (made : Expr) (old new : Within)
-    → tree.body ≡ e.Nots n part → Stands c here may_link part kind.Boolean made old new → Stands c here may_link tree wanted (times x.Not n made) old new
+    → tree.body ≡ e.Nots n part → Stands c here may_link part kind.Boolean made old new → Stands c here may_link tree wanted (times operator.Not n made) old new
 nots-form c here may_link tree part n wanted made old new is makes =
-    as-meant c here may_link tree wanted (times x.Not n made) old new _ (means-nots c here tree n part is)
-    (single-made may_link (gives_of x.Not true) _ (need_of x.Not true) (part_of c part) here wanted kind.Boolean made old new (λ alike. refl) makes)
+    as-meant c here may_link tree wanted (times operator.Not n made) old new _ (means-nots c here tree n part is)
+    (single-made may_link (gives_of operator.Not true) (λ es. times operator.Not n (first_of es)) (need_of operator.Not true) (part_of c part) here wanted kind.Boolean made old new (λ alike. refl) makes)
 
 pub signs-form : (c : Contents) (here : Surroundings) (may_link : Bool) (tree part : ExprTree) (n : ℕ) (wanted : Kind) (made : Expr) (old new : Within)
-    → tree.body ≡ e.Signs n part → Stands c here may_link part kind.Integer made old new → Stands c here may_link tree wanted (times x.Negate n made) old new
+    → tree.body ≡ e.Signs n part → Stands c here may_link part kind.Integer made old new → Stands c here may_link tree wanted (times operator.Negate n made) old new
 signs-form c here may_link tree part n wanted made old new is makes =
-    as-meant c here may_link tree wanted (times x.Negate n made) old new _ (means-signs c here tree n part is)
-    (single-made may_link (gives_of x.Negate true) _ (need_of x.Negate true) (part_of c part) here wanted kind.Integer made old new (λ alike. refl) makes)
+    as-meant c here may_link tree wanted (times operator.Negate n made) old new _ (means-signs c here tree n part is)
+    (single-made may_link (gives_of operator.Negate true) (λ es. times operator.Negate n (first_of es)) (need_of operator.Negate true) (part_of c part) here wanted kind.Integer made old new (λ alike. refl) makes)
 
 pub null-test-form : (c : Contents) (here : Surroundings) (may_link : Bool) (tree part : ExprTree) (b : Bool) (wanted : Kind) (made : Expr) (old new : Within)
     → tree.body ≡ e.IsNull b part → Stands c here may_link part kind.Text made old new → Stands c here may_link tree wanted (negated_if b (IsNull made)) old new
 null-test-form c here may_link tree part b wanted made old new is makes =
     as-meant c here may_link tree wanted (negated_if b (IsNull made)) old new _ (means-isnull c here tree b part is)
-    (single-made may_link (Always kind.Boolean) _ Free (part_of c part) here wanted kind.Text made old new (λ alike. refl) makes)
+    (single-made may_link (Always kind.Boolean) (λ es. negated_if b (IsNull (first_of es))) Free (part_of c part) here wanted kind.Text made old new (λ alike. refl) makes)
 
 pub truth-test-form : (c : Contents) (here : Surroundings) (may_link : Bool) (tree part : ExprTree) (b : Bool) (t : Truth) (wanted : Kind) (made : Expr) (old new : Within)
     → tree.body ≡ e.IsTruth b t part → Stands c here may_link part kind.Boolean made old new → Stands c here may_link tree wanted (negated_if b (IsTruth t made)) old new
 truth-test-form c here may_link tree part b t wanted made old new is makes =
     as-meant c here may_link tree wanted (negated_if b (IsTruth t made)) old new _ (means-istruth c here tree b t part is)
-    (single-made may_link (Always kind.Boolean) _ (OfKind kind.Boolean) (part_of c part) here wanted kind.Boolean made old new (λ alike. refl) makes)
+    (single-made may_link (Always kind.Boolean) (λ es. negated_if b (IsTruth t (first_of es))) (OfKind kind.Boolean) (part_of c part) here wanted kind.Boolean made old new (λ alike. refl) makes)
 
 -- ---- several parts
 
@@ -141,7 +141,7 @@ two-form c here may_link tree p q gives need assembled wanted alike first second
     (subst (λ (k : Kind). MakesMore may_link k (Two c here need p q) [] second w y) same
     (two-more may_link alike (operand here need (part_of c p)) (operand here need (part_of c q)) [] first second w x y one two)))
 
-compare-need : (op : Compare) → need_of (x.Compare op) false ≡ Alike
+compare-need : (op : Compare) → need_of (operator.Compare op) false ≡ Alike
 compare-need compare.Equal = refl
 compare-need compare.NotEqual = refl
 compare-need compare.Less = refl
@@ -149,7 +149,7 @@ compare-need compare.LessEqual = refl
 compare-need compare.Greater = refl
 compare-need compare.GreaterEqual = refl
 
-compare-gives : (op : Compare) → gives_of (x.Compare op) false ≡ Always kind.Boolean
+compare-gives : (op : Compare) → gives_of (operator.Compare op) false ≡ Always kind.Boolean
 compare-gives compare.Equal = refl
 compare-gives compare.NotEqual = refl
 compare-gives compare.Less = refl
@@ -162,30 +162,30 @@ pub compared-form : (c : Contents) (here : Surroundings) (may_link : Bool) (tree
     → alike ≡ settled (united (operand here Alike (part_of c p) ∷ operand here Alike (part_of c q) ∷ [])) (alike_wanted (Always kind.Boolean) wanted)
     → MakesMore may_link alike (operand here Alike (part_of c p) ∷ []) [] first w x
     → MakesMore may_link alike (operand here Alike (part_of c q) ∷ []) first second x y
-    → Stands c here may_link tree wanted (Op (x.Compare op) second) w y
+    → Stands c here may_link tree wanted (Op (operator.Compare op) second) w y
 compared-form c here may_link tree p q op wanted alike first second w x y is same one two =
-    two-form c here may_link tree p q (Always kind.Boolean) Alike (Op (x.Compare op)) wanted alike first second w x y
+    two-form c here may_link tree p q (Always kind.Boolean) Alike (Op (operator.Compare op)) wanted alike first second w x y
     (means-compared c here tree op p q is
-    ∙ ap (λ (need : Need). node (gives_of (x.Compare op) false) (Op (x.Compare op)) (Two c here need p q)) (compare-need op)
-    ∙ ap (λ (gives : Gives). node gives (Op (x.Compare op)) (Two c here Alike p q)) (compare-gives op)) same one two
+    ∙ ap (λ (need : Need). node (gives_of (operator.Compare op) false) (Op (operator.Compare op)) (Two c here need p q)) (compare-need op)
+    ∙ ap (λ (gives : Gives). node gives (Op (operator.Compare op)) (Two c here Alike p q)) (compare-gives op)) same one two
 
 pub nullif-form : (c : Contents) (here : Surroundings) (may_link : Bool) (tree p q : ExprTree) (wanted alike : Kind) (first second : List Expr) (w x y : Within)
     → tree.body ≡ e.NullIf p q
     → alike ≡ settled (united (operand here Alike (part_of c p) ∷ operand here Alike (part_of c q) ∷ [])) (alike_wanted Common wanted)
     → MakesMore may_link alike (operand here Alike (part_of c p) ∷ []) [] first w x
     → MakesMore may_link alike (operand here Alike (part_of c q) ∷ []) first second x y
-    → Stands c here may_link tree wanted (Op x.NullIf second) w y
+    → Stands c here may_link tree wanted (Op operator.NullIf second) w y
 nullif-form c here may_link tree p q wanted alike first second w x y is same one two =
-    two-form c here may_link tree p q Common Alike (Op x.NullIf) wanted alike first second w x y (means-nullif c here tree p q is) same one two
+    two-form c here may_link tree p q Common Alike (Op operator.NullIf) wanted alike first second w x y (means-nullif c here tree p q is) same one two
 
 -- an operand of one kind doesn't ask what others are
 pub like-form : (c : Contents) (here : Surroundings) (may_link : Bool) (tree p q : ExprTree) (b : Bool) (wanted : Kind) (first second : List Expr) (w x y : Within)
     → tree.body ≡ e.Like b p q
     → MakesMore may_link kind.Text (operand here (OfKind kind.Text) (part_of c p) ∷ []) [] first w x
     → MakesMore may_link kind.Text (operand here (OfKind kind.Text) (part_of c q) ∷ []) first second x y
-    → Stands c here may_link tree wanted (negated_if b (Op x.Like second)) w y
+    → Stands c here may_link tree wanted (negated_if b (Op operator.Like second)) w y
 like-form c here may_link tree p q b wanted first second w x y is one two =
-    two-form c here may_link tree p q (gives_of x.Like false) (OfKind kind.Text) (λ es. negated_if b (Op x.Like es)) wanted kind.Text first second w x y
+    two-form c here may_link tree p q (gives_of operator.Like false) (OfKind kind.Text) (λ es. negated_if b (Op operator.Like es)) wanted kind.Text first second w x y
     (means-like c here tree b p q is) refl one two
 
 pub distinct-form : (c : Contents) (here : Surroundings) (may_link : Bool) (tree p q : ExprTree) (b : Bool) (wanted alike : Kind) (first second : Expr) (w x y : Within)
@@ -194,7 +194,7 @@ pub distinct-form : (c : Contents) (here : Surroundings) (may_link : Bool) (tree
     → Stands c here may_link p alike first w x → Stands c here may_link q alike second x y
     → Stands c here may_link tree wanted (negated_if (not b) (Same first second)) w y
 distinct-form c here may_link tree p q b wanted alike first second w x y is same one two =
-    two-form c here may_link tree p q (Always kind.Boolean) Alike _ wanted alike (first ∷ []) (first ∷ second ∷ []) w x y (means-isdistinct c here tree b p q is) same
+    two-form c here may_link tree p q (Always kind.Boolean) Alike (λ es. negated_if (not b) (Same (first_of es) (second_of es))) wanted alike (first ∷ []) (first ∷ second ∷ []) w x y (means-isdistinct c here tree b p q is) same
     (operand-one may_link alike Alike (part_of c p) here [] first w x one) (operand-one may_link alike Alike (part_of c q) here (first ∷ []) second x y two)
 
 pub between-form : (c : Contents) (here : Surroundings) (may_link : Bool) (tree p q r : ExprTree) (b : Bool) (wanted alike : Kind) (first second third : List Expr) (w x y z : Within)
@@ -203,11 +203,11 @@ pub between-form : (c : Contents) (here : Surroundings) (may_link : Bool) (tree 
     → MakesMore may_link alike (operand here Alike (part_of c p) ∷ []) [] first w x
     → MakesMore may_link alike (operand here Alike (part_of c q) ∷ []) first second x y
     → MakesMore may_link alike (operand here Alike (part_of c r) ∷ []) second third y z
-    → Stands c here may_link tree wanted (negated_if b (Op x.Between third)) w z
+    → Stands c here may_link tree wanted (negated_if b (Op operator.Between third)) w z
 between-form c here may_link tree p q r b wanted alike first second third w x y z is same one two three =
     let os = operand here Alike (part_of c p) ∷ operand here Alike (part_of c q) ∷ operand here Alike (part_of c r) ∷ [] in
-    as-meant c here may_link tree wanted (negated_if b (Op x.Between third)) w z _ (means-between c here tree b p q r is)
-    (node-made may_link (gives_of x.Between false) (λ es. negated_if b (Op x.Between es)) os wanted third w z
+    as-meant c here may_link tree wanted (negated_if b (Op operator.Between third)) w z _ (means-between c here tree b p q r is)
+    (node-made may_link (gives_of operator.Between false) (λ es. negated_if b (Op operator.Between es)) os wanted third w z
     (subst (λ (k : Kind). MakesMore may_link k os [] third w z) same
     (three-more may_link alike (operand here Alike (part_of c p)) (operand here Alike (part_of c q)) (operand here Alike (part_of c r)) [] first second third w x y z one two three)))
 
@@ -216,11 +216,11 @@ pub in-list-form : (c : Contents) (here : Surroundings) (may_link : Bool) (tree 
     → alike ≡ settled (united (operand here Alike (part_of c p) ∷ map (operand here Alike) (map (part_of c) list))) kind.Text
     → MakesMore may_link alike (operand here Alike (part_of c p) ∷ []) [] first w x
     → MakesMore may_link alike (map (operand here Alike) (map (part_of c) list)) first all x y
-    → Stands c here may_link tree wanted (negated_if b (Op x.InList all)) w y
+    → Stands c here may_link tree wanted (negated_if b (Op operator.InList all)) w y
 in-list-form c here may_link tree p list b wanted alike first all w x y is same one more =
     let os = operand here Alike (part_of c p) ∷ map (operand here Alike) (map (part_of c) list) in
-    as-meant c here may_link tree wanted (negated_if b (Op x.InList all)) w y _ (means-inlist c here tree b p list is)
-    (node-made may_link (gives_of x.InList false) (λ es. negated_if b (Op x.InList es)) os wanted all w y
+    as-meant c here may_link tree wanted (negated_if b (Op operator.InList all)) w y _ (means-inlist c here tree b p list is)
+    (node-made may_link (gives_of operator.InList false) (λ es. negated_if b (Op operator.InList es)) os wanted all w y
     (subst (λ (k : Kind). MakesMore may_link k os [] all w y) same
     (more-more may_link alike (operand here Alike (part_of c p) ∷ []) (map (operand here Alike) (map (part_of c) list)) [] first all w x y one more)))
 
@@ -232,7 +232,7 @@ logic-form c here may_link tree list op wanted made w x is makes = as-meant c he
 
 pub coalesce-form : (c : Contents) (here : Surroundings) (may_link : Bool) (tree : ExprTree) (list : List ExprTree) (wanted : Kind) (made : Expr) (w x : Within)
     → tree.body ≡ e.Coalesce list
-    → Makes may_link (node Common (Op x.Coalesce) (map (operand here Alike) (map (part_of c) list))) wanted made w x
+    → Makes may_link (node Common (Op operator.Coalesce) (map (operand here Alike) (map (part_of c) list))) wanted made w x
     → Stands c here may_link tree wanted made w x
 coalesce-form c here may_link tree list wanted made w x is makes = as-meant c here may_link tree wanted made w x _ (means-coalesce c here tree list is) makes
 

@@ -27,7 +27,7 @@ breaks-append (m ∷ ms) more =
     ap (λ (rest : List Break). m.breaks ++ rest) (breaks-append ms more) ∙ sym (append_assoc m.breaks (items_breaks ms) (items_breaks more))
 
 widths-append : (ms more : List SelectMeant) → widths (ms ++ more) ≡ widths ms + widths more
-widths-append [] more = refl
+widths-append [] more = omega arith
 widths-append (m ∷ ms) more = let rest = widths-append ms more in omega (arith, rest)
 
 first-of-both : (first a b : Made) → made_before first (made_before a b) ≡ made_before (made_before first a) b

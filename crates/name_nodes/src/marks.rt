@@ -4,7 +4,7 @@ ghost use Rattle.std.specs.List.{range_with_len};
 ghost use Rattle.bag_algebra.specs.declared.query.Label.TheVariants.{External as Outside, Relation as Whole};
 ghost use Rattle.bag_algebra.specs.declared.query.Query.TheVariants.{Base as Source, Table as Stored};
 ghost use Rattle.perm_catalog.specs.Columns.{column_kinds};
-ghost use Rattle.name_words.specs.Froms.{all_places, external, names_at, names_of, place_of, table_columns, table_plain, texts_of};
+ghost use Rattle.name_words.specs.Froms.{all_places, external, named_so, names_at, names_of, place_of, table_columns, table_plain, texts_of};
 
 use crate::nodes::source;
 use bag_algebra::{Label, Query};
@@ -110,11 +110,18 @@ pub fn whole_source(
     )
 }
 
+/// The place of the first column of this name.
+fn position_of(names: &[Chars], name: &Chars) -> Option<usize>
+    ensures { result ≡ position (named_so name.now) names.now }
+{
+    names.iter().position(|other| name == other)
+}
+
 /// The place of the first column of this name; 0 where there is none.
 fn place_of(names: &[Chars], name: &Chars) -> usize
     ensures { result ≡ place_of names.now name.now }
 {
-    match names.iter().position(|other| name == other) {
+    match position_of(names, name) {
         None => 0,
         Some(place) => place,
     }
