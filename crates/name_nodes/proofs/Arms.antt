@@ -1,11 +1,10 @@
 -- What an expression of one form is made of, its parts made where they stand.
-use Rattle.std.specs.Prelude.{◌≡◌, ℕ, ◌+◌, Bool, false, not, List, [], ◌∷◌, ◌++◌, map, flat_map, length, Ok, Err, IfOk, Result}
+use Rattle.std.specs.Prelude.{◌≡◌, ℕ, ◌+◌, Bool, false, List, [], ◌∷◌, ◌++◌, map, flat_map, length, Ok, Err, IfOk, Result}
 use Rattle.std.proofs.Common.{refl, ap, sym, subst, ◌∙◌, arith, append_assoc, length-append}
 use Rattle.std.proofs.lemmas.Grind.{flat_map-append}
 use Rattle.std.proofs.lemmas.List.{map-append}
 use Rattle.null_logic.specs.declared.arith.Arith.{Arith}
 use Rattle.null_logic.specs.declared.arith.Arith.TheVariants as op
-use Rattle.null_logic.specs.declared.compare.Compare.TheVariants as compare
 use Rattle.null_logic.specs.declared.operator.Operator.TheVariants as x
 use Rattle.bag_algebra.specs.declared.expr.Arm.{Arm}
 use Rattle.bag_algebra.specs.declared.expr.ChainStep.{ChainStep}

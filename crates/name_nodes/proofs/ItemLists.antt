@@ -8,7 +8,6 @@ use Rattle.bag_algebra.specs.declared.expr.Item.{Item}
 use Rattle.bag_algebra.specs.declared.query.Aggr.{Aggr}
 use Rattle.bag_algebra.specs.declared.query.Sublink.{Sublink}
 use Rattle.perm_values.specs.declared.kind.Kind.{Kind}
-use Rattle.perm_values.specs.declared.kind.Kind.TheVariants as kind
 use Rattle.sql_tree.specs.declared.name.Name.{Name}
 use Rattle.name_words.specs.Items.{SelectMeant, Made, column_item, columns_meant, first_wanted, items_breaks, made_before, made_items, no_columns, star_meant, table_star_meant, titled, value_made, value_meant, width_of_item}
 use Rattle.name_words.specs.Meanings.{Before, Meant, broken, is_whole, seen_kind, settled}
