@@ -1,0 +1,258 @@
+//! What stands for a query, and what is a rewriting of it.
+ghost use Rattle.std.specs.Prelude.{IfOk, IsTrue};
+ghost use Rattle.bag_algebra.specs.Rewriting.{IsRewrite, Stands};
+ghost use Rattle.bag_algebra.specs.Scoped.{is_scoped, traceable};
+ghost use Rattle.query_congruence.specs.Standing.{SubsStand};
+ghost use Rattle.query_measures.specs.BuiltScopes.{all_scoped, all_traceable};
+ghost use Rattle.rewrite_driver.specs.Places.{has_places};
+ghost use Rattle.sublink_laws.specs.SubRewritings.{SubsRewritten};
+
+use crate::nodes::table;
+use crate::places::has_places;
+use crate::rules::{
+    aggregate_rule, base_rule, distinct_rule, except_rule, filter_rule, intersect_rule, join_rule,
+    limit_rule, project_rule, union_rule,
+};
+use crate::standing::{
+    aggregate_standing, distinct_standing, except_standing, filter_standing, intersect_standing,
+    join_standing, limit_standing, project_standing, provenance_standing, union_standing,
+};
+use crate::sublinks::{add_rewriting, add_standing};
+use bag_algebra::{Query, Sublink};
+use perm_values::{List, NoMemory};
+use std::alloc::Global;
+
+/// A plain query that stands for the query, in whose place it may run: of the same kinds, well formed under all outer kinds
+/// under which the query is, reading the query's tables alone, with the same rows, as often, or the same faults, on every
+/// database and under all outer rows that fit. It fails only for want of memory.
+pub fn eliminate(alloc: Global, query: Query) -> Result<Query, NoMemory>
+    requires { IsTrue (is_scoped query) }
+    ensures { IfOk result (λ plain. Stands query plain) }
+{
+    stand(alloc, &query)
+}
+
+/// A plain query that stands for the query. Each arm hands on the results of its calls as they are: a query that is at hand
+/// where another call fails makes the proof far longer.
+#[cycle(stand)]
+fn stand(alloc: Global, query: &Query) -> Result<Query, NoMemory>
+    requires { IsTrue (is_scoped query.now) }
+    ensures { IfOk result (λ plain. Stands query.now plain) }
+{
+    match query {
+        Query::Table { id, kinds } => table(alloc, *id, kinds),
+        Query::Single => Ok(Query::Single),
+        Query::Base { input, .. } => stand(alloc, input.get()),
+        Query::Filter {
+            input,
+            condition,
+            subs,
+        } => {
+            let rows = stand(alloc, input.get());
+            let inside = stand_subs(alloc, subs.as_slice());
+            filter_standing(alloc, rows, condition, inside)
+        }
+        Query::Project { input, items, subs } => {
+            let rows = stand(alloc, input.get());
+            let inside = stand_subs(alloc, subs.as_slice());
+            project_standing(alloc, rows, items, inside)
+        }
+        Query::Join {
+            kind,
+            left,
+            right,
+            condition,
+            subs,
+        } => {
+            let lefts = stand(alloc, left.get());
+            let rights = stand(alloc, right.get());
+            let inside = stand_subs(alloc, subs.as_slice());
+            join_standing(alloc, *kind, lefts, rights, condition, inside)
+        }
+        Query::Union { all, left, right } => {
+            let lefts = stand(alloc, left.get());
+            let rights = stand(alloc, right.get());
+            union_standing(alloc, *all, lefts, rights)
+        }
+        Query::Intersect { all, left, right } => {
+            let lefts = stand(alloc, left.get());
+            let rights = stand(alloc, right.get());
+            intersect_standing(alloc, *all, lefts, rights)
+        }
+        Query::Except { all, left, right } => {
+            let lefts = stand(alloc, left.get());
+            let rights = stand(alloc, right.get());
+            except_standing(alloc, *all, lefts, rights)
+        }
+        Query::Distinct { input } => distinct_standing(alloc, stand(alloc, input.get())),
+        Query::Aggregate {
+            input,
+            groups,
+            aggregates,
+        } => {
+            let rows = stand(alloc, input.get());
+            aggregate_standing(alloc, rows, groups, aggregates)
+        }
+        Query::Limit { input, keys, count } => {
+            let rows = stand(alloc, input.get());
+            limit_standing(alloc, rows, keys, *count)
+        }
+        Query::Prov { input } => provenance_standing(alloc, rewriting(alloc, input.get())),
+    }
+}
+
+/// The sublinks over what stands for their queries.
+#[cycle(stand)]
+fn stand_subs(alloc: Global, subs: &[Sublink]) -> Result<List<Sublink>, NoMemory>
+    requires { IsTrue (all_scoped subs.now) }
+    ensures { IfOk result (λ others. SubsStand subs.now others) }
+{
+    let mut others = List::new(alloc);
+    for sub in subs {
+        let query = stand(alloc, &sub.query);
+        add_standing(alloc, &mut others, sub, query)?;
+    }
+    Ok(others)
+}
+
+/// A rewriting of the query. Where it has no places, what stands for it is one, and so a LIMIT over PROVENANCE doesn't hold
+/// that query's rewriting twice.
+#[cycle(stand)]
+fn rewriting(alloc: Global, query: &Query) -> Result<Query, NoMemory>
+    requires scoped { IsTrue (is_scoped query.now) }
+    requires sourced { IsTrue (traceable query.now) }
+    ensures { IfOk result (λ p. IsRewrite query.now p) }
+{
+    let found = has_places(alloc, query)?;
+    if found {
+        by_rule(alloc, query)
+    } else {
+        stand(alloc, query)
+    }
+}
+
+/// A rewriting of a query with places, by the rule of its node. Below a source it asks only for what stands.
+#[cycle(stand)]
+fn by_rule(alloc: Global, query: &Query) -> Result<Query, NoMemory>
+    requires scoped { IsTrue (is_scoped query.now) }
+    requires sourced { IsTrue (traceable query.now) }
+    requires some { IsTrue (has_places query.now) }
+    ensures { IfOk result (λ p. IsRewrite query.now p) }
+{
+    match query {
+        Query::Table { .. } => unreachable!(),
+        Query::Single => unreachable!(),
+        Query::Base { input, places, .. } => {
+            let plain = stand(alloc, input.get());
+            base_rule(alloc, plain, places.as_slice())
+        }
+        Query::Filter {
+            input,
+            condition,
+            subs,
+        } => {
+            let rows = rewriting(alloc, input.get());
+            let inside = stand_subs(alloc, subs.as_slice());
+            let traced = rewritten_subs(alloc, subs.as_slice());
+            filter_rule(
+                alloc,
+                input.get(),
+                rows,
+                condition,
+                subs.as_slice(),
+                inside,
+                traced,
+            )
+        }
+        Query::Project { input, items, subs } => {
+            let rows = rewriting(alloc, input.get());
+            let inside = stand_subs(alloc, subs.as_slice());
+            let traced = rewritten_subs(alloc, subs.as_slice());
+            project_rule(
+                alloc,
+                input.get(),
+                rows,
+                items.as_slice(),
+                subs.as_slice(),
+                inside,
+                traced,
+            )
+        }
+        Query::Join {
+            kind,
+            left,
+            right,
+            condition,
+            ..
+        } => {
+            let lefts = rewriting(alloc, left.get());
+            let rights = rewriting(alloc, right.get());
+            join_rule(
+                alloc,
+                *kind,
+                left.get(),
+                lefts,
+                right.get(),
+                rights,
+                condition,
+            )
+        }
+        Query::Union { all, left, right } => {
+            let lefts = rewriting(alloc, left.get());
+            let rights = rewriting(alloc, right.get());
+            union_rule(alloc, *all, left.get(), lefts, right.get(), rights)
+        }
+        Query::Intersect { all, left, right } => {
+            let lefts = rewriting(alloc, left.get());
+            let rights = rewriting(alloc, right.get());
+            intersect_rule(alloc, *all, left.get(), lefts, right.get(), rights)
+        }
+        Query::Except { all, left, right } => {
+            let plain_left = stand(alloc, left.get());
+            let lefts = rewriting(alloc, left.get());
+            let plain_right = stand(alloc, right.get());
+            let rights = rewriting(alloc, right.get());
+            except_rule(alloc, *all, plain_left, lefts, plain_right, rights)
+        }
+        Query::Distinct { input } => {
+            let rows = rewriting(alloc, input.get());
+            distinct_rule(input.get(), rows)
+        }
+        Query::Aggregate {
+            input,
+            groups,
+            aggregates,
+        } => {
+            let plain_rows = stand(alloc, input.get());
+            let rows = rewriting(alloc, input.get());
+            aggregate_rule(
+                alloc,
+                plain_rows,
+                rows,
+                groups.as_slice(),
+                aggregates.as_slice(),
+            )
+        }
+        Query::Limit { input, keys, count } => {
+            let plain_rows = stand(alloc, input.get());
+            let rows = rewriting(alloc, input.get());
+            limit_rule(alloc, plain_rows, rows, keys.as_slice(), *count)
+        }
+        Query::Prov { .. } => unreachable!(),
+    }
+}
+
+/// A rewriting of each sublink's query.
+#[cycle(stand)]
+fn rewritten_subs(alloc: Global, subs: &[Sublink]) -> Result<List<Query>, NoMemory>
+    requires scoped { IsTrue (all_scoped subs.now) }
+    requires sourced { IsTrue (all_traceable subs.now) }
+    ensures { IfOk result (λ rewritings. SubsRewritten subs.now rewritings) }
+{
+    let mut rewritings = List::new(alloc);
+    for sub in subs {
+        let query = rewriting(alloc, &sub.query);
+        add_rewriting(&mut rewritings, query)?;
+    }
+    Ok(rewritings)
+}
