@@ -32,9 +32,6 @@ pub rewrites_without_places : (q : Query) (result : Result Query NoMemory) → h
 rewrites_without_places q result none given =
     where_made (λ p. Stands q p) (λ p. IsRewrite q p) result (λ p s. rewrite-without_places q p (no_place (shape q) none) s) given
 
-pub placeless : (q node : Query) → q ≡ node → has_places node ≡ false → has_places q ≡ true → ⊥
-placeless q node is none some = true≢false (sym some ∙ ap has_places is ∙ none)
-
 -- a result that is there has what it has where it is there
 pub opened : {X : Type 0} (P : X → Type 0) (result : Result X NoMemory) (x : X) → result ≡ Ok x → IfOk result P → P x
 opened P result x was h = subst (λ r. IfOk r P) was h

@@ -4,7 +4,6 @@ ghost use Rattle.bag_algebra.specs.Rewriting.{IsRewrite, Stands};
 ghost use Rattle.bag_algebra.specs.Scoped.{is_scoped, traceable};
 ghost use Rattle.query_congruence.specs.Standing.{SubsStand};
 ghost use Rattle.query_measures.specs.BuiltScopes.{all_scoped, all_traceable};
-ghost use Rattle.rewrite_driver.specs.Places.{has_places};
 ghost use Rattle.sublink_laws.specs.SubRewritings.{SubsRewritten};
 
 use crate::nodes::table;
@@ -131,17 +130,17 @@ fn rewriting(alloc: Global, query: &Query) -> Result<Query, NoMemory>
     }
 }
 
-/// A rewriting of a query with places, by the rule of its node. Below a source it asks only for what stands.
+/// A rewriting of the query by the rule of its node. Below a source it asks only for what stands, and what has no places by
+/// itself is rewritten by what stands for it.
 #[cycle(stand)]
 fn by_rule(alloc: Global, query: &Query) -> Result<Query, NoMemory>
     requires scoped { IsTrue (is_scoped query.now) }
     requires sourced { IsTrue (traceable query.now) }
-    requires some { IsTrue (has_places query.now) }
     ensures { IfOk result (λ p. IsRewrite query.now p) }
 {
     match query {
-        Query::Table { .. } => unreachable!(),
-        Query::Single => unreachable!(),
+        Query::Table { .. } => stand(alloc, query),
+        Query::Single => stand(alloc, query),
         Query::Base { input, places, .. } => {
             let plain = stand(alloc, input.get());
             base_rule(alloc, plain, places.as_slice())
@@ -238,7 +237,7 @@ fn by_rule(alloc: Global, query: &Query) -> Result<Query, NoMemory>
             let rows = rewriting(alloc, input.get());
             limit_rule(alloc, plain_rows, rows, keys.as_slice(), *count)
         }
-        Query::Prov { .. } => unreachable!(),
+        Query::Prov { .. } => stand(alloc, query),
     }
 }
 
