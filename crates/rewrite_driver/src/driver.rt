@@ -118,8 +118,7 @@ fn stand_subs(alloc: Global, subs: &[Sublink]) -> Result<List<Sublink>, NoMemory
 /// that query's rewriting twice.
 #[cycle(stand)]
 fn rewriting(alloc: Global, query: &Query) -> Result<Query, NoMemory>
-    requires scoped { IsTrue (is_scoped query.now) }
-    requires sourced { IsTrue (traceable query.now) }
+    requires { IsTrue (is_scoped query.now) × IsTrue (traceable query.now) }
     ensures { IfOk result (λ p. IsRewrite query.now p) }
 {
     let found = has_places(alloc, query)?;
@@ -134,8 +133,7 @@ fn rewriting(alloc: Global, query: &Query) -> Result<Query, NoMemory>
 /// itself is rewritten by what stands for it.
 #[cycle(stand)]
 fn by_rule(alloc: Global, query: &Query) -> Result<Query, NoMemory>
-    requires scoped { IsTrue (is_scoped query.now) }
-    requires sourced { IsTrue (traceable query.now) }
+    requires { IsTrue (is_scoped query.now) × IsTrue (traceable query.now) }
     ensures { IfOk result (λ p. IsRewrite query.now p) }
 {
     match query {
@@ -244,8 +242,7 @@ fn by_rule(alloc: Global, query: &Query) -> Result<Query, NoMemory>
 /// A rewriting of each sublink's query.
 #[cycle(stand)]
 fn rewritten_subs(alloc: Global, subs: &[Sublink]) -> Result<List<Query>, NoMemory>
-    requires scoped { IsTrue (all_scoped subs.now) }
-    requires sourced { IsTrue (all_traceable subs.now) }
+    requires { IsTrue (all_scoped subs.now) × IsTrue (all_traceable subs.now) }
     ensures { IfOk result (λ rewritings. SubsRewritten subs.now rewritings) }
 {
     let mut rewritings = List::new(alloc);

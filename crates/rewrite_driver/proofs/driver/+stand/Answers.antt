@@ -136,7 +136,7 @@ stand-returns-in-Limit t c =
 
 pub stand-rewriting-requires : goal.stand-rewriting-requires
 stand-rewriting-requires t c =
-    (search (rules, the_lemmas), rw c.get-in-Prov.ensures (second_of is_scoped _ _ c.requires c.in-Prov.is _ _ (is_scoped-Prov c.in-Prov.input)), rw c.get-in-Prov.ensures (first_of is_scoped _ _ c.requires c.in-Prov.is _ _ (is_scoped-Prov c.in-Prov.input)))
+    (search (rules, the_lemmas), (rw c.get-in-Prov.ensures (second_of is_scoped _ _ c.requires c.in-Prov.is _ _ (is_scoped-Prov c.in-Prov.input)), rw c.get-in-Prov.ensures (first_of is_scoped _ _ c.requires c.in-Prov.is _ _ (is_scoped-Prov c.in-Prov.input))))
 
 pub stand-returns-in-Prov : goal.stand-returns-in-Prov
 stand-returns-in-Prov t c =
@@ -169,7 +169,7 @@ by_rule-returns-in-Prov t c =
 
 pub by_rule-stand-plain-requires : goal.by_rule-stand-plain-requires
 by_rule-stand-plain-requires t c =
-    (search (rules, the_lemmas), rw c.get.ensures (one_of is_scoped _ _ c.requires.scoped c.in-Base.is _ (is_scoped-Base c.in-Base.input c.in-Base.places c.in-Base.label)))
+    (search (rules, the_lemmas), rw c.get.ensures (one_of is_scoped _ _ c.requires.0 c.in-Base.is _ (is_scoped-Base c.in-Base.input c.in-Base.places c.in-Base.label)))
 
 pub by_rule-returns-in-Base : goal.by_rule-returns-in-Base
 by_rule-returns-in-Base t c =
@@ -178,19 +178,19 @@ by_rule-returns-in-Base t c =
 
 pub by_rule-rewriting-rows-requires : goal.by_rule-rewriting-rows-requires
 by_rule-rewriting-rows-requires t c =
-    (search (rules, the_lemmas), rw c.get-in-Filter.ensures (first_of is_scoped _ _ c.requires.scoped c.in-Filter.is _ _ (is_scoped-Filter c.in-Filter.input c.in-Filter.condition c.in-Filter.subs)), rw c.get-in-Filter.ensures (first_of traceable _ _ c.requires.sourced c.in-Filter.is _ _ (traceable-Filter c.in-Filter.input c.in-Filter.condition c.in-Filter.subs)))
+    (search (rules, the_lemmas), (rw c.get-in-Filter.ensures (first_of is_scoped _ _ c.requires.0 c.in-Filter.is _ _ (is_scoped-Filter c.in-Filter.input c.in-Filter.condition c.in-Filter.subs)), rw c.get-in-Filter.ensures (first_of traceable _ _ c.requires.1 c.in-Filter.is _ _ (traceable-Filter c.in-Filter.input c.in-Filter.condition c.in-Filter.subs))))
 
 pub by_rule-stand_subs-inside-requires : goal.by_rule-stand_subs-inside-requires
 by_rule-stand_subs-inside-requires t c =
-    (search (rules, the_lemmas), rw c.as_slice-in-Filter.ensures (second_of is_scoped _ _ c.requires.scoped c.in-Filter.is _ _ (is_scoped-Filter c.in-Filter.input c.in-Filter.condition c.in-Filter.subs)))
+    (search (rules, the_lemmas), rw c.as_slice-in-Filter.ensures (second_of is_scoped _ _ c.requires.0 c.in-Filter.is _ _ (is_scoped-Filter c.in-Filter.input c.in-Filter.condition c.in-Filter.subs)))
 
 pub by_rule-rewritten_subs-traced-requires : goal.by_rule-rewritten_subs-traced-requires
 by_rule-rewritten_subs-traced-requires t c =
-    (search (rules, the_lemmas), rw c.as_slice-in-Filter-2.ensures (second_of is_scoped _ _ c.requires.scoped c.in-Filter.is _ _ (is_scoped-Filter c.in-Filter.input c.in-Filter.condition c.in-Filter.subs)), rw c.as_slice-in-Filter-2.ensures (second_of traceable _ _ c.requires.sourced c.in-Filter.is _ _ (traceable-Filter c.in-Filter.input c.in-Filter.condition c.in-Filter.subs)))
+    (search (rules, the_lemmas), (rw c.as_slice-in-Filter-2.ensures (second_of is_scoped _ _ c.requires.0 c.in-Filter.is _ _ (is_scoped-Filter c.in-Filter.input c.in-Filter.condition c.in-Filter.subs)), rw c.as_slice-in-Filter-2.ensures (second_of traceable _ _ c.requires.1 c.in-Filter.is _ _ (traceable-Filter c.in-Filter.input c.in-Filter.condition c.in-Filter.subs))))
 
 pub by_rule-filter_rule-requires-clause-over_tables : goal.by_rule-filter_rule-requires-clause-over_tables
 by_rule-filter_rule-requires-clause-over_tables t c =
-    rw c.as_slice-in-Filter-3.ensures (subs-sourced _ (second_of traceable _ _ c.requires.sourced c.in-Filter.is _ _ (traceable-Filter c.in-Filter.input c.in-Filter.condition c.in-Filter.subs)))
+    rw c.as_slice-in-Filter-3.ensures (subs-sourced _ (second_of traceable _ _ c.requires.1 c.in-Filter.is _ _ (traceable-Filter c.in-Filter.input c.in-Filter.condition c.in-Filter.subs)))
 
 pub by_rule-filter_rule-requires-clause-rewritten : goal.by_rule-filter_rule-requires-clause-rewritten
 by_rule-filter_rule-requires-clause-rewritten t c =
@@ -210,19 +210,19 @@ by_rule-returns-in-Filter t c =
 
 pub by_rule-rewriting-rows-requires-in-Project : goal.by_rule-rewriting-rows-requires-in-Project
 by_rule-rewriting-rows-requires-in-Project t c =
-    (search (rules, the_lemmas), rw c.get-in-Project.ensures (first_of is_scoped _ _ c.requires.scoped c.in-Project.is _ _ (is_scoped-Project c.in-Project.input c.in-Project.items c.in-Project.subs)), rw c.get-in-Project.ensures (first_of traceable _ _ c.requires.sourced c.in-Project.is _ _ (traceable-Project c.in-Project.input c.in-Project.items c.in-Project.subs)))
+    (search (rules, the_lemmas), (rw c.get-in-Project.ensures (first_of is_scoped _ _ c.requires.0 c.in-Project.is _ _ (is_scoped-Project c.in-Project.input c.in-Project.items c.in-Project.subs)), rw c.get-in-Project.ensures (first_of traceable _ _ c.requires.1 c.in-Project.is _ _ (traceable-Project c.in-Project.input c.in-Project.items c.in-Project.subs))))
 
 pub by_rule-stand_subs-inside-requires-in-Project : goal.by_rule-stand_subs-inside-requires-in-Project
 by_rule-stand_subs-inside-requires-in-Project t c =
-    (search (rules, the_lemmas), rw c.as_slice-in-Project.ensures (second_of is_scoped _ _ c.requires.scoped c.in-Project.is _ _ (is_scoped-Project c.in-Project.input c.in-Project.items c.in-Project.subs)))
+    (search (rules, the_lemmas), rw c.as_slice-in-Project.ensures (second_of is_scoped _ _ c.requires.0 c.in-Project.is _ _ (is_scoped-Project c.in-Project.input c.in-Project.items c.in-Project.subs)))
 
 pub by_rule-rewritten_subs-traced-requires-in-Project : goal.by_rule-rewritten_subs-traced-requires-in-Project
 by_rule-rewritten_subs-traced-requires-in-Project t c =
-    (search (rules, the_lemmas), rw c.as_slice-in-Project-2.ensures (second_of is_scoped _ _ c.requires.scoped c.in-Project.is _ _ (is_scoped-Project c.in-Project.input c.in-Project.items c.in-Project.subs)), rw c.as_slice-in-Project-2.ensures (second_of traceable _ _ c.requires.sourced c.in-Project.is _ _ (traceable-Project c.in-Project.input c.in-Project.items c.in-Project.subs)))
+    (search (rules, the_lemmas), (rw c.as_slice-in-Project-2.ensures (second_of is_scoped _ _ c.requires.0 c.in-Project.is _ _ (is_scoped-Project c.in-Project.input c.in-Project.items c.in-Project.subs)), rw c.as_slice-in-Project-2.ensures (second_of traceable _ _ c.requires.1 c.in-Project.is _ _ (traceable-Project c.in-Project.input c.in-Project.items c.in-Project.subs))))
 
 pub by_rule-project_rule-requires-clause-over_tables : goal.by_rule-project_rule-requires-clause-over_tables
 by_rule-project_rule-requires-clause-over_tables t c =
-    rw c.as_slice-in-Project-4.ensures (subs-sourced _ (second_of traceable _ _ c.requires.sourced c.in-Project.is _ _ (traceable-Project c.in-Project.input c.in-Project.items c.in-Project.subs)))
+    rw c.as_slice-in-Project-4.ensures (subs-sourced _ (second_of traceable _ _ c.requires.1 c.in-Project.is _ _ (traceable-Project c.in-Project.input c.in-Project.items c.in-Project.subs)))
 
 pub by_rule-project_rule-requires-clause-rewritten : goal.by_rule-project_rule-requires-clause-rewritten
 by_rule-project_rule-requires-clause-rewritten t c =
@@ -242,11 +242,11 @@ by_rule-returns-in-Project t c =
 
 pub by_rule-rewriting-lefts-requires : goal.by_rule-rewriting-lefts-requires
 by_rule-rewriting-lefts-requires t c =
-    (search (rules, the_lemmas), rw c.get-in-Join.ensures (left-true _ _ (first_of is_scoped _ _ c.requires.scoped c.in-Join.is _ _ (is_scoped-Join c.in-Join.kind c.in-Join.left c.in-Join.right c.in-Join.condition c.in-Join.subs))), rw c.get-in-Join.ensures (left-true _ _ (first_of traceable _ _ c.requires.sourced c.in-Join.is _ _ (traceable-Join c.in-Join.kind c.in-Join.left c.in-Join.right c.in-Join.condition c.in-Join.subs))))
+    (search (rules, the_lemmas), (rw c.get-in-Join.ensures (left-true _ _ (first_of is_scoped _ _ c.requires.0 c.in-Join.is _ _ (is_scoped-Join c.in-Join.kind c.in-Join.left c.in-Join.right c.in-Join.condition c.in-Join.subs))), rw c.get-in-Join.ensures (left-true _ _ (first_of traceable _ _ c.requires.1 c.in-Join.is _ _ (traceable-Join c.in-Join.kind c.in-Join.left c.in-Join.right c.in-Join.condition c.in-Join.subs)))))
 
 pub by_rule-rewriting-rights-requires : goal.by_rule-rewriting-rights-requires
 by_rule-rewriting-rights-requires t c =
-    (search (rules, the_lemmas), rw c.get-in-Join-2.ensures (right-true _ _ (first_of is_scoped _ _ c.requires.scoped c.in-Join.is _ _ (is_scoped-Join c.in-Join.kind c.in-Join.left c.in-Join.right c.in-Join.condition c.in-Join.subs))), rw c.get-in-Join-2.ensures (right-true _ _ (first_of traceable _ _ c.requires.sourced c.in-Join.is _ _ (traceable-Join c.in-Join.kind c.in-Join.left c.in-Join.right c.in-Join.condition c.in-Join.subs))))
+    (search (rules, the_lemmas), (rw c.get-in-Join-2.ensures (right-true _ _ (first_of is_scoped _ _ c.requires.0 c.in-Join.is _ _ (is_scoped-Join c.in-Join.kind c.in-Join.left c.in-Join.right c.in-Join.condition c.in-Join.subs))), rw c.get-in-Join-2.ensures (right-true _ _ (first_of traceable _ _ c.requires.1 c.in-Join.is _ _ (traceable-Join c.in-Join.kind c.in-Join.left c.in-Join.right c.in-Join.condition c.in-Join.subs)))))
 
 pub by_rule-join_rule-requires-clause-left : goal.by_rule-join_rule-requires-clause-left
 by_rule-join_rule-requires-clause-left t c =
@@ -262,11 +262,11 @@ by_rule-returns-in-Join t c =
 
 pub by_rule-rewriting-lefts-requires-in-Union : goal.by_rule-rewriting-lefts-requires-in-Union
 by_rule-rewriting-lefts-requires-in-Union t c =
-    (search (rules, the_lemmas), rw c.get-in-Union.ensures (first_of is_scoped _ _ c.requires.scoped c.in-Union.is _ _ (is_scoped-Union c.in-Union.all c.in-Union.left c.in-Union.right)), rw c.get-in-Union.ensures (first_of traceable _ _ c.requires.sourced c.in-Union.is _ _ (traceable-Union c.in-Union.all c.in-Union.left c.in-Union.right)))
+    (search (rules, the_lemmas), (rw c.get-in-Union.ensures (first_of is_scoped _ _ c.requires.0 c.in-Union.is _ _ (is_scoped-Union c.in-Union.all c.in-Union.left c.in-Union.right)), rw c.get-in-Union.ensures (first_of traceable _ _ c.requires.1 c.in-Union.is _ _ (traceable-Union c.in-Union.all c.in-Union.left c.in-Union.right))))
 
 pub by_rule-rewriting-rights-requires-in-Union : goal.by_rule-rewriting-rights-requires-in-Union
 by_rule-rewriting-rights-requires-in-Union t c =
-    (search (rules, the_lemmas), rw c.get-in-Union-2.ensures (second_of is_scoped _ _ c.requires.scoped c.in-Union.is _ _ (is_scoped-Union c.in-Union.all c.in-Union.left c.in-Union.right)), rw c.get-in-Union-2.ensures (second_of traceable _ _ c.requires.sourced c.in-Union.is _ _ (traceable-Union c.in-Union.all c.in-Union.left c.in-Union.right)))
+    (search (rules, the_lemmas), (rw c.get-in-Union-2.ensures (second_of is_scoped _ _ c.requires.0 c.in-Union.is _ _ (is_scoped-Union c.in-Union.all c.in-Union.left c.in-Union.right)), rw c.get-in-Union-2.ensures (second_of traceable _ _ c.requires.1 c.in-Union.is _ _ (traceable-Union c.in-Union.all c.in-Union.left c.in-Union.right))))
 
 pub by_rule-union_rule-requires-clause-left : goal.by_rule-union_rule-requires-clause-left
 by_rule-union_rule-requires-clause-left t c =
@@ -282,11 +282,11 @@ by_rule-returns-in-Union t c =
 
 pub by_rule-rewriting-lefts-requires-in-Intersect : goal.by_rule-rewriting-lefts-requires-in-Intersect
 by_rule-rewriting-lefts-requires-in-Intersect t c =
-    (search (rules, the_lemmas), rw c.get-in-Intersect.ensures (first_of is_scoped _ _ c.requires.scoped c.in-Intersect.is _ _ (is_scoped-Intersect c.in-Intersect.all c.in-Intersect.left c.in-Intersect.right)), rw c.get-in-Intersect.ensures (first_of traceable _ _ c.requires.sourced c.in-Intersect.is _ _ (traceable-Intersect c.in-Intersect.all c.in-Intersect.left c.in-Intersect.right)))
+    (search (rules, the_lemmas), (rw c.get-in-Intersect.ensures (first_of is_scoped _ _ c.requires.0 c.in-Intersect.is _ _ (is_scoped-Intersect c.in-Intersect.all c.in-Intersect.left c.in-Intersect.right)), rw c.get-in-Intersect.ensures (first_of traceable _ _ c.requires.1 c.in-Intersect.is _ _ (traceable-Intersect c.in-Intersect.all c.in-Intersect.left c.in-Intersect.right))))
 
 pub by_rule-rewriting-rights-requires-in-Intersect : goal.by_rule-rewriting-rights-requires-in-Intersect
 by_rule-rewriting-rights-requires-in-Intersect t c =
-    (search (rules, the_lemmas), rw c.get-in-Intersect-2.ensures (second_of is_scoped _ _ c.requires.scoped c.in-Intersect.is _ _ (is_scoped-Intersect c.in-Intersect.all c.in-Intersect.left c.in-Intersect.right)), rw c.get-in-Intersect-2.ensures (second_of traceable _ _ c.requires.sourced c.in-Intersect.is _ _ (traceable-Intersect c.in-Intersect.all c.in-Intersect.left c.in-Intersect.right)))
+    (search (rules, the_lemmas), (rw c.get-in-Intersect-2.ensures (second_of is_scoped _ _ c.requires.0 c.in-Intersect.is _ _ (is_scoped-Intersect c.in-Intersect.all c.in-Intersect.left c.in-Intersect.right)), rw c.get-in-Intersect-2.ensures (second_of traceable _ _ c.requires.1 c.in-Intersect.is _ _ (traceable-Intersect c.in-Intersect.all c.in-Intersect.left c.in-Intersect.right))))
 
 pub by_rule-returns-in-Intersect : goal.by_rule-returns-in-Intersect
 by_rule-returns-in-Intersect t c =
@@ -294,19 +294,19 @@ by_rule-returns-in-Intersect t c =
 
 pub by_rule-stand-plain_left-requires : goal.by_rule-stand-plain_left-requires
 by_rule-stand-plain_left-requires t c =
-    (search (rules, the_lemmas), rw c.get-in-Except.ensures (first_of is_scoped _ _ c.requires.scoped c.in-Except.is _ _ (is_scoped-Except c.in-Except.all c.in-Except.left c.in-Except.right)))
+    (search (rules, the_lemmas), rw c.get-in-Except.ensures (first_of is_scoped _ _ c.requires.0 c.in-Except.is _ _ (is_scoped-Except c.in-Except.all c.in-Except.left c.in-Except.right)))
 
 pub by_rule-rewriting-lefts-requires-in-Except : goal.by_rule-rewriting-lefts-requires-in-Except
 by_rule-rewriting-lefts-requires-in-Except t c =
-    (search (rules, the_lemmas), rw c.get-in-Except-2.ensures (first_of is_scoped _ _ c.requires.scoped c.in-Except.is _ _ (is_scoped-Except c.in-Except.all c.in-Except.left c.in-Except.right)), rw c.get-in-Except-2.ensures (first_of traceable _ _ c.requires.sourced c.in-Except.is _ _ (traceable-Except c.in-Except.all c.in-Except.left c.in-Except.right)))
+    (search (rules, the_lemmas), (rw c.get-in-Except-2.ensures (first_of is_scoped _ _ c.requires.0 c.in-Except.is _ _ (is_scoped-Except c.in-Except.all c.in-Except.left c.in-Except.right)), rw c.get-in-Except-2.ensures (first_of traceable _ _ c.requires.1 c.in-Except.is _ _ (traceable-Except c.in-Except.all c.in-Except.left c.in-Except.right))))
 
 pub by_rule-stand-plain_right-requires : goal.by_rule-stand-plain_right-requires
 by_rule-stand-plain_right-requires t c =
-    (search (rules, the_lemmas), rw c.get-in-Except-3.ensures (second_of is_scoped _ _ c.requires.scoped c.in-Except.is _ _ (is_scoped-Except c.in-Except.all c.in-Except.left c.in-Except.right)))
+    (search (rules, the_lemmas), rw c.get-in-Except-3.ensures (second_of is_scoped _ _ c.requires.0 c.in-Except.is _ _ (is_scoped-Except c.in-Except.all c.in-Except.left c.in-Except.right)))
 
 pub by_rule-rewriting-rights-requires-in-Except : goal.by_rule-rewriting-rights-requires-in-Except
 by_rule-rewriting-rights-requires-in-Except t c =
-    (search (rules, the_lemmas), rw c.get-in-Except-4.ensures (second_of is_scoped _ _ c.requires.scoped c.in-Except.is _ _ (is_scoped-Except c.in-Except.all c.in-Except.left c.in-Except.right)), rw c.get-in-Except-4.ensures (second_of traceable _ _ c.requires.sourced c.in-Except.is _ _ (traceable-Except c.in-Except.all c.in-Except.left c.in-Except.right)))
+    (search (rules, the_lemmas), (rw c.get-in-Except-4.ensures (second_of is_scoped _ _ c.requires.0 c.in-Except.is _ _ (is_scoped-Except c.in-Except.all c.in-Except.left c.in-Except.right)), rw c.get-in-Except-4.ensures (second_of traceable _ _ c.requires.1 c.in-Except.is _ _ (traceable-Except c.in-Except.all c.in-Except.left c.in-Except.right))))
 
 pub by_rule-returns-in-Except : goal.by_rule-returns-in-Except
 by_rule-returns-in-Except t c =
@@ -316,7 +316,7 @@ by_rule-returns-in-Except t c =
 
 pub by_rule-rewriting-rows-requires-in-Distinct : goal.by_rule-rewriting-rows-requires-in-Distinct
 by_rule-rewriting-rows-requires-in-Distinct t c =
-    (search (rules, the_lemmas), rw c.get-in-Distinct.ensures (one_of is_scoped _ _ c.requires.scoped c.in-Distinct.is _ (is_scoped-Distinct c.in-Distinct.input)), rw c.get-in-Distinct.ensures (one_of traceable _ _ c.requires.sourced c.in-Distinct.is _ (traceable-Distinct c.in-Distinct.input)))
+    (search (rules, the_lemmas), (rw c.get-in-Distinct.ensures (one_of is_scoped _ _ c.requires.0 c.in-Distinct.is _ (is_scoped-Distinct c.in-Distinct.input)), rw c.get-in-Distinct.ensures (one_of traceable _ _ c.requires.1 c.in-Distinct.is _ (traceable-Distinct c.in-Distinct.input))))
 
 pub by_rule-distinct_rule-requires : goal.by_rule-distinct_rule-requires
 by_rule-distinct_rule-requires t c =
@@ -328,11 +328,11 @@ by_rule-returns-in-Distinct t c =
 
 pub by_rule-stand-plain_rows-requires : goal.by_rule-stand-plain_rows-requires
 by_rule-stand-plain_rows-requires t c =
-    (search (rules, the_lemmas), rw c.get-in-Aggregate.ensures (one_of is_scoped _ _ c.requires.scoped c.in-Aggregate.is _ (is_scoped-Aggregate c.in-Aggregate.input c.in-Aggregate.groups c.in-Aggregate.aggregates)))
+    (search (rules, the_lemmas), rw c.get-in-Aggregate.ensures (one_of is_scoped _ _ c.requires.0 c.in-Aggregate.is _ (is_scoped-Aggregate c.in-Aggregate.input c.in-Aggregate.groups c.in-Aggregate.aggregates)))
 
 pub by_rule-rewriting-rows-requires-in-Aggregate : goal.by_rule-rewriting-rows-requires-in-Aggregate
 by_rule-rewriting-rows-requires-in-Aggregate t c =
-    (search (rules, the_lemmas), rw c.get-in-Aggregate-2.ensures (one_of is_scoped _ _ c.requires.scoped c.in-Aggregate.is _ (is_scoped-Aggregate c.in-Aggregate.input c.in-Aggregate.groups c.in-Aggregate.aggregates)), rw c.get-in-Aggregate-2.ensures (one_of traceable _ _ c.requires.sourced c.in-Aggregate.is _ (traceable-Aggregate c.in-Aggregate.input c.in-Aggregate.groups c.in-Aggregate.aggregates)))
+    (search (rules, the_lemmas), (rw c.get-in-Aggregate-2.ensures (one_of is_scoped _ _ c.requires.0 c.in-Aggregate.is _ (is_scoped-Aggregate c.in-Aggregate.input c.in-Aggregate.groups c.in-Aggregate.aggregates)), rw c.get-in-Aggregate-2.ensures (one_of traceable _ _ c.requires.1 c.in-Aggregate.is _ (traceable-Aggregate c.in-Aggregate.input c.in-Aggregate.groups c.in-Aggregate.aggregates))))
 
 pub by_rule-returns-in-Aggregate : goal.by_rule-returns-in-Aggregate
 by_rule-returns-in-Aggregate t c =
@@ -341,11 +341,11 @@ by_rule-returns-in-Aggregate t c =
 
 pub by_rule-stand-plain_rows-requires-in-Limit : goal.by_rule-stand-plain_rows-requires-in-Limit
 by_rule-stand-plain_rows-requires-in-Limit t c =
-    (search (rules, the_lemmas), rw c.get-in-Limit.ensures (one_of is_scoped _ _ c.requires.scoped c.in-Limit.is _ (is_scoped-Limit c.in-Limit.input c.in-Limit.keys c.in-Limit.count)))
+    (search (rules, the_lemmas), rw c.get-in-Limit.ensures (one_of is_scoped _ _ c.requires.0 c.in-Limit.is _ (is_scoped-Limit c.in-Limit.input c.in-Limit.keys c.in-Limit.count)))
 
 pub by_rule-rewriting-rows-requires-in-Limit : goal.by_rule-rewriting-rows-requires-in-Limit
 by_rule-rewriting-rows-requires-in-Limit t c =
-    (search (rules, the_lemmas), rw c.get-in-Limit-2.ensures (one_of is_scoped _ _ c.requires.scoped c.in-Limit.is _ (is_scoped-Limit c.in-Limit.input c.in-Limit.keys c.in-Limit.count)), rw c.get-in-Limit-2.ensures (one_of traceable _ _ c.requires.sourced c.in-Limit.is _ (traceable-Limit c.in-Limit.input c.in-Limit.keys c.in-Limit.count)))
+    (search (rules, the_lemmas), (rw c.get-in-Limit-2.ensures (one_of is_scoped _ _ c.requires.0 c.in-Limit.is _ (is_scoped-Limit c.in-Limit.input c.in-Limit.keys c.in-Limit.count)), rw c.get-in-Limit-2.ensures (one_of traceable _ _ c.requires.1 c.in-Limit.is _ (traceable-Limit c.in-Limit.input c.in-Limit.keys c.in-Limit.count))))
 
 pub by_rule-returns-in-Limit : goal.by_rule-returns-in-Limit
 by_rule-returns-in-Limit t c =
@@ -355,8 +355,10 @@ by_rule-returns-in-Limit t c =
 pub rewritten_subs-rewriting-query-requires : goal.rewritten_subs-rewriting-query-requires
 rewritten_subs-rewriting-query-requires t c = (
   search (rules, the_lemmas),
-  at_each (λ sub. is_scoped sub.query) all_scoped (λ sub subs. refl) c.args.subs.now c.loop-sub.sub-index c.sub-item.result c.requires.scoped c.loop-sub-test.true c.sub-item.is,
-  right-true _ _ (at_each (λ sub. over_tables sub.query && traceable sub.query) all_traceable (λ sub subs. refl) c.args.subs.now c.loop-sub.sub-index c.sub-item.result c.requires.sourced c.loop-sub-test.true c.sub-item.is),
+  (
+    at_each (λ sub. is_scoped sub.query) all_scoped (λ sub subs. refl) c.args.subs.now c.loop-sub.sub-index c.sub-item.result c.requires.0 c.loop-sub-test.true c.sub-item.is,
+    right-true _ _ (at_each (λ sub. over_tables sub.query && traceable sub.query) all_traceable (λ sub subs. refl) c.args.subs.now c.loop-sub.sub-index c.sub-item.result c.requires.1 c.loop-sub-test.true c.sub-item.is),
+  ),
 )
 
 pub rewritten_subs-loop-sub-preserved : goal.rewritten_subs-loop-sub-preserved
