@@ -6,19 +6,14 @@ ghost use Rattle.query_congruence.specs.Standing.{SubsStand};
 ghost use Rattle.query_measures.specs.BuiltScopes.{all_scoped, all_traceable};
 ghost use Rattle.sublink_laws.specs.SubRewritings.{SubsRewritten};
 
-use crate::nodes::table;
-use crate::places::has_places;
-use crate::rules::{
-    aggregate_rule, base_rule, distinct_rule, except_rule, filter_rule, intersect_rule, join_rule,
-    limit_rule, project_rule, union_rule,
-};
-use crate::standing::{
-    aggregate_standing, distinct_standing, except_standing, filter_standing, intersect_standing,
-    join_standing, limit_standing, project_standing, provenance_standing, union_standing,
-};
-use crate::sublinks::{add_rewriting, add_standing};
 use bag_algebra::{Query, Sublink};
 use perm_values::{List, NoMemory};
+use rewrite_steps::{
+    add_rewriting, add_standing, aggregate_rule, aggregate_standing, base_rule, distinct_rule,
+    distinct_standing, except_rule, except_standing, filter_rule, filter_standing, has_places,
+    intersect_rule, intersect_standing, join_rule, join_standing, limit_rule, limit_standing,
+    project_rule, project_standing, provenance_standing, table, union_rule, union_standing,
+};
 use std::alloc::Global;
 
 /// A plain query that stands for the query, in whose place it may run: of the same kinds, well formed under all outer kinds

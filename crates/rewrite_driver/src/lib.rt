@@ -2,10 +2,5 @@
 #![tactic(auto)]
 
 mod driver;
-mod nodes;
-mod places;
-mod rules;
-mod standing;
-mod sublinks;
 
 pub use driver::eliminate;

@@ -11,10 +11,10 @@ use Rattle.query_congruence.specs.Standing.{SubsStand}
 use Rattle.query_measures.specs.BuiltScopes.{all_scoped, all_traceable, is_scoped-Base, is_scoped-Filter, is_scoped-Project, is_scoped-Join, is_scoped-Union, is_scoped-Intersect, is_scoped-Except, is_scoped-Distinct, is_scoped-Aggregate, is_scoped-Limit, is_scoped-Prov, traceable-Filter, traceable-Project, traceable-Join, traceable-Union, traceable-Intersect, traceable-Except, traceable-Distinct, traceable-Aggregate, traceable-Limit}
 use Rattle.rewriting_laws.proofs.Itself.{stands-Table, stands-Single}
 use Rattle.rewriting_laws.proofs.JoinSublinks.{rewrite-Join}
-use Rattle.rewrite_driver.proofs.MadeQueries.{stands_made, stands_where, rewrites_where, rewrites_without_places}
-use Rattle.rewrite_driver.proofs.Scopes.{one_of, first_of, second_of, at_each, subs-sourced}
+use Rattle.rewrite_steps.proofs.MadeQueries.{stands_made, stands_where, rewrites_where, rewrites_without_places}
+use Rattle.rewrite_steps.proofs.Scopes.{one_of, first_of, second_of, at_each, subs-sourced}
 use Rattle.rewrite_driver.proofs.driver.+stand.Goals as goal
-use Rattle.rewrite_driver.specs.Places.{is_some_place, has_places}
+use Rattle.rewrite_steps.specs.Places.{is_some_place, has_places}
 use Rattle.sublink_laws.specs.SubRewritings.{SubsRewritten}
 
 pub stand-stand-requires : goal.stand-stand-requires

@@ -1,0 +1,3 @@
+pub mod MadeQueries
+pub mod Scopes
+pub mod SublinkLists

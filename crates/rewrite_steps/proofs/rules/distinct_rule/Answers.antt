@@ -1,0 +1,11 @@
+use Rattle.bag_algebra.specs.Rewriting.{IsRewrite}
+use Rattle.rewrite_steps.proofs.MadeQueries.{opened}
+use Rattle.rewrite_steps.proofs.rules.distinct_rule.Goals as goal
+
+pub distinct-requires : goal.distinct-requires
+distinct-requires c =
+    opened (λ r. IsRewrite c.args.input.now r) c.args.rewriting _ c.in_ok-rewriting.was c.requires
+
+pub returns : goal.returns
+returns c =
+    c.distinct.ensures.rewrites

@@ -1,0 +1,10 @@
+use Rattle.bag_algebra.specs.Rewriting.{Stands}
+use Rattle.bag_algebra.specs.declared.query.Query.TheVariants.{Distinct}
+use Rattle.query_congruence.proofs.StandingNodes.{stands-Distinct}
+use Rattle.query_parts.proofs.NodeQueries.{of_made}
+use Rattle.rewrite_steps.proofs.MadeQueries.{opened}
+use Rattle.rewrite_steps.proofs.standing.distinct_standing.Goals as goal
+
+pub returns : goal.returns
+returns c q h =
+    of_made (λ p. Stands (Distinct q) p) c.distinct_over.result _ c.distinct_over.ensures (stands-Distinct q _ (opened (λ b. Stands q b) c.args.input _ c.in_ok-input.was h))

@@ -1,0 +1,10 @@
+use Rattle.bag_algebra.specs.Rewriting.{Stands}
+use Rattle.bag_algebra.specs.declared.query.Query.TheVariants.{Intersect}
+use Rattle.query_congruence.proofs.StandingNodes.{stands-Intersect}
+use Rattle.query_parts.proofs.NodeQueries.{of_made}
+use Rattle.rewrite_steps.proofs.MadeQueries.{opened}
+use Rattle.rewrite_steps.proofs.standing.intersect_standing.Goals as goal
+
+pub returns : goal.returns
+returns c q r h i =
+    of_made (λ p. Stands (Intersect c.args.all q r) p) c.intersect_over.result _ c.intersect_over.ensures (stands-Intersect q _ (opened (λ b. Stands q b) c.args.left _ c.in_ok-left.was h) r _ (opened (λ b. Stands r b) c.args.right _ c.in_ok-right.was i) c.args.all)

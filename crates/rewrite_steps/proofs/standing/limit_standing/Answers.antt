@@ -1,0 +1,10 @@
+use Rattle.bag_algebra.specs.Rewriting.{Stands}
+use Rattle.bag_algebra.specs.declared.query.Query.TheVariants.{Limit}
+use Rattle.query_congruence.proofs.StandingNodes.{stands-Limit}
+use Rattle.query_parts.proofs.NodeQueries.{of_made}
+use Rattle.rewrite_steps.proofs.MadeQueries.{opened}
+use Rattle.rewrite_steps.proofs.standing.limit_standing.Goals as goal
+
+pub returns : goal.returns
+returns c q h =
+    of_made (λ p. Stands (Limit q c.args.keys.now c.args.count) p) c.limit_over.result _ c.limit_over.ensures (stands-Limit q _ (opened (λ b. Stands q b) c.args.input _ c.in_ok-input.was h) c.args.keys.now c.args.count)

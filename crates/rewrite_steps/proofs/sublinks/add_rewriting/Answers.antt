@@ -1,0 +1,10 @@
+use Rattle.std.proofs.Common.{◌∷◌, ◌++◌, []}
+use Rattle.bag_algebra.specs.Rewriting.{IsRewrite}
+use Rattle.rewrite_steps.proofs.MadeQueries.{opened, appended}
+use Rattle.rewrite_steps.proofs.SublinkLists.{rewritten-more}
+use Rattle.sublink_laws.specs.SubRewritings.{SubsRewritten}
+use Rattle.rewrite_steps.proofs.sublinks.add_rewriting.Goals as goal
+
+pub returns : goal.returns
+returns c subs sub h k =
+    appended (SubsRewritten (subs ++ sub ∷ [])) _ _ _ c.push.ensures.ok (rewritten-more subs _ sub _ h (opened (λ p. IsRewrite sub.query p) c.args.query _ c.in_ok-query.was k))

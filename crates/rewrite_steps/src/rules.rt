@@ -1,0 +1,202 @@
+//! The rules of nodes over the results of the calls that make what they take.
+ghost use Rattle.std.specs.Prelude.{[], IfOk, IsTrue};
+ghost use Rattle.bag_algebra.specs.Rewriting.{IsRewrite, Stands};
+ghost use Rattle.bag_algebra.specs.declared.query.Label.{Label as Named};
+ghost use Rattle.bag_algebra.specs.declared.query.Query.TheVariants.{Base, Filter, Project, Join, Union, Intersect, Except, Distinct, Aggregate, Limit};
+ghost use Rattle.bag_algebra.specs.declared.query.Query.{Query as Node};
+ghost use Rattle.query_congruence.specs.Standing.{SubsStand};
+ghost use Rattle.query_measures.specs.BuiltScopes.{all_over_tables};
+ghost use Rattle.sublink_laws.specs.SubRewritings.{SubsRewritten};
+
+use bag_algebra::{Aggr, Expr, Item, JoinKind, Query, Sublink};
+use perm_values::{Key, List, NoMemory};
+use rewrite_aggregate::aggregate;
+use rewrite_core::{base, distinct, filter, join, project, union_of};
+use rewrite_sets::{except, intersect, limit};
+use rewrite_sublink::{filter_with, project_with};
+use std::alloc::Global;
+
+pub fn base_rule(
+    alloc: Global,
+    plain: Result<Query, NoMemory>,
+    places: &[usize],
+) -> Result<Query, NoMemory>
+    ensures { (q : Node) (label : Named) → IfOk plain (λ b. Stands q b) → IfOk result (λ p. IsRewrite (Base q places.now label) p) }
+{
+    let plain = plain?;
+    base(alloc, plain, places)
+}
+
+pub fn filter_rule(
+    alloc: Global,
+    input: &Query,
+    rewriting: Result<Query, NoMemory>,
+    condition: &Expr,
+    subs: &[Sublink],
+    plain: Result<List<Sublink>, NoMemory>,
+    rewritings: Result<List<Query>, NoMemory>,
+) -> Result<Query, NoMemory>
+    requires over_tables { IsTrue (all_over_tables subs.now) }
+    requires rewritten { IfOk rewriting (λ r. IsRewrite input.now r) }
+    requires subs_stand { IfOk plain (λ others. SubsStand subs.now others) }
+    requires subs_rewritten { IfOk rewritings (λ rs. SubsRewritten subs.now rs) }
+    ensures { IfOk result (λ p. IsRewrite (Filter input.now condition.now subs.now) p) }
+{
+    let rewriting = rewriting?;
+    if subs.is_empty() {
+        return filter(alloc, input, rewriting, condition);
+    }
+    let plain = plain?;
+    let rewritings = rewritings?;
+    filter_with(
+        alloc,
+        input,
+        rewriting,
+        condition,
+        subs,
+        plain.as_slice(),
+        rewritings,
+    )
+}
+
+pub fn project_rule(
+    alloc: Global,
+    input: &Query,
+    rewriting: Result<Query, NoMemory>,
+    items: &[Item],
+    subs: &[Sublink],
+    plain: Result<List<Sublink>, NoMemory>,
+    rewritings: Result<List<Query>, NoMemory>,
+) -> Result<Query, NoMemory>
+    requires over_tables { IsTrue (all_over_tables subs.now) }
+    requires rewritten { IfOk rewriting (λ r. IsRewrite input.now r) }
+    requires subs_stand { IfOk plain (λ others. SubsStand subs.now others) }
+    requires subs_rewritten { IfOk rewritings (λ rs. SubsRewritten subs.now rs) }
+    ensures { IfOk result (λ p. IsRewrite (Project input.now items.now subs.now) p) }
+{
+    let rewriting = rewriting?;
+    if subs.is_empty() {
+        return project(alloc, input, rewriting, items);
+    }
+    let plain = plain?;
+    let rewritings = rewritings?;
+    project_with(
+        alloc,
+        input,
+        rewriting,
+        items,
+        subs,
+        plain.as_slice(),
+        rewritings,
+    )
+}
+
+pub fn join_rule(
+    alloc: Global,
+    kind: JoinKind,
+    left: &Query,
+    lefts: Result<Query, NoMemory>,
+    right: &Query,
+    rights: Result<Query, NoMemory>,
+    condition: &Expr,
+) -> Result<Query, NoMemory>
+    requires left { IfOk lefts (λ r. IsRewrite left.now r) }
+    requires right { IfOk rights (λ r. IsRewrite right.now r) }
+    ensures { IfOk result (λ p. IsRewrite (Join kind left.now right.now condition.now []) p) }
+{
+    let lefts = lefts?;
+    let rights = rights?;
+    join(alloc, kind, left, lefts, right, rights, condition)
+}
+
+pub fn union_rule(
+    alloc: Global,
+    all: bool,
+    left: &Query,
+    lefts: Result<Query, NoMemory>,
+    right: &Query,
+    rights: Result<Query, NoMemory>,
+) -> Result<Query, NoMemory>
+    requires left { IfOk lefts (λ r. IsRewrite left.now r) }
+    requires right { IfOk rights (λ r. IsRewrite right.now r) }
+    ensures { IfOk result (λ p. IsRewrite (Union all left.now right.now) p) }
+{
+    let lefts = lefts?;
+    let rights = rights?;
+    union_of(alloc, all, left, lefts, right, rights)
+}
+
+pub fn intersect_rule(
+    alloc: Global,
+    all: bool,
+    left: &Query,
+    lefts: Result<Query, NoMemory>,
+    right: &Query,
+    rights: Result<Query, NoMemory>,
+) -> Result<Query, NoMemory>
+    ensures { IfOk lefts (λ r. IsRewrite left.now r) → IfOk rights (λ r. IsRewrite right.now r) →
+        IfOk result (λ p. IsRewrite (Intersect all left.now right.now) p) }
+{
+    let lefts = lefts?;
+    let rights = rights?;
+    intersect(alloc, all, left, lefts, right, rights)
+}
+
+pub fn except_rule(
+    alloc: Global,
+    all: bool,
+    left: Result<Query, NoMemory>,
+    lefts: Result<Query, NoMemory>,
+    right: Result<Query, NoMemory>,
+    rights: Result<Query, NoMemory>,
+) -> Result<Query, NoMemory>
+    ensures { (q r : Node) → IfOk left (λ b. Stands q b) → IfOk lefts (λ p. IsRewrite q p) →
+        IfOk right (λ d. Stands r d) → IfOk rights (λ p. IsRewrite r p) → IfOk result (λ p. IsRewrite (Except all q r) p) }
+{
+    let left = left?;
+    let lefts = lefts?;
+    let right = right?;
+    let rights = rights?;
+    except(alloc, all, &left, lefts, &right, rights)
+}
+
+pub fn distinct_rule(
+    input: &Query,
+    rewriting: Result<Query, NoMemory>,
+) -> Result<Query, NoMemory>
+    requires { IfOk rewriting (λ r. IsRewrite input.now r) }
+    ensures { IfOk result (λ p. IsRewrite (Distinct input.now) p) }
+{
+    let rewriting = rewriting?;
+    distinct(input, rewriting)
+}
+
+pub fn aggregate_rule(
+    alloc: Global,
+    plain: Result<Query, NoMemory>,
+    rewriting: Result<Query, NoMemory>,
+    groups: &[usize],
+    aggregates: &[Aggr],
+) -> Result<Query, NoMemory>
+    ensures { (q : Node) → IfOk plain (λ b. Stands q b) → IfOk rewriting (λ r. IsRewrite q r) →
+        IfOk result (λ p. IsRewrite (Aggregate q groups.now aggregates.now) p) }
+{
+    let plain = plain?;
+    let rewriting = rewriting?;
+    aggregate(alloc, &plain, rewriting, groups, aggregates)
+}
+
+pub fn limit_rule(
+    alloc: Global,
+    plain: Result<Query, NoMemory>,
+    rewriting: Result<Query, NoMemory>,
+    keys: &[Key],
+    count: u64,
+) -> Result<Query, NoMemory>
+    ensures { (q : Node) → IfOk plain (λ b. Stands q b) → IfOk rewriting (λ r. IsRewrite q r) →
+        IfOk result (λ p. IsRewrite (Limit q keys.now count) p) }
+{
+    let plain = plain?;
+    let rewriting = rewriting?;
+    limit(alloc, &plain, rewriting, keys, count)
+}
