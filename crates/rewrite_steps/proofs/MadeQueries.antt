@@ -1,6 +1,7 @@
 -- What a call made for a node is made for the query that the node is.
 use Rattle.std.specs.Prelude.{⊤, OnOk, nat_lt}
-use Rattle.std.proofs.Common.{◌≡◌, arith, false, List, [], ◌∷◌, length, Result, Ok, Err, IfOk, refl, sym, ap, ◌∙◌, subst, true, true≢false}
+use Rattle.std.proofs.Common.{◌≡◌, arith, false, List, [], ◌∷◌, length, Result, Ok, Err, IfOk, refl, sym, subst, true≢false}
+use Rattle.std.proofs.lemmas.Bool.Decides.{nat_tests}
 use Rattle.perm_values.specs.declared.no_memory.NoMemory.{NoMemory}
 use Rattle.bag_algebra.specs.Kinds.{shape}
 use Rattle.bag_algebra.specs.Rewriting.{IsRewrite, Stands}
@@ -42,7 +43,7 @@ none_left (x ∷ xs) e = absurd (omega (arith, e))
 
 pub is_some-length : (places : List Place) → (nat_lt 0 (length places)) ≡ is_some_place places
 is_some-length [] = refl
-is_some-length (place ∷ places) = refl
+is_some-length (place ∷ places) = grind (arith, nat_tests)
 
 pub appended : {X : Type 0} (P : List X → Type 0) (xs ys : List X) (result : Result ⊤ NoMemory) → OnOk result (ys ≡ xs) → P xs → OnOk result (P ys)
 appended P xs ys (Ok done) e p = subst P (sym e) p

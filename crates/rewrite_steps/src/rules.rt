@@ -160,10 +160,7 @@ pub fn except_rule(
     except(alloc, all, &left, lefts, &right, rights)
 }
 
-pub fn distinct_rule(
-    input: &Query,
-    rewriting: Result<Query, NoMemory>,
-) -> Result<Query, NoMemory>
+pub fn distinct_rule(input: &Query, rewriting: Result<Query, NoMemory>) -> Result<Query, NoMemory>
     requires { IfOk rewriting (λ r. IsRewrite input.now r) }
     ensures { IfOk result (λ p. IsRewrite (Distinct input.now) p) }
 {
@@ -182,8 +179,21 @@ pub fn aggregate_rule(
         IfOk result (λ p. IsRewrite (Aggregate q groups.now aggregates.now) p) }
 {
     let plain = plain?;
+    aggregate_beside(alloc, &plain, rewriting, groups, aggregates)
+}
+
+fn aggregate_beside(
+    alloc: Global,
+    plain: &Query,
+    rewriting: Result<Query, NoMemory>,
+    groups: &[usize],
+    aggregates: &[Aggr],
+) -> Result<Query, NoMemory>
+    ensures { (q : Node) → Stands q plain.now → IfOk rewriting (λ r. IsRewrite q r) →
+        IfOk result (λ p. IsRewrite (Aggregate q groups.now aggregates.now) p) }
+{
     let rewriting = rewriting?;
-    aggregate(alloc, &plain, rewriting, groups, aggregates)
+    aggregate(alloc, plain, rewriting, groups, aggregates)
 }
 
 pub fn limit_rule(
@@ -197,6 +207,19 @@ pub fn limit_rule(
         IfOk result (λ p. IsRewrite (Limit q keys.now count) p) }
 {
     let plain = plain?;
+    limit_beside(alloc, &plain, rewriting, keys, count)
+}
+
+fn limit_beside(
+    alloc: Global,
+    plain: &Query,
+    rewriting: Result<Query, NoMemory>,
+    keys: &[Key],
+    count: u64,
+) -> Result<Query, NoMemory>
+    ensures { (q : Node) → Stands q plain.now → IfOk rewriting (λ r. IsRewrite q r) →
+        IfOk result (λ p. IsRewrite (Limit q keys.now count) p) }
+{
     let rewriting = rewriting?;
-    limit(alloc, &plain, rewriting, keys, count)
+    limit(alloc, plain, rewriting, keys, count)
 }

@@ -55,7 +55,35 @@ pub fn join_standing(
         IfOk subs (λ others. SubsStand originals others) → IfOk result (λ p. Stands (Join kind q r condition.now originals) p) }
 {
     let left = left?;
+    join_to(alloc, kind, left, right, condition, subs)
+}
+
+fn join_to(
+    alloc: Global,
+    kind: JoinKind,
+    left: Query,
+    right: Result<Query, NoMemory>,
+    condition: &Expr,
+    subs: Result<List<Sublink>, NoMemory>,
+) -> Result<Query, NoMemory>
+    ensures { (q r : Node) (originals : Items Tested) → Stands q left → IfOk right (λ d. Stands r d) →
+        IfOk subs (λ others. SubsStand originals others) → IfOk result (λ p. Stands (Join kind q r condition.now originals) p) }
+{
     let right = right?;
+    join_beside(alloc, kind, left, right, condition, subs)
+}
+
+fn join_beside(
+    alloc: Global,
+    kind: JoinKind,
+    left: Query,
+    right: Query,
+    condition: &Expr,
+    subs: Result<List<Sublink>, NoMemory>,
+) -> Result<Query, NoMemory>
+    ensures { (q r : Node) (originals : Items Tested) → Stands q left → Stands r right →
+        IfOk subs (λ others. SubsStand originals others) → IfOk result (λ p. Stands (Join kind q r condition.now originals) p) }
+{
     let subs = subs?;
     join_over(alloc, kind, left, right, condition, subs)
 }
@@ -102,10 +130,7 @@ pub fn except_standing(
     except_over(alloc, all, left, right)
 }
 
-pub fn distinct_standing(
-    alloc: Global,
-    input: Result<Query, NoMemory>,
-) -> Result<Query, NoMemory>
+pub fn distinct_standing(alloc: Global, input: Result<Query, NoMemory>) -> Result<Query, NoMemory>
     ensures { (q : Node) → IfOk input (λ b. Stands q b) → IfOk result (λ p. Stands (Distinct q) p) }
 {
     let input = input?;

@@ -1,8 +1,6 @@
-use Rattle.bag_algebra.specs.Rewriting.{IsRewrite, Stands}
-use Rattle.bag_algebra.specs.declared.query.Query.TheVariants.{Aggregate}
-use Rattle.rewrite_steps.proofs.MadeQueries.{opened, where_made}
+use Rattle.bag_algebra.specs.Rewriting.{Stands}
+use Rattle.rewrite_steps.proofs.MadeQueries.{opened}
 use Rattle.rewrite_steps.proofs.rules.aggregate_rule.Goals as goal
 
 pub returns : goal.returns
-returns c q h k =
-    where_made _ (λ p. IsRewrite (Aggregate q c.args.groups.now c.args.aggregates.now) p) c.aggregate.result (λ p f. f q (opened (λ b. Stands q b) c.args.plain _ c.in_ok-plain.was h) (opened (λ r. IsRewrite q r) c.args.rewriting _ c.in_ok-rewriting.was k)) c.aggregate.ensures.rewrites
+returns c q h k = c.aggregate_beside.ensures q (opened (λ b. Stands q b) c.args.plain _ c.in_ok-plain.was h) k

@@ -1,4 +1,4 @@
-use Rattle.std.proofs.Common.{◌≡◌, ◌∷◌, ◌++◌, [], sym, subst}
+use Rattle.std.proofs.Common.{◌∷◌, ◌++◌, [], sym, subst}
 use Rattle.bag_algebra.specs.Rewriting.{Stands}
 use Rattle.query_congruence.specs.Standing.{SubsStand}
 use Rattle.rewrite_steps.proofs.MadeQueries.{opened, appended}

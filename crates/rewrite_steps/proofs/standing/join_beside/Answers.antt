@@ -1,0 +1,12 @@
+use Rattle.bag_algebra.specs.Rewriting.{Stands}
+use Rattle.bag_algebra.specs.declared.query.Query.TheVariants.{Join}
+use Rattle.query_congruence.proofs.StandingNodes.{stands-Join}
+use Rattle.query_congruence.specs.Standing.{SubsStand}
+use Rattle.query_parts.proofs.NodeQueries.{of_made}
+use Rattle.rewrite_steps.proofs.MadeQueries.{opened}
+use Rattle.rewrite_steps.proofs.standing.join_beside.Goals as goal
+
+pub returns : goal.returns
+returns c q r originals h i k =
+    of_made (λ p. Stands (Join c.args.kind q r c.args.condition.now originals) p) c.join_over.result _ c.join_over.ensures
+    (stands-Join q _ h r _ i c.args.kind c.args.condition.now originals _ (opened (λ others. SubsStand originals others) c.args.subs _ c.in_ok-subs.was k))
