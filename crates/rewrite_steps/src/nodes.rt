@@ -6,6 +6,7 @@ use bag_algebra::{Aggr, Expr, Item, JoinKind, Query, Sublink};
 use perm_values::{Boxed, Copyable, Key, Kind, List, NoMemory};
 use std::alloc::Global;
 
+/// The table of this identity. It fails only for want of memory.
 pub fn table(alloc: Global, id: u64, kinds: &List<Kind>) -> Result<Query, NoMemory>
     ensures { IfOk result (λ p. p ≡ Table id kinds.now) }
 {

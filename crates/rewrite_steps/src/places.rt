@@ -7,6 +7,7 @@ use contribution::shape;
 use perm_values::NoMemory;
 use std::alloc::Global;
 
+/// Whether PROVENANCE of the query has columns of its own. It fails only for want of memory.
 pub fn has_places(alloc: Global, query: &Query) -> Result<bool, NoMemory>
     ensures { IfOk result (λ found. found ≡ has_places query.now) }
 {

@@ -16,6 +16,7 @@ use rewrite_sets::{except, intersect, limit};
 use rewrite_sublink::{filter_with, project_with};
 use std::alloc::Global;
 
+/// A rewriting of a source whose input this stands for. It fails where that failed, and for want of memory.
 pub fn base_rule(
     alloc: Global,
     plain: Result<Query, NoMemory>,
@@ -27,6 +28,8 @@ pub fn base_rule(
     base(alloc, plain, places)
 }
 
+/// A rewriting of a Filter, of a rewriting of its input, what stands for its sublinks and rewritings of their queries. It fails where
+/// one of these failed, and for want of memory.
 pub fn filter_rule(
     alloc: Global,
     input: &Query,
@@ -59,6 +62,8 @@ pub fn filter_rule(
     )
 }
 
+/// A rewriting of a Project, of a rewriting of its input, what stands for its sublinks and rewritings of their queries. It fails where
+/// one of these failed, and for want of memory.
 pub fn project_rule(
     alloc: Global,
     input: &Query,
@@ -91,6 +96,7 @@ pub fn project_rule(
     )
 }
 
+/// A rewriting of a Join without sublinks, of rewritings of its inputs. It fails where one of these failed, and for want of memory.
 pub fn join_rule(
     alloc: Global,
     kind: JoinKind,
@@ -109,6 +115,7 @@ pub fn join_rule(
     join(alloc, kind, left, lefts, right, rights, condition)
 }
 
+/// A rewriting of a UNION, of rewritings of its inputs. It fails where one of these failed, and for want of memory.
 pub fn union_rule(
     alloc: Global,
     all: bool,
@@ -126,6 +133,7 @@ pub fn union_rule(
     union_of(alloc, all, left, lefts, right, rights)
 }
 
+/// A rewriting of an INTERSECT, of rewritings of its inputs. It fails where one of these failed, and for want of memory.
 pub fn intersect_rule(
     alloc: Global,
     all: bool,
@@ -142,6 +150,8 @@ pub fn intersect_rule(
     intersect(alloc, all, left, lefts, right, rights)
 }
 
+/// A rewriting of an EXCEPT, of what stands for its inputs and of rewritings of them. It fails where one of these failed, and for
+/// want of memory.
 pub fn except_rule(
     alloc: Global,
     all: bool,
@@ -160,6 +170,7 @@ pub fn except_rule(
     except(alloc, all, &left, lefts, &right, rights)
 }
 
+/// A rewriting of a DISTINCT, which is one of its input. It fails where that failed.
 pub fn distinct_rule(input: &Query, rewriting: Result<Query, NoMemory>) -> Result<Query, NoMemory>
     requires { IfOk rewriting (λ r. IsRewrite input.now r) }
     ensures { IfOk result (λ p. IsRewrite (Distinct input.now) p) }
@@ -168,6 +179,8 @@ pub fn distinct_rule(input: &Query, rewriting: Result<Query, NoMemory>) -> Resul
     distinct(input, rewriting)
 }
 
+/// A rewriting of an Aggregate, of what stands for its input and of a rewriting of it. It fails where one of these failed, and for want of
+/// memory.
 pub fn aggregate_rule(
     alloc: Global,
     plain: Result<Query, NoMemory>,
@@ -196,6 +209,8 @@ fn aggregate_beside(
     aggregate(alloc, plain, rewriting, groups, aggregates)
 }
 
+/// A rewriting of a LIMIT, of what stands for its input and of a rewriting of it. It fails where one of these failed, and for want of
+/// memory.
 pub fn limit_rule(
     alloc: Global,
     plain: Result<Query, NoMemory>,

@@ -15,6 +15,7 @@ use bag_algebra::{Aggr, Expr, Item, JoinKind, Query, Sublink};
 use perm_values::{Key, List, NoMemory};
 use std::alloc::Global;
 
+/// What stands for a Filter over what stands for its input and its sublinks. It fails where one of these failed, and for want of memory.
 pub fn filter_standing(
     alloc: Global,
     input: Result<Query, NoMemory>,
@@ -29,6 +30,7 @@ pub fn filter_standing(
     filter_over(alloc, input, condition, subs)
 }
 
+/// What stands for a Project over what stands for its input and its sublinks. It fails where one of these failed, and for want of memory.
 pub fn project_standing(
     alloc: Global,
     input: Result<Query, NoMemory>,
@@ -43,6 +45,7 @@ pub fn project_standing(
     project_over(alloc, input, items, subs)
 }
 
+/// What stands for a Join over what stands for its inputs and its sublinks. It fails where one of these failed, and for want of memory.
 pub fn join_standing(
     alloc: Global,
     kind: JoinKind,
@@ -88,6 +91,7 @@ fn join_beside(
     join_over(alloc, kind, left, right, condition, subs)
 }
 
+/// What stands for a UNION over what stands for its inputs. It fails where one of these failed, and for want of memory.
 pub fn union_standing(
     alloc: Global,
     all: bool,
@@ -102,6 +106,7 @@ pub fn union_standing(
     union_over(alloc, all, left, right)
 }
 
+/// What stands for an INTERSECT over what stands for its inputs. It fails where one of these failed, and for want of memory.
 pub fn intersect_standing(
     alloc: Global,
     all: bool,
@@ -116,6 +121,7 @@ pub fn intersect_standing(
     intersect_over(alloc, all, left, right)
 }
 
+/// What stands for an EXCEPT over what stands for its inputs. It fails where one of these failed, and for want of memory.
 pub fn except_standing(
     alloc: Global,
     all: bool,
@@ -130,6 +136,7 @@ pub fn except_standing(
     except_over(alloc, all, left, right)
 }
 
+/// What stands for a DISTINCT over what stands for its input. It fails where one of these failed, and for want of memory.
 pub fn distinct_standing(alloc: Global, input: Result<Query, NoMemory>) -> Result<Query, NoMemory>
     ensures { (q : Node) → IfOk input (λ b. Stands q b) → IfOk result (λ p. Stands (Distinct q) p) }
 {
@@ -137,6 +144,7 @@ pub fn distinct_standing(alloc: Global, input: Result<Query, NoMemory>) -> Resul
     distinct_over(alloc, input)
 }
 
+/// What stands for an Aggregate over what stands for its input. It fails where one of these failed, and for want of memory.
 pub fn aggregate_standing(
     alloc: Global,
     input: Result<Query, NoMemory>,
@@ -149,6 +157,7 @@ pub fn aggregate_standing(
     aggregate_over(alloc, input, groups, aggregates)
 }
 
+/// What stands for a LIMIT over what stands for its input. It fails where one of these failed, and for want of memory.
 pub fn limit_standing(
     alloc: Global,
     input: Result<Query, NoMemory>,

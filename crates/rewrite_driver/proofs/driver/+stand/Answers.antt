@@ -1,7 +1,7 @@
-use Rattle.std.proofs.Common.{◌≡◌, Bool, true, ◌&&◌, IsTrue, List, take, refl, sym, ap, ◌∙◌, subst}
+use Rattle.std.proofs.Common.{◌&&◌, take, refl, sym, ap, ◌∙◌, subst, rules}
 use Rattle.bag_algebra.proofs.Truths.{left-true, right-true}
 use Rattle.bag_algebra.specs.Built.{shape-Prov}
-use Rattle.bag_algebra.specs.Rewriting.{IsRewrite, Stands}
+use Rattle.bag_algebra.specs.Rewriting.{Stands}
 use Rattle.bag_algebra.specs.Scoped.{is_scoped, over_tables, traceable}
 use Rattle.bag_algebra.specs.declared.query.Query.{the_lemmas}
 use Rattle.bag_algebra.specs.declared.query.Query.TheVariants.{Single}
@@ -148,7 +148,7 @@ stand_subs-stand-query-requires t c =
 
 pub stand_subs-loop-sub-preserved : goal.stand_subs-loop-sub-preserved
 stand_subs-loop-sub-preserved t c =
-    subst (λ subs. SubsStand subs _) (sym (one_more c.args.subs.now c.loop-sub.sub-index c.sub-item.result c.loop-sub-test.true c.sub-item.is))
+    subst (λ subs. SubsStand subs c.add_standing.new.others) (sym (one_more c.args.subs.now c.loop-sub.sub-index c.sub-item.result c.loop-sub-test.true c.sub-item.is))
     (c.in_ok-add_standing.ensures (take c.loop-sub.sub-index c.args.subs.now) c.loop-sub.invariant c.stand-query.ensures)
 
 pub rewriting-returns-else-found : goal.rewriting-returns-else-found
@@ -190,7 +190,7 @@ by_rule-rewritten_subs-traced-requires t c =
 
 pub by_rule-filter_rule-requires-clause-over_tables : goal.by_rule-filter_rule-requires-clause-over_tables
 by_rule-filter_rule-requires-clause-over_tables t c =
-    rw c.as_slice-in-Filter-3.ensures (subs-sourced _ (second_of traceable _ _ c.requires.1 c.in-Filter.is _ _ (traceable-Filter c.in-Filter.input c.in-Filter.condition c.in-Filter.subs)))
+    rw c.as_slice-in-Filter-3.ensures (subs-sourced c.in-Filter.subs (second_of traceable _ _ c.requires.1 c.in-Filter.is (traceable c.in-Filter.input) (all_traceable c.in-Filter.subs) (traceable-Filter c.in-Filter.input c.in-Filter.condition c.in-Filter.subs)))
 
 pub by_rule-filter_rule-requires-clause-rewritten : goal.by_rule-filter_rule-requires-clause-rewritten
 by_rule-filter_rule-requires-clause-rewritten t c =
@@ -222,7 +222,7 @@ by_rule-rewritten_subs-traced-requires-in-Project t c =
 
 pub by_rule-project_rule-requires-clause-over_tables : goal.by_rule-project_rule-requires-clause-over_tables
 by_rule-project_rule-requires-clause-over_tables t c =
-    rw c.as_slice-in-Project-4.ensures (subs-sourced _ (second_of traceable _ _ c.requires.1 c.in-Project.is _ _ (traceable-Project c.in-Project.input c.in-Project.items c.in-Project.subs)))
+    rw c.as_slice-in-Project-4.ensures (subs-sourced c.in-Project.subs (second_of traceable _ _ c.requires.1 c.in-Project.is (traceable c.in-Project.input) (all_traceable c.in-Project.subs) (traceable-Project c.in-Project.input c.in-Project.items c.in-Project.subs)))
 
 pub by_rule-project_rule-requires-clause-rewritten : goal.by_rule-project_rule-requires-clause-rewritten
 by_rule-project_rule-requires-clause-rewritten t c =
@@ -363,5 +363,5 @@ rewritten_subs-rewriting-query-requires t c = (
 
 pub rewritten_subs-loop-sub-preserved : goal.rewritten_subs-loop-sub-preserved
 rewritten_subs-loop-sub-preserved t c =
-    subst (λ subs. SubsRewritten subs _) (sym (one_more c.args.subs.now c.loop-sub.sub-index c.sub-item.result c.loop-sub-test.true c.sub-item.is))
+    subst (λ subs. SubsRewritten subs c.add_rewriting.new.rewritings) (sym (one_more c.args.subs.now c.loop-sub.sub-index c.sub-item.result c.loop-sub-test.true c.sub-item.is))
     (c.in_ok-add_rewriting.ensures (take c.loop-sub.sub-index c.args.subs.now) c.sub-item.result c.loop-sub.invariant c.rewriting-query.ensures)
