@@ -1,6 +1,5 @@
 //! Copies of names and of what is made of names alone.
 use crate::copy_tree::CopyTree;
-use crate::parts::pair;
 use perm_values::{Copyable, NoMemory};
 use sql_tree::{ColRef, Name, OrderKey, OrderTree, ScopeMark};
 use std::alloc::Global;
@@ -16,11 +15,10 @@ impl CopyTree for Name {
 
 impl CopyTree for ColRef {
     fn copy_tree(&self, alloc: Global) -> Result<ColRef, NoMemory> {
-        let (table, name) = pair(self.table.copy_tree(alloc), self.name.copy_tree(alloc))?;
         Ok(ColRef {
             at: self.at,
-            table,
-            name,
+            table: self.table.copy_tree(alloc)?,
+            name: self.name.copy_tree(alloc)?,
         })
     }
 }

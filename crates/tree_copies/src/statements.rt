@@ -1,6 +1,5 @@
 //! Copies of statements.
 use crate::copy_tree::CopyTree;
-use crate::parts::pair;
 use perm_values::{Copyable, NoMemory};
 use sql_tree::{ColumnDef, Script, Statement, StatementBody, ValuesRow};
 use std::alloc::Global;
@@ -25,41 +24,37 @@ impl CopyTree for Statement {
 impl CopyTree for StatementBody {
     fn copy_tree(&self, alloc: Global) -> Result<StatementBody, NoMemory> {
         match self {
-            StatementBody::CreateTable { table, columns } => {
-                let (table, columns) = pair(table.copy_tree(alloc), columns.copy_tree(alloc))?;
-                Ok(StatementBody::CreateTable { table, columns })
-            }
-            StatementBody::CreateTableAs { table, query } => {
-                let (table, query) = pair(table.copy_tree(alloc), query.copy_tree(alloc))?;
-                Ok(StatementBody::CreateTableAs { table, query })
-            }
-            StatementBody::CreateView { view, query } => {
-                let (view, query) = pair(view.copy_tree(alloc), query.copy_tree(alloc))?;
-                Ok(StatementBody::CreateView { view, query })
-            }
+            StatementBody::CreateTable { table, columns } => Ok(StatementBody::CreateTable {
+                table: table.copy_tree(alloc)?,
+                columns: columns.copy_tree(alloc)?,
+            }),
+            StatementBody::CreateTableAs { table, query } => Ok(StatementBody::CreateTableAs {
+                table: table.copy_tree(alloc)?,
+                query: query.copy_tree(alloc)?,
+            }),
+            StatementBody::CreateView { view, query } => Ok(StatementBody::CreateView {
+                view: view.copy_tree(alloc)?,
+                query: query.copy_tree(alloc)?,
+            }),
             StatementBody::Copy {
                 table,
                 file,
                 header,
                 mark,
-            } => {
-                let texts = pair(file.copy(alloc), mark.copy(alloc));
-                let (table, (file, mark)) = pair(table.copy_tree(alloc), texts)?;
-                Ok(StatementBody::Copy {
-                    table,
-                    file,
-                    header: *header,
-                    mark,
-                })
-            }
-            StatementBody::Insert { table, rows } => {
-                let (table, rows) = pair(table.copy_tree(alloc), rows.copy_tree(alloc))?;
-                Ok(StatementBody::Insert { table, rows })
-            }
-            StatementBody::Delete { table, condition } => {
-                let (table, condition) = pair(table.copy_tree(alloc), condition.copy_tree(alloc))?;
-                Ok(StatementBody::Delete { table, condition })
-            }
+            } => Ok(StatementBody::Copy {
+                table: table.copy_tree(alloc)?,
+                file: file.copy(alloc)?,
+                header: *header,
+                mark: mark.copy(alloc)?,
+            }),
+            StatementBody::Insert { table, rows } => Ok(StatementBody::Insert {
+                table: table.copy_tree(alloc)?,
+                rows: rows.copy_tree(alloc)?,
+            }),
+            StatementBody::Delete { table, condition } => Ok(StatementBody::Delete {
+                table: table.copy_tree(alloc)?,
+                condition: condition.copy_tree(alloc)?,
+            }),
             StatementBody::DropTable { table } => Ok(StatementBody::DropTable {
                 table: table.copy_tree(alloc)?,
             }),

@@ -1,9 +1,7 @@
 //! Copies of the cycle of trees: expressions, queries and what stands in FROM.
 ghost use Rattle.std.specs.Prelude.{◌≡◌, IfOk};
 
-use crate::bodies;
 use crate::copy_tree::CopyTree;
-use crate::parts::{Part, boxed, pair, push, some};
 use perm_values::{Boxed, Copyable, List, NoMemory};
 use sql_tree::{
     ArmTree, Core, ExprBody, ExprStep, ExprTree, FromItem, FromSource, FromTree, JoinStep,
@@ -90,7 +88,7 @@ impl CopyTree for FromSource {
 }
 
 #[cycle(copy_tree)]
-fn copy_expr(alloc: Global, expr: &ExprTree) -> Part<ExprTree>
+fn copy_expr(alloc: Global, expr: &ExprTree) -> Result<ExprTree, NoMemory>
     ensures { IfOk result (λ copy. copy ≡ expr.now) }
 {
     Ok(ExprTree {
@@ -100,139 +98,41 @@ fn copy_expr(alloc: Global, expr: &ExprTree) -> Part<ExprTree>
 }
 
 #[cycle(copy_tree)]
-fn copy_body(alloc: Global, body: &ExprBody) -> Part<ExprBody>
-    ensures { IfOk result (λ copy. copy ≡ body.now) }
+fn copy_boxed(alloc: Global, part: &Boxed<ExprTree>) -> Result<Boxed<ExprTree>, NoMemory>
+    ensures { IfOk result (λ copy. copy ≡ part.now) }
 {
-    match body {
-        ExprBody::Null => Ok(ExprBody::Null),
-        ExprBody::NullOf(kind) => Ok(ExprBody::NullOf(*kind)),
-        ExprBody::Integer(number) => Ok(ExprBody::Integer(*number)),
-        ExprBody::Text(text) => bodies::text(text.copy(alloc)),
-        ExprBody::Truth(truth) => Ok(ExprBody::Truth(*truth)),
-        ExprBody::Column(column) => bodies::column(column.copy_tree(alloc)),
-        ExprBody::Paren(part) => bodies::paren(copy_boxed(alloc, part)),
-        ExprBody::Nots { count, part } => bodies::nots(*count, copy_boxed(alloc, part)),
-        ExprBody::Signs { count, part } => bodies::signs(*count, copy_boxed(alloc, part)),
-        ExprBody::Logic { op, parts } => bodies::logic(*op, copy_parts(alloc, parts.as_slice())),
-        ExprBody::Chain { first, steps } => {
-            let first = copy_boxed(alloc, first);
-            let steps = copy_steps(alloc, steps.as_slice());
-            bodies::chain(pair(first, steps))
+    Boxed::new(alloc, copy_expr(alloc, part.get())?)
+}
+
+#[cycle(copy_tree)]
+fn copy_optional(
+    alloc: Global,
+    part: &Option<Boxed<ExprTree>>,
+) -> Result<Option<Boxed<ExprTree>>, NoMemory>
+    ensures { IfOk result (λ copy. copy ≡ part.now) }
+{
+    match part {
+        Some(part) => {
+            let copy = copy_expr(alloc, part.get())?;
+            Ok(Some(Boxed::new(alloc, copy)?))
         }
-        ExprBody::Compared { op, first, second } => {
-            let first = copy_boxed(alloc, first);
-            let second = copy_boxed(alloc, second);
-            bodies::compared(*op, pair(first, second))
-        }
-        ExprBody::Like {
-            negated,
-            text,
-            pattern,
-        } => {
-            let text = copy_boxed(alloc, text);
-            let pattern = copy_boxed(alloc, pattern);
-            bodies::like(*negated, pair(text, pattern))
-        }
-        ExprBody::Between {
-            negated,
-            part,
-            low,
-            high,
-        } => {
-            let part = copy_boxed(alloc, part);
-            let low = copy_boxed(alloc, low);
-            let high = copy_boxed(alloc, high);
-            bodies::between(*negated, pair(part, pair(low, high)))
-        }
-        ExprBody::InList {
-            negated,
-            part,
-            list,
-        } => {
-            let part = copy_boxed(alloc, part);
-            let list = copy_parts(alloc, list.as_slice());
-            bodies::in_list(*negated, pair(part, list))
-        }
-        ExprBody::InQuery {
-            negated,
-            part,
-            query,
-        } => {
-            let part = copy_boxed(alloc, part);
-            let query = copy_boxed_query(alloc, query);
-            bodies::in_query(*negated, pair(part, query))
-        }
-        ExprBody::Quantified {
-            every,
-            op,
-            part,
-            query,
-        } => {
-            let part = copy_boxed(alloc, part);
-            let query = copy_boxed_query(alloc, query);
-            bodies::quantified(*every, *op, pair(part, query))
-        }
-        ExprBody::IsNull { negated, part } => bodies::is_null(*negated, copy_boxed(alloc, part)),
-        ExprBody::IsTruth {
-            negated,
-            truth,
-            part,
-        } => bodies::is_truth(*negated, *truth, copy_boxed(alloc, part)),
-        ExprBody::IsDistinct {
-            negated,
-            first,
-            second,
-        } => {
-            let first = copy_boxed(alloc, first);
-            let second = copy_boxed(alloc, second);
-            bodies::is_distinct(*negated, pair(first, second))
-        }
-        ExprBody::Case { arms, otherwise } => {
-            let arms = copy_arms(alloc, arms.as_slice());
-            let otherwise = match otherwise {
-                Some(part) => some(copy_boxed(alloc, part)),
-                None => Ok(None),
-            };
-            bodies::case(pair(arms, otherwise))
-        }
-        ExprBody::Coalesce(parts) => bodies::coalesce(copy_parts(alloc, parts.as_slice())),
-        ExprBody::NullIf { first, second } => {
-            let first = copy_boxed(alloc, first);
-            let second = copy_boxed(alloc, second);
-            bodies::null_if(pair(first, second))
-        }
-        ExprBody::Aggregate { function, argument } => {
-            let argument = match argument {
-                Some(part) => some(copy_boxed(alloc, part)),
-                None => Ok(None),
-            };
-            bodies::aggregate(*function, argument)
-        }
-        ExprBody::Exists(query) => bodies::exists(copy_boxed_query(alloc, query)),
-        ExprBody::Scalar(query) => bodies::scalar(copy_boxed_query(alloc, query)),
+        None => Ok(None),
     }
 }
 
 #[cycle(copy_tree)]
-fn copy_boxed(alloc: Global, part: &Boxed<ExprTree>) -> Part<Boxed<ExprTree>>
-    ensures { IfOk result (λ copy. copy ≡ part.now) }
-{
-    boxed(alloc, copy_expr(alloc, part.get()))
-}
-
-#[cycle(copy_tree)]
-fn copy_parts(alloc: Global, parts: &[ExprTree]) -> Part<List<ExprTree>>
+fn copy_parts(alloc: Global, parts: &[ExprTree]) -> Result<List<ExprTree>, NoMemory>
     ensures { IfOk result (λ copy. copy ≡ parts.now) }
 {
-    let mut copy = List::new(alloc);
+    let mut copy = List::with_room(alloc, parts.len())?;
     for part in parts {
-        push(&mut copy, copy_expr(alloc, part))?;
+        copy.push(copy_expr(alloc, part)?)?;
     }
     Ok(copy)
 }
 
 #[cycle(copy_tree)]
-fn copy_step(alloc: Global, step: &ExprStep) -> Part<ExprStep>
+fn copy_step(alloc: Global, step: &ExprStep) -> Result<ExprStep, NoMemory>
     ensures { IfOk result (λ copy. copy ≡ step.now) }
 {
     Ok(ExprStep {
@@ -242,80 +142,203 @@ fn copy_step(alloc: Global, step: &ExprStep) -> Part<ExprStep>
 }
 
 #[cycle(copy_tree)]
-fn copy_steps(alloc: Global, steps: &[ExprStep]) -> Part<List<ExprStep>>
+fn copy_steps(alloc: Global, steps: &[ExprStep]) -> Result<List<ExprStep>, NoMemory>
     ensures { IfOk result (λ copy. copy ≡ steps.now) }
 {
-    let mut copy = List::new(alloc);
+    let mut copy = List::with_room(alloc, steps.len())?;
     for step in steps {
-        push(&mut copy, copy_step(alloc, step))?;
+        copy.push(copy_step(alloc, step)?)?;
     }
     Ok(copy)
 }
 
 #[cycle(copy_tree)]
-fn copy_arm(alloc: Global, arm: &ArmTree) -> Part<ArmTree>
+fn copy_arm(alloc: Global, arm: &ArmTree) -> Result<ArmTree, NoMemory>
     ensures { IfOk result (λ copy. copy ≡ arm.now) }
 {
-    let condition = copy_expr(alloc, &arm.condition);
-    let value = copy_expr(alloc, &arm.value);
-    let (condition, value) = pair(condition, value)?;
-    Ok(ArmTree { condition, value })
+    Ok(ArmTree {
+        condition: copy_expr(alloc, &arm.condition)?,
+        value: copy_expr(alloc, &arm.value)?,
+    })
 }
 
 #[cycle(copy_tree)]
-fn copy_arms(alloc: Global, arms: &[ArmTree]) -> Part<List<ArmTree>>
+fn copy_arms(alloc: Global, arms: &[ArmTree]) -> Result<List<ArmTree>, NoMemory>
     ensures { IfOk result (λ copy. copy ≡ arms.now) }
 {
-    let mut copy = List::new(alloc);
+    let mut copy = List::with_room(alloc, arms.len())?;
     for arm in arms {
-        push(&mut copy, copy_arm(alloc, arm))?;
+        copy.push(copy_arm(alloc, arm)?)?;
     }
     Ok(copy)
 }
 
 #[cycle(copy_tree)]
-fn copy_query(alloc: Global, query: &QueryTree) -> Part<QueryTree>
+fn copy_body(alloc: Global, body: &ExprBody) -> Result<ExprBody, NoMemory>
+    ensures { IfOk result (λ copy. copy ≡ body.now) }
+{
+    match body {
+        ExprBody::Null => Ok(ExprBody::Null),
+        ExprBody::NullOf(kind) => Ok(ExprBody::NullOf(*kind)),
+        ExprBody::Integer(number) => Ok(ExprBody::Integer(*number)),
+        ExprBody::Text(text) => Ok(ExprBody::Text(text.copy(alloc)?)),
+        ExprBody::Truth(truth) => Ok(ExprBody::Truth(*truth)),
+        ExprBody::Column(column) => Ok(ExprBody::Column(column.copy_tree(alloc)?)),
+        ExprBody::Paren(part) => Ok(ExprBody::Paren(copy_boxed(alloc, part)?)),
+        ExprBody::Nots { count, part } => Ok(ExprBody::Nots {
+            count: *count,
+            part: copy_boxed(alloc, part)?,
+        }),
+        ExprBody::Signs { count, part } => Ok(ExprBody::Signs {
+            count: *count,
+            part: copy_boxed(alloc, part)?,
+        }),
+        ExprBody::Logic { op, parts } => Ok(ExprBody::Logic {
+            op: *op,
+            parts: copy_parts(alloc, parts.as_slice())?,
+        }),
+        ExprBody::Chain { first, steps } => Ok(ExprBody::Chain {
+            first: copy_boxed(alloc, first)?,
+            steps: copy_steps(alloc, steps.as_slice())?,
+        }),
+        ExprBody::Compared { op, first, second } => Ok(ExprBody::Compared {
+            op: *op,
+            first: copy_boxed(alloc, first)?,
+            second: copy_boxed(alloc, second)?,
+        }),
+        ExprBody::Like {
+            negated,
+            text,
+            pattern,
+        } => Ok(ExprBody::Like {
+            negated: *negated,
+            text: copy_boxed(alloc, text)?,
+            pattern: copy_boxed(alloc, pattern)?,
+        }),
+        ExprBody::Between {
+            negated,
+            part,
+            low,
+            high,
+        } => Ok(ExprBody::Between {
+            negated: *negated,
+            part: copy_boxed(alloc, part)?,
+            low: copy_boxed(alloc, low)?,
+            high: copy_boxed(alloc, high)?,
+        }),
+        ExprBody::InList {
+            negated,
+            part,
+            list,
+        } => Ok(ExprBody::InList {
+            negated: *negated,
+            part: copy_boxed(alloc, part)?,
+            list: copy_parts(alloc, list.as_slice())?,
+        }),
+        ExprBody::InQuery {
+            negated,
+            part,
+            query,
+        } => Ok(ExprBody::InQuery {
+            negated: *negated,
+            part: copy_boxed(alloc, part)?,
+            query: copy_boxed_query(alloc, query)?,
+        }),
+        ExprBody::Quantified {
+            every,
+            op,
+            part,
+            query,
+        } => Ok(ExprBody::Quantified {
+            every: *every,
+            op: *op,
+            part: copy_boxed(alloc, part)?,
+            query: copy_boxed_query(alloc, query)?,
+        }),
+        ExprBody::IsNull { negated, part } => Ok(ExprBody::IsNull {
+            negated: *negated,
+            part: copy_boxed(alloc, part)?,
+        }),
+        ExprBody::IsTruth {
+            negated,
+            truth,
+            part,
+        } => Ok(ExprBody::IsTruth {
+            negated: *negated,
+            truth: *truth,
+            part: copy_boxed(alloc, part)?,
+        }),
+        ExprBody::IsDistinct {
+            negated,
+            first,
+            second,
+        } => Ok(ExprBody::IsDistinct {
+            negated: *negated,
+            first: copy_boxed(alloc, first)?,
+            second: copy_boxed(alloc, second)?,
+        }),
+        ExprBody::Case { arms, otherwise } => Ok(ExprBody::Case {
+            arms: copy_arms(alloc, arms.as_slice())?,
+            otherwise: copy_optional(alloc, otherwise)?,
+        }),
+        ExprBody::Coalesce(parts) => {
+            Ok(ExprBody::Coalesce(copy_parts(alloc, parts.as_slice())?))
+        }
+        ExprBody::NullIf { first, second } => Ok(ExprBody::NullIf {
+            first: copy_boxed(alloc, first)?,
+            second: copy_boxed(alloc, second)?,
+        }),
+        ExprBody::Aggregate { function, argument } => Ok(ExprBody::Aggregate {
+            function: *function,
+            argument: copy_optional(alloc, argument)?,
+        }),
+        ExprBody::Exists(query) => Ok(ExprBody::Exists(copy_boxed_query(alloc, query)?)),
+        ExprBody::Scalar(query) => Ok(ExprBody::Scalar(copy_boxed_query(alloc, query)?)),
+    }
+}
+
+#[cycle(copy_tree)]
+fn copy_query(alloc: Global, query: &QueryTree) -> Result<QueryTree, NoMemory>
     ensures { IfOk result (λ copy. copy ≡ query.now) }
 {
-    let body = copy_set(alloc, &query.body);
-    let order = query.order.copy_tree(alloc);
-    let (body, order) = pair(body, order)?;
     Ok(QueryTree {
         at: query.at,
-        body,
-        order,
+        body: copy_set(alloc, &query.body)?,
+        order: query.order.copy_tree(alloc)?,
         limit: query.limit,
     })
 }
 
 #[cycle(copy_tree)]
-fn copy_boxed_query(alloc: Global, query: &Boxed<QueryTree>) -> Part<Boxed<QueryTree>>
+fn copy_boxed_query(alloc: Global, query: &Boxed<QueryTree>) -> Result<Boxed<QueryTree>, NoMemory>
     ensures { IfOk result (λ copy. copy ≡ query.now) }
 {
-    boxed(alloc, copy_query(alloc, query.get()))
+    Boxed::new(alloc, copy_query(alloc, query.get())?)
 }
 
 #[cycle(copy_tree)]
-fn copy_set(alloc: Global, set: &SetTree) -> Part<SetTree>
+fn copy_set(alloc: Global, set: &SetTree) -> Result<SetTree, NoMemory>
     ensures { IfOk result (λ copy. copy ≡ set.now) }
 {
     match set {
-        SetTree::Core(core) => {
-            let copy = boxed(alloc, copy_core(alloc, core.get()))?;
-            Ok(SetTree::Core(copy))
-        }
+        SetTree::Core(core) => Ok(SetTree::Core(copy_boxed_core(alloc, core)?)),
         SetTree::Paren(query) => Ok(SetTree::Paren(copy_boxed_query(alloc, query)?)),
-        SetTree::Chain { first, steps } => {
-            let first = boxed(alloc, copy_set(alloc, first.get()));
-            let steps = copy_set_steps(alloc, steps.as_slice());
-            let (first, steps) = pair(first, steps)?;
-            Ok(SetTree::Chain { first, steps })
-        }
+        SetTree::Chain { first, steps } => Ok(SetTree::Chain {
+            first: copy_boxed_set(alloc, first)?,
+            steps: copy_set_steps(alloc, steps.as_slice())?,
+        }),
     }
 }
 
 #[cycle(copy_tree)]
-fn copy_set_step(alloc: Global, step: &SetStep) -> Part<SetStep>
+fn copy_boxed_set(alloc: Global, set: &Boxed<SetTree>) -> Result<Boxed<SetTree>, NoMemory>
+    ensures { IfOk result (λ copy. copy ≡ set.now) }
+{
+    Boxed::new(alloc, copy_set(alloc, set.get())?)
+}
+
+#[cycle(copy_tree)]
+fn copy_set_step(alloc: Global, step: &SetStep) -> Result<SetStep, NoMemory>
     ensures { IfOk result (λ copy. copy ≡ step.now) }
 {
     Ok(SetStep {
@@ -327,58 +350,62 @@ fn copy_set_step(alloc: Global, step: &SetStep) -> Part<SetStep>
 }
 
 #[cycle(copy_tree)]
-fn copy_set_steps(alloc: Global, steps: &[SetStep]) -> Part<List<SetStep>>
+fn copy_set_steps(alloc: Global, steps: &[SetStep]) -> Result<List<SetStep>, NoMemory>
     ensures { IfOk result (λ copy. copy ≡ steps.now) }
 {
-    let mut copy = List::new(alloc);
+    let mut copy = List::with_room(alloc, steps.len())?;
     for step in steps {
-        push(&mut copy, copy_set_step(alloc, step))?;
+        copy.push(copy_set_step(alloc, step)?)?;
     }
     Ok(copy)
 }
 
 #[cycle(copy_tree)]
-fn copy_core(alloc: Global, core: &Core) -> Part<Core>
+fn copy_boxed_core(alloc: Global, core: &Boxed<Core>) -> Result<Boxed<Core>, NoMemory>
     ensures { IfOk result (λ copy. copy ≡ core.now) }
 {
-    let condition = match &core.condition {
-        Some(condition) => some(copy_expr(alloc, condition)),
-        None => Ok(None),
-    };
-    let having = match &core.having {
-        Some(having) => some(copy_expr(alloc, having)),
-        None => Ok(None),
-    };
-    let items = copy_items(alloc, core.items.as_slice());
-    let sources = copy_sources(alloc, core.sources.as_slice());
-    let groups = core.groups.copy_tree(alloc);
-    let lists = pair(items, pair(sources, groups));
-    let ((items, (sources, groups)), (condition, having)) = pair(lists, pair(condition, having))?;
+    Boxed::new(alloc, copy_core(alloc, core.get())?)
+}
+
+#[cycle(copy_tree)]
+fn copy_core(alloc: Global, core: &Core) -> Result<Core, NoMemory>
+    ensures { IfOk result (λ copy. copy ≡ core.now) }
+{
     Ok(Core {
         at: core.at,
         provenance: core.provenance,
         distinct: core.distinct,
-        items,
-        sources,
-        condition,
-        groups,
-        having,
+        items: copy_items(alloc, core.items.as_slice())?,
+        sources: copy_sources(alloc, core.sources.as_slice())?,
+        condition: copy_condition(alloc, &core.condition)?,
+        groups: core.groups.copy_tree(alloc)?,
+        having: copy_condition(alloc, &core.having)?,
     })
 }
 
 #[cycle(copy_tree)]
-fn copy_items(alloc: Global, items: &[SelectItem]) -> Part<List<SelectItem>>
+fn copy_condition(alloc: Global, condition: &Option<ExprTree>) -> Result<Option<ExprTree>, NoMemory>
+    ensures { IfOk result (λ copy. copy ≡ condition.now) }
+{
+    match condition {
+        Some(condition) => Ok(Some(copy_expr(alloc, condition)?)),
+        None => Ok(None),
+    }
+}
+
+#[cycle(copy_tree)]
+fn copy_items(alloc: Global, items: &[SelectItem]) -> Result<List<SelectItem>, NoMemory>
     ensures { IfOk result (λ copy. copy ≡ items.now) }
 {
-    let mut copy = List::new(alloc);
+    let mut copy = List::with_room(alloc, items.len())?;
     for item in items {
-        push(&mut copy, copy_item(alloc, item))?;
+        copy.push(copy_item(alloc, item)?)?;
     }
     Ok(copy)
 }
 
 #[cycle(copy_tree)]
-fn copy_item(alloc: Global, item: &SelectItem) -> Part<SelectItem>
+fn copy_item(alloc: Global, item: &SelectItem) -> Result<SelectItem, NoMemory>
     ensures { IfOk result (λ copy. copy ≡ item.now) }
 {
     match item {
@@ -386,80 +413,70 @@ fn copy_item(alloc: Global, item: &SelectItem) -> Part<SelectItem>
         SelectItem::TableStar { table } => Ok(SelectItem::TableStar {
             table: table.copy_tree(alloc)?,
         }),
-        SelectItem::Value { expr, name } => {
-            let (expr, name) = pair(copy_expr(alloc, expr), name.copy_tree(alloc))?;
-            Ok(SelectItem::Value { expr, name })
-        }
+        SelectItem::Value { expr, name } => Ok(SelectItem::Value {
+            expr: copy_expr(alloc, expr)?,
+            name: name.copy_tree(alloc)?,
+        }),
     }
 }
 
 #[cycle(copy_tree)]
-fn copy_sources(alloc: Global, sources: &[FromTree]) -> Part<List<FromTree>>
+fn copy_sources(alloc: Global, sources: &[FromTree]) -> Result<List<FromTree>, NoMemory>
     ensures { IfOk result (λ copy. copy ≡ sources.now) }
 {
-    let mut copy = List::new(alloc);
+    let mut copy = List::with_room(alloc, sources.len())?;
     for source in sources {
-        push(&mut copy, copy_from(alloc, source))?;
+        copy.push(copy_from(alloc, source)?)?;
     }
     Ok(copy)
 }
 
 #[cycle(copy_tree)]
-fn copy_from(alloc: Global, from: &FromTree) -> Part<FromTree>
+fn copy_from(alloc: Global, from: &FromTree) -> Result<FromTree, NoMemory>
     ensures { IfOk result (λ copy. copy ≡ from.now) }
 {
-    let first = copy_from_item(alloc, &from.first);
-    let joins = copy_joins(alloc, from.joins.as_slice());
-    let (first, joins) = pair(first, joins)?;
-    Ok(FromTree { first, joins })
+    Ok(FromTree {
+        first: copy_from_item(alloc, &from.first)?,
+        joins: copy_joins(alloc, from.joins.as_slice())?,
+    })
 }
 
 #[cycle(copy_tree)]
-fn copy_joins(alloc: Global, joins: &[JoinStep]) -> Part<List<JoinStep>>
+fn copy_joins(alloc: Global, joins: &[JoinStep]) -> Result<List<JoinStep>, NoMemory>
     ensures { IfOk result (λ copy. copy ≡ joins.now) }
 {
-    let mut copy = List::new(alloc);
+    let mut copy = List::with_room(alloc, joins.len())?;
     for join in joins {
-        push(&mut copy, copy_join(alloc, join))?;
+        copy.push(copy_join(alloc, join)?)?;
     }
     Ok(copy)
 }
 
 #[cycle(copy_tree)]
-fn copy_join(alloc: Global, join: &JoinStep) -> Part<JoinStep>
+fn copy_join(alloc: Global, join: &JoinStep) -> Result<JoinStep, NoMemory>
     ensures { IfOk result (λ copy. copy ≡ join.now) }
 {
-    let condition = match &join.condition {
-        Some(condition) => some(copy_expr(alloc, condition)),
-        None => Ok(None),
-    };
-    let item = copy_from_item(alloc, &join.item);
-    let (item, condition) = pair(item, condition)?;
     Ok(JoinStep {
         word: join.word,
-        item,
-        condition,
+        item: copy_from_item(alloc, &join.item)?,
+        condition: copy_condition(alloc, &join.condition)?,
     })
 }
 
 #[cycle(copy_tree)]
-fn copy_from_item(alloc: Global, item: &FromItem) -> Part<FromItem>
+fn copy_from_item(alloc: Global, item: &FromItem) -> Result<FromItem, NoMemory>
     ensures { IfOk result (λ copy. copy ≡ item.now) }
 {
-    let source = copy_source(alloc, &item.source);
-    let alias = item.alias.copy_tree(alloc);
-    let mark = item.mark.copy_tree(alloc);
-    let (source, (alias, mark)) = pair(source, pair(alias, mark))?;
     Ok(FromItem {
         at: item.at,
-        source,
-        alias,
-        mark,
+        source: copy_source(alloc, &item.source)?,
+        alias: item.alias.copy_tree(alloc)?,
+        mark: item.mark.copy_tree(alloc)?,
     })
 }
 
 #[cycle(copy_tree)]
-fn copy_source(alloc: Global, source: &FromSource) -> Part<FromSource>
+fn copy_source(alloc: Global, source: &FromSource) -> Result<FromSource, NoMemory>
     ensures { IfOk result (λ copy. copy ≡ source.now) }
 {
     match source {
