@@ -33,7 +33,7 @@ fn no_tokens(error: LexError) -> CommandRefusal
 }
 
 /// The script that these tokens of the bytes spell.
-fn tree_of(alloc: Global, found: &List<Token>, bytes: &[u8]) -> Result<Script, CommandRefusal>
+fn tree_of(alloc: Global, found: &List<Token<'_>>, bytes: &[u8]) -> Result<Script, CommandRefusal>
     requires { Lexes bytes.now found.now }
     ensures { IsReading bytes.now result }
 {

@@ -2,9 +2,12 @@
 use Rattle.std.proofs.Common.{◌≡◌, ◌≢◌, ℕ, Bool, true, false, if◌then◌else◌, List, [], ◌∷◌, ◌++◌, length, refl, sym, ap, subst, ◌∙◌, ⊎_elim, arith}
 use Rattle.std.specs.Prelude.{nat_eq}
 use Rattle.std.specs.List.{list_all, list_any}
+use Rattle.std.specs.Char.{to_ascii_lowercase}
 use Rattle.std.specs.Cmp.Lexicographic.{pointwise}
+use Rattle.std.specs.Str.{str_to_ascii_lowercase}
 use Rattle.std.proofs.lemmas.Bool.{cases_Bool, eq-eqb, eqb-true}
 use Rattle.std.proofs.lemmas.Bool.Decides.{nat_tests}
+use Rattle.std.proofs.lemmas.List.{length-map}
 use Rattle.std.proofs.lemmas.Slice.Eq.{bytes_eq-Decides}
 use Rattle.sql_grammar.specs.Sorts.{listed, reserved, free, word_sort}
 use Rattle.sql_grammar.specs.declared.sort.Sort.{Sort}
@@ -34,11 +37,13 @@ among_as_long (entry ∷ rest) word otherwise =
     (λ differs. rw differs (passed_over entry word entry.1 (listed rest word otherwise) differs ∙ among_as_long rest word otherwise))
     (cases_Bool (nat_eq (length entry.0) (length word)))
 
--- what is found among the words that are as long is the word's sort
-pub is_sort : (n : ℕ) (word : List ℕ) (found : Sort) → length word ≡ n → found ≡ listed (of_length n (reserved ++ free)) word s.Plain
-    → found ≡ word_sort word
+-- what is found among the words that are as long is the sort of the word in lower case
+pub is_sort : (n : ℕ) (word : List ℕ) (found : Sort) → length word ≡ n → found ≡ listed (of_length n (reserved ++ free)) (str_to_ascii_lowercase word) s.Plain
+    → found ≡ word_sort (str_to_ascii_lowercase word)
 unfolding word_sort
-is_sort n word found e is = is ∙ sym (ap (λ m. listed (of_length m (reserved ++ free)) word s.Plain) e) ∙ sym (among_as_long (reserved ++ free) word s.Plain)
+is_sort n word found e is =
+    is ∙ sym (ap (λ m. listed (of_length m (reserved ++ free)) (str_to_ascii_lowercase word) s.Plain) (length-map word to_ascii_lowercase ∙ e))
+    ∙ sym (among_as_long (reserved ++ free) (str_to_ascii_lowercase word) s.Plain)
 
 -- where all entries are of some lengths, none is of another
 none_as_long : (lengths : List ℕ) (n : ℕ) → list_any (nat_eq n) lengths ≡ false → (table : List (List ℕ × Sort))
@@ -56,8 +61,8 @@ differs : (n k : ℕ) → n ≢ k → nat_eq n k ≡ false
 differs n k other = grind (arith, nat_tests)
 
 -- no word of the grammar is of another length
-pub no_words : (word : List ℕ) → length word ≢ 2 → length word ≢ 3 → length word ≢ 4 → length word ≢ 5 → length word ≢ 6 → length word ≢ 7 → length word ≢ 8 → length word ≢ 9 → length word ≢ 10 → length word ≢ 12 → s.Plain ≡ word_sort word
-no_words word e2 e3 e4 e5 e6 e7 e8 e9 e10 e12 = is_sort (length word) word s.Plain refl (sym (ap (λ table. listed table word s.Plain) none)) where
+pub no_words : (word : List ℕ) → length word ≢ 2 → length word ≢ 3 → length word ≢ 4 → length word ≢ 5 → length word ≢ 6 → length word ≢ 7 → length word ≢ 8 → length word ≢ 9 → length word ≢ 10 → length word ≢ 12 → s.Plain ≡ word_sort (str_to_ascii_lowercase word)
+no_words word e2 e3 e4 e5 e6 e7 e8 e9 e10 e12 = is_sort (length word) word s.Plain refl (sym (ap (λ table. listed table (str_to_ascii_lowercase word) s.Plain) none)) where
   lengths : List ℕ
   lengths = 2 ∷ 3 ∷ 4 ∷ 5 ∷ 6 ∷ 7 ∷ 8 ∷ 9 ∷ 10 ∷ 12 ∷ []
 

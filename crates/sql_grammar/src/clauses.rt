@@ -9,12 +9,12 @@ ghost use Rattle.sql_grammar.specs.Symbols as n;
 use crate::cursor::Cursor;
 use crate::fault::Fault;
 use crate::sort::{NAMES, Sort, same_sort, sort_of};
-use perm_values::{Copyable, List, NoMemory};
+use perm_values::{List, NoMemory};
 use sql_lexer::Token;
 use sql_tree::{FromSource, JoinWord, Name, OrderTree, ScopeMark, SelectItem};
 use std::alloc::Global;
 
-fn outer_of(token: &Token) -> JoinWord
+fn outer_of(token: &Token<'_>) -> JoinWord
     ensures { result ≡ b.outer_of token.now }
 {
     let sort = sort_of(token);
@@ -83,12 +83,12 @@ impl<'a> Cursor<'a> {
     }
 }
 
-fn named(alloc: Global, token: &Token) -> Result<Name, NoMemory>
+fn named(alloc: Global, token: &Token<'_>) -> Result<Name, NoMemory>
     ensures { IfOk result (λ name. name ≡ b.name_of token.now) }
 {
     Ok(Name {
-        text: token.spelled.copy(alloc)?,
-        at: token.start,
+        text: token.spelled(alloc)?,
+        at: token.start(),
     })
 }
 

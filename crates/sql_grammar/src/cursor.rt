@@ -12,7 +12,7 @@ use std::marker::Model;
 #[derive(Drop)]
 pub struct Cursor<'a> {
     alloc: Global,
-    tokens: &'a [Token],
+    tokens: &'a [Token<'a>],
     /// The sort of the next token, if there is one.
     sort: Option<Sort>,
 }
@@ -29,7 +29,7 @@ impl<'a> Model for Cursor<'a> {
     ghost invariant = { λ c. c.sort ≡ next_sort c.tokens.now };
 }
 
-fn next_sort(tokens: &[Token]) -> Option<Sort>
+fn next_sort(tokens: &[Token<'_>]) -> Option<Sort>
     ensures { result ≡ spec.next_sort tokens.now }
 {
     match tokens.first() {
@@ -39,7 +39,7 @@ fn next_sort(tokens: &[Token]) -> Option<Sort>
 }
 
 impl<'a> Cursor<'a> {
-    pub fn new(alloc: Global, tokens: &'a [Token]) -> Cursor<'a>
+    pub fn new(alloc: Global, tokens: &'a [Token<'a>]) -> Cursor<'a>
         ensures { result ≡ tokens.now }
     {
         Cursor {
@@ -65,7 +65,7 @@ impl<'a> Cursor<'a> {
         ensures { result ≡ spec.place self.now }
     {
         match self.tokens.first() {
-            Some(token) => token.start,
+            Some(token) => token.start(),
             None => 0,
         }
     }
@@ -75,7 +75,7 @@ impl<'a> Cursor<'a> {
         ensures { result ≡ spec.next_place self.now }
     {
         match self.tokens.first() {
-            Some(token) => Some(token.start),
+            Some(token) => Some(token.start()),
             None => None,
         }
     }
@@ -111,14 +111,13 @@ impl<'a> Cursor<'a> {
     }
 
     /// Takes the next token, if there is one.
-    fn take(&mut self) -> Result<&'a Token, Fault>
+    fn take(&mut self) -> Result<&'a Token<'a>, Fault>
         ensures given { spec.Sees (λ token. token.now) result (spec.next self.old) self.new }
         ensures fewer { IfOk result (λ _. length self.new < length self.old) }
     {
         match self.tokens.split_first() {
             Some((token, rest)) => {
-                self.tokens = rest;
-                self.sort = next_sort(rest);
+                *self = Cursor::new(self.alloc, rest);
                 Ok(token)
             }
             None => Err(Fault::Unexpected),
@@ -126,7 +125,7 @@ impl<'a> Cursor<'a> {
     }
 
     /// Takes the next token, which has to be of one of these sorts.
-    pub fn one(&mut self, sorts: &[Sort]) -> Result<&'a Token, Fault>
+    pub fn one(&mut self, sorts: &[Sort]) -> Result<&'a Token<'a>, Fault>
         ensures given { spec.Sees (λ token. token.now) result (spec.one sorts.now self.old) self.new }
         ensures fewer { IfOk result (λ _. length self.new < length self.old) }
     {

@@ -7,7 +7,7 @@ use crate::cursor::Cursor;
 use crate::fault::Fault;
 use crate::lists::listed;
 use crate::sort::{NAMES, Sort};
-use perm_values::{Copyable, List, NoMemory};
+use perm_values::{List, NoMemory};
 use sql_lexer::Token;
 use sql_tree::{ColRef, Name};
 use std::alloc::Global;
@@ -48,12 +48,12 @@ impl<'a> Cursor<'a> {
 }
 
 /// The name that a token is.
-pub fn name_of(alloc: Global, token: &Token) -> Result<Name, NoMemory>
+pub fn name_of(alloc: Global, token: &Token<'_>) -> Result<Name, NoMemory>
     ensures { IfOk result (λ name. name ≡ b.name_of token.now) }
 {
     Ok(Name {
-        text: token.spelled.copy(alloc)?,
-        at: token.start,
+        text: token.spelled(alloc)?,
+        at: token.start(),
     })
 }
 

@@ -7,7 +7,7 @@ use crate::cursor::Cursor;
 use crate::fault::Fault;
 use crate::lists::listed;
 use crate::sort::{NAMES, Sort, same_sort, sort_of};
-use perm_values::{Copyable, List};
+use perm_values::List;
 use sql_tree::{ColRef, Name, OrderKey, OrderTree};
 
 impl<'a> Cursor<'a> {
@@ -41,8 +41,8 @@ impl<'a> Cursor<'a> {
         ensures fewer { IfOk result (λ _. length self.new < length self.old) }
     {
         let token = self.one(&NAMES)?;
-        let name = token.spelled.copy(self.alloc())?;
-        self.ordered(token.start, OrderKey::Named(name))
+        let name = token.spelled(self.alloc())?;
+        self.ordered(token.start(), OrderKey::Named(name))
     }
 
     /// A key of ORDER BY.
@@ -55,7 +55,7 @@ impl<'a> Cursor<'a> {
             self.named_key()
         } else {
             let token = self.one(&[Sort::Digits])?;
-            self.ordered(token.start, OrderKey::Position(token.number))
+            self.ordered(token.start(), OrderKey::Position(token.number()))
         }
     }
 
@@ -89,7 +89,7 @@ impl<'a> Cursor<'a> {
         if self.sees(Sort::Limit) {
             self.past(Sort::Limit)?;
             let token = self.one(&[Sort::Digits])?;
-            Ok(Some(token.number))
+            Ok(Some(token.number()))
         } else {
             Ok(None)
         }

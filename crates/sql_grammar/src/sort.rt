@@ -1,8 +1,9 @@
 ghost use Rattle.std.specs.Prelude.{◌≡◌, map};
 ghost use Rattle.std.specs.List.{list_any};
+ghost use Rattle.std.specs.Str.{str_to_ascii_lowercase};
 ghost use Rattle.sql_grammar.specs.Sorts as spec;
 
-use sql_lexer::{Token, TokenKind};
+use sql_lexer::{Token, TokenKind, is_word};
 
 /// What the grammar tells tokens apart by: each word that it names, each symbol, and the rest by what they are.
 #[derive(Clone, Copy, Debug, PartialEq, Eq)]
@@ -245,44 +246,57 @@ pub const NAMES: [Sort; 20] = [
     Sort::NullIf,
 ];
 
-/// The sort that a table gives a spelling, or else another one.
-fn listed(mut table: &[(&str, Sort)], spelled: &str, otherwise: Sort) -> Sort
-    ensures { result ≡ spec.listed (map (λ entry. (entry.0.now, entry.1)) table.entry.now) spelled.now otherwise }
+/// The sort that a table gives a word, or `Plain`.
+fn word_listed(mut table: &[(&str, Sort)], word: &[u8]) -> Sort
+    ensures { result ≡ spec.listed (map (λ entry. (entry.0.now, entry.1)) table.entry.now) (str_to_ascii_lowercase word.now) Sort.Plain }
 {
     while let [entry, rest @ ..] = table {
-        if entry.0 == spelled {
+        if is_word(word, entry.0.as_bytes()) {
             return entry.1;
         }
         table = rest;
     }
-    otherwise
+    Sort::Plain
+}
+
+/// The sort that a table gives a symbol, or `Other`.
+fn symbol_listed(mut table: &[(&str, Sort)], symbol: &[u8]) -> Sort
+    ensures { result ≡ spec.listed (map (λ entry. (entry.0.now, entry.1)) table.entry.now) symbol.now Sort.Other }
+{
+    while let [entry, rest @ ..] = table {
+        if entry.0.as_bytes() == symbol {
+            return entry.1;
+        }
+        table = rest;
+    }
+    Sort::Other
 }
 
 /// The sort of a word, which is looked up among the words that are as long.
-fn word_sort(word: &str) -> Sort
-    ensures { result ≡ spec.word_sort word.now }
+fn word_sort(word: &[u8]) -> Sort
+    ensures { result ≡ spec.word_sort (str_to_ascii_lowercase word.now) }
 {
     let len = word.len();
     if len == 2 {
-        listed(&WORDS_OF_2, word, Sort::Plain)
+        word_listed(&WORDS_OF_2, word)
     } else if len == 3 {
-        listed(&WORDS_OF_3, word, Sort::Plain)
+        word_listed(&WORDS_OF_3, word)
     } else if len == 4 {
-        listed(&WORDS_OF_4, word, Sort::Plain)
+        word_listed(&WORDS_OF_4, word)
     } else if len == 5 {
-        listed(&WORDS_OF_5, word, Sort::Plain)
+        word_listed(&WORDS_OF_5, word)
     } else if len == 6 {
-        listed(&WORDS_OF_6, word, Sort::Plain)
+        word_listed(&WORDS_OF_6, word)
     } else if len == 7 {
-        listed(&WORDS_OF_7, word, Sort::Plain)
+        word_listed(&WORDS_OF_7, word)
     } else if len == 8 {
-        listed(&WORDS_OF_8, word, Sort::Plain)
+        word_listed(&WORDS_OF_8, word)
     } else if len == 9 {
-        listed(&WORDS_OF_9, word, Sort::Plain)
+        word_listed(&WORDS_OF_9, word)
     } else if len == 10 {
-        listed(&WORDS_OF_10, word, Sort::Plain)
+        word_listed(&WORDS_OF_10, word)
     } else if len == 12 {
-        listed(&WORDS_OF_12, word, Sort::Plain)
+        word_listed(&WORDS_OF_12, word)
     } else {
         Sort::Plain
     }
@@ -290,22 +304,22 @@ fn word_sort(word: &str) -> Sort
 
 /// The sort of a symbol.
 #[tactic(auto, unfolding(crate::specs::Sorts::symbol_sort))]
-fn symbol_sort(symbol: &str) -> Sort
+fn symbol_sort(symbol: &[u8]) -> Sort
     ensures { result ≡ spec.symbol_sort symbol.now }
 {
-    listed(&SYMBOLS, symbol, Sort::Other)
+    symbol_listed(&SYMBOLS, symbol)
 }
 
 /// The sort of a token.
-pub fn sort_of(token: &Token) -> Sort
+pub fn sort_of(token: &Token<'_>) -> Sort
     ensures { result ≡ spec.sort_of token.now }
 {
-    match token.kind {
-        TokenKind::Word => word_sort(token.spelled.as_str()),
+    match token.kind() {
+        TokenKind::Word => word_sort(token.text()),
         TokenKind::Quoted => Sort::Quoted,
         TokenKind::Number => Sort::Digits,
         TokenKind::Text => Sort::Literal,
-        TokenKind::Symbol => symbol_sort(token.spelled.as_str()),
+        TokenKind::Symbol => symbol_sort(token.text()),
     }
 }
 

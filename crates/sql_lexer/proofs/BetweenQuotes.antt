@@ -1,12 +1,11 @@
 -- What stands between quotes, read byte by byte.
 use Rattle.std.proofs.Common.{◌≡◌, ◌≢◌, ℕ, ◌+◌, ◌<◌, ◌≤◌, Bool, true, false, List, [], ◌∷◌, ◌++◌, length, drop, get_or, Option, Some, None, refl, sym, ap, ◌∙◌, ⊎_elim, arith, add_assoc, append_assoc, eq-eqb}
-use Rattle.std.specs.Prelude.{nat_eq, is_some}
+use Rattle.std.specs.Prelude.{nat_eq, option_map}
 use Rattle.std.proofs.lemmas.Bool.Decides.{nat_tests}
 use Rattle.std.proofs.lemmas.Bool.{eqb-true, cases_Bool}
 use Rattle.std.proofs.lemmas.List.{drop_more, drop_all, append-nil, length-drop}
-use Rattle.sql_lexer.specs.declared.quotes.Unquoted.{Unquoted}
 use Rattle.sql_lexer.specs.Bytes.{next_is, doubled}
-use Rattle.sql_lexer.specs.Reading.{before, closing, unquoted}
+use Rattle.sql_lexer.specs.Reading.{Unquoted, before, closing, unquoted}
 
 pub before-before : (a b : List ℕ) (m n : ℕ) (found : Option Unquoted) → before a m (before b n found) ≡ before (a ++ b) (m + n) found
 before-before a b m n None = refl
@@ -67,15 +66,13 @@ pub at_end : (quote at : ℕ) (rest inside : List ℕ) → length rest ≤ at �
 unfolding unquoted
 at_end quote at rest inside past = rw (drop_all at rest past) refl
 
-pub is_some-before : (front : List ℕ) (len : ℕ) (found : Option Unquoted) → is_some (before front len found) ≡ is_some found
-is_some-before front len None = refl
-is_some-before front len (Some found) = refl
+-- how many bytes go up to and with the quote that closes, whatever was found in front of a place
+abbrev pub len_of : Option Unquoted → Option ℕ
+len_of found = option_map (λ f. f.len) found
 
--- whether a quote closes, whatever was found in front of a place
-pub closes_behind : (front more : List ℕ) (at next : ℕ) (found rest : Option Unquoted) → before front at found ≡ before more next rest
-    → is_some found ≡ is_some rest
-closes_behind front more at next found rest e =
-    sym (is_some-before front at found) ∙ ap is_some e ∙ is_some-before more next rest
+pub len_behind : (front : List ℕ) (len : ℕ) (found : Option Unquoted) → len_of (before [] len found) ≡ len_of (before front len found)
+len_behind front len None = refl
+len_behind front len (Some found) = refl
 
 -- a quote is written twice, and any other byte once
 pub doubled_quote : (quote : ℕ) (inside : List ℕ) → doubled quote (quote ∷ inside) ≡ quote ∷ quote ∷ doubled quote inside

@@ -1,5 +1,5 @@
 -- The longest front of a list that passes a test.
-use Rattle.std.proofs.Common.{◌≡◌, ℕ, suc, ◌+◌, Bool, true, false, ◌&&◌, List, [], ◌∷◌, ◌++◌, length, take, drop, refl, ap, ◌∙◌, ⊎_elim, one-add}
+use Rattle.std.proofs.Common.{◌≡◌, ℕ, suc, ◌+◌, Bool, true, false, ◌&&◌, List, [], ◌∷◌, ◌++◌, length, take, drop, refl, ap, ◌∙◌, ⊎_elim, one-add, ◌<◌, get_or, arith}
 use Rattle.std.specs.List.{prefix_len, list_all}
 use Rattle.std.proofs.lemmas.Bool.{cases_Bool, cond-true, cond-false}
 use Rattle.sql_lexer.specs.Bytes.{next_is}
@@ -45,3 +45,8 @@ front_is p [] (r ∷ rest) all stop = front_none p r rest stop
 front_is p (x ∷ xs) rest all stop =
     let both = and_parts (p x) (list_all p xs) all in
     front_more p x (xs ++ rest) both.0 ∙ ap suc (front_is p xs rest both.1 stop)
+
+-- the first byte alone
+pub first_of : (text : List ℕ) → 0 < length text → take 1 text ≡ get_or text 0 0 ∷ []
+first_of [] some = absurd (omega arith)
+first_of (b ∷ rest) some = refl

@@ -6,9 +6,8 @@ use Rattle.std.proofs.Math.Utf8.{scalar, scalars, encode, encodes}
 use Rattle.std.proofs.lemmas.Bool.{eqb-true, cases_Bool}
 use Rattle.std.proofs.lemmas.List.{append-nil, length-append, get_or-drop, take_rest}
 use Rattle.std.proofs.lemmas.Str.{encode_ascii, encode_same, inside_one, IsUtf8-nil, IsUtf8-append, IsUtf8-encode, IsUtf8-past_char, IsUtf8-drop, IsCharBoundary-before_ascii}
-use Rattle.sql_lexer.specs.declared.quotes.Unquoted.{Unquoted}
 use Rattle.sql_lexer.specs.Bytes.{doubled}
-use Rattle.sql_lexer.specs.Reading.{unquoted}
+use Rattle.sql_lexer.specs.Reading.{Unquoted, unquoted}
 use Rattle.sql_lexer.proofs.BetweenQuotes.{doubled_quote, doubled_other, Says, says}
 use Rattle.sql_lexer.proofs.Fronts.{and_parts}
 use Rattle.sql_lexer.proofs.Ascii.{one_utf8}

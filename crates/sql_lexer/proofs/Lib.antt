@@ -13,3 +13,4 @@ pub mod Listed
 pub mod Spellable
 pub mod EachScript
 pub mod Spans
+pub mod Undoubling

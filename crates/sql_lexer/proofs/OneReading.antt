@@ -10,7 +10,7 @@ use Rattle.sql_lexer.specs.declared.lex_error.LexError.{LexError}
 use Rattle.sql_lexer.specs.declared.lex_error.LexError.TheVariants.{NotUtf8, BadCharacter, Unterminated, NumberRange, NoMemory}
 use Rattle.sql_lexer.specs.Bytes.{in_quotes}
 use Rattle.sql_lexer.specs.Lexes.{Spells, IsToken, Piece, token, LexesTo, nothing, piece, Lexes, IsWrong, StopsFor, MayRefuse, BeginsWithTokens}
-use Rattle.sql_lexer.specs.Reading.{Front, Nothing, Ends, Fault, next, Reads, IsFound}
+use Rattle.sql_lexer.specs.Reading.{Front, Nothing, Ends, Fault, next, Reads}
 use Rattle.sql_lexer.proofs.Sound.{IsRead, is_read}
 use Rattle.sql_lexer.proofs.Complete.{piece_reads, wrong_reads}
 
@@ -125,6 +125,13 @@ may_refuse bytes at tokens (Unterminated place) utf8 d e = stops bytes at tokens
 may_refuse bytes at tokens (NumberRange place) utf8 d e = stops bytes at tokens (NumberRange place) utf8 d e
 may_refuse bytes at tokens NoMemory utf8 d e = tt
 
+-- a token stands there
+abbrev pub IsFound : Front → Type 0
+IsFound Nothing = ⊥
+IsFound (Ends end []) = ⊥
+IsFound (Ends end (t ∷ more)) = Unit {0}
+IsFound (Fault error) = ⊥
+
 -- where a token stands, a front of the script is split into tokens
 pub begins_with_found : (bytes : List ℕ) (at : ℕ) (tokens : List Token) → IsUtf8 bytes → at ≤ length bytes → LexesTo 0 bytes tokens at (drop at bytes)
     → (front : Front) → next at (drop at bytes) ≡ front → IsFound front → BeginsWithTokens bytes
@@ -142,7 +149,10 @@ begins_with_found bytes at tokens utf8 within d (Ends end (t ∷ more)) e f =
       some = omega (arith, length-append tokens (t ∷ more));
     }
 
-pub ran_out : (bytes : List ℕ) (at : ℕ) (tokens : List Token) (error : LexError) → IsUtf8 bytes → at ≤ length bytes → LexesTo 0 bytes tokens at (drop at bytes)
-    → Reads (Err error) (next at (drop at bytes)) → error ≡ NoMemory → BeginsWithTokens bytes
-ran_out bytes at tokens error utf8 within d reads e =
-    begins_with_found bytes at tokens utf8 within d (next at (drop at bytes)) refl (subst (λ (fault : LexError). Reads (Err fault) (next at (drop at bytes))) e reads)
+-- want of memory is no reading
+pub none_out : (front : Front) (error : LexError) → Reads (Err error) front → error ≡ NoMemory → ⊥
+none_out front (NotUtf8 place) r e = absurd cc
+none_out front (BadCharacter place) r e = absurd cc
+none_out front (Unterminated place) r e = absurd cc
+none_out front (NumberRange place) r e = absurd cc
+none_out front NoMemory r e = r

@@ -9,11 +9,10 @@ use Rattle.std.proofs.lemmas.List.Folds.{length-prefix_len}
 use Rattle.sql_lexer.specs.declared.token.TokenKind.TheVariants.{Number, Symbol}
 use Rattle.sql_lexer.specs.declared.scan.Class.{Class}
 use Rattle.sql_lexer.specs.declared.scan.Class.TheVariants.{Blank, Letter, Digit, Quote, Mark, Other}
-use Rattle.sql_lexer.specs.declared.quotes.Unquoted.{Unquoted}
 use Rattle.sql_lexer.specs.declared.lex_error.LexError.TheVariants.{BadCharacter, NumberRange}
 use Rattle.sql_lexer.specs.Bytes.{class_of, is_word, is_digit, is_comment, pair, held, next_is, doubled, in_quotes, stands_alone}
 use Rattle.sql_lexer.specs.Lexes.{IsWord, IsNumber, goes_on, Piece, blank, comment, token, IsWrong}
-use Rattle.sql_lexer.specs.Reading.{Front, Nothing, Ends, Fault, one, token_of, word, number, closed, kind_of, unquoted, pair_at, single, symbol, mark, by_class, next}
+use Rattle.sql_lexer.specs.Reading.{Unquoted, Front, Nothing, Ends, Fault, one, token_of, word, number, closed, kind_of, unquoted, pair_at, single, symbol, mark, by_class, next}
 use Rattle.sql_lexer.proofs.BetweenQuotes.{Says, says}
 use Rattle.sql_lexer.proofs.Classes.{blank_test, letter_joins, digit_joins, quote_cases, mark_test}
 use Rattle.sql_lexer.proofs.Fronts.{and_parts, front_more, front_passes, front_stops}

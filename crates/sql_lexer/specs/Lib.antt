@@ -1,3 +1,5 @@
+pub mod Undoubled
+pub mod Spelled
 pub mod Bytes
 pub mod Lexes
 pub mod Reading

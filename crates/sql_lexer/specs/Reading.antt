@@ -8,7 +8,6 @@ use Rattle.sql_lexer.specs.declared.token.TokenKind.{TokenKind}
 use Rattle.sql_lexer.specs.declared.token.TokenKind.TheVariants.{Word, Quoted, Number, Text, Symbol}
 use Rattle.sql_lexer.specs.declared.piece.Piece.{Piece}
 use Rattle.sql_lexer.specs.declared.piece.Piece.TheVariants.{Skipped, Found}
-use Rattle.sql_lexer.specs.declared.quotes.Unquoted.{Unquoted}
 use Rattle.sql_lexer.specs.declared.scan.Class.{Class}
 use Rattle.sql_lexer.specs.declared.scan.Class.TheVariants.{Blank, Letter, Digit, Quote, Mark, Other}
 use Rattle.sql_lexer.specs.declared.lex_error.LexError.{LexError}
@@ -36,6 +35,11 @@ number at text =
     let len = prefix_len is_digit text in
     let digits = take len text in
     if nat_lt (digits_value 10 digits) (2 ^ 63) then one Number at (at + len) digits (pos (digits_value 10 digits)) else Fault (NumberRange at)
+
+-- what stands between two quotes, and the number of bytes behind the first up to and with the second
+pub record Unquoted : Type 0 where
+  pub inside : List ℕ
+  pub len : ℕ
 
 abbrev pub before : List ℕ → ℕ → Option Unquoted → Option Unquoted
 before front len None = None
@@ -88,18 +92,11 @@ unfoldable pub next : ℕ → List ℕ → Front
 next at [] = Nothing
 next at (b ∷ rest) = by_class (class_of b) at b rest
 
--- a token stands there
-abbrev pub IsFound : Front → Type 0
-IsFound Nothing = ⊥
-IsFound (Ends end []) = ⊥
-IsFound (Ends end (token ∷ more)) = Unit {0}
-IsFound (Fault error) = ⊥
-
--- what a function returned is what stands there, unless memory ran out for a token that does
+-- what a function returned is what stands there; no memory is taken
 abbrev pub Reads : Result Piece LexError → Front → Type 0
 Reads (Ok (Skipped end)) front = front ≡ Ends end []
 Reads (Ok (Found token)) front = front ≡ Ends token.end (token ∷ [])
-Reads (Err NoMemory) front = IsFound front
+Reads (Err NoMemory) front = ⊥
 Reads (Err (NotUtf8 place)) front = front ≡ Fault (NotUtf8 place)
 Reads (Err (BadCharacter place)) front = front ≡ Fault (BadCharacter place)
 Reads (Err (Unterminated place)) front = front ≡ Fault (Unterminated place)

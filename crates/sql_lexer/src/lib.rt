@@ -17,3 +17,4 @@ pub use lex_error::LexError;
 pub use reserved::is_reserved;
 pub use split::tokens;
 pub use token::{Token, TokenKind};
+pub use words::is_word;

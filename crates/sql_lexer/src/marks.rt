@@ -1,11 +1,10 @@
-ghost use Rattle.std.specs.Prelude.{◌≡◌, ◌<◌, ◌+◌, ◌^◌, length, option_map, pos, OnSome};
+ghost use Rattle.std.specs.Prelude.{◌≡◌, ◌<◌, ◌+◌, ◌^◌, length, option_map, pos, drop, slice_index, Ok, OnSome};
 ghost use Rattle.std.specs.Str.{IsUtf8};
 ghost use Rattle.sql_lexer.specs.Reading as spec;
 
 use crate::piece::Piece;
-use crate::scan::{Class, begins_with, class_of, line_len, text_of};
+use crate::scan::{Class, begins_with, class_of, line_len};
 use crate::{LexError, Token, TokenKind};
-use std::alloc::Global;
 
 /// The symbol of two bytes, as it is held.
 fn pair(first: u8, rest: &[u8]) -> Option<&'static str>
@@ -20,40 +19,39 @@ fn pair(first: u8, rest: &[u8]) -> Option<&'static str>
     }
 }
 
-fn symbol(alloc: Global, start: usize, end: usize, held: &[u8]) -> Result<Piece, LexError>
+fn symbol(start: usize, end: usize, held: &[u8]) -> Piece<'_>
     requires { IsUtf8 held.now }
-    ensures { spec.Reads result (spec.one TokenKind.Symbol start end held.now (pos 0)) }
+    ensures { spec.Reads (Ok result) (spec.one TokenKind.Symbol start end held.now (pos 0)) }
 {
-    Ok(Piece::Found(Token {
-        kind: TokenKind::Symbol,
-        start,
-        end,
-        spelled: text_of(alloc, held)?,
-        number: 0,
-    }))
+    Piece::Found(Token::new(TokenKind::Symbol, start, end, held, 0))
 }
 
-fn single(alloc: Global, at: usize, byte: u8) -> Result<Piece, LexError>
-    requires { at + 1 < 2 ^ 64 }
-    ensures { spec.Reads result (spec.single at byte) }
+/// The symbol of one byte.
+fn single(at: usize, text: &[u8]) -> Result<Piece<'_>, LexError>
+    requires nonempty { 0 < length text.now }
+    requires fits { at + 1 < 2 ^ 64 }
+    ensures { spec.Reads result (spec.single at (slice_index text.now 0)) }
 {
-    match class_of(byte) {
-        Class::Mark => symbol(alloc, at, at + 1, &[byte]),
+    match class_of(text[0]) {
+        Class::Mark => Ok(symbol(at, at + 1, &text[..1])),
         _ => Err(LexError::BadCharacter(at)),
     }
 }
 
 /// The comment or the symbol at the front.
 #[tactic(auto, unfolding(crate::specs::Reading::mark))]
-pub(crate) fn mark(alloc: Global, at: usize, first: u8, rest: &[u8]) -> Result<Piece, LexError>
-    requires { at + length rest.now + 1 < 2 ^ 64 }
-    ensures { spec.Reads result (spec.mark at first rest.now) }
+pub(crate) fn mark(at: usize, text: &[u8]) -> Result<Piece<'_>, LexError>
+    requires nonempty { 0 < length text.now }
+    requires fits { at + length text.now < 2 ^ 64 }
+    ensures { spec.Reads result (spec.mark at (slice_index text.now 0) (drop 1 text.now)) }
 {
+    let first = text[0];
+    let rest = &text[1..];
     if first == b'-' && begins_with(rest, b'-') {
         return Ok(Piece::Skipped(at + (2 + line_len(&rest[1..]))));
     }
     match pair(first, rest) {
-        Some(held) => symbol(alloc, at, at + 2, held.as_bytes()),
-        None => single(alloc, at, first),
+        Some(held) => Ok(symbol(at, at + 2, held.as_bytes())),
+        None => single(at, text),
     }
 }

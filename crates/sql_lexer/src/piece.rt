@@ -7,19 +7,18 @@ use crate::quotes::quoted;
 use crate::scan::{Class, class_of};
 use crate::words::{number, word};
 use crate::{LexError, Token};
-use std::alloc::Global;
 
 /// What stands at the front of a text.
 #[derive(Debug, Drop)]
-pub(crate) enum Piece {
+pub(crate) enum Piece<'a> {
     /// A blank or a comment, which ends here.
     Skipped(usize),
-    Found(Token),
+    Found(Token<'a>),
 }
 
 /// What stands at a place of a script.
 #[tactic(auto, unfolding(crate::specs::Reading::next))]
-pub(crate) fn piece_at(alloc: Global, bytes: &[u8], at: usize) -> Result<Piece, LexError>
+pub(crate) fn piece_at(bytes: &[u8], at: usize) -> Result<Piece<'_>, LexError>
     requires utf8 { IsUtf8 bytes.now }
     requires within { at < length bytes.now }
     ensures { spec.Reads result (spec.next at (drop at bytes.now)) }
@@ -29,9 +28,9 @@ pub(crate) fn piece_at(alloc: Global, bytes: &[u8], at: usize) -> Result<Piece, 
     let rest = &text[1..];
     match class_of(first) {
         Class::Blank => Ok(Piece::Skipped(at + 1)),
-        Class::Letter => word(alloc, at, text),
-        Class::Digit => number(alloc, at, text),
-        Class::Quote => quoted(alloc, at, first, rest),
-        Class::Mark | Class::Other => mark(alloc, at, first, rest),
+        Class::Letter => word(at, text),
+        Class::Digit => number(at, text),
+        Class::Quote => quoted(at, first, rest),
+        Class::Mark | Class::Other => mark(at, text),
     }
 }

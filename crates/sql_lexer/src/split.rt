@@ -11,7 +11,7 @@ use perm_values::List;
 use std::alloc::Global;
 
 /// Splits a script that is UTF-8.
-fn split(alloc: Global, bytes: &[u8]) -> Result<List<Token>, LexError>
+fn split(alloc: Global, bytes: &[u8]) -> Result<List<Token<'_>>, LexError>
     requires { IsUtf8 bytes.now }
     ensures lexes { IfOk result (λ tokens. spec.Lexes bytes.now tokens) }
     ensures refused { IfErr result (spec.MayRefuse bytes.now) }
@@ -20,10 +20,10 @@ fn split(alloc: Global, bytes: &[u8]) -> Result<List<Token>, LexError>
     let mut found = List::new(alloc);
     let mut at = 0;
     while at < bytes.len() {
-        match piece_at(alloc, bytes, at)? {
+        match piece_at(bytes, at)? {
             Piece::Skipped(end) => at = end,
             Piece::Found(token) => {
-                at = token.end;
+                at = token.end();
                 found.push(token)?;
             }
         }
@@ -37,7 +37,7 @@ fn split(alloc: Global, bytes: &[u8]) -> Result<List<Token>, LexError>
 /// `NotUtf8` comes where the bytes are not UTF-8, and of `BadCharacter`, `Unterminated` and `NumberRange` the first by
 /// place. `NoMemory` comes only for want of memory, and only where a token stands before all that is refused: what
 /// needs no memory is refused also where there is none.
-pub fn tokens(alloc: Global, bytes: &[u8]) -> Result<List<Token>, LexError>
+pub fn tokens(alloc: Global, bytes: &[u8]) -> Result<List<Token<'_>>, LexError>
     ensures lexes { IfOk result (λ tokens. spec.Lexes bytes.now tokens) }
     ensures refused { IfErr result (spec.MayRefuse bytes.now) }
 

@@ -15,7 +15,7 @@ use sql_lexer::Token;
 use sql_tree::{ExprBody, ExprStep, ExprTree};
 use std::alloc::Global;
 
-fn arith_of(token: &Token) -> Arith
+fn arith_of(token: &Token<'_>) -> Arith
     ensures { result ≡ b.arith_of token.now }
 {
     let sort = sort_of(token);

@@ -24,7 +24,7 @@ fn after(opening: Sort, closing: Sort, sort: Sort, open_now: u64) -> u64
 }
 
 /// The offset of the first parenthesis or CASE that is open together with 64 others. It takes no memory.
-pub fn too_deep(tokens: &List<Token>) -> Option<usize>
+pub fn too_deep(tokens: &List<Token<'_>>) -> Option<usize>
     ensures { result ≡ spec.too_deep tokens.now }
 {
     let mut parentheses = 0;
@@ -34,7 +34,7 @@ pub fn too_deep(tokens: &List<Token>) -> Option<usize>
         parentheses = after(Sort::Opening, Sort::Closing, sort, parentheses);
         cases = after(Sort::Case, Sort::End, sort, cases);
         if parentheses + cases > LIMIT {
-            return Some(token.start);
+            return Some(token.start());
         }
     }
     None

@@ -33,7 +33,7 @@ fn ended(
 /// The tree of a script that is `length` bytes long. `TooDeep` comes exactly where `too_deep` has an offset, otherwise
 /// `Unexpected` exactly where the tokens spell no script, at the first token with which they begin none, or at `length`
 /// where they begin one; it fails otherwise only for want of memory.
-pub fn script(alloc: Global, tokens: &List<Token>, length: usize) -> Result<Script, SyntaxError>
+pub fn script(alloc: Global, tokens: &List<Token<'_>>, length: usize) -> Result<Script, SyntaxError>
     ensures { spec.Parses tokens.now length result }
 {
     if let Some(at) = too_deep(tokens) {

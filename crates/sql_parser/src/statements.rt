@@ -9,7 +9,7 @@ ghost use Rattle.sql_grammar.specs.Symbols as n;
 ghost use Rattle.sql_grammar.specs.declared.sort.Sort.TheVariants as s;
 
 use crate::recursion::{condition, expr, query};
-use perm_values::{Boxed, Chars, Copyable, Kind, List, NoMemory};
+use perm_values::{Boxed, Chars, Kind, List, NoMemory};
 use sql_grammar::{Cursor, Fault, Sort, listed};
 use sql_lexer::Token;
 use sql_primaries::kind_of;
@@ -86,17 +86,17 @@ fn present(alloc: Global, found: List<Option<Statement>>) -> Result<List<Stateme
 }
 
 /// The mark that stands for NULL; none is the empty one.
-fn mark_of(alloc: Global, null: Option<&Token>) -> Result<Chars, NoMemory>
+fn mark_of(alloc: Global, null: Option<&Token<'_>>) -> Result<Chars, NoMemory>
     ensures { IfOk result (λ mark. mark ≡ spelled.mark_of null.entry) }
 {
     match null {
-        Some(token) => token.spelled.copy(alloc),
+        Some(token) => token.spelled(alloc),
         None => Chars::from_text(alloc, ""),
     }
 }
 
 #[tactic(auto)]
-fn null<'a>(cursor: &mut Cursor<'a>) -> Result<Option<&'a Token>, Fault>
+fn null<'a>(cursor: &mut Cursor<'a>) -> Result<Option<&'a Token<'a>>, Fault>
     ensures given { spec.Sees spelled.marked result (spelled.null cursor.old) cursor.new }
     ensures fewer { IfOk result (λ _. length cursor.new ≤ length cursor.old) }
 {
@@ -119,7 +119,7 @@ fn copy(cursor: &mut Cursor<'_>) -> Result<StatementBody, Fault>
     let header = cursor.option(Sort::Header)?;
     let null = null(cursor)?;
     let mark = mark_of(cursor.alloc(), null)?;
-    let file = file.spelled.copy(cursor.alloc())?;
+    let file = file.spelled(cursor.alloc())?;
     Ok(StatementBody::Copy {
         table,
         file,

@@ -30,7 +30,7 @@ const QUANTIFIERS: [Sort; 3] = [Sort::Any, Sort::Some, Sort::All];
 
 const RANGES: [Sort; 4] = [Sort::Not, Sort::Like, Sort::Between, Sort::In];
 
-fn truth_of(token: &Token) -> Truth
+fn truth_of(token: &Token<'_>) -> Truth
     ensures { result ≡ b.truth_of token.now }
 {
     let sort = sort_of(token);
@@ -43,7 +43,7 @@ fn truth_of(token: &Token) -> Truth
     }
 }
 
-fn comparison_of(token: &Token) -> Compare
+fn comparison_of(token: &Token<'_>) -> Compare
     ensures { result ≡ b.comparison_of token.now }
 {
     let sort = sort_of(token);
@@ -62,7 +62,7 @@ fn comparison_of(token: &Token) -> Compare
     }
 }
 
-fn is_all(token: &Token) -> bool
+fn is_all(token: &Token<'_>) -> bool
     ensures { result ≡ b.is token.now s.All }
 {
     same_sort(sort_of(token), Sort::All)

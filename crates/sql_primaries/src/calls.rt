@@ -34,7 +34,7 @@ const PLAIN_NAMES: [Sort; 14] = [
 
 const AGGREGATES: [Sort; 3] = [Sort::Sum, Sort::Min, Sort::Max];
 
-fn aggregate_of(token: &Token) -> AggWord
+fn aggregate_of(token: &Token<'_>) -> AggWord
     ensures { result ≡ b.aggregate_of token.now }
 {
     let sort = sort_of(token);
@@ -59,7 +59,7 @@ fn count_word(distinct: bool) -> AggWord
 }
 
 /// The column of that name, or of the item of that name.
-fn column(alloc: Global, first: &Token, second: Option<Name>) -> Result<ExprBody, NoMemory>
+fn column(alloc: Global, first: &Token<'_>, second: Option<Name>) -> Result<ExprBody, NoMemory>
     ensures { IfOk result (λ body. body ≡ b.column (first.now, second)) }
 {
     let name = name_of(alloc, first)?;
@@ -67,7 +67,7 @@ fn column(alloc: Global, first: &Token, second: Option<Name>) -> Result<ExprBody
 }
 
 /// The column of a function's word that no parenthesis follows.
-fn named(cursor: &mut Cursor<'_>, first: &Token) -> Result<ExprBody, Fault>
+fn named(cursor: &mut Cursor<'_>, first: &Token<'_>) -> Result<ExprBody, Fault>
     ensures given { spec.Reads result (spelled.named first.now cursor.old) cursor.new }
     ensures fewer { IfOk result (λ _. length cursor.new ≤ length cursor.old) }
 {
@@ -154,7 +154,7 @@ impl<
         self.before(cursor, Sort::Closing)
     }
 
-    fn aggregate_of(&self, cursor: &mut Cursor<'_>, token: &Token) -> Result<ExprBody, Fault>
+    fn aggregate_of(&self, cursor: &mut Cursor<'_>, token: &Token<'_>) -> Result<ExprBody, Fault>
         requires sound { Nests self.now.nest.most (F.pre self.now.nest.expr) (G.pre self.now.nest.query) (F.post self.now.nest.expr) (G.post self.now.nest.query) }
         requires below { length cursor.old ≤ self.now.nest.most }
         ensures given { spec.Reads result (spelled.aggregate_of token.now cursor.old) cursor.new }

@@ -11,7 +11,7 @@ ghost use Rattle.sql_grammar.specs.declared.sort.Sort.TheVariants as s;
 
 use crate::calls::column_of;
 use crate::grammar::{Grammar, ended_by};
-use perm_values::{Boxed, Copyable, Kind, List, NoMemory};
+use perm_values::{Boxed, Kind, List, NoMemory};
 use sql_grammar::{Cursor, Fault, Sort, node, repeated, same_sort, sort_of};
 use sql_lexer::Token;
 use sql_tree::{ArmTree, ExprBody, ExprTree, QueryTree};
@@ -35,7 +35,7 @@ const CAST_KINDS: [Sort; 5] = [
 ];
 
 /// The kind that a word names.
-pub fn kind_of(token: &Token) -> Kind
+pub fn kind_of(token: &Token<'_>) -> Kind
     ensures { result ≡ b.kind_of token.now }
 {
     let sort = sort_of(token);
@@ -48,14 +48,14 @@ pub fn kind_of(token: &Token) -> Kind
     }
 }
 
-fn literal_of(alloc: Global, token: &Token) -> Result<ExprBody, NoMemory>
+fn literal_of(alloc: Global, token: &Token<'_>) -> Result<ExprBody, NoMemory>
     ensures { IfOk result (λ body. body ≡ b.literal_of token.now) }
 {
     let sort = sort_of(token);
     if same_sort(sort, Sort::Digits) {
-        Ok(ExprBody::Integer(token.number))
+        Ok(ExprBody::Integer(token.number()))
     } else if same_sort(sort, Sort::Literal) {
-        Ok(ExprBody::Text(token.spelled.copy(alloc)?))
+        Ok(ExprBody::Text(token.spelled(alloc)?))
     } else if same_sort(sort, Sort::True) {
         Ok(ExprBody::Truth(true))
     } else if same_sort(sort, Sort::False) {

@@ -92,7 +92,7 @@ impl<
     {
         if cursor.sees(Sort::Star) {
             let token = cursor.one(&[Sort::Star])?;
-            Ok(SelectItem::Star { at: token.start })
+            Ok(SelectItem::Star { at: token.start() })
         } else if cursor.sees_table_star() {
             cursor.table_star()
         } else {

@@ -14,7 +14,7 @@ use sql_lexer::Token;
 use sql_tree::{ExprTree, OrderTree, QueryTree, SetStep, SetTree, SetWord};
 use std::alloc::Global;
 
-fn set_word(token: &Token) -> SetWord
+fn set_word(token: &Token<'_>) -> SetWord
     ensures { result ≡ b.set_word token.now }
 {
     if same_sort(sort_of(token), Sort::Union) {

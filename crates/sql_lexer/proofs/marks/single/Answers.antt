@@ -1,6 +1,7 @@
 use Rattle.sql_lexer.proofs.Classes.{mark_ascii}
 use Rattle.sql_lexer.proofs.Ascii.{one_utf8}
+use Rattle.sql_lexer.proofs.Fronts.{first_of}
 use Rattle.sql_lexer.proofs.marks.single.Goals as goal
 
 pub symbol-requires : goal.symbol-requires
-symbol-requires c = one_utf8 _ (mark_ascii _ (cc))
+symbol-requires c = rw (first_of c.args.text.now c.requires.nonempty) (one_utf8 _ (mark_ascii _ (cc)))

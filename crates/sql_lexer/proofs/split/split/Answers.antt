@@ -1,8 +1,9 @@
-use Rattle.std.proofs.Common.{[], ◌∷◌, arith}
+use Rattle.std.proofs.Common.{[], ◌∷◌, drop, arith}
 use Rattle.std.proofs.lemmas.List.{append-nil}
 use Rattle.std.proofs.lemmas.Result.{err_from_is_err_and}
 use Rattle.sql_lexer.specs.Lexes.{nothing}
-use Rattle.sql_lexer.proofs.OneReading.{turn, may_refuse, begins_with_found, ran_out}
+use Rattle.sql_lexer.specs.Reading.{next}
+use Rattle.sql_lexer.proofs.OneReading.{turn, may_refuse, begins_with_found, none_out}
 use Rattle.sql_lexer.proofs.split.split.Goals as goal
 
 pub loop-at-init : goal.loop-at-init
@@ -16,7 +17,7 @@ returns-in_err-end-clause-refused c =
 pub returns-in_err-end-clause-memory : goal.returns-in_err-end-clause-memory
 returns-in_err-end-clause-memory c =
     let p = err_from_is_err_and c.from_residual.result c.from_residual.ensures.1 in
-    rw (p.1, p.2) (λ e. ran_out c.args.bytes.now c.loop-at.at c.loop-at.found c.in_err-end.field-0.0 c.requires c.loop-at.invariant.0 c.loop-at.invariant.1 c.in_err-end.ensures cc)
+    rw (p.1, p.2) (λ e. absurd (none_out (next c.loop-at.at (drop c.loop-at.at c.args.bytes.now)) c.in_err-end.field-0.0 c.in_err-end.ensures cc))
 
 pub returns-in_err-push-in-Found-clause-memory : goal.returns-in_err-push-in-Found-clause-memory
 returns-in_err-push-in-Found-clause-memory c = λ e.
@@ -35,9 +36,9 @@ loop-at-preserved-in-Skipped c =
 pub loop-at-smaller : goal.loop-at-smaller
 loop-at-smaller c =
     let t = turn c.args.bytes.now c.loop-at.at c.in-Found.token.end c.loop-at.found (c.in-Found.token ∷ []) c.loop-at.invariant.0 c.loop-at.invariant.1 (rw c.in-Found.is at c.in_ok-end.ensures) in
-    omega (arith, t.goes, t.within)
+    rw c.end-at.ensures (omega (arith, t.goes, t.within))
 
 pub loop-at-preserved : goal.loop-at-preserved
 loop-at-preserved c =
     let t = turn c.args.bytes.now c.loop-at.at c.in-Found.token.end c.loop-at.found (c.in-Found.token ∷ []) c.loop-at.invariant.0 c.loop-at.invariant.1 (rw c.in-Found.is at c.in_ok-end.ensures) in
-    (t.within, rw c.in_ok-push-in-Found.ensures.ok t.lexes)
+    rw c.end-at.ensures (t.within, rw c.in_ok-push-in-Found.ensures.ok t.lexes)

@@ -1,5 +1,4 @@
-use Rattle.sql_lexer.proofs.Ascii.{lowered_utf8}
 use Rattle.sql_lexer.proofs.words.lowered.Goals as goal
 
 pub text_of-requires : goal.text_of-requires
-text_of-requires c = rw (c.as_slice.ensures.value, c.in_ok-lower.ensures.ok) (lowered_utf8 _ c.requires)
+text_of-requires c = rw (c.as_slice.ensures.value, c.in_ok-lower.ensures.ok) c.requires
