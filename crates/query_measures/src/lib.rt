@@ -17,4 +17,4 @@ pub use laws::{
 };
 pub use measures::{height, size};
 pub use reach::is_closed;
-pub use scopes::{is_plain, is_scoped};
+pub use scopes::{is_plain, is_scoped, over_tables, traceable};

@@ -88,8 +88,9 @@ fn all_scoped(subs: &[Sublink]) -> bool
 }
 
 /// Whether each sublink that is reached from here without passing a source has only sources whose input is a table.
+/// It takes no memory.
 #[cycle(traceable)]
-fn traceable(query: &Query) -> bool
+pub fn traceable(query: &Query) -> bool
     ensures { result ≡ traceable query.now }
 {
     match query {
@@ -129,9 +130,9 @@ fn all_traceable(subs: &[Sublink]) -> bool
     true
 }
 
-/// Whether the input of each source of the query is a table.
+/// Whether the input of each source of the query is a table. It takes no memory.
 #[cycle(over_tables)]
-fn over_tables(query: &Query) -> bool
+pub fn over_tables(query: &Query) -> bool
     ensures { result ≡ over_tables query.now }
 {
     match query {
