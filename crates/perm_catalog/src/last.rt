@@ -6,6 +6,17 @@ use indexmap::IndexMap;
 use perm_values::{Chars, Copyable, NoMemory};
 use std::alloc::Global;
 
+/// Makes room for one more entry, and changes no entry.
+fn make_room<V>(entries: &mut IndexMap<Chars, V>) -> Result<(), NoMemory>
+    ensures entries { entries.new.entries ≡ entries.old.entries }
+    ensures room { OnOk result (0 < spare entries.new) }
+{
+    match entries.reserve(1) {
+        Ok(()) => Ok(()),
+        Err(_) => Err(NoMemory),
+    }
+}
+
 /// A copy of the name, and room for one more entry. It changes no entry.
 pub(crate) fn room_for<V>(
     alloc: Global,
@@ -16,7 +27,7 @@ pub(crate) fn room_for<V>(
     ensures entries { entries.new.entries ≡ entries.old.entries }
     ensures room { OnOk result (0 < spare entries.new) }
 {
-    entries.reserve(1)?;
+    make_room(entries)?;
     name.copy(alloc)
 }
 
