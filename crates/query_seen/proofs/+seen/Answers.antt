@@ -1,4 +1,4 @@
-use Rattle.std.specs.Prelude.{◌≡◌, ℕ, true, false, cond, not, List, [], ◌∷◌, ◌++◌, map, flat_map, None, Some, Ok}
+use Rattle.std.specs.Prelude.{◌≡◌, ℕ, true, false, cond, not, List, [], ◌∷◌, ◌++◌, map, flat_map, None, Some, Result, Ok, Err}
 use Rattle.null_logic.specs.declared.operator.Operator.TheVariants as x
 use Rattle.perm_values.specs.declared.kind.Kind.TheVariants as kind
 use Rattle.perm_values.specs.declared.value.Value.TheVariants as v
@@ -7,29 +7,33 @@ use Rattle.bag_algebra.specs.declared.expr.Expr.TheVariants.{Lit, Op, IsNull, Is
 use Rattle.sql_tree.specs.declared.expression.ExprStep.{ExprStep}
 use Rattle.sql_tree.specs.declared.query.QueryTree.{QueryTree}
 use Rattle.null_logic.specs.declared.compare.Compare.TheVariants.{Equal, NotEqual}
-use Rattle.std.proofs.Common.{ap, sym, subst, ◌∙◌}
+use Rattle.std.proofs.Common.{ap, refl, sym, subst, ◌∙◌}
 use Rattle.std.proofs.lemmas.List.{take_all}
 use Rattle.sql_tree.specs.declared.expression.ExprBody.TheVariants as e
 use Rattle.name_words.specs.Expressions.{arm_operands, case_made, chain_gives, chain_made, else_operand, first_need, in_kind, first_of, negated_if, second_of, step_operand, times}
-use Rattle.name_words.specs.Meanings.{means_at}
+use Rattle.name_words.specs.Meanings.{means_at, query_means_at}
 use Rattle.name_words.specs.Scopes.{look_up}
-use Rattle.name_words.specs.Sublinks.{null_at}
+use Rattle.name_words.specs.Sublinks.{in_argument, null_at}
+use Rattle.name_words.specs.declared.trace.Trace.{Trace}
+use Rattle.name_seen.specs.declared.operands.Operands.{Operands}
+use Rattle.name_seen.specs.declared.refusal.Refusal.{Refusal}
+use Rattle.sql_tree.specs.declared.expression.ExprTree.{ExprTree}
 use Rattle.name_seen.specs.Seen.{no_operand}
 use Rattle.name_words.specs.Operands.{Operand, gives_of, need_of, operand}
 use Rattle.name_words.specs.Trees.{part_of, step_of, arm_of, query_of}
 use Rattle.name_words.specs.declared.need.Gives.{Gives}
 use Rattle.name_words.specs.declared.need.Gives.TheVariants.{Always as always, Common as common}
 use Rattle.name_words.specs.declared.need.Need.TheVariants.{Alike as alike, Free as free, OfKind as of_kind}
-use Rattle.name_words.proofs.Forms.{means-null, means-nullof, means-integer, means-text, means-truth, means-column, means-paren, means-nots, means-signs, means-logic, means-chain, means-compared, means-like, means-between, means-inlist, means-isnull, means-istruth, means-isdistinct, means-case-none, means-case-some, means-coalesce, means-exists, means-inquery, means-nullif, means-quantified, means-scalar}
+use Rattle.name_words.proofs.Forms.{means-aggregate-none, means-aggregate-some, means-null, means-nullof, means-integer, means-text, means-truth, means-column, means-paren, means-nots, means-signs, means-logic, means-chain, means-compared, means-like, means-between, means-inlist, means-isnull, means-istruth, means-isdistinct, means-case-none, means-case-some, means-coalesce, means-exists, means-inquery, means-nullif, means-quantified, means-scalar}
 use Rattle.name_seen.specs.Named.{scopes_of}
 use Rattle.name_seen.specs.Standing.{surroundings}
 use Rattle.expression_seen.specs.Expressed.{OperandsBehind, kind_over}
-use Rattle.expression_seen.specs.Inner.{exists_over, scalar_over, tested_over}
-use Rattle.expression_seen.proofs.Alone.{null-alone, known-alone, column-alone, told-so}
-use Rattle.name_seen.proofs.Arms.{means-is}
+use Rattle.expression_seen.specs.Inner.{InnerSeen, exists_over, scalar_over, tested_over}
+use Rattle.expression_seen.proofs.Alone.{null-alone, known-alone, column-alone, told-by, told-so}
+use Rattle.name_seen.proofs.Arms.{means-is, part-at}
 use Rattle.expression_seen.proofs.Behind.{behind-both, behind-nothing, meant-so, node-over, operand-seen}
 use Rattle.expression_seen.proofs.Forms.{mapped-more, flat-more, step-is, arm-is, without-else}
-use Rattle.expression_seen.proofs.Sublinked.{exists-looked, inner-refused, query-at, result-so, scalar-looked, tested-seen}
+use Rattle.expression_seen.proofs.Sublinked.{aggregate-seen, exists-looked, inner-refused, query-at, result-so, rows-seen, scalar-looked, tested-seen}
 use Rattle.query_seen.proofs.+seen.Goals as goal
 
 pub expressions::expression_seen-returns-in-Null : goal.expressions::expression_seen-returns-in-Null
@@ -60,7 +64,7 @@ expressions::expression_seen-returns-in-Truth t c =
 pub expressions::expression_seen-returns-in-Column : goal.expressions::expression_seen-returns-in-Column
 expressions::expression_seen-returns-in-Column t c =
     meant-so (means_at (part_of c.args.here.now.catalog.now c.args.tree.now) (surroundings c.args.here.now)) _ c.args.facts.now c.args.facts.now c.column.result
-    (means-column c.args.here.now.catalog.now (surroundings c.args.here.now) c.args.tree.now c.in-Column.reference c.in-Column.is) (column-alone (surroundings c.args.here.now) c.in-Column.reference.at (look_up 0 (scopes_of c.args.here.now.scopes.now) c.in-Column.reference) c.args.facts.now c.column.result c.column.ensures)
+    (means-column c.args.here.now.catalog.now (surroundings c.args.here.now) c.args.tree.now c.in-Column.reference c.in-Column.is) (column-alone (surroundings c.args.here.now) c.in-Column.reference.at (look_up 0 (scopes_of c.args.here.now.scopes.now) c.in-Column.reference) c.args.facts.now c.column.result (told-by _ _ c.column.result refl c.column.ensures))
 
 pub expressions::expression_seen-returns-in-Paren : goal.expressions::expression_seen-returns-in-Paren
 expressions::expression_seen-returns-in-Paren t c =
@@ -197,8 +201,9 @@ expressions::expression_seen-returns-in-Some t c =
 
 pub expressions::operand-returns-in-Ok : goal.expressions::operand-returns-in-Ok
 expressions::operand-returns-in-Ok t c =
-    operand-seen c.args.here.now.catalog.now (surroundings c.args.here.now) c.args.need c.args.tree.now c.in-Ok.operands c.args.facts.now c.expression_seen.new.facts c.expression_seen.result c.operands_with.result
-    c.expression_seen.ensures c.operands_with.ensures
+    subst (λ (so_far : Result Operands Refusal). OperandsBehind (operand (surroundings c.args.here.now) c.args.need (part_of c.args.here.now.catalog.now c.args.tree.now) ∷ []) so_far c.args.facts.now c.expression_seen.new.facts c.operands_with.result) (sym c.in-Ok.is)
+    (operand-seen c.args.here.now.catalog.now (surroundings c.args.here.now) c.args.need c.args.tree.now c.in-Ok.operands c.args.facts.now c.expression_seen.new.facts c.expression_seen.result c.operands_with.result
+    c.expression_seen.ensures c.operands_with.ensures)
 
 pub expressions::operands-loop-tree-init : goal.expressions::operands-loop-tree-init
 expressions::operands-loop-tree-init t c = behind-nothing c.args.so_far c.args.facts.now
@@ -227,10 +232,10 @@ expressions::operands_of_arms-loop-arm-init t c = behind-nothing c.args.so_far c
 
 pub expressions::operands_of_arms-loop-arm-preserved : goal.expressions::operands_of_arms-loop-arm-preserved
 expressions::operands_of_arms-loop-arm-preserved t c =
-    flat-more (arm_operands (surroundings c.args.here.now)) (arm_of c.args.here.now.catalog.now) c.args.arms.now c.loop-arm.arm-index c.arm-item.result c.args.so_far c.loop-arm.seen c.operand-seen-2.result c.args.facts.now c.loop-arm.facts c.operand-seen-2.new.facts c.loop-arm-test.true c.arm-item.is c.loop-arm.invariant
-    (subst (λ (os : List Operand). OperandsBehind os c.loop-arm.seen c.loop-arm.facts c.operand-seen-2.new.facts c.operand-seen-2.result) (arm-is c.args.here.now.catalog.now (surroundings c.args.here.now) c.arm-item.result)
-    (behind-both (operand (surroundings c.args.here.now) (of_kind kind.Boolean) (part_of c.args.here.now.catalog.now c.arm-item.result.condition) ∷ []) (operand (surroundings c.args.here.now) alike (part_of c.args.here.now.catalog.now c.arm-item.result.value) ∷ []) c.loop-arm.seen c.operand-seen.result c.operand-seen-2.result c.loop-arm.facts c.operand-seen.new.facts c.operand-seen-2.new.facts
-    c.operand-seen.ensures c.operand-seen-2.ensures))
+    flat-more (arm_operands (surroundings c.args.here.now)) (arm_of c.args.here.now.catalog.now) c.args.arms.now c.loop-arm.arm-index c.arm-item.result c.args.so_far c.loop-arm.seen c.operand-seen-in-loop-arm.result c.args.facts.now c.loop-arm.facts c.operand-seen-in-loop-arm.new.facts c.loop-arm-test.true c.arm-item.is c.loop-arm.invariant
+    (subst (λ (os : List Operand). OperandsBehind os c.loop-arm.seen c.loop-arm.facts c.operand-seen-in-loop-arm.new.facts c.operand-seen-in-loop-arm.result) (arm-is c.args.here.now.catalog.now (surroundings c.args.here.now) c.arm-item.result)
+    (behind-both (operand (surroundings c.args.here.now) (of_kind kind.Boolean) (part_of c.args.here.now.catalog.now c.arm-item.result.condition) ∷ []) (operand (surroundings c.args.here.now) alike (part_of c.args.here.now.catalog.now c.arm-item.result.value) ∷ []) c.loop-arm.seen c.operand-seen.result c.operand-seen-in-loop-arm.result c.loop-arm.facts c.operand-seen.new.facts c.operand-seen-in-loop-arm.new.facts
+    c.operand-seen.ensures c.operand-seen-in-loop-arm.ensures))
 
 pub expressions::operands_of_arms-returns : goal.expressions::operands_of_arms-returns
 expressions::operands_of_arms-returns t c = rw (take_all c.loop-arm.arm-index c.args.arms.now c.loop-arm-test.false) at c.loop-arm.invariant
@@ -243,7 +248,7 @@ expressions::tested_kind-returns t c = rw (c.in_tested.ensures (scopes_of c.args
 
 pub expressions::argument_kind-returns : goal.expressions::argument_kind-returns
 expressions::argument_kind-returns t c =
-    rw (c.ungrouped.ensures, c.in_argument.ensures (scopes_of c.args.here.now.scopes.now)) at c.kind_of.ensures
+    rw (c.ungrouped-scopes.ensures, c.in_argument.ensures (scopes_of c.args.here.now.scopes.now)) at c.kind_of.ensures
 
 pub expressions::expression_seen-returns-in-Exists : goal.expressions::expression_seen-returns-in-Exists
 expressions::expression_seen-returns-in-Exists t c =
@@ -282,4 +287,24 @@ pub expressions::inner_looked-returns-in-Ok : goal.expressions::inner_looked-ret
 expressions::inner_looked-returns-in-Ok t c = c.add_inner.ensures _ (rw c.trace_below.ensures at c.in-Ok.ensures)
 
 pub expressions::inner_looked-returns-in-Err : goal.expressions::inner_looked-returns-in-Err
-expressions::inner_looked-returns-in-Err t c = inner-refused _ _ _ c.in-Err.refusal (rw c.trace_below.ensures at c.in-Err.ensures)
+expressions::inner_looked-returns-in-Err t c =
+    subst (λ (trace : Trace). InnerSeen (query_means_at (query_of c.args.here.now.catalog.now c.args.query.now) (record { outer = scopes_of c.args.here.now.scopes.now; trace = trace; provable = false })) c.args.facts.now c.args.facts.now (Err c.in-Err.refusal))
+    c.trace_below.ensures (inner-refused _ _ _ c.in-Err.refusal c.in-Err.ensures)
+
+pub expressions::expression_seen-returns-in-None-argument : goal.expressions::expression_seen-returns-in-None-argument
+expressions::expression_seen-returns-in-None-argument t c =
+    let here = surroundings c.args.here.now in
+    meant-so (means_at (part_of c.args.here.now.catalog.now c.args.tree.now) here) _ c.args.facts.now c.args.facts.now c.answered.result
+    (means-aggregate-none c.args.here.now.catalog.now here c.args.tree.now c.in-Aggregate.function (c.in-Aggregate.is ∙ ap (λ o. e.Aggregate c.in-Aggregate.function o) c.in-None-argument.is))
+    (rows-seen here c.args.tree.now.at c.in-Aggregate.function c.args.facts.now c.answered.result
+    (told-by _ c.count_kind.result c.answered.result (c.count_kind.ensures here refl) c.answered.ensures))
+
+pub expressions::expression_seen-returns-in-Some-argument : goal.expressions::expression_seen-returns-in-Some-argument
+expressions::expression_seen-returns-in-Some-argument t c =
+    let here = surroundings c.args.here.now in
+    let part = part_of c.args.here.now.catalog.now c.in-Some-argument.argument in
+    meant-so (means_at (part_of c.args.here.now.catalog.now c.args.tree.now) here) _ c.args.facts.now c.args.facts.now c.aggregated.result
+    (means-aggregate-some c.args.here.now.catalog.now here c.args.tree.now c.in-Aggregate.function c.in-Some-argument.argument (c.in-Aggregate.is ∙ ap (λ o. e.Aggregate c.in-Aggregate.function o) c.in-Some-argument.is))
+    (aggregate-seen here c.args.tree.now.at c.in-Aggregate.function part c.get-in-Some-argument-2.result.at c.args.facts.now c.aggregated.result
+    (ap (λ (tree : ExprTree). tree.at) c.get-in-Some-argument-2.ensures ∙ sym (part-at c.args.here.now.catalog.now c.in-Some-argument.argument))
+    (c.aggregated.ensures (means_at part (in_argument here)) (rw c.get-in-Some-argument.ensures at c.argument_kind-kind.ensures)))
