@@ -42,7 +42,6 @@ pub record ColumnsWhole (m : QueryMeant) (old new : Gathered) (columns : List Sh
   pub whole : m.breaks ≡ []
   pub known : m.columns ≡ Some (columns_of columns)
   pub inner : (wanted : List Kind) → is_table (m.make wanted) ≡ false
-  pub kinds : (wanted : List Kind) → kinds_of (m.make wanted) ≡ settle (columns_of columns) wanted
   pub adds : (wanted : List Kind) → facts_in new ≡ both_facts (facts_in old) (facts_of (m.make wanted))
 
 abbrev pub ColumnsSeen : QueryMeant → Gathered → Gathered → Result (List ShownColumn) Refusal → Type 0

@@ -1,8 +1,10 @@
-//! What the provenance of queries rests on, before they are made.
+//! What a query shows before it is made: its columns, and the facts that its provenance rests on.
 #![tactic(auto)]
 
 mod facts;
 mod shown;
+mod viewed;
 
 pub use facts::Facts;
 pub use shown::QueryShown;
+pub use viewed::{facts_of, is_table, kinds_at};
