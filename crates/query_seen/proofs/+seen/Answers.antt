@@ -289,7 +289,7 @@ expressions::inner_looked-returns-in-Ok t c = c.add_inner.ensures _ (rw c.trace_
 pub expressions::inner_looked-returns-in-Err : goal.expressions::inner_looked-returns-in-Err
 expressions::inner_looked-returns-in-Err t c =
     subst (λ (trace : Trace). InnerSeen (query_means_at (query_of c.args.here.now.catalog.now c.args.query.now) (record { outer = scopes_of c.args.here.now.scopes.now; trace = trace; provable = false })) c.args.facts.now c.args.facts.now (Err c.in-Err.refusal))
-    c.trace_below.ensures (inner-refused _ _ _ c.in-Err.refusal c.in-Err.ensures)
+    c.trace_below.ensures (inner-refused (query_means_at (query_of c.args.here.now.catalog.now c.args.query.now) (record { outer = scopes_of c.args.here.now.scopes.now; trace = c.trace_below.result; provable = false })) c.args.facts.now c.args.facts.now c.in-Err.refusal c.in-Err.ensures)
 
 pub expressions::expression_seen-returns-in-None-argument : goal.expressions::expression_seen-returns-in-None-argument
 expressions::expression_seen-returns-in-None-argument t c =
@@ -305,6 +305,6 @@ expressions::expression_seen-returns-in-Some-argument t c =
     let part = part_of c.args.here.now.catalog.now c.in-Some-argument.argument in
     meant-so (means_at (part_of c.args.here.now.catalog.now c.args.tree.now) here) _ c.args.facts.now c.args.facts.now c.aggregated.result
     (means-aggregate-some c.args.here.now.catalog.now here c.args.tree.now c.in-Aggregate.function c.in-Some-argument.argument (c.in-Aggregate.is ∙ ap (λ o. e.Aggregate c.in-Aggregate.function o) c.in-Some-argument.is))
-    (aggregate-seen here c.args.tree.now.at c.in-Aggregate.function part c.get-in-Some-argument-2.result.at c.args.facts.now c.aggregated.result
+    (aggregate-seen here c.args.tree.now.at c.in-Aggregate.function part c.get-in-Some-argument-2.result.now.at c.args.facts.now c.aggregated.result
     (ap (λ (tree : ExprTree). tree.at) c.get-in-Some-argument-2.ensures ∙ sym (part-at c.args.here.now.catalog.now c.in-Some-argument.argument))
     (c.aggregated.ensures (means_at part (in_argument here)) (rw c.get-in-Some-argument.ensures at c.argument_kind-kind.ensures)))
