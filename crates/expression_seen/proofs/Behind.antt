@@ -99,3 +99,11 @@ pub node-over : (gives : Gives) (assembled : List Expr → Expr) (os : List Oper
     → m ≡ node gives assembled os → OperandsBehind os (Ok no_operand) old new r → result ≡ kind_over gives r → ExpressionSeen m old new result
 node-over gives assembled os m old new r result e shown is =
     subst (λ (result : Result (Option Kind) Refusal). ExpressionSeen m old new result) (sym is) (meant-so m (node gives assembled os) old new (kind_over gives r) e (over-operands gives assembled os old new r shown))
+
+-- a node over a first operand and those behind it
+pub node-over_more : (gives : Gives) (assembled : List Expr → Expr) (o : Operand) (os : List Operand) (m : Meant) (old middle new : Gathered) (r s : Result Operands Refusal)
+    (result : Result (Option Kind) Refusal)
+    → m ≡ node gives assembled (o ∷ os) → OperandsBehind (o ∷ []) (Ok no_operand) old middle r → OperandsBehind os r middle new s → result ≡ kind_over gives s
+    → ExpressionSeen m old new result
+node-over_more gives assembled o os m old middle new r s result e first behind is =
+    node-over gives assembled (o ∷ os) m old new s result e (behind-both (o ∷ []) os (Ok no_operand) r s old middle new first behind) is
