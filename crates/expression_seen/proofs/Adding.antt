@@ -1,10 +1,9 @@
 -- Operands gone through one behind another: what they come to, and the facts of their sublinks.
 use Rattle.std.specs.Prelude.{◌≡◌, List, [], ◌∷◌, ◌++◌, Option, Result, Ok, Err}
-use Rattle.std.proofs.Common.{refl, ap, sym, ◌∙◌, append_assoc, append-nil}
+use Rattle.std.proofs.Common.{refl, ap, sym, ◌∙◌, append_assoc}
 use Rattle.perm_values.specs.declared.kind.Kind.{Kind}
-use Rattle.bag_algebra.specs.declared.query.Aggr.{Aggr}
 use Rattle.bag_algebra.specs.declared.query.Sublink.{Sublink}
-use Rattle.name_words.specs.Meanings.{Before, Built}
+use Rattle.name_words.specs.Meanings.{Before}
 use Rattle.name_words.specs.Operands.{Operand, wanted_of, behind, made_parts}
 use Rattle.name_words.specs.declared.answer.Break.{Break}
 use Rattle.name_laws.specs.Facts.{Facts, both_facts, sub_facts}

@@ -6,8 +6,8 @@ use Rattle.perm_values.specs.declared.kind.Kind.{Kind}
 use Rattle.bag_algebra.specs.declared.expr.Expr.{Expr}
 use Rattle.bag_algebra.specs.declared.query.Sublink.{Sublink}
 use Rattle.sql_tree.specs.declared.expression.ExprTree.{ExprTree}
-use Rattle.name_words.specs.Meanings.{Before, Meant, Part, Surroundings, settled, means_at}
-use Rattle.name_words.specs.Operands.{Operand, operand, node, wanted_of, made_parts, united, alike_wanted}
+use Rattle.name_words.specs.Meanings.{Before, Meant, Surroundings, settled, means_at}
+use Rattle.name_words.specs.Operands.{Operand, operand, node, wanted_of, united, alike_wanted}
 use Rattle.name_words.specs.Trees.{part_of}
 use Rattle.name_words.specs.declared.answer.Break.{Break}
 use Rattle.name_words.specs.declared.need.Gives.{Gives}

@@ -8,13 +8,11 @@ use Rattle.perm_values.specs.declared.kind.Kind.{Kind}
 use Rattle.perm_values.specs.declared.kind.Kind.TheVariants as kind
 use Rattle.sql_tree.specs.declared.expression.ArmTree.{ArmTree}
 use Rattle.sql_tree.specs.declared.expression.ExprStep.{ExprStep}
-use Rattle.name_words.specs.Expressions.{StepPart, ArmPart, step_operand, arm_operands, else_operand, first_need, chain_gives}
+use Rattle.name_words.specs.Expressions.{StepPart, step_operand, arm_operands, else_operand, first_need, chain_gives}
 use Rattle.name_words.specs.Meanings.{Surroundings}
 use Rattle.name_words.specs.Operands.{Operand, operand, need_of, gives_of}
 use Rattle.name_words.specs.Trees.{part_of, step_of, arm_of}
-use Rattle.name_words.specs.declared.need.Gives.{Gives}
 use Rattle.name_words.specs.declared.need.Gives.TheVariants.{Common as common}
-use Rattle.name_words.specs.declared.need.Need.{Need}
 use Rattle.name_words.specs.declared.need.Need.TheVariants.{OfKind as of_kind, Alike as alike, Free as free}
 use Rattle.name_words.proofs.Equations.{token, exprstep-record, armtree-record}
 use Rattle.name_laws.proofs.FactsOf.{both_facts-none}

@@ -1,5 +1,5 @@
 -- Expressions over sublinks, and aggregates.
-use Rattle.std.specs.Prelude.{◌≡◌, ℕ, suc, Bool, true, false, not, cond, List, [], ◌∷◌, ◌++◌, length, nat_eq, Option, Some, None, Result, Ok, Err}
+use Rattle.std.specs.Prelude.{◌≡◌, ℕ, suc, Bool, true, false, not, cond, List, [], ◌∷◌, length, nat_eq, Option, Some, None, Result, Ok, Err}
 use Rattle.std.proofs.Common.{refl, ap, sym, subst, ◌∙◌}
 use Rattle.perm_catalog.specs.Contents.{Contents}
 use Rattle.perm_values.specs.declared.kind.Kind.{Kind}
@@ -7,7 +7,7 @@ use Rattle.perm_values.specs.declared.kind.Kind.TheVariants as kind
 use Rattle.bag_algebra.specs.declared.query.SubKind.{SubKind}
 use Rattle.sql_tree.specs.declared.expression.AggWord.{AggWord}
 use Rattle.sql_tree.specs.declared.query.QueryTree.{QueryTree}
-use Rattle.name_words.specs.Meanings.{Before, Meant, OutColumn, Part, QueryMeant, QueryPart, Surroundings, broken, broken_if, is_whole, means_at, query_means_at, unites, seen_kind, settled, united_kind}
+use Rattle.name_words.specs.Meanings.{Meant, OutColumn, Part, QueryMeant, QueryPart, Surroundings, broken, broken_if, is_whole, means_at, query_means_at, unites, seen_kind, settled}
 use Rattle.name_words.specs.Sublinks.{aggregate_kind, aggregate_meant, aggregated, around_of, breaking, exists_meant, first_kind, if_standing, in_argument, in_tested, is_one_column, rows_counted, scalar_meant, takes_kind, tested_break, tested_kind, tested_looked, tested_meant, tested_unlooked}
 use Rattle.name_words.specs.Trees.{query_of}
 use Rattle.name_words.specs.declared.answer.Break.{Break}
@@ -20,7 +20,7 @@ use Rattle.name_seen.specs.declared.refusal.Refusal.TheVariants.{Break as Broken
 use Rattle.name_seen.proofs.SeenAs.{seen-as}
 use Rattle.query_facts.specs.Added.{facts_in}
 use Rattle.clauses_seen.specs.Told.{Tells}
-use Rattle.expression_seen.specs.Expressed.{ExpressionSeen, answered}
+use Rattle.expression_seen.specs.Expressed.{ExpressionSeen}
 use Rattle.expression_seen.specs.Inner.{InnerIs, InnerLooked, InnerSeen, exists_over, scalar_over, tested_by, tested_over, first_shown}
 use Rattle.clauses_seen.specs.Columns.{columns_of}
 use Rattle.query_facts.specs.Queried.{QuerySeen, QueryWhole}

@@ -1,4 +1,4 @@
-use Rattle.std.specs.Prelude.{◌≡◌, ℕ, true, false, cond, not, List, [], ◌∷◌, ◌++◌, map, flat_map, None, Some, Result, Ok, Err}
+use Rattle.std.specs.Prelude.{ℕ, true, false, cond, not, List, [], ◌∷◌, ◌++◌, map, flat_map, None, Some, Result, Ok, Err}
 use Rattle.null_logic.specs.declared.operator.Operator.TheVariants as x
 use Rattle.perm_values.specs.declared.kind.Kind.TheVariants as kind
 use Rattle.perm_values.specs.declared.value.Value.TheVariants as v

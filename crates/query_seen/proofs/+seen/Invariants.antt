@@ -1,4 +1,4 @@
-use Rattle.std.proofs.Common.{◌≡◌, take}
+use Rattle.std.proofs.Common.{take}
 use Rattle.std.specs.Prelude.{map, flat_map}
 use Rattle.name_words.specs.Expressions.{step_operand, arm_operands}
 use Rattle.name_words.specs.Operands.{operand}

@@ -1,5 +1,5 @@
 use Rattle.std.specs.Prelude.{Option, Result}
-use Rattle.std.proofs.Common.{◌≡◌, refl, sym, subst}
+use Rattle.std.proofs.Common.{refl, sym, subst}
 use Rattle.perm_values.specs.declared.kind.Kind.{Kind}
 use Rattle.name_words.specs.Sublinks.{aggregated}
 use Rattle.name_words.specs.declared.answer.Break.{Break}
