@@ -1,0 +1,11 @@
+//! What a query shows without being made: its first break, or its columns, its scopes and the facts that its provenance
+//! rests on.
+#![tactic(auto)]
+
+mod expressions;
+mod queries;
+
+pub use expressions::{
+    expression_seen, kind_of, operand, operands, operands_of_arms, operands_of_steps,
+};
+pub use queries::query_seen;
