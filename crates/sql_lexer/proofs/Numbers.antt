@@ -1,8 +1,9 @@
 -- Digits, and the number that `parse` reads from them.
-use Rattle.std.proofs.Common.{◌≡◌, ℕ, ℤ, ◌+◌, ◌<◌, ◌≤◌, ◌^◌, ◌&&◌, Bool, true, ltb, List, [], ◌∷◌, length, take, get_or, Result, Ok, Err, refl, ◌∙◌, arith, w64}
+use Rattle.std.proofs.Common.{◌≡◌, ℕ, ℤ, pos, ◌+◌, ◌<◌, ◌^◌, ◌&&◌, Bool, true, false, ltb, List, [], ◌∷◌, length, take, get_or, Some, None, Result, Ok, Err, refl, sym, ap, ◌∙◌, ⊎_elim, arith, w64}
 use Rattle.std.specs.List.{list_all, prefix_len}
 use Rattle.std.specs.Str.Parse.{digits_value, ParsesSigned}
-use Rattle.std.proofs.lemmas.Bool.{lt-ltb, le-ltb, ltb-true, ltb-false, false_from_ne_true, cond-true, cond-false}
+use Rattle.std.proofs.lemmas.Bool.{lt-ltb, ltb-true, false_from_ne_true, cond-true, cond-false, cases_Bool}
+use Rattle.std.proofs.lemmas.List.Folds.{length-prefix_len}
 use Rattle.std.proofs.lemmas.Result.{OkIff-at_ok, OkIff-at_err}
 use Rattle.std.proofs.lemmas.Str.Parse.{IsDigitsTest, IsNumeralModel, numerals_by_value, parse_signed_digits}
 use Rattle.sql_lexer.specs.declared.lex_error.LexError.TheVariants.{NumberRange}
@@ -10,8 +11,9 @@ use Rattle.sql_lexer.specs.declared.token.TokenKind.TheVariants.{Number}
 use Rattle.sql_lexer.specs.declared.scan.Class.TheVariants.{Digit}
 use Rattle.sql_lexer.specs.Bytes.{class_of, is_digit}
 use Rattle.sql_lexer.specs.Reading.{Fault, one, number}
+use Rattle.sql_lexer.specs.Spelled.{value_in_range}
 use Rattle.sql_lexer.proofs.Classes.{digit_range, digit_class, digit_is, digit_joins}
-use Rattle.sql_lexer.proofs.Fronts.{and_parts, front_more, front_passes}
+use Rattle.sql_lexer.proofs.Fronts.{and_parts, front_more}
 
 pub and_true : (a b : Bool) → a ≡ true → b ≡ true → (a && b) ≡ true
 and_true a b e f = rw (e, f) refl
@@ -26,23 +28,46 @@ tells = record {
 pub numerals : IsNumeralModel (λ digits. list_all is_digit digits ≡ true) (digits_value 10)
 numerals = numerals_by_value _ tells
 
-pub parsed : {E : Type 0} (at : ℕ) (text bytes : List ℕ) (r : Result ℤ E) (n : ℤ) → bytes ≡ take (prefix_len is_digit text) text → ParsesSigned w64 10 bytes r
-    → r ≡ Ok n → number at text ≡ one Number at (at + prefix_len is_digit text) bytes n
-unfolding number
-parsed at text bytes r n e parses is =
-    let digits = take (prefix_len is_digit text) text in
-    let found = OkIff-at_ok r _ _ n (parse_signed_digits numerals w64 bytes r parses (rw e (front_passes is_digit text))) is in
-    let fits : digits_value 10 digits < 2 ^ 63 = rw (← e) found.0.1 in
-    cond-true (ltb (digits_value 10 digits) (2 ^ 63)) _ _ (lt-ltb _ _ fits) ∙ rw (found.1, e) refl
+-- what `parse` gives of digits is their value, if it is below 2^63
+module _ {E : Type 0} (bytes digits : List ℕ) (r : Result ℤ E) (is : bytes ≡ digits) (all : list_all is_digit digits ≡ true) (parses : ParsesSigned w64 10 bytes r) where
+  pub in_range : (n : ℤ) → r ≡ Ok n → Some n ≡ value_in_range digits
+  in_range n e =
+      let found = OkIff-at_ok r _ _ n (parse_signed_digits numerals w64 bytes r parses (rw is all)) e in
+      rw (← is) (rw found.1 (sym (cond-true (ltb (digits_value 10 bytes) (2 ^ 63)) _ _ (lt-ltb _ _ found.0.1))))
 
-pub too_large : {E : Type 0} (at : ℕ) (text bytes : List ℕ) (r : Result ℤ E) (f : E) → bytes ≡ take (prefix_len is_digit text) text → ParsesSigned w64 10 bytes r
-    → 0 < length bytes → r ≡ Err f → number at text ≡ Fault (NumberRange at)
+  pub out_of_range : (f : E) → 0 < length digits → r ≡ Err f → None ≡ value_in_range digits
+  out_of_range f some e =
+      let not = OkIff-at_err r _ _ f (parse_signed_digits numerals w64 bytes r parses (rw is all)) e in
+      rw (← is) (sym (cond-false (ltb (digits_value 10 bytes) (2 ^ 63)) _ _ (false_from_ne_true _ (λ small. not (rw is some, ltb-true _ _ small)))))
+
+-- digits whose value is given are below the limit
+pub below : (digits : List ℕ) (n : ℤ) → value_in_range digits ≡ Some n → digits_value 10 digits < 2 ^ 63
+below digits n e =
+    ⊎_elim (λ small. ltb-true _ _ small)
+    (λ large. let both : None ≡ Some n = sym (cond-false (ltb (digits_value 10 digits) (2 ^ 63)) _ _ large) ∙ e in absurd cc)
+    (cases_Bool (ltb (digits_value 10 digits) (2 ^ 63)))
+
+-- and others aren't
+above : (digits : List ℕ) → value_in_range digits ≡ None → ltb (digits_value 10 digits) (2 ^ 63) ≡ false
+above digits e =
+    ⊎_elim (λ small. let both : Some (pos (digits_value 10 digits)) ≡ None = sym (cond-true (ltb (digits_value 10 digits) (2 ^ 63)) _ _ small) ∙ e in absurd cc)
+    (λ large. large)
+    (cases_Bool (ltb (digits_value 10 digits) (2 ^ 63)))
+
+pub parsed : (at : ℕ) (text : List ℕ) (n : ℤ) → value_in_range (take (prefix_len is_digit text) text) ≡ Some n
+    → number at text
+    ≡ one Number at (at + length (take (prefix_len is_digit text) text)) (take (prefix_len is_digit text) text) (pos (digits_value 10 (take (prefix_len is_digit text) text)))
 unfolding number
-too_large at text bytes r f e parses some is =
+parsed at text n e =
     let digits = take (prefix_len is_digit text) text in
-    let not = OkIff-at_err r _ _ f (parse_signed_digits numerals w64 bytes r parses (rw e (front_passes is_digit text))) is in
-    let above : 2 ^ 63 ≤ digits_value 10 digits = ltb-false _ _ (false_from_ne_true _ (λ small. not (some, rw e (ltb-true _ _ small)))) in
-    cond-false (ltb (digits_value 10 digits) (2 ^ 63)) _ _ (le-ltb _ _ above)
+    cond-true (ltb (digits_value 10 digits) (2 ^ 63)) _ _ (lt-ltb _ _ (below digits n e))
+    ∙ ap (λ len. one Number at (at + len) digits (pos (digits_value 10 digits))) (sym (length-prefix_len is_digit text))
+
+pub too_large : (at : ℕ) (text : List ℕ) → value_in_range (take (prefix_len is_digit text) text) ≡ None → number at text ≡ Fault (NumberRange at)
+unfolding number
+too_large at text e =
+    let digits = take (prefix_len is_digit text) text in
+    cond-false (ltb (digits_value 10 digits) (2 ^ 63)) _ _ (above digits e)
 
 -- behind a first digit there is one at least
 pub digits_some : (text : List ℕ) → 0 < length text → class_of (get_or text 0 0) ≡ Digit → 0 < length (take (prefix_len is_digit text) text)

@@ -1,16 +1,16 @@
 -- Each pair of quotes between two quotes as one.
-use Rattle.std.proofs.Common.{◌≡◌, ◌≢◌, ◌≤◌, ◌⊎◌, inl, inr, pos, ℕ, ◌+◌, ◌-◌, ◌<◌, true, false, List, [], ◌∷◌, ◌++◌, length, take, drop, Option, Some, None, append_assoc, refl, sym, ap, subst, ◌∙◌, ⊎_elim, arith, eq-eqb}
+use Rattle.std.proofs.Common.{◌≡◌, ◌≢◌, ◌≤◌, ◌⊎◌, inl, inr, pos, ℕ, ◌+◌, ◌-◌, ◌<◌, true, false, List, [], ◌∷◌, ◌++◌, length, take, drop, ◌^◌, Option, Some, None, append_assoc, refl, sym, ap, subst, ◌∙◌, ⊎_elim, arith, eq-eqb}
 use Rattle.std.specs.Prelude.{nat_eq}
 use Rattle.std.specs.List.{list_any}
 use Rattle.std.specs.Str.{IsUtf8}
 use Rattle.std.proofs.lemmas.Bool.{eqb-true, cases_Bool}
 use Rattle.std.proofs.lemmas.Bool.Decides.{nat_tests}
-use Rattle.std.proofs.lemmas.List.{append-nil}
+use Rattle.std.proofs.lemmas.List.{append-nil, length-take-le}
 use Rattle.std.proofs.Math.Seq.{take-append_seam}
 use Rattle.sql_lexer.specs.declared.scan.Class.TheVariants.{Quote}
 use Rattle.sql_lexer.specs.Bytes.{class_of, doubled}
 use Rattle.sql_lexer.specs.Reading.{Unquoted, unquoted, one, closed, kind_of}
-use Rattle.sql_lexer.specs.Spelled.{spelled_by}
+use Rattle.sql_lexer.specs.Spelled.{IsHeld, IsInRange, number_by, spelled_by, width}
 use Rattle.sql_lexer.specs.Undoubled.{undoubled}
 use Rattle.sql_lexer.proofs.BetweenQuotes.{doubled_quote, doubled_other, Says, says, len_of}
 use Rattle.sql_lexer.proofs.Classes.{quote_cases, quote_ascii}
@@ -84,9 +84,16 @@ pub one_more : (quote b : ℕ) (inside rest left whole : List ℕ) → undoubled
     → inside ++ undoubled quote (b ∷ rest) ≡ whole → (inside ++ b ∷ []) ++ undoubled quote left ≡ whole
 one_more quote b inside rest left whole is e = append_assoc inside (b ∷ []) (undoubled quote left) ∙ ap (λ r. inside ++ r) (sym is) ∙ e
 
-by_quote : (quote : ℕ) (text : List ℕ) → (quote ≡ 34) ⊎ (quote ≡ 39) → spelled_by (kind_of quote) text ≡ undoubled quote text
-by_quote quote text (inl is) = rw is refl
-by_quote quote text (inr is) = rw is refl
+-- what a quote tells of the token that begins with it
+record IsBetween (quote : ℕ) (text : List ℕ) : Type 0 where
+  spells : spelled_by (kind_of quote) text ≡ undoubled quote text
+  takes : width (kind_of quote) text ≡ length text + 2
+  counts : number_by (kind_of quote) text ≡ pos 0
+  ranges : IsInRange (kind_of quote) text
+
+by_quote : (quote : ℕ) (text : List ℕ) → (quote ≡ 34) ⊎ (quote ≡ 39) → IsBetween quote text
+by_quote quote text (inl is) = rw is (record { spells = refl; takes = refl; counts = refl; ranges = tt })
+by_quote quote text (inr is) = rw is (record { spells = refl; takes = refl; counts = refl; ranges = tt })
 
 some_len : (len : ℕ) (found : Option Unquoted) → Some len ≡ len_of found → (f : Unquoted) × (found ≡ Some f) × (f.len ≡ len)
 some_len len None e = absurd cc
@@ -94,16 +101,34 @@ some_len len (Some f) e = (f, refl, cc)
 
 -- a quoted token at the front, whose text stands up to before the quote that closes
 module _ (quote len : ℕ) (rest : List ℕ) (class : class_of quote ≡ Quote) (is : Some len ≡ len_of (unquoted quote rest)) where
-  spells : (f : Unquoted) → unquoted quote rest ≡ Some f → f.len ≡ len → spelled_by (kind_of quote) (take (len - 1) rest) ≡ f.inside
-  spells f e same =
-      by_quote quote (take (len - 1) rest) (quote_cases quote class) ∙ ap (λ n. undoubled quote (take (n - 1) rest)) (sym same) ∙ found_inside quote rest f e
+  abbrev inside : List ℕ
+  inside = take (len - 1) rest
 
-  pub quoted_utf8 : IsUtf8 (quote ∷ rest) → IsUtf8 (spelled_by (kind_of quote) (take (len - 1) rest))
-  quoted_utf8 utf8 =
-      let f = some_len len (unquoted quote rest) is in
-      subst IsUtf8 (sym (spells f.0 f.1 f.2)) (found_utf8 quote rest f.0 (quote_ascii quote class) utf8 f.1)
+  between : IsBetween quote inside
+  between = by_quote quote inside (quote_cases quote class)
 
-  pub quoted_closed : (at : ℕ) → closed at quote (unquoted quote rest) ≡ one (kind_of quote) at (at + (1 + len)) (spelled_by (kind_of quote) (take (len - 1) rest)) (pos 0)
-  quoted_closed at =
+  spells : (f : Unquoted) → unquoted quote rest ≡ Some f → f.len ≡ len → spelled_by (kind_of quote) inside ≡ f.inside
+  spells f e same = between.spells ∙ ap (λ n. undoubled quote (take (n - 1) rest)) (sym same) ∙ found_inside quote rest f e
+
+  width_is : 0 < len → len ≤ length rest → width (kind_of quote) inside ≡ 1 + len
+  width_is some within = between.takes ∙ omega (arith, length-take-le (len - 1) rest (omega (arith, within)), some)
+
+  pub quoted_held : (at : ℕ) → 0 < len → len ≤ length rest → at + length rest + 1 < 2 ^ 64 → IsUtf8 (quote ∷ rest) → IsHeld (kind_of quote) at inside
+  quoted_held at some within fits utf8 =
       let f = some_len len (unquoted quote rest) is in
-      rw (spells f.0 f.1 f.2) (ap (closed at quote) f.1 ∙ ap (λ n. one (kind_of quote) at (at + (1 + n)) f.0.inside (pos 0)) f.2)
+      record {
+        utf8 = subst IsUtf8 (sym (spells f.0 f.1 f.2)) (found_utf8 quote rest f.0 (quote_ascii quote class) utf8 f.1);
+        fits = omega (arith, width_is some within, within, fits);
+        range = between.ranges;
+      }
+
+  pub quoted_closed : (at : ℕ) → 0 < len → len ≤ length rest
+      → closed at quote (unquoted quote rest)
+      ≡ one (kind_of quote) at (at + width (kind_of quote) inside) (spelled_by (kind_of quote) inside) (number_by (kind_of quote) inside)
+  quoted_closed at some within =
+      let f = some_len len (unquoted quote rest) is in
+      ap (closed at quote) f.1
+      ∙ ap (λ n. one (kind_of quote) at (at + (1 + n)) f.0.inside (pos 0)) f.2
+      ∙ ap (λ n. one (kind_of quote) at (at + n) f.0.inside (pos 0)) (sym (width_is some within))
+      ∙ ap (λ text. one (kind_of quote) at (at + width (kind_of quote) inside) text (pos 0)) (sym (spells f.0 f.1 f.2))
+      ∙ ap (one (kind_of quote) at (at + width (kind_of quote) inside) (spelled_by (kind_of quote) inside)) (sym between.counts)

@@ -1,4 +1,4 @@
-ghost use Rattle.std.specs.Prelude.{◌≡◌, ◌<◌, ◌+◌, ◌^◌, length, option_map, pos, drop, slice_index, Ok, OnSome};
+ghost use Rattle.std.specs.Prelude.{◌≡◌, ◌<◌, ◌+◌, ◌^◌, length, option_map, pos, drop, slice_index, Ok, IfSome, OnSome};
 ghost use Rattle.std.specs.Str.{IsUtf8};
 ghost use Rattle.sql_lexer.specs.Reading as spec;
 
@@ -10,6 +10,7 @@ use crate::{LexError, Token, TokenKind};
 fn pair(first: u8, rest: &[u8]) -> Option<&'static str>
     ensures value { option_map (λ held. held.now) result ≡ spec.pair_at first rest.now }
     ensures nonempty { OnSome result (0 < length rest.now) }
+    ensures two { IfSome result (λ held. length held.now ≡ 2) }
 {
     match (first, rest) {
         (b'<', [b'>', ..]) | (b'!', [b'=', ..]) => Some("<>"),
@@ -19,11 +20,12 @@ fn pair(first: u8, rest: &[u8]) -> Option<&'static str>
     }
 }
 
-fn symbol(start: usize, end: usize, held: &[u8]) -> Piece<'_>
-    requires { IsUtf8 held.now }
-    ensures { spec.Reads (Ok result) (spec.one TokenKind.Symbol start end held.now (pos 0)) }
+fn symbol(start: usize, held: &[u8]) -> Piece<'_>
+    requires utf8 { IsUtf8 held.now }
+    requires fits { start + length held.now < 2 ^ 64 }
+    ensures { spec.Reads (Ok result) (spec.one TokenKind.Symbol start (start + length held.now) held.now (pos 0)) }
 {
-    Piece::Found(Token::new(TokenKind::Symbol, start, end, held, 0))
+    Piece::Found(Token::new(TokenKind::Symbol, start, held))
 }
 
 /// The symbol of one byte.
@@ -33,7 +35,7 @@ fn single(at: usize, text: &[u8]) -> Result<Piece<'_>, LexError>
     ensures { spec.Reads result (spec.single at (slice_index text.now 0)) }
 {
     match class_of(text[0]) {
-        Class::Mark => Ok(symbol(at, at + 1, &text[..1])),
+        Class::Mark => Ok(symbol(at, &text[..1])),
         _ => Err(LexError::BadCharacter(at)),
     }
 }
@@ -51,7 +53,7 @@ pub(crate) fn mark(at: usize, text: &[u8]) -> Result<Piece<'_>, LexError>
         return Ok(Piece::Skipped(at + (2 + line_len(&rest[1..]))));
     }
     match pair(first, rest) {
-        Some(held) => Ok(symbol(at, at + 2, held.as_bytes())),
+        Some(held) => Ok(symbol(at, held.as_bytes())),
         None => single(at, text),
     }
 }

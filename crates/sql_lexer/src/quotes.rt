@@ -50,7 +50,7 @@ pub(crate) fn quoted(at: usize, quote: u8, rest: &[u8]) -> Result<Piece<'_>, Lex
         None => Err(LexError::Unterminated(at)),
         Some(len) => {
             let inside = &rest[..len - 1];
-            Ok(Piece::Found(Token::new(kind_of(quote), at, at + (1 + len), inside, 0)))
+            Ok(Piece::Found(Token::new(kind_of(quote), at, inside)))
         }
     }
 }

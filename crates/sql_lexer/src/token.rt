@@ -1,12 +1,10 @@
-ghost use Rattle.std.specs.Prelude.{◌≡◌, IfOk, nat_eq};
-ghost use Rattle.std.specs.Cmp.Lexicographic.{pointwise};
-ghost use Rattle.std.specs.Str.{IsUtf8, str_to_ascii_lowercase};
+ghost use Rattle.std.specs.Prelude.{◌≡◌, ◌+◌, IfOk};
 ghost use Rattle.sql_lexer.specs.Reading.{token_of};
-ghost use Rattle.sql_lexer.specs.Spelled.{spelled_by};
+ghost use Rattle.sql_lexer.specs.Spelled.{IsHeld, number_by, spelled_by, width};
 
 use crate::quotes::undoubled;
 use crate::scan::text_of;
-use crate::words::lowered;
+use crate::words::{lowered, value_of};
 use perm_values::{Chars, NoMemory};
 use std::alloc::Global;
 use std::marker::Model;
@@ -26,52 +24,48 @@ pub enum TokenKind {
     Symbol,
 }
 
-/// A token of a script, which stands in its bytes from `start` up to before `end`.
+/// A token of a script. What follows from its text isn't held: a script has up to a token a byte.
 #[derive(Debug, Drop)]
 pub struct Token<'a> {
     kind: TokenKind,
     start: usize,
-    end: usize,
     /// The bytes of a word, of a number or of a symbol, or those between quotes, as they stand in the script.
     text: &'a [u8],
-    number: i64,
 }
 
 impl<'a> Model for Token<'a> {
-    ghost use Rattle.std.specs.Str.{IsUtf8};
-    ghost use Rattle.sql_lexer.specs.Spelled.{Spelled, spelled_by};
+    ghost use Rattle.std.specs.Prelude.{◌+◌};
+    ghost use Rattle.sql_lexer.specs.Spelled.{IsHeld, Spelled, number_by, spelled_by, width};
 
     ghost Value = { Spelled };
 
     ghost view = { λ t. record {
       kind = t.kind;
       start = t.start;
-      end = t.end;
+      end = t.start + width t.kind t.text.now;
       spelled = spelled_by t.kind t.text.now;
-      number = t.number;
+      number = number_by t.kind t.text.now;
     } };
 
-    ghost invariant = { λ t. IsUtf8 (spelled_by t.kind t.text.now) };
+    ghost invariant = { λ t. IsHeld t.kind t.start t.text.now };
+}
+
+/// The number of bytes that a token takes with this text.
+fn taken(kind: TokenKind, text: &[u8]) -> usize
+    ensures { result ≡ width kind text.now }
+{
+    match kind {
+        TokenKind::Quoted | TokenKind::Text => text.len() + 2,
+        TokenKind::Word | TokenKind::Number | TokenKind::Symbol => text.len(),
+    }
 }
 
 impl<'a> Token<'a> {
-    pub(crate) fn new(
-        kind: TokenKind,
-        start: usize,
-        end: usize,
-        text: &'a [u8],
-        number: i64,
-    ) -> Token<'a>
-        requires { IsUtf8 (spelled_by kind text.now) }
-        ensures { result ≡ token_of kind start end (spelled_by kind text.now) number }
+    pub(crate) fn new(kind: TokenKind, start: usize, text: &'a [u8]) -> Token<'a>
+        requires { IsHeld kind start text.now }
+        ensures { result ≡ token_of kind start (start + width kind text.now) (spelled_by kind text.now) (number_by kind text.now) }
     {
-        Token {
-            kind,
-            start,
-            end,
-            text,
-            number,
-        }
+        Token { kind, start, text }
     }
 
     pub fn kind(&self) -> TokenKind
@@ -91,14 +85,20 @@ impl<'a> Token<'a> {
     pub fn end(&self) -> usize
         ensures { result ≡ self.now.end }
     {
-        self.end
+        self.start + taken(self.kind, self.text)
     }
 
     /// The value of a number, and 0 in other tokens.
     pub fn number(&self) -> i64
         ensures { result ≡ self.now.number }
     {
-        self.number
+        match self.kind {
+            TokenKind::Number => match value_of(self.text) {
+                Some(value) => value,
+                None => unreachable!(),
+            },
+            TokenKind::Word | TokenKind::Quoted | TokenKind::Text | TokenKind::Symbol => 0,
+        }
     }
 
     /// The bytes that stand for it in the script, without the quotes around them; `<>` stands for `!=`.

@@ -3,6 +3,7 @@ ghost use Rattle.std.specs.Cmp.Lexicographic.{pointwise};
 ghost use Rattle.std.specs.Str.{IsUtf8, str_to_ascii_lowercase};
 ghost use Rattle.sql_lexer.specs.Bytes.{class_of};
 ghost use Rattle.sql_lexer.specs.Reading as spec;
+ghost use Rattle.sql_lexer.specs.Spelled.{IsDigits, value_in_range};
 
 use crate::piece::Piece;
 use crate::scan::{Class, as_text, digits_len, text_of, word_len};
@@ -33,6 +34,17 @@ pub fn is_word(mut word: &[u8], mut lower: &[u8]) -> bool
     lower.is_empty()
 }
 
+/// The value of digits, if it is below 2^63.
+pub(crate) fn value_of(digits: &[u8]) -> Option<i64>
+    requires { IsDigits digits.now }
+    ensures { result ≡ value_in_range digits.now }
+{
+    match as_text(digits).parse::<i64>() {
+        Ok(value) => Some(value),
+        Err(_) => None,
+    }
+}
+
 /// The word at the front.
 #[tactic(auto, unfolding(crate::specs::Reading::word))]
 pub(crate) fn word(at: usize, text: &[u8]) -> Result<Piece<'_>, LexError>
@@ -41,7 +53,7 @@ pub(crate) fn word(at: usize, text: &[u8]) -> Result<Piece<'_>, LexError>
 {
     let len = word_len(text);
     let letters = &text[..len];
-    Ok(Piece::Found(Token::new(TokenKind::Word, at, at + len, letters, 0)))
+    Ok(Piece::Found(Token::new(TokenKind::Word, at, letters)))
 }
 
 /// The number at the front.
@@ -54,8 +66,8 @@ pub(crate) fn number(at: usize, text: &[u8]) -> Result<Piece<'_>, LexError>
 {
     let len = digits_len(text);
     let digits = &text[..len];
-    match as_text(digits).parse::<i64>() {
-        Ok(number) => Ok(Piece::Found(Token::new(TokenKind::Number, at, at + len, digits, number))),
-        Err(_) => Err(LexError::NumberRange(at)),
+    match value_of(digits) {
+        Some(_) => Ok(Piece::Found(Token::new(TokenKind::Number, at, digits))),
+        None => Err(LexError::NumberRange(at)),
     }
 }

@@ -1,3 +1,4 @@
+pub mod Keeping
 pub mod Literals
 pub mod Regularity
 pub mod Stating

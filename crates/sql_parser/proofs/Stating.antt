@@ -1,5 +1,5 @@
 -- Statements as their functions read them.
-use Rattle.std.proofs.Common.{◌≡◌, ◌≤◌, Bool, true, false, cond, List, [], ◌∷◌, ◌++◌, length, Option, Some, None, refl, sym, ap, ◌∙◌, arith}
+use Rattle.std.proofs.Common.{◌≡◌, ◌≤◌, Bool, true, false, cond, List, length, Option, Some, None, refl, sym, ap, ◌∙◌, arith}
 use Rattle.std.specs.Borrow.{Bor}
 use Rattle.sql_lexer.specs.declared.token.Token.{Token}
 use Rattle.sql_grammar.specs.Building as b
@@ -7,7 +7,7 @@ use Rattle.sql_grammar.specs.Cursors.{reading, past, place, sees}
 use Rattle.sql_grammar.specs.Descent.{Outcome, Taken, Stopped, and_then, mapped}
 use Rattle.sql_grammar.specs.Grammar.{build}
 use Rattle.sql_grammar.specs.Lists.{listed}
-use Rattle.sql_parser.specs.Statements.{mark_of, marked, statement_body, optional_statement}
+use Rattle.sql_parser.specs.Statements.{mark_of, marked, statement_body, optional_statement, statements}
 use Rattle.sql_grammar.specs.Symbols as n
 use Rattle.sql_grammar.specs.Tables.{begins}
 use Rattle.sql_grammar.specs.declared.sort.Sort.TheVariants as s
@@ -43,9 +43,11 @@ statement_is tokens =
     (chosen (sees (begins n.Explain) tokens) _ _ _ _
     (chosen (sees (begins n.Show) tokens) _ _ _ _ refl)))))))
 
-pub script_is : (tokens : List Token) → reading n.ScriptOf tokens
-    ≡ mapped (λ list. record { statements = b.present list }) (listed s.Semicolon optional_statement tokens)
-script_is tokens = reading_is n.ScriptOf tokens ∙ sym (fused (λ (list : List (Option Statement)). record { statements = b.present list }) b.items _)
+pub script_is : (tokens : List Token) → reading n.ScriptOf tokens ≡ mapped (λ list. record { statements = list }) (statements tokens)
+script_is tokens =
+    reading_is n.ScriptOf tokens
+    ∙ sym (fused (λ (list : List (Option Statement)). record { statements = b.present list }) b.items _)
+    ∙ sym (fused (λ list. record { statements = list }) b.present (listed s.Semicolon optional_statement tokens))
 
 pub optional_statement-keeps : (old : List Token) (x : Option Statement) (new : List Token) → optional_statement old ≡ Taken x new → length new ≤ length old
 optional_statement-keeps old x new e = by_sort (sees (begins n.StatementOf) old) (reading n.StatementOf old) refl e where
@@ -53,13 +55,3 @@ optional_statement-keeps old x new e = by_sort (sees (begins n.StatementOf) old)
   by_sort true (Taken y rest) e f = let g : rest ≡ new = cc in omega (arith, reading-keeps n.StatementOf old y rest e, ap length g)
   by_sort true (Stopped rest) e f = absurd cc
   by_sort false o e f = let g : old ≡ new = cc in omega (arith, ap length g)
-
-pub present_some : {X : Type 0} (xs : List (Option X)) (x : X) → b.present (xs ++ Some x ∷ []) ≡ b.present xs ++ x ∷ []
-present_some [] x = refl
-present_some (None ∷ xs) x = present_some xs x
-present_some (Some y ∷ xs) x = ap (λ ys. y ∷ ys) (present_some xs x)
-
-pub present_none : {X : Type 0} (xs : List (Option X)) → b.present (xs ++ None ∷ []) ≡ b.present xs
-present_none [] = refl
-present_none (None ∷ xs) = present_none xs
-present_none (Some y ∷ xs) = ap (λ ys. y ∷ ys) (present_none xs)

@@ -2,9 +2,10 @@
 use Rattle.std.specs.Prelude.{ℕ, cond, List, [], ◌∷◌, Option, Some, None}
 use Rattle.std.specs.Borrow.{Bor}
 use Rattle.sql_lexer.specs.declared.token.Token.{Token}
-use Rattle.sql_grammar.specs.Building.{Word}
+use Rattle.sql_grammar.specs.Building.{Word, present}
 use Rattle.sql_grammar.specs.Cursors.{reading, sees}
 use Rattle.sql_grammar.specs.Descent.{Outcome, mapped}
+use Rattle.sql_grammar.specs.Lists.{listed}
 use Rattle.sql_grammar.specs.Pieces.{by}
 use Rattle.sql_grammar.specs.Rules.{word, token, symbol, ◌then◌, optional}
 use Rattle.sql_grammar.specs.Symbols as n
@@ -40,3 +41,7 @@ statement_body tokens =
 
 abbrev pub optional_statement : List Token → Outcome Token (Option Statement)
 optional_statement tokens = by (optional (symbol n.StatementOf)) tokens
+
+-- the statements that are there, with semicolons between them
+abbrev pub statements : List Token → Outcome Token (List Statement)
+statements tokens = mapped present (listed s.Semicolon optional_statement tokens)

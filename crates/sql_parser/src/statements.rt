@@ -1,6 +1,6 @@
 //! Statements.
 
-ghost use Rattle.std.specs.Prelude.{◌≡◌, ◌<◌, ◌≤◌, [], ◌∷◌, length, IfOk};
+ghost use Rattle.std.specs.Prelude.{◌≡◌, ◌<◌, ◌≤◌, [], ◌∷◌, ◌++◌, length, IfOk};
 ghost use Rattle.sql_grammar.specs.Building as b;
 ghost use Rattle.sql_grammar.specs.Cursors as spec;
 ghost use Rattle.sql_grammar.specs.Lists.{listed as list_read};
@@ -69,20 +69,6 @@ fn columns(cursor: &mut Cursor<'_>) -> Result<List<ColumnDef>, Fault>
     let columns = column_defs(cursor)?;
     cursor.past(Sort::Closing)?;
     Ok(columns)
-}
-
-/// The statements that are there.
-#[tactic(auto, using(crate::proofs::Stating::present_some, crate::proofs::Stating::present_none))]
-fn present(alloc: Global, found: List<Option<Statement>>) -> Result<List<Statement>, NoMemory>
-    ensures { IfOk result (λ kept. kept ≡ b.present found) }
-{
-    let mut kept = List::new(alloc);
-    for statement in found.into_vec() {
-        if let Some(statement) = statement {
-            kept.push(statement)?;
-        }
-    }
-    Ok(kept)
 }
 
 /// The mark that stands for NULL; none is the empty one.
@@ -310,13 +296,28 @@ fn optional_statement(cursor: &mut Cursor<'_>) -> Result<Option<Statement>, Faul
     }
 }
 
-fn optional_statements(cursor: &mut Cursor<'_>) -> Result<List<Option<Statement>>, Fault>
-    ensures given { spec.Reads result (list_read s.Semicolon spelled.optional_statement cursor.old) cursor.new }
+/// Keeps a statement that is there.
+fn keep(kept: &mut List<Statement>, statement: Option<Statement>) -> Result<(), NoMemory>
+    ensures { IfOk result (λ _. kept.new ≡ kept.old ++ b.present (statement ∷ [])) }
+{
+    match statement {
+        Some(statement) => kept.push(statement),
+        None => Ok(()),
+    }
+}
+
+/// The statements that are there, with semicolons between them.
+fn statements(cursor: &mut Cursor<'_>) -> Result<List<Statement>, Fault>
+    ensures given { spec.Reads result (spelled.statements cursor.old) cursor.new }
     ensures fewer { IfOk result (λ _. length cursor.new ≤ length cursor.old) }
 {
-    listed(cursor, Sort::Semicolon, |cursor: &mut Cursor<'_>| {
-        optional_statement(cursor)
-    })
+    let mut kept = List::new(cursor.alloc());
+    keep(&mut kept, optional_statement(cursor)?)?;
+    while cursor.sees(Sort::Semicolon) {
+        cursor.past(Sort::Semicolon)?;
+        keep(&mut kept, optional_statement(cursor)?)?;
+    }
+    Ok(kept)
 }
 
 /// A whole script.
@@ -325,8 +326,7 @@ pub(crate) fn script(cursor: &mut Cursor<'_>) -> Result<Script, Fault>
     ensures given { spec.Reads result (spec.reading n.ScriptOf cursor.old) cursor.new }
     ensures fewer { IfOk result (λ _. length cursor.new ≤ length cursor.old) }
 {
-    let found = optional_statements(cursor)?;
     Ok(Script {
-        statements: present(cursor.alloc(), found)?,
+        statements: statements(cursor)?,
     })
 }
