@@ -212,14 +212,9 @@ fn view_plain(alloc: Global, view: &ViewEntry, kinds: &[Kind]) -> Result<Facts, 
     ensures { kinds.now ≡ kinds_of view.now.answer.query → (name : Items ℕ) → IfOk result (λ facts. facts_in facts ≡ facts_of (read_view name view.now).plain) }
 {
     let query = &view.answer.query;
+    let names = view.answer.names.as_slice();
     match &view.places {
-        Some(places) => external(
-            alloc,
-            view.answer.names.as_slice(),
-            kinds,
-            is_table(query),
-            places.as_slice(),
-        ),
+        Some(places) => external(alloc, names, kinds, is_table(query), places.as_slice()),
         None => facts_of(alloc, query),
     }
 }
