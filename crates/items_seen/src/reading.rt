@@ -56,7 +56,7 @@ impl Reading {
     }
 }
 
-/// The table or view of that name, or that there is none.
+/// What the table or view of that name gives. The break is that there is none; otherwise it fails only for want of memory.
 pub fn read_named(alloc: Global, catalog: &Catalog, name: &Name) -> Result<Reading, Refusal>
     ensures { ReadSeen (read_named catalog.now name.now) result }
 {
@@ -233,7 +233,7 @@ fn named_columns(alloc: Global, names: &[Chars], kinds: &[Kind]) -> Result<List<
     Ok(columns)
 }
 
-/// What a subquery gives to FROM.
+/// What a subquery gives to FROM. It fails only for want of memory.
 pub fn read_shown(alloc: Global, shown: QueryShown) -> Result<Reading, NoMemory>
     ensures { (m : QueryMeant) → QueryWhole m shown → IfOk result (IsRead (read_query m)) }
 {
