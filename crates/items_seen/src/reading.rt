@@ -56,7 +56,8 @@ impl Reading {
     }
 }
 
-/// What the table or view of that name gives. The break is that there is none; otherwise it fails only for want of memory.
+/// What the table or view of that name gives. The break is that there is none; otherwise it fails only for want of
+/// memory.
 pub fn read_named(alloc: Global, catalog: &Catalog, name: &Name) -> Result<Reading, Refusal>
     ensures { ReadSeen (read_named catalog.now name.now) result }
 {
