@@ -32,7 +32,7 @@ pub fn no_items(alloc: Global) -> Scope
     }
 }
 
-/// Adds the items of another scope behind those of this one.
+/// Adds the items of another scope behind those of this one. It fails only for want of memory.
 pub fn add_items(alloc: Global, left: &mut Scope, right: Scope) -> Result<(), NoMemory>
     ensures { OnOk result (left.new ≡ scope_beside left.old right) }
 {
@@ -77,7 +77,8 @@ fn moved_column(alloc: Global, column: &ScopeColumn, count: usize) -> Result<Sco
     }
 }
 
-/// The item in scope with what it reads, behind items of these names and those in scope, or its first break.
+/// Puts an item with what it reads in scope, behind items of these names and those in scope, and its facts behind those
+/// so far. A break is the item's first one; otherwise it fails only for want of memory.
 pub fn put_item(
     item: &FromItem,
     earlier: &[Chars],

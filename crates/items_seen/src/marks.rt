@@ -93,8 +93,8 @@ pub(crate) fn with_mark(
     match &item.mark {
         ScopeMark::Plain => Ok(reading),
         ScopeMark::BaseRelation => {
-            let own = labelled(alloc, item, &reading)?;
-            Ok(reading.with(own))
+            let whole = labelled(alloc, item, &reading)?;
+            Ok(reading.with(whole))
         }
         ScopeMark::External { attributes } => {
             let own = attributed(alloc, attributes.as_slice(), &reading)?;

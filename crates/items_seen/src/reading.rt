@@ -56,7 +56,8 @@ impl Reading {
     }
 }
 
-/// The table or view of that name, or that there is none.
+/// What the table or view of that name gives. The break is that there is none; otherwise it fails only for want of
+/// memory.
 pub fn read_named(alloc: Global, catalog: &Catalog, name: &Name) -> Result<Reading, Refusal>
     ensures { ReadSeen (read_named catalog.now name.now) result }
 {
@@ -212,14 +213,9 @@ fn view_plain(alloc: Global, view: &ViewEntry, kinds: &[Kind]) -> Result<Facts, 
     ensures { kinds.now ≡ kinds_of view.now.answer.query → (name : Items ℕ) → IfOk result (λ facts. facts_in facts ≡ facts_of (read_view name view.now).plain) }
 {
     let query = &view.answer.query;
+    let names = view.answer.names.as_slice();
     match &view.places {
-        Some(places) => external(
-            alloc,
-            view.answer.names.as_slice(),
-            kinds,
-            is_table(query),
-            places.as_slice(),
-        ),
+        Some(places) => external(alloc, names, kinds, is_table(query), places.as_slice()),
         None => facts_of(alloc, query),
     }
 }
@@ -238,7 +234,7 @@ fn named_columns(alloc: Global, names: &[Chars], kinds: &[Kind]) -> Result<List<
     Ok(columns)
 }
 
-/// What a subquery gives to FROM.
+/// What a subquery gives to FROM. It fails only for want of memory.
 pub fn read_shown(alloc: Global, shown: QueryShown) -> Result<Reading, NoMemory>
     ensures { (m : QueryMeant) → QueryWhole m shown → IfOk result (IsRead (read_query m)) }
 {
