@@ -1,6 +1,4 @@
-pub mod Flags
-pub mod Seeing
-pub mod Spending
+pub mod Joining
+pub mod OuterRows
 pub mod Queries
 pub mod Sublinks
-pub mod Joining
