@@ -1,4 +1,5 @@
 pub mod Joining
+pub mod Knowing
 pub mod OuterRows
 pub mod Queries
 pub mod Sublinks
