@@ -1,6 +1,5 @@
-pub mod Flags
-pub mod Seeing
-pub mod Spending
+pub mod Joining
+pub mod Knowing
+pub mod OuterRows
 pub mod Queries
 pub mod Sublinks
-pub mod Joining

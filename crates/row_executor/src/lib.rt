@@ -1,12 +1,7 @@
-//! The rows of queries, by nested loops.
+//! The rows of queries, by nested loops or by hashing.
 #![tactic(auto)]
 
-mod input;
-mod join;
-mod limit;
-mod marks;
 mod query;
-mod set_operation;
 
 pub use expression_values::{ExecError, eval};
-pub use query::run_plain;
+pub use query::{run_hashed, run_plain};

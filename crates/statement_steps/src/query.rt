@@ -18,7 +18,7 @@ ghost use Rattle.statement_steps.specs.Step.{source_of, plain_query, query_of, a
 use bag_algebra::{Env, Expr, Item, Label, Query};
 use perm_catalog::{Catalog, Column, TableEntry};
 use perm_values::{Boxed, Chars, Copyable, Kind, List, NoMemory, Rows};
-use row_executor::{ExecError, run_plain};
+use row_executor::{ExecError, run_hashed};
 use std::alloc::Global;
 
 /// The rows of a query over one table, with provenance or without, in the printed order.
@@ -79,7 +79,7 @@ fn printed_rows(alloc: Global, catalog: &Catalog, query: &Query) -> Result<Rows,
     ensures { Gives (mapped (sorted row_cmp) (meaning query.now (rows_in catalog.now.rows) [])) result }
 {
     let env = Env::new(alloc);
-    let rows = run_plain(alloc, query, catalog.tables(), &env)?;
+    let rows = run_hashed(alloc, query, catalog.tables(), &env)?;
     Ok(in_order(rows)?)
 }
 

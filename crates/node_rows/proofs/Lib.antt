@@ -1,0 +1,4 @@
+pub mod Flags
+pub mod Joining
+pub mod Seeing
+pub mod Spending

@@ -1,0 +1,5 @@
+pub mod Held
+pub mod Joins
+pub mod Known
+pub mod Marks
+pub mod Runs

@@ -1,4 +1,0 @@
-pub mod Held
-pub mod Joins
-pub mod Marks
-pub mod Runs
