@@ -1,0 +1,6 @@
+//! Carries out a statement whose names are looked up, over a catalog and files.
+#![tactic(auto)]
+
+mod step;
+
+pub use step::step;
