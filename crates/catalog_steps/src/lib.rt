@@ -2,17 +2,17 @@
 #![tactic(auto)]
 
 mod adding;
-mod copy;
-mod create;
-mod delete;
-mod drop;
-mod insert;
+mod copying;
+mod creating;
+mod deleting;
+mod dropping;
+mod inserting;
 mod loading;
 mod text;
 
-pub use copy::copy;
-pub use create::{create_table, create_view};
-pub use delete::delete;
-pub use drop::{drop_table, drop_view};
-pub use insert::insert;
+pub use copying::copy;
+pub use creating::{create_table, create_view};
+pub use deleting::delete;
+pub use dropping::{drop_table, drop_view};
+pub use inserting::insert;
 pub use loading::RowFile;

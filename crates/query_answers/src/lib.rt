@@ -1,7 +1,7 @@
 //! What a query answers: its rows, which the executor gives of what stands for it, in order, as text.
 #![tactic(auto)]
 
+mod answering;
 mod order;
-mod select;
 
-pub use select::select;
+pub use answering::select;

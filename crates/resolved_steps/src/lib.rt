@@ -1,6 +1,6 @@
 //! Carries out a statement whose names are looked up, over a catalog and files.
 #![tactic(auto)]
 
-mod step;
+mod stepping;
 
-pub use step::step;
+pub use stepping::step;

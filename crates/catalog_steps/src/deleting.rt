@@ -1,5 +1,6 @@
-ghost use Rattle.std.specs.Prelude.{◌≡◌, length, count_by, Some, IsSome};
-ghost use Rattle.bag_algebra.specs.Outcome.{each, mapped};
+ghost use Rattle.std.specs.Prelude.{◌≡◌, [], length, count_by, Some, IsSome};
+ghost use Rattle.bag_algebra.specs.Expressions.{value};
+ghost use Rattle.bag_algebra.specs.Outcome.{each};
 ghost use Rattle.bag_algebra.specs.TableRows.{rows_in};
 ghost use Rattle.expression_values.specs.Answers.{Gives};
 ghost use Rattle.perm_catalog.specs.Changes.{table_named, rows_at};
@@ -11,7 +12,7 @@ use bag_algebra::{Env, Expr, Tables};
 use expression_values::{ExecError, eval, holds};
 use name_words::Break;
 use perm_catalog::{Catalog, CatalogRefusal};
-use perm_values::{Bytes, Chars, List, Row};
+use perm_values::{Bytes, Chars, List, Row, Value};
 use statement_words::StepRefusal;
 use std::alloc::Global;
 
@@ -82,9 +83,16 @@ fn goes(alloc: Global, row: &Row, condition: &Option<Expr>) -> Result<bool, Exec
 fn is_true(alloc: Global, row: &Row, condition: &Expr) -> Result<bool, ExecError>
     ensures { Gives (goes (Some condition.now) row.now) result }
 {
-    let env = Env::new(alloc);
-    let value = eval(alloc, condition, row, &[], &env)?;
+    let value = value_on(alloc, row, condition)?;
     Ok(holds(&value))
+}
+
+/// The value of an expression on a row.
+fn value_on(alloc: Global, row: &Row, expr: &Expr) -> Result<Value, ExecError>
+    ensures { Gives (value expr.now row.now [] []) result }
+{
+    let env = Env::new(alloc);
+    eval(alloc, expr, row, &[], &env)
 }
 
 /// Removes the flagged rows.

@@ -1,4 +1,5 @@
-ghost use Rattle.std.specs.Prelude.{◌≡◌, IsSome};
+ghost use Rattle.std.specs.Prelude.{◌≡◌, [], IsSome};
+ghost use Rattle.bag_algebra.specs.Expressions.{value};
 ghost use Rattle.bag_algebra.specs.Outcome.{each};
 ghost use Rattle.expression_values.specs.Answers.{Gives};
 ghost use Rattle.perm_catalog.specs.Changes.{table_named};
@@ -9,7 +10,7 @@ use crate::adding::add_rows;
 use bag_algebra::{Env, Expr};
 use expression_values::{ExecError, eval};
 use perm_catalog::Catalog;
-use perm_values::{Bytes, Chars, List, Row, Rows};
+use perm_values::{Bytes, Chars, List, Row, Rows, Value};
 use statement_words::StepRefusal;
 use std::alloc::Global;
 
@@ -42,15 +43,22 @@ fn row_values(alloc: Global, rows: &[List<Expr>]) -> Result<Rows, ExecError>
     Ok(made)
 }
 
-/// The values of a row's expressions, which see no column.
+/// The values of a row's expressions.
 fn row_value(alloc: Global, exprs: &[Expr]) -> Result<Row, ExecError>
     ensures { Gives (row_value exprs.now) result }
 {
-    let nothing = Row::new(alloc);
-    let env = Env::new(alloc);
     let mut values = Row::with_room(alloc, exprs.len())?;
     for expr in exprs {
-        values.push(eval(alloc, expr, &nothing, &[], &env)?)?;
+        values.push(value(alloc, expr)?)?;
     }
     Ok(values)
+}
+
+/// The value of an expression that sees no column.
+fn value(alloc: Global, expr: &Expr) -> Result<Value, ExecError>
+    ensures { Gives (value expr.now [] [] []) result }
+{
+    let nothing = Row::new(alloc);
+    let env = Env::new(alloc);
+    eval(alloc, expr, &nothing, &[], &env)
 }
