@@ -55,11 +55,7 @@ fn held_rows(tables: &Tables, id: u64) -> &[Row]
 }
 
 /// Flags the rows that go.
-fn doomed(
-    alloc: Global,
-    rows: &[Row],
-    condition: &Option<Expr>,
-) -> Result<List<bool>, ExecError>
+fn doomed(alloc: Global, rows: &[Row], condition: &Option<Expr>) -> Result<List<bool>, ExecError>
     ensures { Gives (each (goes condition.now) rows.now) result }
 {
     let mut flags = List::with_room(alloc, rows.len())?;

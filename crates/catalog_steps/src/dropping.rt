@@ -11,11 +11,7 @@ use statement_words::StepRefusal;
 use std::alloc::Global;
 
 /// DROP TABLE, of a table that is known and that no view names.
-pub fn drop_table(
-    alloc: Global,
-    catalog: &mut Catalog,
-    name: &Chars,
-) -> Result<Bytes, StepRefusal>
+pub fn drop_table(alloc: Global, catalog: &mut Catalog, name: &Chars) -> Result<Bytes, StepRefusal>
     requires held { IsSome (table_named catalog.old name.now) }
     requires unused { first_user catalog.old name.now ≡ None }
     ensures { IsTurn (table_dropped catalog.old name.now) catalog.old catalog.new result }
@@ -26,11 +22,7 @@ pub fn drop_table(
 }
 
 /// DROP VIEW, of a view that is known and that no view names.
-pub fn drop_view(
-    alloc: Global,
-    catalog: &mut Catalog,
-    name: &Chars,
-) -> Result<Bytes, StepRefusal>
+pub fn drop_view(alloc: Global, catalog: &mut Catalog, name: &Chars) -> Result<Bytes, StepRefusal>
     requires held { IsSome (view_named catalog.old name.now) }
     requires unused { first_user catalog.old name.now ≡ None }
     ensures { IsTurn (view_dropped catalog.old name.now) catalog.old catalog.new result }

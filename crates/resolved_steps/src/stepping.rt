@@ -63,7 +63,7 @@ pub fn step<F: Files>(
     }
 }
 
-/// Carries out a resolved statement that begins no file.
+/// Carries out a resolved statement that begins no file, and is refused for no cause that lies in one.
 fn settle(
     alloc: Global,
     catalog: &mut Catalog,
@@ -71,10 +71,23 @@ fn settle(
     statement: &Resolved,
 ) -> Result<Bytes, StepRefusal>
     requires ready { IsReady catalog.old statement.now }
-    requires settled { begins (asks catalog.old at statement.now) ≡ false }
+    requires unasked { begins (asks catalog.old at statement.now) ≡ false }
     ensures turn { IsSettled (asks catalog.old at statement.now) catalog.old catalog.new result }
     ensures backed { (seen : Seen) → IsBacked result seen }
     ensures unfailed { has_failed result ≡ false }
+{
+    settled(alloc, catalog, at, statement)
+}
+
+fn settled(
+    alloc: Global,
+    catalog: &mut Catalog,
+    at: usize,
+    statement: &Resolved,
+) -> Result<Bytes, StepRefusal>
+    requires ready { IsReady catalog.old statement.now }
+    requires unasked { begins (asks catalog.old at statement.now) ≡ false }
+    ensures { IsSettled (asks catalog.old at statement.now) catalog.old catalog.new result }
 {
     match statement {
         Resolved::CreateTable { name, columns } => create_table(alloc, catalog, at, name, columns),

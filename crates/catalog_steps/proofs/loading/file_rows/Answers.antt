@@ -7,9 +7,11 @@ use Rattle.catalog_steps.proofs.loading.file_rows.Goals as goal
 
 pub returns-in-Ok-clause-loaded : goal.returns-in-Ok-clause-loaded
 returns-in-Ok-clause-loaded g c =
-    let same : c.as_slice.result.now ≡ c.in-Ok.bytes = c.as_slice.ensures in
-    (Read c.in-Ok.bytes, (c.in-Ok.ensures.whole, c.in-Ok.ensures.within),
-    subst (λ (bytes : List ℕ). GivesRows c.args.at c.args.file.now.kinds.now c.args.file.now.mark.now c.args.file.now.header c.loaded.result (Read bytes)) same (c.loaded.ensures.given c.args.at))
+    let same : c.as_slice.result.now ≡ c.in-Ok.bytes = c.as_slice.ensures in (
+      Read c.in-Ok.bytes,
+      (c.in-Ok.ensures.whole, c.in-Ok.ensures.within),
+      subst (λ (bytes : List ℕ). GivesRows c.args.at c.args.file.now.kinds.now c.args.file.now.mark.now c.args.file.now.header c.loaded.result (Read bytes)) same (c.loaded.ensures.given c.args.at),
+    )
 
 pub returns-in-Err-NoMemory-clause-loaded : goal.returns-in-Err-NoMemory-clause-loaded
 returns-in-Err-NoMemory-clause-loaded g c =
