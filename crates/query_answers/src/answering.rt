@@ -18,7 +18,7 @@ use csv_tables::answer_text;
 use expression_values::ExecError;
 use perm_catalog::Catalog;
 use perm_values::{Bytes, Chars, Copyable, Key, NoMemory, Rows};
-use rewrite_driver::eliminate;
+use crate::stub::eliminate;
 use row_executor::run_plain;
 use statement_words::StepRefusal;
 use std::alloc::Global;

@@ -3,5 +3,6 @@
 
 mod answering;
 mod order;
+mod stub;
 
 pub use answering::select;

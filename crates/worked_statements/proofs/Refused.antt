@@ -27,7 +27,7 @@ use Rattle.statement_words.specs.Asking.{Asked, Settled, asked, asks}
 use Rattle.statement_words.specs.Turns.{Cause, Stands, Refused, Broken, Meets, Missing, TooLarge, Unfit, Failed, copy}
 use Rattle.worked_names.specs.NamedTrees.{name, statement, defined, values, query, core, from, table}
 use Rattle.worked_names.specs.NamedTrees as tree
-use Rattle.worked_statements.specs.HeldRows.{answering, column, compared, drawing_next, holding, item, number, reckoned, rows-r, rows-s, select, source_s, text, whole, with_v}
+use Rattle.worked_statements.specs.HeldRows.{answering, column, compared, drawing_next, holding, item, number, reckoned, rows-r, rows-s, select, selected, source_s, text, whole, with_v}
 
 abbrev refused : Cause → Asked
 refused cause = Settled (Refused cause)
@@ -99,7 +99,7 @@ pub no_fault_over_none :
     asks (holding [] []) 5 (r.Select (answering (select (item kind.Integer divided ∷ []) source_s) (codes "column1" ∷ []) []))
     ≡ Settled (Stands (codes "\"column1\"\n(0 rows)\n") (holding [] []))
 unfolding digits
-no_fault_over_none = rw rows-s refl
+no_fault_over_none = selected [] [] 5 (answering (select (item kind.Integer divided ∷ []) source_s) (codes "column1" ∷ []) [])
 
 -- SELECT 9223372036854775807 + 1
 pub out_of_range :
@@ -112,7 +112,8 @@ pub several_rows :
     asks (holding [] ((whole 1 ∷ []) ∷ (whole 1 ∷ []) ∷ [])) 59
     (r.Select (answering (ProjectOf Single (item kind.Integer (Sub 0) ∷ []) (tt ∷ []) (more_of-Sublink Scalar None (select (item kind.Integer (column 0) ∷ []) source_s) end_of-Sublink)) (codes "v" ∷ []) []))
     ≡ refused (Meets (record faults { several = true }) 59)
-several_rows = rw rows-s refl
+several_rows = selected [] ((whole 1 ∷ []) ∷ (whole 1 ∷ []) ∷ []) 59
+    (answering (ProjectOf Single (item kind.Integer (Sub 0) ∷ []) (tt ∷ []) (more_of-Sublink Scalar None (select (item kind.Integer (column 0) ∷ []) source_s) end_of-Sublink)) (codes "v" ∷ []) [])
 
 -- ---- files
 

@@ -1,11 +1,11 @@
 -- Words for worked statements: catalogs of the tables r(a INTEGER, b TEXT) and s(c INTEGER) with given rows, and resolved
 -- expressions and queries over them.
-use Rattle.std.specs.Prelude.{◌≡◌, ℕ, pos, List, [], ◌∷◌, Option, Some, None, codes}
-use Rattle.std.proofs.Common.{◌∙◌}
+use Rattle.std.specs.Prelude.{◌≡◌, ℕ, pos, cond, List, [], ◌∷◌, Option, Some, None, unwrap_or, codes}
+use Rattle.std.proofs.Common.{ap, ◌∙◌}
 use Rattle.std.specs.Cmp.{nat_cmp_total}
 use Rattle.std.specs.FinMap as map
 use Rattle.std.specs.FinMap.{FinMap}
-use Rattle.std.specs.Ordering.{nat_cmp}
+use Rattle.std.specs.Ordering.{nat_cmp, eq_by_cmp}
 use Rattle.null_logic.specs.declared.arith.Arith.{Arith}
 use Rattle.null_logic.specs.declared.compare.Compare.{Compare}
 use Rattle.null_logic.specs.declared.operator.Operator.TheVariants as op
@@ -15,6 +15,8 @@ use Rattle.perm_values.specs.declared.kind.Kind.TheVariants as kind
 use Rattle.perm_values.specs.declared.value.Value.{Value}
 use Rattle.perm_values.specs.declared.value.Value.TheVariants as v
 use Rattle.bag_algebra.specs.Bags.{Bag}
+use Rattle.bag_algebra.specs.Meaning.{Database, meaning}
+use Rattle.bag_algebra.specs.TableRows.{rows_in}
 use Rattle.bag_algebra.specs.Patterns.{OpOf, ChainOf, BaseOf, ProjectOf}
 use Rattle.bag_algebra.specs.declared.expr.Expr.{Expr, more_of-Expr, end_of-Expr, more_of-ChainStep, end_of-ChainStep}
 use Rattle.bag_algebra.specs.declared.expr.Expr.TheVariants.{Col, Lit}
@@ -26,6 +28,9 @@ use Rattle.bag_algebra.specs.declared.query.Query.TheVariants.{Table}
 use Rattle.perm_catalog.specs.Contents.{Contents}
 use Rattle.perm_catalog.specs.declared.entries.TableEntry.{TableEntry}
 use Rattle.perm_catalog.specs.declared.entries.ViewEntry.{ViewEntry}
+use Rattle.name_words.specs.declared.answer.Resolved.TheVariants as r
+use Rattle.statement_words.specs.Asking.{Settled, asks}
+use Rattle.statement_words.specs.Turns.{answered, on_good}
 use Rattle.worked_names.specs.NamedCatalog.{table_r, table_s, a_of_r, view_of}
 
 abbrev pub whole : ℕ → Value
@@ -72,6 +77,22 @@ pub rows-s : (rs ss : Bag) → map.get (rows_of rs ss) 2 ≡ Some ss
 rows-s rs ss =
     let inner : FinMap nat_cmp Bag = map.insert map.empty 1 rs in
     map.get-insert nat_cmp_total inner 2 ss 2
+
+-- the rows of each identity, as a query reads them
+abbrev pub read_of : Bag → Bag → Database
+read_of rs ss id = unwrap_or (cond (eq_by_cmp nat_cmp id 2) (Some ss) (cond (eq_by_cmp nat_cmp id 1) (Some rs) None)) []
+
+rows-of : (rs ss : Bag) (id : ℕ) → rows_in (rows_of rs ss) id ≡ read_of rs ss id
+rows-of rs ss id =
+    let inner : FinMap nat_cmp Bag = map.insert map.empty 1 rs in
+    let none : FinMap nat_cmp Bag = map.empty in
+    ap (λ (found : Option Bag). unwrap_or found []) (map.get-insert nat_cmp_total inner 2 ss id
+    ∙ ap (cond (eq_by_cmp nat_cmp id 2) (Some ss)) (map.get-insert nat_cmp_total none 1 rs id ∙ ap (cond (eq_by_cmp nat_cmp id 1) (Some rs)) (map.get-empty nat_cmp id)))
+
+-- what becomes of a query reads these rows
+pub selected : (rs ss : Bag) (at : ℕ) (answer : Answer) → asks (holding rs ss) at (r.Select answer)
+    ≡ Settled (on_good at (meaning answer.query (read_of rs ss) []) (answered (holding rs ss) answer))
+selected rs ss at answer i = Settled (on_good at (meaning answer.query (λ (id : ℕ). rows-of rs ss id i) []) (answered (holding rs ss) answer))
 
 -- ---- resolved expressions and queries
 
