@@ -3,4 +3,4 @@
 
 mod laws;
 
-pub use laws::whole_statements_are_ready;
+pub use laws::{delete_leaves_the_other_rows, whole_statements_are_ready};
