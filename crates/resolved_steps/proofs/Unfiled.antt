@@ -1,15 +1,20 @@
 -- A statement that begins no file is refused for no cause that lies in a file.
 use mathlib.Core.Bool.{true≢false}
-use Rattle.std.proofs.Common.{◌≡◌, ◌∙◌, ℕ, Bool, true, false, cond, List, Result, Ok, Err, refl, sym, ap}
-use Rattle.bag_algebra.specs.Outcome.{Outcome, Good, Bad}
+use Rattle.std.proofs.Common.{◌≡◌, ◌∙◌, ℕ, Bool, true, false, cond, nat_eq, List, [], length, None, Result, Ok, Err, codes, refl, sym, ap}
+use Rattle.std.specs.List.{count_by}
+use Rattle.perm_values.specs.Numbers.{last_number}
+use Rattle.bag_algebra.specs.Meaning.{meaning}
+use Rattle.bag_algebra.specs.Outcome.{Outcome, Good, Bad, each}
+use Rattle.bag_algebra.specs.TableRows.{rows_in}
 use Rattle.csv_tables.specs.declared.data_error.DataError.TheVariants as rule
+use Rattle.perm_catalog.specs.Changes.{rows_at, with_table, with_fewer_rows}
 use Rattle.perm_catalog.specs.Contents.{Contents}
-use Rattle.name_words.specs.declared.answer.Break.{Break}
+use Rattle.name_words.specs.Meanings.{broken}
 use Rattle.name_words.specs.declared.answer.Resolved.{Resolved}
 use Rattle.name_words.specs.declared.answer.Resolved.TheVariants as r
 use Rattle.statement_words.specs.Answers.{Files, Names, IsTurn, IsText, IsBacked, RestsOn, failed, has_failed}
 use Rattle.statement_words.specs.Asking.{Asked, Settled, Begins, asks}
-use Rattle.statement_words.specs.Turns.{Turn, Stands, Refused, Broken, Meets, Missing, TooLarge, Unfit, Failed, on_good, drawing, create_table, insert, add_rows, rows_added, delete, rows_deleted, select}
+use Rattle.statement_words.specs.Turns.{Turn, Stands, Refused, Broken, Meets, Missing, TooLarge, Unfit, Failed, on_good, drawing, counting, identity_of, add_rows, answered, goes, row_value, rows_deleted, with_added}
 use Rattle.statement_words.specs.declared.refusal.StepRefusal.{StepRefusal}
 use Rattle.statement_words.specs.declared.refusal.StepRefusal.TheVariants as refusal
 use Rattle.resolved_steps.specs.Settling.{IsSettled}
@@ -23,9 +28,11 @@ of_file (Refused (TooLarge at)) = true
 of_file (Refused (Unfit rule)) = true
 of_file (Refused Failed) = true
 
-drawn : (spent : Bool) (b : Break) (text : List ℕ) (c : Contents) → of_file (cond spent (Refused (Broken b)) (Stands text c)) ≡ false
-drawn true b text c = refl
-drawn false b text c = refl
+drawn : (c : Contents) (at : ℕ) (text : List ℕ) (new : Contents) → of_file (drawing c at (Stands text new)) ≡ false
+drawn c at text new = chosen (nat_eq c.next last_number) where
+  chosen : (spent : Bool) → of_file (cond spent (Refused (Broken (broken 17 at))) (Stands text new)) ≡ false
+  chosen true = refl
+  chosen false = refl
 
 waited : {X : Type 0} (at : ℕ) (o : Outcome X) (next : X → Turn) → ((x : X) → of_file (next x) ≡ false) → of_file (on_good at o next) ≡ false
 waited at (Good x) next h = h x
@@ -36,15 +43,18 @@ Unfiled (Settled turn) = of_file turn ≡ false
 Unfiled (Begins name after) = Unit {0}
 
 pub asks-unfiled : (c : Contents) (at : ℕ) (statement : Resolved) → Unfiled (asks c at statement)
-asks-unfiled c at (r.CreateTable name columns) = drawn _ _ _ _
+asks-unfiled c at (r.CreateTable name columns) = drawn c at (codes "CREATE TABLE\n") (with_table c name columns [] None)
 asks-unfiled c at (r.CreateTableAs name columns answer places) = refl
 asks-unfiled c at (r.CreateView name entry) = refl
 asks-unfiled c at (r.Copy name kinds file mark header) = tt
-asks-unfiled c at (r.Insert name rows) = waited at _ _ (λ made. drawn _ _ _ _)
-asks-unfiled c at (r.Delete name condition) = waited at _ _ (λ doomed. drawn _ _ _ _)
+asks-unfiled c at (r.Insert name rows) = waited at (each row_value rows) (add_rows (codes "INSERT ") c at name)
+    (λ made. drawn c at (counting (codes "INSERT ") (length made)) (with_added c name made))
+asks-unfiled c at (r.Delete name condition) =
+    waited at (each (goes condition) (rows_at c (identity_of c name))) (λ doomed. drawing c at (rows_deleted c name doomed))
+    (λ doomed. drawn c at (counting (codes "DELETE ") (count_by (λ flag. flag) doomed)) (with_fewer_rows c name (identity_of c name) doomed))
 asks-unfiled c at (r.DropTable name) = refl
 asks-unfiled c at (r.DropView name) = refl
-asks-unfiled c at (r.Select answer) = waited at _ _ (λ rows. refl)
+asks-unfiled c at (r.Select answer) = waited at (meaning answer.query (rows_in c.rows) []) (answered c answer) (λ rows. refl)
 asks-unfiled c at (r.Explain answer) = refl
 asks-unfiled c at (r.ShowFresh name) = refl
 
