@@ -13,12 +13,12 @@ ghost use Rattle.statement_words.specs.Turns.{select};
 ghost use Rattle.query_answers.specs.Printed.{IsPrinted};
 
 use crate::order::in_order;
+use crate::stub::eliminate;
 use bag_algebra::{Answer, Env, Query};
 use csv_tables::answer_text;
 use expression_values::ExecError;
 use perm_catalog::Catalog;
 use perm_values::{Bytes, Chars, Copyable, Key, NoMemory, Rows};
-use crate::stub::eliminate;
 use row_executor::run_plain;
 use statement_words::StepRefusal;
 use std::alloc::Global;

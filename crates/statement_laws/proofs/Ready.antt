@@ -42,7 +42,7 @@ not-false false e = absurd (cc e)
 
 there : {X : Type 0} (o : Option X) → is_none o ≡ false → IsSome o
 there None e = absurd (cc e)
-there (Some x) e = tt
+there (Some x) e = refl
 
 nothing : {X : Type 0} (o : Option X) → is_some o ≡ false → o ≡ None
 nothing None e = refl
@@ -65,7 +65,7 @@ module _ (c : Contents) where
   looked-at name looked = chosen (table_named c name.text) where
     chosen : (o : Option TableEntry) → option_map_or looked o (broken 10 name.at ∷ []) ≡ [] → IsSome o
     chosen None e = absurd (cc e)
-    chosen (Some entry) e = tt
+    chosen (Some entry) e = refl
 
   can_run : (tree : QueryTree) → IsSound c → RegularQuery tree → limits_of_query tree ≡ true → (query_meant c tree).breaks ≡ []
       → CanRun c (answer_of (query_meant c tree))
