@@ -1,2 +1,3 @@
 pub mod Left
 pub mod Ready
+pub mod Sounder

@@ -3,4 +3,6 @@
 
 mod laws;
 
-pub use laws::{delete_leaves_the_other_rows, whole_statements_are_ready};
+pub use laws::{
+    delete_leaves_the_other_rows, statements_keep_catalogs_sound, whole_statements_are_ready,
+};
