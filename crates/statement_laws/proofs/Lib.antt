@@ -1,3 +1,4 @@
+pub mod Adds
 pub mod Left
 pub mod Ready
 pub mod Sounder

@@ -26,17 +26,17 @@ use Rattle.statement_words.specs.Ready.{CanRun, IsReady}
 use Rattle.statement_laws.specs.Limited.{limits_of_statement}
 
 -- the rules of names are looked at first
-names-whole : (c : Contents) (statement : Statement) → breaks c statement ≡ [] → name_breaks c statement.body ≡ []
+pub names-whole : (c : Contents) (statement : Statement) → breaks c statement ≡ [] → name_breaks c statement.body ≡ []
 names-whole c statement = chosen (name_breaks c statement.body) (limit_breaks c statement.body) where
   chosen : (names limits : List Break) → cond (is_whole names) limits names ≡ [] → names ≡ []
   chosen [] limits e = refl
   chosen (first ∷ more) limits e = e
 
-unbroken : (is_broken : Bool) (code at : ℕ) → broken_if is_broken code at ≡ [] → is_broken ≡ false
+pub unbroken : (is_broken : Bool) (code at : ℕ) → broken_if is_broken code at ≡ [] → is_broken ≡ false
 unbroken true code at e = absurd (cc e)
 unbroken false code at e = refl
 
-not-false : (b : Bool) → not b ≡ false → b ≡ true
+pub not-false : (b : Bool) → not b ≡ false → b ≡ true
 not-false true e = refl
 not-false false e = absurd (cc e)
 

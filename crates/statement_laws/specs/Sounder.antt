@@ -9,6 +9,9 @@ use Rattle.perm_catalog.specs.Contents.{Contents}
 use Rattle.perm_catalog.specs.Sound.{IsSound, IsSoundView}
 use Rattle.perm_catalog.specs.declared.entries.TableEntry.{TableEntry}
 use Rattle.perm_io.specs.Found.{Found}
+use Rattle.sql_tree.specs.declared.statement.StatementBody.{StatementBody}
+use Rattle.sql_tree.specs.declared.statement.StatementBody.TheVariants as st
+use Rattle.name_words.specs.Statements.{query_meant, view_entry}
 use Rattle.name_words.specs.declared.answer.Resolved.{Resolved}
 use Rattle.name_words.specs.declared.answer.Resolved.TheVariants as r
 use Rattle.statement_words.specs.Asking.{Asked, Settled, Begins}
@@ -48,3 +51,17 @@ StandsSound (Refused cause) = ⊤
 abbrev pub KeepsSound : Asked → Type 0
 KeepsSound (Settled turn) = StandsSound turn
 KeepsSound (Begins name after) = (found : Found) → StandsSound (after found)
+
+-- the view that a statement makes is sound, if it makes one
+abbrev pub MakesSoundView : Contents → StatementBody → Type 0
+MakesSoundView c (st.CreateTable table columns) = ⊤
+MakesSoundView c (st.CreateTableAs table query) = ⊤
+MakesSoundView c (st.CreateView view query) = IsSoundView c (view_entry (query_meant c query))
+MakesSoundView c (st.Copy table file header mark) = ⊤
+MakesSoundView c (st.Insert table rows) = ⊤
+MakesSoundView c (st.Delete table condition) = ⊤
+MakesSoundView c (st.DropTable table) = ⊤
+MakesSoundView c (st.DropView view) = ⊤
+MakesSoundView c (st.Select query) = ⊤
+MakesSoundView c (st.Explain query) = ⊤
+MakesSoundView c (st.ShowFresh table) = ⊤

@@ -4,5 +4,6 @@
 mod laws;
 
 pub use laws::{
-    delete_leaves_the_other_rows, statements_keep_catalogs_sound, whole_statements_are_ready,
+    delete_leaves_the_other_rows, statements_keep_catalogs_sound, whole_statements_add_soundly,
+    whole_statements_are_ready,
 };
