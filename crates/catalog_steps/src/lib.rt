@@ -1,0 +1,18 @@
+//! Statements that change a catalog, each with its text: CREATE, DROP, INSERT, DELETE and COPY.
+#![tactic(auto)]
+
+mod adding;
+mod copying;
+mod creating;
+mod deleting;
+mod dropping;
+mod inserting;
+mod loading;
+mod text;
+
+pub use copying::copy;
+pub use creating::{create_table, create_view};
+pub use deleting::delete;
+pub use dropping::{drop_table, drop_view};
+pub use inserting::insert;
+pub use loading::RowFile;

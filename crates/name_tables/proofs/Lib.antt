@@ -1,0 +1,6 @@
+mod ReadCores
+mod ReadFroms
+mod ReadMeant
+mod ReadNodes
+mod ReadTrees
+pub mod Tables

@@ -1,0 +1,138 @@
+-- What holds of each table of the catalog holds of each that cores and set operations read.
+use Rattle.std.specs.Prelude.{⊤, ℕ, ℤ, Bool, true, false, cond, List, [], ◌∷◌, ◌++◌, nat_abs, Option, Some, None}
+use Rattle.std.specs.Option.{option_map_or}
+use Rattle.perm_values.specs.declared.key.Key.{Key}
+use Rattle.perm_values.specs.declared.kind.Kind.{Kind}
+use Rattle.perm_values.specs.declared.kind.Kind.TheVariants as kind
+use Rattle.bag_algebra.specs.TablesRead.{EachTable}
+use Rattle.bag_algebra.specs.declared.query.Aggr.{Aggr}
+use Rattle.bag_algebra.specs.declared.query.Query.{Query}
+use Rattle.bag_algebra.specs.declared.query.Query.TheVariants.{Project}
+use Rattle.sql_tree.specs.declared.name.ColRef.{ColRef}
+use Rattle.sql_tree.specs.declared.query.OrderTree.{OrderTree}
+use Rattle.sql_tree.specs.declared.query.SetWord.{SetWord}
+use Rattle.sql_tree.specs.declared.query.SetWord.TheVariants as word
+use Rattle.name_words.specs.Cores.{BodyPart, settle_known, in_clause, optional_meant, optional_built, group_scope, filtered, aggregated_input, distinct_if, Clauses, list_columns, before_list, core_unlooked, core_clauses, core_over, word_breaks, core_trace, core_seen}
+use Rattle.name_words.specs.Froms.{FromMeant}
+use Rattle.name_words.specs.Items.{Made, SelectPart, made_items}
+use Rattle.name_words.specs.Meanings.{Surroundings, Part, Around, QueryMeant, is_whole}
+use Rattle.name_words.specs.Queries.{SetStepPart, set_of, columns_so_far, set_joined, unprovable, set_chain, keys_of, limited, plain_query, proved_query, is_proving, query_seen}
+use Rattle.name_words.specs.Scopes.{ScopeItem, scope_of}
+use Rattle.name_words.specs.Sublinks.{nothing_before}
+use Rattle.name_words.specs.declared.answer.Break.{Break}
+use Rattle.name_words.specs.declared.scope.Scope.{Scope}
+use Rattle.name_words.specs.declared.trace.Trace.{Trace}
+use Rattle.name_words.specs.declared.trace.Trace.TheVariants.{InProvenance as in_provenance}
+use Rattle.name_laws.proofs.Every.{Every, every-map}
+use Rattle.name_tables.proofs.ReadMeant.{QueryReads, PartReads, SelectReads, ItemReads, reads-list}
+use Rattle.name_tables.proofs.ReadNodes.{reads-Filter, reads-Project, reads-Union, reads-Intersect, reads-Except, reads-Distinct, reads-Aggregate, reads-Limit, reads-Prov}
+
+module _ (P : ℕ → List Kind → Type 0) where
+  reads-aggregated : (input : Query) (groups : Option (List ℕ)) (aggregates : List Aggr) → EachTable P input → EachTable P (aggregated_input input groups aggregates)
+  reads-aggregated input None aggregates h = h
+  reads-aggregated input (Some groups) aggregates h = reads-Aggregate P input groups aggregates h
+
+  reads-distinct_if : (is_distinct : Bool) (query : Query) → EachTable P query → EachTable P (distinct_if is_distinct query)
+  reads-distinct_if true query h = reads-Distinct P query h
+  reads-distinct_if false query h = h
+
+  reads-set : (op : SetWord) (all : Bool) (left right : Query) → EachTable P left → EachTable P right → EachTable P (set_of op all left right)
+  reads-set word.Union all left right f g = reads-Union P all left right f g
+  reads-set word.Except all left right f g = reads-Except P all left right f g
+  reads-set word.Intersect all left right f g = reads-Intersect P all left right f g
+
+  reads-limited : (limit : Option ℤ) (keys : List Key) (query : Query) → EachTable P query → EachTable P (limited limit keys query)
+  reads-limited None keys query h = h
+  reads-limited (Some n) keys query h = reads-Limit P query keys (nat_abs n) h
+
+  -- ---- the clauses of a core
+
+  abbrev pub OptionalReads : Option Part → Type 0
+  OptionalReads None = ⊤
+  OptionalReads (Some part) = PartReads P part
+
+  reads-filtered : (here : Surroundings) (input : Query) (condition : Option Part) → OptionalReads condition → EachTable P input
+      → EachTable P (filtered input (optional_meant here condition))
+  reads-filtered here input None good h = h
+  reads-filtered here input (Some part) good h =
+      reads-Filter P input (optional_built (Some (part.means here))).expr (optional_built (Some (part.means here))).subs h
+      (good here kind.Boolean nothing_before)
+
+  reads-core_over : (outer : List Scope) (trace : Trace) (words : List Break) (input : FromMeant) (has_from is_distinct : Bool) (items : List SelectPart)
+      (condition : Option Part) (groups : List ColRef) (having : Option Part) (scope_items : List ScopeItem)
+      → EachTable P input.query → Every (ItemReads P) items → OptionalReads condition → OptionalReads having
+      → QueryReads P (core_over outer trace words input has_from is_distinct items condition groups having scope_items)
+  reads-core_over outer trace words input has_from is_distinct items condition groups having scope_items from good_items good_condition good_having w =
+      let own : Scope = scope_of scope_items in
+      let grouped : Scope = group_scope own groups having items in
+      let here : Surroundings = in_clause own outer trace false in
+      let grouped_here : Surroundings = in_clause grouped outer trace true in
+      let k : Clauses = core_clauses here grouped_here grouped has_from input condition having items in
+      let list : Made = made_items k.list (settle_known (list_columns k) w) (before_list k) in
+      let aggregates : List Aggr = (optional_built k.having_meant).aggregates ++ list.aggregates in
+      let kept : Query = filtered input.query k.where_meant in
+      let rows : Query = aggregated_input kept k.groups aggregates in
+      let kept_reads = reads-filtered here input.query condition good_condition from in
+      let rows_read = reads-aggregated kept k.groups aggregates kept_reads in
+      let chosen_read = reads-filtered grouped_here rows having good_having rows_read in
+      let listed : Every (SelectReads P) k.list =
+      every-map (ItemReads P) (SelectReads P) (λ (item : SelectPart). item.means has_from grouped grouped_here)
+      (λ item good. good has_from grouped grouped_here) items good_items in
+      let list_read = reads-list P k.list (settle_known (list_columns k) w) (before_list k) listed in
+      reads-distinct_if is_distinct (Project (filtered rows k.having_meant) list.items list.subs)
+      (reads-Project P (filtered rows k.having_meant) list.items list.subs chosen_read list_read)
+
+  pub reads-core_seen : (around : Around) (at : Option ℕ) (input : FromMeant) (has_from is_distinct : Bool) (items : List SelectPart)
+      (condition : Option Part) (groups : List ColRef) (having : Option Part)
+      → EachTable P input.query → Every (ItemReads P) items → OptionalReads condition → OptionalReads having
+      → QueryReads P (core_seen around at input has_from is_distinct items condition groups having)
+  reads-core_seen around at input has_from is_distinct items condition groups having from good_items good_condition good_having =
+      chosen (is_whole input.breaks) where
+        chosen : (b : Bool) → QueryReads P (cond b
+            (core_over around.outer (core_trace around at) (word_breaks around at) input has_from is_distinct items condition groups having
+            (option_map_or (λ known. known) input.items []))
+            (core_unlooked (word_breaks around at) input))
+        chosen true = reads-core_over around.outer (core_trace around at) (word_breaks around at) input has_from is_distinct items condition groups having
+            (option_map_or (λ known. known) input.items []) from good_items good_condition good_having
+        chosen false = λ w. tt
+
+  -- ---- queries
+
+  abbrev pub BodyReads : BodyPart → Type 0
+  BodyReads body = (around : Around) → QueryReads P (body.means around)
+
+  abbrev pub SetStepReads : SetStepPart → Type 0
+  SetStepReads step = BodyReads step.operand
+
+  reads-joined : (left right : QueryMeant) (step : SetStepPart) → QueryReads P left → QueryReads P right → QueryReads P (set_joined left step right)
+  reads-joined left right step l r w =
+      let at : List Kind = settle_known (columns_so_far left.columns right.columns) w in
+      reads-set step.word step.all (left.make at) (right.make at) (l at) (r at)
+
+  pub reads-chain : (around : Around) (left : QueryMeant) (steps : List SetStepPart) → QueryReads P left → Every SetStepReads steps
+      → QueryReads P (set_chain around left steps)
+  reads-chain around left [] l h = l
+  reads-chain around left (step ∷ steps) l h =
+      let right : QueryMeant = step.operand.means (unprovable around) in
+      reads-chain around (set_joined left step right) steps (reads-joined left right step l (h.0 (unprovable around))) h.1
+
+  reads-plain_query : (at : ℕ) (body : QueryMeant) (order : List OrderTree) (limit : Option ℤ) → QueryReads P body
+      → QueryReads P (plain_query at body order limit)
+  reads-plain_query at body order limit good w = reads-limited limit (keys_of body.columns order) (body.make w) (good w)
+
+  reads-proved_query : (at : ℕ) (body : QueryMeant) (order : List OrderTree) (limit : Option ℤ) (query : Query) → QueryReads P body
+      → QueryReads P (proved_query at body order limit query)
+  reads-proved_query at body order limit query good w =
+      reads-Prov P (limited limit (keys_of body.columns order) (body.make w)) (reads-limited limit (keys_of body.columns order) (body.make w) (good w))
+
+  pub reads-query_seen : (around : Around) (at : ℕ) (body : BodyPart) (order : List OrderTree) (limit : Option ℤ) → BodyReads body
+      → QueryReads P (query_seen around at body order limit)
+  reads-query_seen around at body order limit good = chosen (is_proving around body) where
+    chosen : (b : Bool) → QueryReads P (cond b
+        (proved_query at (body.means (record around { trace = in_provenance })) order limit
+        (limited limit (keys_of (body.means (record around { trace = in_provenance })).columns order) ((body.means (record around { trace = in_provenance })).make [])))
+        (plain_query at (body.means around) order limit))
+    chosen true = reads-proved_query at (body.means (record around { trace = in_provenance })) order limit
+        (limited limit (keys_of (body.means (record around { trace = in_provenance })).columns order) ((body.means (record around { trace = in_provenance })).make []))
+        (good (record around { trace = in_provenance }))
+    chosen false = reads-plain_query at (body.means around) order limit (good around)

@@ -1,0 +1,193 @@
+-- What a statement adds that breaks no rule: columns of a table, and values of the kinds of their columns.
+use Rattle.std.proofs.Common.{◌≡◌, ◌≢◌, ◌∙◌, ℕ, Bool, true, false, cond, not, ◌||◌, nat_eq, List, [], ◌∷◌, ◌++◌, map, length, Option, Some, None, IfSome, refl, sym, ap, subst, arith}
+use Rattle.std.proofs.lemmas.Bool.{and_parts}
+use Rattle.std.proofs.lemmas.Bool.Decides.{nat_tests}
+use Rattle.std.proofs.lemmas.List.Elements.{All-head, All-tail, All-map, All-weaker, All-contains_itself}
+use Rattle.std.specs.Cmp.Lexicographic.{pointwise, nat_list_eq_equiv}
+use Rattle.std.specs.List.{All, AllByRecursion, Contains, IsDistinct, flat_map, list_all, list_any}
+use Rattle.std.specs.Option.{option_map_or}
+use Rattle.perm_values.specs.declared.kind.Kind.{Kind}
+use Rattle.perm_values.specs.declared.kind.Kind.TheVariants as kind
+use Rattle.bag_algebra.specs.BuiltForms.{subs_kinds}
+use Rattle.bag_algebra.specs.WellFormed.{HasKind}
+use Rattle.bag_algebra.specs.declared.query.Aggr.{Aggr}
+use Rattle.bag_algebra.specs.declared.query.Sublink.{Sublink}
+use Rattle.perm_catalog.specs.Changes.{table_named}
+use Rattle.perm_catalog.specs.Columns.{AreTableColumns, column_kinds, column_names}
+use Rattle.perm_catalog.specs.Contents.{Contents}
+use Rattle.perm_catalog.specs.Sound.{IsSound}
+use Rattle.perm_catalog.specs.declared.column.Column.{Column}
+use Rattle.perm_catalog.specs.declared.entries.TableEntry.{TableEntry}
+use Rattle.sql_tree.specs.Regular.{Each, IsFilled, RegularColumn, RegularExpr, RegularRow, RegularStatement, RegularStatementBody}
+use Rattle.sql_tree.specs.declared.expression.ExprTree.{ExprTree}
+use Rattle.sql_tree.specs.declared.name.Name.{Name}
+use Rattle.sql_tree.specs.declared.statement.ColumnDef.{ColumnDef}
+use Rattle.sql_tree.specs.declared.statement.Statement.{Statement}
+use Rattle.sql_tree.specs.declared.statement.StatementBody.{StatementBody}
+use Rattle.sql_tree.specs.declared.statement.StatementBody.TheVariants as st
+use Rattle.sql_tree.specs.declared.statement.ValuesRow.{ValuesRow}
+use Rattle.name_words.specs.Froms.{named_so}
+use Rattle.name_words.specs.Meanings.{Meant, means_at, broken, broken_if, is_whole, is_same_kind, seen_kind, settled, unites}
+use Rattle.name_words.specs.Statements.{bare, breaks, defined_columns, kinds_of_table, made_alone, name_breaks, on_table, repeated_columns, resolved, resolved_body, row_breaks, row_made, rows_made, taken, value_breaks, values_breaks}
+use Rattle.name_words.specs.Sublinks.{nothing_before}
+use Rattle.name_words.specs.Trees.{part_of}
+use Rattle.name_words.specs.declared.answer.Break.{Break}
+use Rattle.name_laws.proofs.Every.{front-none, back-none}
+use Rattle.name_forms.specs.Formed.{IsFormedExpr}
+use Rattle.name_forms.specs.Limits.{limits_of_expr}
+use Rattle.name_forms.specs.Standing.{StandAt, AggregatesStand}
+use Rattle.name_forms.proofs.TreeLaws.{expr-formed}
+use Rattle.statement_laws.proofs.Ready.{names-whole, unbroken, not-false}
+use Rattle.statement_laws.specs.Limited.{limits_of_statement}
+use Rattle.statement_laws.specs.Sounder.{AddsSoundly, HaveKinds, MakesSoundView, RowsHaveKinds}
+
+all-of : {X : Type 0} (P : X → Type 0) (xs : List X) → Each P xs → All P xs
+all-of P xs each = All-weaker (Contains xs) P (λ x among. each x among) xs (All-contains_itself xs)
+
+-- ---- columns
+
+left-false : (a b : Bool) → (a || b) ≡ false → a ≡ false
+left-false true b h = absurd (cc h)
+left-false false b h = refl
+
+right-false : (a b : Bool) → (a || b) ≡ false → b ≡ false
+right-false true b h = absurd (cc h)
+right-false false b h = h
+
+-- no name behind another is it, nor one of the earlier ones
+module _ (name : List ℕ) (earlier : List (List ℕ)) where
+  earlier-apart : (names : List (List ℕ)) → AllByRecursion (λ y. list_any (named_so y) (name ∷ earlier) ≡ false) names
+      → AllByRecursion (λ y. list_any (named_so y) earlier ≡ false) names
+  earlier-apart [] h = tt
+  earlier-apart (y ∷ names) h = (right-false (named_so y name) (list_any (named_so y) earlier) h.0, earlier-apart names h.1)
+
+  name-apart : (names : List (List ℕ)) → AllByRecursion (λ y. list_any (named_so y) (name ∷ earlier) ≡ false) names
+      → AllByRecursion (λ y. pointwise nat_eq name y ≡ false) names
+  name-apart [] h = tt
+  name-apart (y ∷ names) h =
+      (nat_list_eq_equiv.symm name y ∙ left-false (named_so y name) (list_any (named_so y) earlier) h.0, name-apart names h.1)
+
+names-differ : (earlier : List (List ℕ)) (columns : List ColumnDef) → repeated_columns earlier columns ≡ []
+    → AllByRecursion (λ y. list_any (named_so y) earlier ≡ false) (column_names (defined_columns columns))
+    × IsDistinct (pointwise nat_eq) (column_names (defined_columns columns))
+unfolding IsDistinct
+names-differ earlier [] e = (tt, tt)
+names-differ earlier (column ∷ columns) e =
+    let name : List ℕ = column.name.text in
+    let first : List Break = broken_if (list_any (named_so name) earlier) 14 column.name.at in
+    let more : List Break = repeated_columns (name ∷ earlier) columns in
+    let names : List (List ℕ) = column_names (defined_columns columns) in
+    let here = unbroken (list_any (named_so name) earlier) 14 column.name.at (front-none first more e) in
+    let rest = names-differ (name ∷ earlier) columns (back-none first more e) in
+    ((here, earlier-apart name earlier names rest.0), (name-apart name earlier names rest.0, rest.1))
+
+some-columns : (columns : List ColumnDef) → IsFilled columns → defined_columns columns ≢ []
+some-columns [] filled = absurd filled
+some-columns (column ∷ columns) filled = λ e. cc e
+
+table-columns : (columns : List ColumnDef) → IsFilled columns → Each RegularColumn columns → repeated_columns [] columns ≡ [] → AreTableColumns (defined_columns columns)
+table-columns columns filled regular e = record {
+  some = some-columns columns filled;
+  named = (names-differ [] columns e).1;
+  stored = All-map (λ (column : Column). column.kind ≢ kind.Boolean) (λ (column : ColumnDef). record { name = column.name.text; kind = column.kind }) columns
+      (all-of RegularColumn columns regular);
+}
+
+-- ---- values
+
+same-kind : (k other : Kind) → is_same_kind k other ≡ true → other ≡ k
+same-kind kind.Integer kind.Integer e = refl
+same-kind kind.Integer kind.Text e = absurd (cc e)
+same-kind kind.Integer kind.Boolean e = absurd (cc e)
+same-kind kind.Text kind.Integer e = absurd (cc e)
+same-kind kind.Text kind.Text e = refl
+same-kind kind.Text kind.Boolean e = absurd (cc e)
+same-kind kind.Boolean kind.Integer e = absurd (cc e)
+same-kind kind.Boolean kind.Text e = absurd (cc e)
+same-kind kind.Boolean kind.Boolean e = refl
+
+united-settled : (k : Kind) (o : Option Kind) → unites (Some k) o ≡ true → settled o k ≡ k
+united-settled k None e = refl
+united-settled k (Some other) e = same-kind k other e
+
+seen-whole : (m : Meant) → m.breaks ≡ [] → seen_kind m ≡ m.kind
+seen-whole m whole = ap (λ (breaks : List Break). cond (is_whole breaks) m.kind None) whole
+
+same-length : (a b : ℕ) → nat_eq a b ≡ true → a ≡ b
+same-length a b e = grind (arith, nat_tests)
+
+module _ (c : Contents) (sound : IsSound c) where
+  made-kind : (k : Kind) (tree : ExprTree) → RegularExpr tree → limits_of_expr tree ≡ true
+      → value_breaks k (part_of c tree).at (means_at (part_of c tree) (bare [])) ≡ []
+      → HasKind ([] ∷ []) [] (made_alone k (means_at (part_of c tree) (bare []))) k
+  made-kind k tree regular fit e =
+      let m : Meant = means_at (part_of c tree) (bare []) in
+      let differs : Bool = not (unites (Some k) (seen_kind m)) in
+      let whole = front-none m.breaks (broken_if differs 20 (part_of c tree).at) e in
+      let united = not-false (unites (Some k) (seen_kind m)) (unbroken differs 20 (part_of c tree).at (back-none m.breaks (broken_if differs 20 (part_of c tree).at) e)) in
+      let f : IsFormedExpr (bare []) nothing_before (m.make k nothing_before) (settled m.kind k) = expr-formed c tree (bare []) sound regular fit whole k nothing_before in
+      subst (λ (found : Kind). HasKind ([] ∷ []) [] (made_alone k m) found)
+      (united-settled k m.kind (subst (λ (o : Option Kind). unites (Some k) o ≡ true) (seen-whole m whole) united))
+      (f.holds ([] ∷ []) [] tt
+      (subst (λ (aggregates : List Aggr). AggregatesStand (bare []).scopes nothing_before.aggregates aggregates ([] ∷ [])) (sym (f.without_aggregates refl)) tt)
+      (subst (λ (subs : List Sublink). StandAt nothing_before.subs (subs_kinds subs) []) (sym (f.without_subs refl)) tt))
+
+  values-have : (kinds : List Kind) (trees : List ExprTree) → length trees ≡ length kinds → All RegularExpr trees → list_all limits_of_expr trees ≡ true
+      → values_breaks c kinds trees ≡ [] → HaveKinds (row_made c kinds trees) kinds
+  values-have [] trees long regular fit e = tt
+  values-have (k ∷ kinds) [] long regular fit e = absurd (omega arith)
+  values-have (k ∷ kinds) (tree ∷ trees) long regular fit e =
+      let first : List Break = value_breaks k (part_of c tree).at (means_at (part_of c tree) (bare [])) in
+      let fits = and_parts (limits_of_expr tree) (list_all limits_of_expr trees) fit in (
+        made-kind k tree (All-head RegularExpr tree trees regular) fits.0 (front-none first (values_breaks c kinds trees) e),
+        values-have kinds trees (omega arith) (All-tail RegularExpr tree trees regular) fits.1 (back-none first (values_breaks c kinds trees) e),
+      )
+
+  row-has : (kinds : List Kind) (row : ValuesRow) → RegularRow row → list_all limits_of_expr row.values ≡ true → row_breaks c kinds row ≡ []
+      → HaveKinds (row_made c kinds row.values) kinds
+  row-has kinds row regular fit = chosen (nat_eq (length row.values) (length kinds)) refl where
+    chosen : (b : Bool) → nat_eq (length row.values) (length kinds) ≡ b → cond b (values_breaks c kinds row.values) (broken 21 row.at ∷ []) ≡ []
+        → HaveKinds (row_made c kinds row.values) kinds
+    chosen true same e = values-have kinds row.values (same-length (length row.values) (length kinds) same) (all-of RegularExpr row.values regular.1) fit e
+    chosen false same e = absurd (cc e)
+
+  rows-have : (kinds : List Kind) (rows : List ValuesRow) → All RegularRow rows → list_all (λ (row : ValuesRow). list_all limits_of_expr row.values) rows ≡ true
+      → flat_map (row_breaks c kinds) rows ≡ [] → RowsHaveKinds (rows_made c kinds rows) kinds
+  rows-have kinds [] regular fit e = tt
+  rows-have kinds (row ∷ rows) regular fit e =
+      let fits = and_parts (list_all limits_of_expr row.values) (list_all (λ (other : ValuesRow). list_all limits_of_expr other.values) rows) fit in (
+        row-has kinds row (All-head RegularRow row rows regular) fits.0 (front-none (row_breaks c kinds row) (flat_map (row_breaks c kinds) rows) e),
+        rows-have kinds rows (All-tail RegularRow row rows regular) fits.1 (back-none (row_breaks c kinds row) (flat_map (row_breaks c kinds) rows) e),
+      )
+
+  insert-adds : (table : Name) (rows : List ValuesRow) → All RegularRow rows → list_all (λ (row : ValuesRow). list_all limits_of_expr row.values) rows ≡ true
+      → on_table c table (λ (entry : TableEntry). flat_map (row_breaks c (column_kinds entry.columns)) rows) ≡ []
+      → IfSome (table_named c table.text) (λ (entry : TableEntry). RowsHaveKinds (rows_made c (kinds_of_table c table) rows) (column_kinds entry.columns))
+  insert-adds table rows regular fit = chosen (table_named c table.text) where
+    chosen : (o : Option TableEntry) → option_map_or (λ (entry : TableEntry). flat_map (row_breaks c (column_kinds entry.columns)) rows) o (broken 10 table.at ∷ []) ≡ []
+        → IfSome o (λ (entry : TableEntry). RowsHaveKinds (rows_made c (option_map_or (λ (known : TableEntry). column_kinds known.columns) o []) rows) (column_kinds entry.columns))
+    chosen None e = tt
+    chosen (Some entry) e = rows-have (column_kinds entry.columns) rows regular fit e
+
+  copy-adds : (o : Option TableEntry) → IfSome o (λ (entry : TableEntry). option_map_or (λ (known : TableEntry). column_kinds known.columns) o [] ≡ column_kinds entry.columns)
+  copy-adds None = tt
+  copy-adds (Some entry) = refl
+
+  body-adds : (body : StatementBody) → RegularStatementBody body → limits_of_statement body ≡ true → name_breaks c body ≡ [] → MakesSoundView c body
+      → AddsSoundly c (resolved_body c body)
+  body-adds (st.CreateTable table columns) regular fit whole view =
+      table-columns columns regular.0 regular.1 (back-none (taken c table) (repeated_columns [] columns) whole)
+  body-adds (st.CreateTableAs table query) regular fit whole view = tt
+  body-adds (st.CreateView name query) regular fit whole view = view
+  body-adds (st.Copy table file header mark) regular fit whole view = copy-adds (table_named c table.text)
+  body-adds (st.Insert table rows) regular fit whole view = insert-adds table rows (all-of RegularRow rows regular.1) fit whole
+  body-adds (st.Delete table condition) regular fit whole view = tt
+  body-adds (st.DropTable table) regular fit whole view = tt
+  body-adds (st.DropView name) regular fit whole view = tt
+  body-adds (st.Select query) regular fit whole view = tt
+  body-adds (st.Explain query) regular fit whole view = tt
+  body-adds (st.ShowFresh table) regular fit whole view = tt
+
+pub whole-adds : (c : Contents) (statement : Statement) → IsSound c → RegularStatement statement → limits_of_statement statement.body ≡ true
+    → breaks c statement ≡ [] → MakesSoundView c statement.body → AddsSoundly c (resolved c statement)
+whole-adds c statement sound regular fit whole view = body-adds c sound statement.body regular fit (names-whole c statement whole) view

@@ -1,0 +1,4 @@
+pub mod Adds
+pub mod Left
+pub mod Ready
+pub mod Sounder

@@ -1,0 +1,97 @@
+-- A statement that breaks no rule names what is there, and its query can run.
+use Rattle.std.proofs.Common.{◌≡◌, ℕ, Bool, true, false, cond, not, List, [], ◌∷◌, ◌++◌, Option, Some, None, IsSome, refl, sym, ap}
+use Rattle.std.specs.Option.{option_map_or}
+use Rattle.std.specs.Prelude.{is_none, is_some}
+use Rattle.bag_algebra.specs.declared.query.Query.{Query}
+use Rattle.perm_catalog.specs.Changes.{table_named, view_named, is_free}
+use Rattle.perm_catalog.specs.Contents.{Contents}
+use Rattle.perm_catalog.specs.Lookups.{first_user}
+use Rattle.perm_catalog.specs.Sound.{IsSound}
+use Rattle.perm_catalog.specs.declared.entries.TableEntry.{TableEntry}
+use Rattle.sql_tree.specs.Regular.{RegularStatement, RegularStatementBody, RegularQuery}
+use Rattle.sql_tree.specs.declared.name.Name.{Name}
+use Rattle.sql_tree.specs.declared.query.QueryTree.{QueryTree}
+use Rattle.sql_tree.specs.declared.statement.Statement.{Statement}
+use Rattle.sql_tree.specs.declared.statement.StatementBody.{StatementBody}
+use Rattle.sql_tree.specs.declared.statement.StatementBody.TheVariants as st
+use Rattle.name_words.specs.Meanings.{broken, broken_if, is_whole}
+use Rattle.name_words.specs.Statements.{alone, answer_of, query_meant, breaks, name_breaks, limit_breaks, named_query_breaks, on_table, repeated_columns, resolved, resolved_body, taken, unknown_table, unknown_view, used}
+use Rattle.name_words.specs.declared.answer.Break.{Break}
+use Rattle.name_laws.proofs.Every.{front-none, back-none}
+use Rattle.name_laws.proofs.Trees.{query-in_scope}
+use Rattle.name_forms.specs.Limits.{limits_of_query}
+use Rattle.name_forms.proofs.TreeLaws.{query-closed}
+use Rattle.name_tables.proofs.Tables.{tables-fit}
+use Rattle.statement_words.specs.Ready.{CanRun, IsReady}
+use Rattle.statement_laws.specs.Limited.{limits_of_statement}
+
+-- the rules of names are looked at first
+pub names-whole : (c : Contents) (statement : Statement) → breaks c statement ≡ [] → name_breaks c statement.body ≡ []
+names-whole c statement = chosen (name_breaks c statement.body) (limit_breaks c statement.body) where
+  chosen : (names limits : List Break) → cond (is_whole names) limits names ≡ [] → names ≡ []
+  chosen [] limits e = refl
+  chosen (first ∷ more) limits e = e
+
+pub unbroken : (is_broken : Bool) (code at : ℕ) → broken_if is_broken code at ≡ [] → is_broken ≡ false
+unbroken true code at e = absurd (cc e)
+unbroken false code at e = refl
+
+pub not-false : (b : Bool) → not b ≡ false → b ≡ true
+not-false true e = refl
+not-false false e = absurd (cc e)
+
+there : {X : Type 0} (o : Option X) → is_none o ≡ false → IsSome o
+there None e = absurd (cc e)
+there (Some x) e = refl
+
+nothing : {X : Type 0} (o : Option X) → is_some o ≡ false → o ≡ None
+nothing None e = refl
+nothing (Some x) e = absurd (cc e)
+
+module _ (c : Contents) where
+  free : (name : Name) → taken c name ≡ [] → is_free c name.text ≡ true
+  free name e = not-false (is_free c name.text) (unbroken (not (is_free c name.text)) 13 name.at e)
+
+  known : (name : Name) → unknown_table c name ≡ [] → IsSome (table_named c name.text)
+  known name e = there (table_named c name.text) (unbroken (is_none (table_named c name.text)) 10 name.at e)
+
+  known-view : (name : Name) → unknown_view c name ≡ [] → IsSome (view_named c name.text)
+  known-view name e = there (view_named c name.text) (unbroken (is_none (view_named c name.text)) 10 name.at e)
+
+  unused : (name : Name) → used c name ≡ [] → first_user c name.text ≡ None
+  unused name e = nothing (first_user c name.text) (unbroken (is_some (first_user c name.text)) 16 name.at e)
+
+  looked-at : (name : Name) (looked : TableEntry → List Break) → on_table c name looked ≡ [] → IsSome (table_named c name.text)
+  looked-at name looked = chosen (table_named c name.text) where
+    chosen : (o : Option TableEntry) → option_map_or looked o (broken 10 name.at ∷ []) ≡ [] → IsSome o
+    chosen None e = absurd (cc e)
+    chosen (Some entry) e = refl
+
+  can_run : (tree : QueryTree) → IsSound c → RegularQuery tree → limits_of_query tree ≡ true → (query_meant c tree).breaks ≡ []
+      → CanRun c (answer_of (query_meant c tree))
+  can_run tree sound regular fit whole = record {
+    formed = (query-closed c tree alone sound regular fit whole refl []).0;
+    scoped = (query-in_scope c tree alone sound whole []).scoped;
+    fitting = tables-fit c tree alone sound [];
+  }
+
+  body-ready : (body : StatementBody) → IsSound c → RegularStatementBody body → limits_of_statement body ≡ true → name_breaks c body ≡ []
+      → IsReady c (resolved_body c body)
+  body-ready (st.CreateTable table columns) sound regular fit whole = free table (front-none (taken c table) (repeated_columns [] columns) whole)
+  body-ready (st.CreateTableAs table query) sound regular fit whole = tt
+  body-ready (st.CreateView view query) sound regular fit whole =
+      free view (front-none (taken c view) (named_query_breaks query.at (query_meant c query)) whole)
+  body-ready (st.Copy table file header mark) sound regular fit whole = known table whole
+  body-ready (st.Insert table rows) sound regular fit whole = looked-at table _ whole
+  body-ready (st.Delete table condition) sound regular fit whole = looked-at table _ whole
+  body-ready (st.DropTable table) sound regular fit whole =
+      (known table (front-none (unknown_table c table) (used c table) whole), unused table (back-none (unknown_table c table) (used c table) whole))
+  body-ready (st.DropView view) sound regular fit whole =
+      (known-view view (front-none (unknown_view c view) (used c view) whole), unused view (back-none (unknown_view c view) (used c view) whole))
+  body-ready (st.Select query) sound regular fit whole = can_run query sound regular fit whole
+  body-ready (st.Explain query) sound regular fit whole = tt
+  body-ready (st.ShowFresh table) sound regular fit whole = tt
+
+pub whole-ready : (c : Contents) (statement : Statement) → IsSound c → RegularStatement statement → limits_of_statement statement.body ≡ true
+    → breaks c statement ≡ [] → IsReady c (resolved c statement)
+whole-ready c statement sound regular fit whole = body-ready c statement.body sound regular fit (names-whole c statement whole)

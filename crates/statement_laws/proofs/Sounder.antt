@@ -1,0 +1,142 @@
+-- A resolved statement keeps a sound catalog sound.
+use Rattle.std.proofs.Common.{◌≡◌, ℕ, Bool, true, false, cond, nat_eq, List, [], ◌∷◌, length, Option, Some, None, IsSome, IfSome, codes, refl, sym, ap, subst}
+use Rattle.std.proofs.lemmas.Bool.{and_from}
+use Rattle.std.specs.List.{count_by}
+use Rattle.std.specs.Option.{option_map_or}
+use Rattle.perm_values.specs.Numbers.{last_number}
+use Rattle.perm_values.specs.Rows.{row_fits, bag_fits}
+use Rattle.perm_values.specs.Values.{fits}
+use Rattle.perm_values.specs.declared.kind.Kind.{Kind}
+use Rattle.bag_algebra.specs.Bags.{Row, Bag}
+use Rattle.bag_algebra.specs.Expressions.{value}
+use Rattle.bag_algebra.specs.Meaning.{meaning}
+use Rattle.bag_algebra.specs.Outcome.{Outcome, Good, Bad, each}
+use Rattle.bag_algebra.specs.TableRows.{rows_in}
+use Rattle.bag_algebra.specs.declared.expr.Expr.{Expr}
+use Rattle.contribution.proofs.ValueKinds.{Fits, value-fits}
+use Rattle.contribution.proofs.WhereGood.{WhereGood, any_value, good-both}
+use Rattle.csv_tables.proofs.Fitting.{bag_fits-spelled}
+use Rattle.csv_tables.specs.Loading.{broken_rules, spelled_rows}
+use Rattle.csv_tables.specs.declared.data_error.DataError.{DataError}
+use Rattle.perm_catalog.proofs.SoundTables.{sound-created, sound-more_rows, sound-fewer_rows, sound-dropped_table}
+use Rattle.perm_catalog.proofs.SoundViews.{sound-more_views, sound-dropped_view}
+use Rattle.perm_catalog.specs.Changes.{table_named, rows_at, with_more_rows, with_fewer_rows, with_table, without_table}
+use Rattle.perm_catalog.specs.Columns.{column_kinds}
+use Rattle.perm_catalog.specs.Contents.{Contents}
+use Rattle.perm_catalog.specs.Sound.{IsSound}
+use Rattle.perm_catalog.specs.declared.entries.TableEntry.{TableEntry}
+use Rattle.perm_io.specs.Found.{Found, Read, Missing, TooLong, Failed}
+use Rattle.name_words.specs.Meanings.{broken}
+use Rattle.name_words.specs.declared.answer.Resolved.{Resolved}
+use Rattle.name_words.specs.declared.answer.Resolved.TheVariants as r
+use Rattle.statement_words.specs.Asking.{asks}
+use Rattle.statement_words.specs.Ready.{IsReady}
+use Rattle.statement_words.specs.Turns.{Turn, Stands, Refused, Broken, on_good, drawing, counting, identity_of, with_added, add_rows, add_unbroken, answered, copy, goes, row_value, rows_deleted}
+use Rattle.statement_laws.specs.Sounder.{HaveKinds, RowsHaveKinds, AddsSoundly, StandsSound, KeepsSound}
+
+-- ---- turns
+
+drawn-sound : (c : Contents) (at : ℕ) (text : List ℕ) (new : Contents) → IsSound new → StandsSound (drawing c at (Stands text new))
+drawn-sound c at text new sound = chosen (nat_eq c.next last_number) where
+  chosen : (spent : Bool) → StandsSound (cond spent (Refused (Broken (broken 17 at))) (Stands text new))
+  chosen true = tt
+  chosen false = sound
+
+waited-sound : {X : Type 0} (P : X → Type 0) (at : ℕ) (o : Outcome X) (next : X → Turn) → WhereGood P o → ((x : X) → P x → StandsSound (next x))
+    → StandsSound (on_good at o next)
+waited-sound P at (Good x) next h keeps = keeps x h
+waited-sound P at (Bad faults) next h keeps = tt
+
+-- ---- rows that expressions make
+
+abbrev RowFits : List Kind → Row → Type 0
+RowFits kinds row = row_fits row kinds ≡ true
+
+abbrev RowsFit : List Kind → Bag → Type 0
+RowsFit kinds rows = bag_fits rows kinds ≡ true
+
+row-fits : (exprs : List Expr) (kinds : List Kind) → HaveKinds exprs kinds → WhereGood (RowFits kinds) (row_value exprs)
+row-fits [] [] h = refl
+row-fits [] (kind ∷ kinds) h = absurd h
+row-fits (expr ∷ exprs) [] h = absurd h
+row-fits (expr ∷ exprs) (kind ∷ kinds) h =
+    good-both (Fits kind) (RowFits kinds) (RowFits (kind ∷ kinds)) (λ v vs. v ∷ vs) (value expr [] [] []) (row_value exprs)
+    (value-fits ([] ∷ []) [] [] [] [] refl refl expr kind h.0) (row-fits exprs kinds h.1)
+    (λ v vs f g. and_from (fits v kind) (row_fits vs kinds) f.fit g)
+
+rows-fit : (rows : List (List Expr)) (kinds : List Kind) → RowsHaveKinds rows kinds → WhereGood (RowsFit kinds) (each row_value rows)
+rows-fit [] kinds h = refl
+rows-fit (row ∷ rows) kinds h =
+    good-both (RowFits kinds) (RowsFit kinds) (RowsFit kinds) (λ v vs. v ∷ vs) (row_value row) (each row_value rows)
+    (row-fits row kinds h.0) (rows-fit rows kinds h.1)
+    (λ u us f g. and_from (row_fits u kinds) (bag_fits us kinds) f g)
+
+-- ---- changes
+
+known : {X : Type 0} (o : Option X) → IsSome o → (x : X) × (o ≡ Some x)
+known None some = absurd (cc some)
+known (Some x) some = (x, refl)
+
+if-some : {X : Type 0} (P : X → Type 0) (o : Option X) (x : X) → o ≡ Some x → IfSome o P → P x
+if-some P o x e h = subst (λ (found : Option X). IfSome found P) e h
+
+module _ (c : Contents) (sound : IsSound c) where
+  identity : (name : List ℕ) (table : TableEntry) → table_named c name ≡ Some table → identity_of c name ≡ table.id
+  identity name table e = ap (λ (o : Option TableEntry). option_map_or (λ (entry : TableEntry). entry.id) o 0) e
+
+  added-sound : (name : List ℕ) (table : TableEntry) (rows : Bag) → table_named c name ≡ Some table → RowsFit (column_kinds table.columns) rows
+      → IsSound (with_added c name rows)
+  added-sound name table rows e fit =
+      subst (λ (id : ℕ). IsSound (with_more_rows c name id rows)) (sym (identity name table e)) (sound-more_rows c name table rows sound e fit)
+
+  added-turn : (word : List ℕ) (at : ℕ) (name : List ℕ) (table : TableEntry) (rows : Bag) → table_named c name ≡ Some table
+      → RowsFit (column_kinds table.columns) rows → StandsSound (add_rows word c at name rows)
+  added-turn word at name table rows e fit = drawn-sound c at (counting word (length rows)) (with_added c name rows) (added-sound name table rows e fit)
+
+  copy-sound : (at : ℕ) (name : List ℕ) (table : TableEntry) (kinds : List Kind) (mark : List ℕ) (header : Bool) → table_named c name ≡ Some table
+      → kinds ≡ column_kinds table.columns → (found : Found) → StandsSound (copy c at name kinds mark header found)
+  copy-sound at name table kinds mark header e same (Read bytes) = chosen (broken_rules mark kinds header bytes) refl where
+    chosen : (rules : List DataError) → broken_rules mark kinds header bytes ≡ rules
+        → StandsSound (add_unbroken c at name rules (spelled_rows mark kinds header bytes))
+    chosen [] none = added-turn (codes "COPY ") at name table (spelled_rows mark kinds header bytes) e
+        (subst (λ (ks : List Kind). RowsFit ks (spelled_rows mark kinds header bytes)) same (bag_fits-spelled mark kinds header bytes none))
+    chosen (first ∷ more) some = tt
+  copy-sound at name table kinds mark header e same Missing = tt
+  copy-sound at name table kinds mark header e same TooLong = tt
+  copy-sound at name table kinds mark header e same Failed = tt
+
+  fewer-sound : (name : List ℕ) (table : TableEntry) (doomed : List Bool) → table_named c name ≡ Some table
+      → IsSound (with_fewer_rows c name (identity_of c name) doomed)
+  fewer-sound name table doomed e =
+      subst (λ (id : ℕ). IsSound (with_fewer_rows c name id doomed)) (sym (identity name table e)) (sound-fewer_rows c name table doomed sound e)
+
+  pub keeps-sound : (at : ℕ) (statement : Resolved) → IsReady c statement → AddsSoundly c statement → KeepsSound (asks c at statement)
+  keeps-sound at (r.CreateTable name columns) free adds =
+      drawn-sound c at (codes "CREATE TABLE\n") (with_table c name columns [] None)
+      (sound-created c name columns [] sound free (record { columns_are = adds; fitting = refl }))
+  keeps-sound at (r.CreateTableAs name columns answer places) ready adds = tt
+  keeps-sound at (r.CreateView name entry) free adds = sound-more_views c name entry sound free adds
+  keeps-sound at (r.Copy name kinds file mark header) some adds =
+      let table = known (table_named c name) some in
+      copy-sound at name table.0 kinds mark header table.1 (if-some (λ (t : TableEntry). kinds ≡ column_kinds t.columns) (table_named c name) table.0 table.1 adds)
+  keeps-sound at (r.Insert name rows) some adds =
+      let table = known (table_named c name) some in
+      let kinds : List Kind = column_kinds table.0.columns in
+      waited-sound (RowsFit kinds) at (each row_value rows) (add_rows (codes "INSERT ") c at name)
+      (rows-fit rows kinds (if-some (λ (t : TableEntry). RowsHaveKinds rows (column_kinds t.columns)) (table_named c name) table.0 table.1 adds))
+      (λ made fit. added-turn (codes "INSERT ") at name table.0 made table.1 fit)
+  keeps-sound at (r.Delete name condition) some adds =
+      let table = known (table_named c name) some in
+      let flags : Outcome (List Bool) = each (goes condition) (rows_at c (identity_of c name)) in
+      waited-sound (λ (doomed : List Bool). Unit {0}) at flags (λ doomed. drawing c at (rows_deleted c name doomed)) (any_value flags)
+      (λ doomed h. drawn-sound c at (counting (codes "DELETE ") (count_by (λ flag. flag) doomed)) (with_fewer_rows c name (identity_of c name) doomed)
+      (fewer-sound name table.0 doomed table.1))
+  keeps-sound at (r.DropTable name) ready adds =
+      let table = known (table_named c name) ready.0 in
+      subst (λ (id : ℕ). IsSound (without_table c name id)) (sym (identity name table.0 table.1)) (sound-dropped_table c name table.0 sound table.1 ready.1)
+  keeps-sound at (r.DropView name) ready adds = sound-dropped_view c name sound
+  keeps-sound at (r.Select answer) ready adds =
+      waited-sound (λ (rows : Bag). Unit {0}) at (meaning answer.query (rows_in c.rows) []) (answered c answer)
+      (any_value (meaning answer.query (rows_in c.rows) [])) (λ rows h. sound)
+  keeps-sound at (r.Explain answer) ready adds = tt
+  keeps-sound at (r.ShowFresh name) ready adds = tt

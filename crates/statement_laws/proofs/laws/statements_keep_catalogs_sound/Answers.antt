@@ -1,0 +1,5 @@
+use Rattle.statement_laws.proofs.Sounder.{keeps-sound}
+use Rattle.statement_laws.proofs.laws.statements_keep_catalogs_sound.Goals as goal
+
+pub returns : goal.returns
+returns c = keeps-sound

@@ -1,0 +1,67 @@
+-- When what a resolved statement adds to a catalog is sound, and that a statement keeps a catalog sound.
+use Rattle.std.specs.Prelude.{◌≡◌, ⊤, List, [], ◌∷◌, IfSome}
+use Rattle.perm_values.specs.declared.kind.Kind.{Kind}
+use Rattle.bag_algebra.specs.WellFormed.{HasKind}
+use Rattle.bag_algebra.specs.declared.expr.Expr.{Expr}
+use Rattle.perm_catalog.specs.Changes.{table_named}
+use Rattle.perm_catalog.specs.Columns.{AreTableColumns, column_kinds}
+use Rattle.perm_catalog.specs.Contents.{Contents}
+use Rattle.perm_catalog.specs.Sound.{IsSound, IsSoundView}
+use Rattle.perm_catalog.specs.declared.entries.TableEntry.{TableEntry}
+use Rattle.perm_io.specs.Found.{Found}
+use Rattle.sql_tree.specs.declared.statement.StatementBody.{StatementBody}
+use Rattle.sql_tree.specs.declared.statement.StatementBody.TheVariants as st
+use Rattle.name_words.specs.Statements.{query_meant, view_entry}
+use Rattle.name_words.specs.declared.answer.Resolved.{Resolved}
+use Rattle.name_words.specs.declared.answer.Resolved.TheVariants as r
+use Rattle.statement_words.specs.Asking.{Asked, Settled, Begins}
+use Rattle.statement_words.specs.Turns.{Turn, Stands, Refused}
+
+-- an expression for each of the kinds, which has it where no column is seen
+abbrev pub HaveKinds : List Expr → List Kind → Type 0
+HaveKinds [] [] = ⊤
+HaveKinds [] (kind ∷ kinds) = ⊥
+HaveKinds (expr ∷ exprs) [] = ⊥
+HaveKinds (expr ∷ exprs) (kind ∷ kinds) = HasKind ([] ∷ []) [] expr kind × HaveKinds exprs kinds
+
+abbrev pub RowsHaveKinds : List (List Expr) → List Kind → Type 0
+RowsHaveKinds [] kinds = ⊤
+RowsHaveKinds (row ∷ rows) kinds = HaveKinds row kinds × RowsHaveKinds rows kinds
+
+-- columns of a table, a sound view, and rows of the kinds of their table's columns
+abbrev pub AddsSoundly : Contents → Resolved → Type 0
+AddsSoundly c (r.CreateTable name columns) = AreTableColumns columns
+AddsSoundly c (r.CreateTableAs name columns answer places) = ⊤
+AddsSoundly c (r.CreateView name entry) = IsSoundView c entry
+AddsSoundly c (r.Copy name kinds file mark header) = IfSome (table_named c name) (λ (table : TableEntry). kinds ≡ column_kinds table.columns)
+AddsSoundly c (r.Insert name rows) = IfSome (table_named c name) (λ (table : TableEntry). RowsHaveKinds rows (column_kinds table.columns))
+AddsSoundly c (r.Delete name condition) = ⊤
+AddsSoundly c (r.DropTable name) = ⊤
+AddsSoundly c (r.DropView name) = ⊤
+AddsSoundly c (r.Select answer) = ⊤
+AddsSoundly c (r.Explain answer) = ⊤
+AddsSoundly c (r.ShowFresh name) = ⊤
+
+-- where the statement stands, the catalog is sound then
+abbrev pub StandsSound : Turn → Type 0
+StandsSound (Stands text c) = IsSound c
+StandsSound (Refused cause) = ⊤
+
+-- whatever became of the file that it begins
+abbrev pub KeepsSound : Asked → Type 0
+KeepsSound (Settled turn) = StandsSound turn
+KeepsSound (Begins name after) = (found : Found) → StandsSound (after found)
+
+-- the view that a statement makes is sound, if it makes one
+abbrev pub MakesSoundView : Contents → StatementBody → Type 0
+MakesSoundView c (st.CreateTable table columns) = ⊤
+MakesSoundView c (st.CreateTableAs table query) = ⊤
+MakesSoundView c (st.CreateView view query) = IsSoundView c (view_entry (query_meant c query))
+MakesSoundView c (st.Copy table file header mark) = ⊤
+MakesSoundView c (st.Insert table rows) = ⊤
+MakesSoundView c (st.Delete table condition) = ⊤
+MakesSoundView c (st.DropTable table) = ⊤
+MakesSoundView c (st.DropView view) = ⊤
+MakesSoundView c (st.Select query) = ⊤
+MakesSoundView c (st.Explain query) = ⊤
+MakesSoundView c (st.ShowFresh table) = ⊤

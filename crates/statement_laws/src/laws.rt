@@ -1,0 +1,43 @@
+//! Each law is the contract of a function that does nothing.
+ghost use Rattle.std.specs.Prelude.{◌≡◌, ℕ, Bool, true, List, [], Option};
+ghost use Rattle.bag_algebra.specs.Bags.{Bag};
+ghost use Rattle.bag_algebra.specs.Outcome.{Good, each};
+ghost use Rattle.bag_algebra.specs.declared.expr.Expr.{Expr};
+ghost use Rattle.name_words.specs.Statements.{breaks, resolved};
+ghost use Rattle.name_words.specs.declared.answer.Resolved.{Resolved};
+ghost use Rattle.perm_catalog.specs.Contents.{Contents};
+ghost use Rattle.perm_catalog.specs.Sound.{IsSound};
+ghost use Rattle.perm_values.specs.Marked.{unmarked};
+ghost use Rattle.sql_tree.specs.Regular.{RegularStatement};
+ghost use Rattle.sql_tree.specs.declared.statement.Statement.{Statement};
+ghost use Rattle.statement_laws.specs.Kept.{rows_left};
+ghost use Rattle.statement_laws.specs.Limited.{limits_of_statement};
+ghost use Rattle.statement_laws.specs.Sounder.{AddsSoundly, KeepsSound, MakesSoundView};
+ghost use Rattle.statement_words.specs.Asking.{asks};
+ghost use Rattle.statement_words.specs.Ready.{IsReady};
+ghost use Rattle.statement_words.specs.Turns.{goes};
+
+/// Over a sound catalog, a statement that breaks no rule of names and kinds can be carried out.
+pub fn whole_statements_are_ready()
+    ensures { (c : Contents) (statement : Statement) → IsSound c → RegularStatement statement → limits_of_statement statement.body ≡ true
+        → breaks c statement ≡ [] → IsReady c (resolved c statement) }
+{}
+
+/// Where the condition of a DELETE meets no fault on any row, the rows that it doesn't flag are those of which the condition
+/// isn't true, as often and in the order in which they stood.
+pub fn delete_leaves_the_other_rows()
+    ensures { (condition : Option Expr) (rows : Bag) (doomed : List Bool) → each (goes condition) rows ≡ Good doomed
+        → unmarked doomed rows ≡ rows_left condition rows }
+{}
+
+/// A statement that can be carried out, and adds what is sound, keeps a sound catalog sound, whatever became of its file.
+pub fn statements_keep_catalogs_sound()
+    ensures { (c : Contents) → IsSound c → (at : ℕ) (statement : Resolved) → IsReady c statement → AddsSoundly c statement
+        → KeepsSound (asks c at statement) }
+{}
+
+/// A statement that breaks no rule adds columns of a table, and rows of the kinds of their table's columns.
+pub fn whole_statements_add_soundly()
+    ensures { (c : Contents) (statement : Statement) → IsSound c → RegularStatement statement → limits_of_statement statement.body ≡ true
+        → breaks c statement ≡ [] → MakesSoundView c statement.body → AddsSoundly c (resolved c statement) }
+{}
