@@ -13,13 +13,13 @@ ghost use Rattle.statement_words.specs.Turns.{select};
 ghost use Rattle.query_answers.specs.Printed.{IsPrinted};
 
 use crate::order::in_order;
-use crate::stub::eliminate;
 use bag_algebra::{Answer, Env, Query};
 use csv_tables::answer_text;
 use expression_values::ExecError;
 use perm_catalog::Catalog;
 use perm_values::{Bytes, Chars, Copyable, Key, NoMemory, Rows};
-use row_executor::run_plain;
+use rewrite_driver::eliminate;
+use row_executor::run_hashed;
 use statement_words::StepRefusal;
 use std::alloc::Global;
 
@@ -59,7 +59,7 @@ fn ordered_rows(
     ensures { Gives (mapped (sorted (printed_cmp keys.now)) (meaning query.now (rows_in catalog.now.rows) [])) result }
 {
     let env = Env::new(alloc);
-    let rows = run_plain(alloc, query, catalog.tables(), &env)?;
+    let rows = run_hashed(alloc, query, catalog.tables(), &env)?;
     Ok(in_order(rows, keys)?)
 }
 
