@@ -35,6 +35,39 @@ use Rattle.expression_seen.proofs.Behind.{behind-both, behind-nothing, meant-so,
 use Rattle.expression_seen.proofs.Forms.{mapped-more, flat-more, step-is, arm-is, without-else}
 use Rattle.expression_seen.proofs.Sublinked.{aggregate-seen, exists-looked, inner-refused, query-at, result-so, rows-seen, scalar-looked, tested-seen}
 use Rattle.query_seen.proofs.WhereSeen.{meant_here, operand_here, operands_here}
+use Rattle.std.specs.Prelude.{◌+◌, Bool, Option}
+use Rattle.std.proofs.Common.{take, drop}
+use Rattle.sql_tree.specs.declared.query.Core.{out-Core}
+use Rattle.sql_tree.specs.declared.source.FromTree.{FromTree, out-FromTree}
+use Rattle.sql_tree.specs.declared.source.JoinStep.{JoinStep}
+use Rattle.sql_tree.specs.declared.query.SetStep.{SetStep}
+use Rattle.name_words.specs.Cores.{BodyPart, in_clause, optional_meant}
+use Rattle.name_words.specs.Froms.{FromMeant, FromPart, ItemMeant, Read, condition_breaks, first_item, from_all, in_on, join_all, join_item, label_of, read_of, scope_name}
+use Rattle.name_words.specs.Items.{SelectMeant}
+use Rattle.name_words.specs.Meanings.{Around, QueryMeant}
+use Rattle.perm_catalog.specs.Contents.{Contents}
+use Rattle.name_words.specs.Queries.{set_chain, unprovable}
+use Rattle.name_words.specs.Trees.{core_of, from_item_of, from_of, item_of, join_of, set_of_tree, set_step_of, source_of}
+use Rattle.name_seen.specs.Seen.{first_or}
+use Rattle.name_seen.specs.Standing.{around_of}
+use Rattle.clauses_seen.specs.Told.{Tells}
+use Rattle.name_seen.specs.declared.refusal.Refusal.TheVariants.{Break as Broken}
+use Rattle.query_facts.specs.Queried.{ColumnsSeen, FromSeen, FromWhole, QuerySeen}
+use Rattle.cores_seen.specs.Behind.{ConditionSeen, core_behind, optional_part}
+use Rattle.cores_seen.specs.Listed.{ItemSeen as ItemIsSeen, ListSeen, ListWhole, seen_at}
+use Rattle.cores_seen.proofs.Lists.{list-more, nothing-listed}
+use Rattle.cores_seen.proofs.Opened.{chain-means, paren-means, set-is, step-at, step-operand as operand-of}
+use Rattle.cores_seen.proofs.Queried.{chain-behind, chain-refused}
+use Rattle.items_seen.specs.Readings.{ItemAdded, ItemSeen, ReadSeen}
+use Rattle.query_seen.proofs.Conditions.{some-condition}
+use Rattle.query_seen.proofs.CoreSteps.{core-answered, from-answered, from-refused, groups-refused, has-from, having-refused, where-refused, word-refused}
+use Rattle.query_seen.proofs.FromTrees.{from-means, inner-read, item-refused, item-means, joined-condition, joined-item, named-read, read-refused}
+use Rattle.query_seen.proofs.Joined.{first-refused, first-whole, join-crossed, join-on, join-refused, joins-behind, none-held, source-refused, step-refused}
+use Rattle.query_seen.specs.Joining.{JoinSeen}
+use Rattle.items_seen.proofs.Sourced.{source-behind}
+use Rattle.query_seen.proofs.ListItems.{list-refused, star-seen, table_star-seen, value-refused, value-seen}
+use Rattle.query_seen.proofs.QuerySteps.{body_meant, kinds-known, paren-refused, query-answered, query-refused}
+use Rattle.query_seen.proofs.Rows.{mapped-at, mapped-more as row-more, same-refused, twice-at, twice-more}
 use Rattle.query_seen.proofs.+seen.Goals as goal
 
 pub expressions::expression_seen-returns-in-Null : goal.expressions::expression_seen-returns-in-Null
@@ -351,3 +384,425 @@ expressions::expression_seen-returns-in-Some-argument t c =
     (aggregate-seen here c.args.tree.now.at c.in-Aggregate.function part c.get-in-Some-argument-2.result.now.at c.args.facts.now c.aggregated.result
     (ap (λ (tree : ExprTree). tree.at) c.get-in-Some-argument-2.ensures ∙ sym (part-at c.args.here.now.catalog.now c.in-Some-argument.argument))
     (c.aggregated.ensures (means_at part (in_argument here)) (rw c.get-in-Some-argument.ensures at c.argument_kind-kind.ensures)))
+
+-- ---- cores
+
+pub cores::clause_kind-returns : goal.cores::clause_kind-returns
+cores::clause_kind-returns t c =
+    rw (c.in_ok-scopes.ensures, c.in_clause.ensures c.args.scope.now (scopes_of c.args.around.now.outer.now)) at c.expression_seen.ensures
+
+pub cores::condition_seen-returns-in-Some : goal.cores::condition_seen-returns-in-Some
+cores::condition_seen-returns-in-Some t c =
+    let around = c.args.around.now in
+    let here = in_clause c.args.scope.now (scopes_of around.outer.now) around.trace c.args.aggregates in
+    subst (λ (o : Option ExprTree). ConditionSeen (optional_part around.catalog.now o) (optional_meant here (optional_part around.catalog.now o)) c.args.facts.now
+    c.clause_kind.new.facts c.condition_over.result) (sym c.in-Some.is)
+    (some-condition around.catalog.now c.in-Some.tree here c.args.facts.now c.clause_kind.new.facts c.clause_kind.result c.condition_over.result c.clause_kind.ensures
+    c.condition_over.ensures.tells)
+
+pub cores::core_seen-returns-in_err-word_break : goal.cores::core_seen-returns-in_err-word_break
+cores::core_seen-returns-in_err-word_break t c =
+    let around = c.args.around.now in
+    let first = c.in_err-word_break.field-0.0 in
+    same-refused (λ result. ColumnsSeen ((core_of around.catalog.now c.args.core.now).means (around_of around)) c.args.facts.now c.args.facts.now result)
+    c.from_residual.result (Broken first) c.from_residual.ensures.1
+    (word-refused around.catalog.now c.args.core.now (around_of around) c.args.facts.now c.args.facts.now first (sym (c.in_err-word_break.ensures (around_of around) refl)))
+
+pub cores::core_seen-returns-in_err-own : goal.cores::core_seen-returns-in_err-own
+cores::core_seen-returns-in_err-own t c =
+    let around = c.args.around.now in
+    same-refused (λ result. ColumnsSeen ((core_of around.catalog.now c.args.core.now).means (around_of around)) c.args.facts.now c.from_scope.new.facts result)
+    c.from_residual-in_err-own.result c.in_err-own.field-0.0 c.from_residual-in_err-own.ensures.1
+    (from-refused around.catalog.now c.args.core.now (around_of around) c.args.facts.now c.from_scope.new.facts c.in_err-own.field-0.0
+    (sym (c.in_ok-word_break.ensures (around_of around) refl)) (subst (λ (sources : List FromTree). FromSeen (from_all (scopes_of around.outer.now) around.trace (map (from_of around.catalog.now) sources)) [] c.args.facts.now
+    c.from_scope.new.facts (Err c.in_err-own.field-0.0)) c.as_slice.ensures c.in_err-own.ensures))
+
+pub cores::core_seen-returns : goal.cores::core_seen-returns
+cores::core_seen-returns t c =
+    let around = c.args.around.now in
+    from-answered around.catalog.now c.args.core.now (around_of around) c.args.facts.now c.from_scope.new.facts c.core_clauses.new.facts c.in_ok-own.own c.core_clauses.result
+    (sym (c.in_ok-word_break.ensures (around_of around) refl)) (rw c.as_slice.ensures at c.in_ok-own.ensures) c.core_clauses.ensures
+
+pub cores::core_clauses-returns : goal.cores::core_clauses-returns
+cores::core_clauses-returns t c = λ before input items is adds.
+    let around = c.args.around.now in
+    let here = in_clause c.in_ok-scope.scope (scopes_of around.outer.now) around.trace true in
+    core-answered around.catalog.now c.args.core.now (around_of around) input items c.args.own c.in_ok-scope.scope before c.args.facts.now c.condition_seen.new.facts
+    c.condition_seen-2.new.facts c.list_seen.new.facts c.list_seen.result is adds c.in_ok-condition_seen.ensures (c.in_ok-scope.ensures around.catalog.now)
+    c.in_ok-condition_seen-2.ensures
+    (subst (λ (b : Bool). ListSeen (map (seen_at b c.in_ok-scope.scope here) (map (item_of around.catalog.now) (out-Core c.args.core.now).items))
+    c.condition_seen-2.new.facts c.list_seen.new.facts c.list_seen.result)
+    (has-from around.catalog.now c.args.core.now c.is_empty.result c.is_empty.ensures.0 c.is_empty.ensures.1) (rw c.as_slice.ensures at c.list_seen.ensures))
+
+pub cores::list_seen-loop-item-init : goal.cores::list_seen-loop-item-init
+cores::list_seen-loop-item-init t c =
+    subst (λ columns. ListWhole [] c.args.facts.now c.args.facts.now columns) (sym c.new-columns.ensures) (nothing-listed c.args.facts.now)
+
+pub cores::list_seen-loop-item-preserved : goal.cores::list_seen-loop-item-preserved
+cores::list_seen-loop-item-preserved t c =
+    let around = c.args.around.now in
+    let seen = (seen_at c.args.has_from c.args.scope.now (in_clause c.args.scope.now (scopes_of around.outer.now) around.trace true)) in
+    let item = item_of around.catalog.now in
+    subst (λ (ms : List SelectMeant). ListWhole ms c.args.facts.now c.list_item.new.facts c.list_item.new.columns)
+    (sym (twice-more seen item c.args.items.now c.loop-item.item-index c.item-item.result c.loop-item-test.true c.item-item.is))
+    (list-more (map seen (map item (take c.loop-item.item-index c.args.items.now))) (seen (item c.item-item.result)) c.args.facts.now c.loop-item.facts c.list_item.new.facts
+    c.loop-item.columns c.list_item.new.columns c.loop-item.invariant c.in_ok-list_item.ensures)
+
+pub cores::list_seen-returns : goal.cores::list_seen-returns
+cores::list_seen-returns t c = rw (take_all c.loop-item.item-index c.args.items.now c.loop-item-test.false) at c.loop-item.invariant
+
+pub cores::list_item-returns-in-Star : goal.cores::list_item-returns-in-Star
+cores::list_item-returns-in-Star t c =
+    let around = c.args.around.now in
+    star-seen around.catalog.now c.args.item.now c.args.has_from c.args.scope.now (in_clause c.args.scope.now (scopes_of around.outer.now) around.trace true) c.in-Star.at c.in-Star.is
+    c.args.columns.now c.add_star.new.columns c.args.facts.now c.args.facts.now c.add_star.result (c.add_star.ensures c.args.facts.now)
+
+pub cores::list_item-returns-in-TableStar : goal.cores::list_item-returns-in-TableStar
+cores::list_item-returns-in-TableStar t c =
+    let around = c.args.around.now in
+    table_star-seen around.catalog.now c.args.item.now c.args.has_from c.args.scope.now (in_clause c.args.scope.now (scopes_of around.outer.now) around.trace true) c.in-TableStar.table
+    c.in-TableStar.is c.args.columns.now c.add_table_star.new.columns c.args.facts.now c.args.facts.now c.add_table_star.result (c.add_table_star.ensures c.args.facts.now)
+
+pub cores::list_item-returns-in_err-kind-in-Value : goal.cores::list_item-returns-in_err-kind-in-Value
+cores::list_item-returns-in_err-kind-in-Value t c =
+    let around = c.args.around.now in
+    let here = in_clause c.args.scope.now (scopes_of around.outer.now) around.trace true in
+    same-refused (λ result. ItemIsSeen (seen_at c.args.has_from c.args.scope.now here (item_of around.catalog.now c.args.item.now)) c.args.columns.now c.args.columns.now c.args.facts.now
+    c.clause_kind.new.facts result) c.from_residual.result c.in_err-kind-in-Value.field-0.0 c.from_residual.ensures.1
+    (value-refused around.catalog.now c.args.item.now c.args.has_from c.args.scope.now here c.in-Value.expr c.in-Value.name c.in-Value.is c.args.columns.now c.args.columns.now
+    c.args.facts.now c.clause_kind.new.facts c.in_err-kind-in-Value.field-0.0 c.in_err-kind-in-Value.ensures)
+
+pub cores::list_item-returns-in_ok-add_value-in-Value : goal.cores::list_item-returns-in_ok-add_value-in-Value
+cores::list_item-returns-in_ok-add_value-in-Value t c =
+    let around = c.args.around.now in
+    let here = in_clause c.args.scope.now (scopes_of around.outer.now) around.trace true in
+    value-seen around.catalog.now c.args.item.now c.args.has_from c.args.scope.now here c.in-Value.expr c.in-Value.name c.in-Value.is c.in_ok-kind-in-Value.kind c.args.columns.now
+    c.add_value.new.columns c.args.facts.now c.clause_kind.new.facts c.in_ok-kind-in-Value.ensures (c.in_ok-add_value-in-Value.ensures around.catalog.now)
+
+-- ---- trees of set operations
+
+pub sets::set_seen-returns-in-Core : goal.sets::set_seen-returns-in-Core
+sets::set_seen-returns-in-Core t c =
+    let around = c.args.around.now in
+    subst (λ (body : BodyPart). ColumnsSeen (body.means (around_of around)) c.args.facts.now c.core_seen.new.facts c.core_seen.result)
+    (sym (set-is around.catalog.now c.args.tree.now c.in-Core.core c.in-Core.is)) (rw c.get.ensures at c.core_seen.ensures)
+
+pub sets::set_seen-returns-in-Paren : goal.sets::set_seen-returns-in-Paren
+sets::set_seen-returns-in-Paren t c =
+    let around = c.args.around.now in
+    subst (λ (m : QueryMeant). ColumnsSeen m c.args.facts.now c.paren_seen.new.facts c.paren_seen.result)
+    (sym (paren-means around.catalog.now c.args.tree.now c.in-Paren.query (around_of around) c.in-Paren.is)) (rw c.get-in-Paren.ensures at c.paren_seen.ensures)
+
+pub sets::set_seen-returns-in-Chain : goal.sets::set_seen-returns-in-Chain
+sets::set_seen-returns-in-Chain t c =
+    let around = c.args.around.now in
+    subst (λ (m : QueryMeant). ColumnsSeen m c.args.facts.now c.operands_seen.new.facts c.operands_seen.result)
+    (sym (chain-means around.catalog.now c.args.tree.now c.in-Chain.first c.in-Chain.steps (around_of around) c.in-Chain.is))
+    (rw c.as_slice.ensures at (c.operands_seen.ensures ((set_of_tree around.catalog.now c.in-Chain.first).means (around_of around)) c.args.facts.now
+    (rw c.get-in-Chain.ensures at c.set_seen-first.ensures)))
+
+pub sets::paren_seen-returns-in-Ok : goal.sets::paren_seen-returns-in-Ok
+sets::paren_seen-returns-in-Ok t c =
+    c.add_shown.ensures (query_means_at (query_of c.args.around.now.catalog.now c.args.query.now) (unprovable (around_of c.args.around.now)))
+    (rw (c.unprovable.ensures.place, c.unprovable.ensures.catalog) at c.in-Ok.ensures)
+
+pub sets::paren_seen-returns-in-Err : goal.sets::paren_seen-returns-in-Err
+sets::paren_seen-returns-in-Err t c =
+    let catalog = c.args.around.now.catalog.now in
+    let query = c.args.query.now in
+    let place = unprovable (around_of c.args.around.now) in
+    paren-refused (query_means_at (query_of catalog query) place) c.args.facts.now c.args.facts.now c.in-Err.refusal
+    (subst (λ (around : Around). QuerySeen (query_means_at (query_of catalog query) around) (Err c.in-Err.refusal)) c.unprovable.ensures.place
+    (subst (λ (held : Contents). QuerySeen (query_means_at (query_of held query) (around_of c.unprovable.result)) (Err c.in-Err.refusal)) c.unprovable.ensures.catalog c.in-Err.ensures))
+
+pub sets::operands_seen-loop-step-init : goal.sets::operands_seen-loop-step-init
+sets::operands_seen-loop-step-init t c = λ left before first. first
+
+pub sets::operands_seen-loop-step-preserved : goal.sets::operands_seen-loop-step-preserved
+sets::operands_seen-loop-step-preserved t c = λ left before first.
+    let around = around_of c.args.around.now in
+    let steps = map (set_step_of c.args.around.now.catalog.now) (take c.loop-step.step-index c.args.steps.now) in
+    subst (λ (m : QueryMeant). ColumnsSeen m before c.operand_seen-seen.new.facts c.operand_seen-seen.result)
+    (sym (ap (set_chain around left) (row-more (set_step_of c.args.around.now.catalog.now) c.args.steps.now c.loop-step.step-index c.step-item.result c.loop-step-test.true c.step-item.is)
+    ∙ chain-behind around left steps (set_step_of c.args.around.now.catalog.now c.step-item.result)))
+    (c.operand_seen-seen.ensures (set_chain around left steps) before (c.loop-step.invariant left before first))
+
+pub sets::operands_seen-returns : goal.sets::operands_seen-returns
+sets::operands_seen-returns t c = λ left before first.
+    subst (λ (steps : List SetStep). ColumnsSeen (set_chain (around_of c.args.around.now) left (map (set_step_of c.args.around.now.catalog.now) steps)) before c.loop-step.facts c.loop-step.seen)
+    (take_all c.loop-step.step-index c.args.steps.now c.loop-step-test.false) (c.loop-step.invariant left before first)
+
+pub sets::operand_seen-returns-in-Ok : goal.sets::operand_seen-returns-in-Ok
+sets::operand_seen-returns-in-Ok t c = λ left before so_far.
+    let around = c.args.around.now in
+    let step = set_step_of around.catalog.now c.args.step.now in
+    let operand = step.operand.means (unprovable (around_of around)) in
+    c.add_operand.ensures left step operand before c.args.facts.now c.set_seen-operand.new.facts (step-at around.catalog.now c.args.step.now)
+    (subst (λ r. ColumnsSeen left before c.args.facts.now r) c.in-Ok.is so_far)
+    (subst (λ (body : BodyPart). ColumnsSeen (body.means (unprovable (around_of around))) c.args.facts.now c.set_seen-operand.new.facts c.set_seen-operand.result)
+    (sym (operand-of around.catalog.now c.args.step.now)) (rw (c.unprovable.ensures.place, c.unprovable.ensures.catalog) at c.set_seen-operand.ensures))
+
+pub sets::operand_seen-returns-in-Err : goal.sets::operand_seen-returns-in-Err
+sets::operand_seen-returns-in-Err t c = λ left before so_far.
+    let around = c.args.around.now in
+    let step = set_step_of around.catalog.now c.args.step.now in
+    chain-refused left step (step.operand.means (unprovable (around_of around))) before c.args.facts.now c.args.facts.now c.in-Err.refusal
+    (subst (λ r. ColumnsSeen left before c.args.facts.now r) c.in-Err.is so_far)
+
+-- ---- queries
+
+pub queries::query_seen-returns-in_err-columns : goal.queries::query_seen-returns-in_err-columns
+queries::query_seen-returns-in_err-columns t c =
+    let around = c.args.around.now in
+    let tree = c.args.tree.now in
+    let is = c.is_proving-proving.ensures around.catalog.now in
+    same-refused (QuerySeen (query_means_at (query_of around.catalog.now tree) (around_of around))) c.from_residual.result c.in_err-columns.field-0.0 c.from_residual.ensures.1
+    (query-refused around.catalog.now tree (around_of around) c.is_proving-proving.result is c.none-facts.result c.set_seen.new.facts c.in_err-columns.field-0.0
+    (subst (λ (place : Around). ColumnsSeen ((set_of_tree around.catalog.now tree.body).means place) c.none-facts.result c.set_seen.new.facts (Err c.in_err-columns.field-0.0))
+    c.body_around.ensures.place
+    (subst (λ (held : Contents). ColumnsSeen ((set_of_tree held tree.body).means (around_of c.body_around.result)) c.none-facts.result c.set_seen.new.facts (Err c.in_err-columns.field-0.0))
+    c.body_around.ensures.catalog c.in_err-columns.ensures)))
+
+pub queries::query_seen-returns : goal.queries::query_seen-returns
+queries::query_seen-returns t c =
+    let around = c.args.around.now in
+    let tree = c.args.tree.now in
+    let is = c.is_proving-proving.ensures around.catalog.now in
+    query-answered around.catalog.now tree (around_of around) c.is_proving-proving.result is c.query_over.result
+    (rw c.as_slice.ensures at (c.query_over.ensures tree.at (body_meant around.catalog.now tree (around_of around) c.is_proving-proving.result) tree.limit c.none-facts.result
+    c.none-facts.ensures (rw (c.body_around.ensures.place, c.body_around.ensures.catalog) at c.in_ok-columns.ensures)
+    (rw c.as_slice.ensures (kinds-known around.catalog.now tree (around_of around) c.is_proving-proving.result is c.requires))))
+
+-- ---- sources
+
+pub sources::read_source-returns-in-Named : goal.sources::read_source-returns-in-Named
+sources::read_source-returns-in-Named t c = λ mark same.
+    let around = c.args.around.now in
+    subst (λ (read : Read). ReadSeen read c.read_named.result) (sym (named-read around.catalog.now mark (scopes_of around.outer.now) around.trace c.args.source.now c.in-Named.name c.in-Named.is))
+    c.read_named.ensures
+
+pub sources::read_source-returns-in-Inner : goal.sources::read_source-returns-in-Inner
+sources::read_source-returns-in-Inner t c = λ mark same.
+    let around = c.args.around.now in
+    subst (λ (read : Read). ReadSeen read c.read_inner.result)
+    (sym (inner-read around.catalog.now mark (scopes_of around.outer.now) around.trace c.args.trace c.args.source.now c.in-Inner.query c.in-Inner.is same))
+    (rw c.get.ensures at c.read_inner.ensures)
+
+pub sources::read_inner-returns-in_ok-read_shown-in-Ok : goal.sources::read_inner-returns-in_ok-read_shown-in-Ok
+sources::read_inner-returns-in_ok-read_shown-in-Ok t c =
+    let around = c.args.around.now in
+    c.in_ok-read_shown-in-Ok.ensures (query_means_at (query_of around.catalog.now c.args.query.now)
+    (record { outer = scopes_of around.outer.now; trace = c.args.trace; provable = true })) c.in-Ok.ensures
+
+pub sources::read_inner-returns-in-Err : goal.sources::read_inner-returns-in-Err
+sources::read_inner-returns-in-Err t c =
+    let around = c.args.around.now in
+    read-refused (query_means_at (query_of around.catalog.now c.args.query.now) (record { outer = scopes_of around.outer.now; trace = c.args.trace; provable = true })) c.in-Err.refusal
+    c.in-Err.ensures
+
+pub sources::from_item-returns-in_err-reading : goal.sources::from_item-returns-in_err-reading
+sources::from_item-returns-in_err-reading t c =
+    let around = c.args.around.now in
+    let item = c.args.item.now in
+    let outer = scopes_of around.outer.now in
+    let held = c.args.earlier.now ++ c.args.scope.now.items in
+    same-refused (λ result. ItemSeen ((from_item_of around.catalog.now item).means outer around.trace held) c.args.scope.now c.args.facts.now c.args.facts.now c.args.scope.now result)
+    c.from_residual.result c.in_err-reading.field-0.0 c.from_residual.ensures.1
+    (subst (λ (m : ItemMeant). ItemSeen m c.args.scope.now c.args.facts.now c.args.facts.now c.args.scope.now (Err c.in_err-reading.field-0.0))
+    (sym (item-means around.catalog.now item outer around.trace held))
+    (item-refused item.at item.mark around.trace held (scope_name (source_of around.catalog.now item.source) item.alias) (label_of (source_of around.catalog.now item.source) item.alias)
+    (read_of around.catalog.now item.mark outer around.trace (source_of around.catalog.now item.source)) c.args.scope.now c.args.scope.now c.args.facts.now c.args.facts.now
+    c.in_err-reading.field-0.0 (c.in_err-reading.ensures item.mark (sym c.trace_under-trace.ensures))))
+
+pub sources::from_item-returns : goal.sources::from_item-returns
+sources::from_item-returns t c =
+    let around = c.args.around.now in
+    let item = c.args.item.now in
+    subst (λ (m : ItemMeant). ItemSeen m c.args.scope.now c.args.facts.now c.put_item.new.facts c.put_item.new.scope c.put_item.result)
+    (sym (item-means around.catalog.now item (scopes_of around.outer.now) around.trace (c.args.earlier.now ++ c.args.scope.now.items)))
+    (c.put_item.ensures around.catalog.now (read_of around.catalog.now item.mark (scopes_of around.outer.now) around.trace (source_of around.catalog.now item.source))
+    (c.in_ok-reading.ensures item.mark (sym c.trace_under-trace.ensures)))
+
+pub sources::on_seen-returns : goal.sources::on_seen-returns
+sources::on_seen-returns t c = λ items is.
+    let around = c.args.around.now in
+    let m = means_at (part_of around.catalog.now c.args.condition.now) (in_on items (scopes_of around.outer.now) around.trace) in
+    subst (λ (at : ℕ). Tells (first_or (condition_breaks at m) (tt {0})) c.condition_over.result) (sym (part-at around.catalog.now c.args.condition.now))
+    (c.condition_over.ensures.tells m (rw (c.in_ok-scopes.ensures, is, c.in_on.ensures items (scopes_of around.outer.now)) at c.kind_of.ensures))
+
+pub sources::join_seen-returns-in_err-from_item : goal.sources::join_seen-returns-in_err-from_item
+sources::join_seen-returns-in_err-from_item t c = λ left before first.
+    let around = c.args.around.now in
+    let step = c.args.step.now in
+    let outer = scopes_of around.outer.now in
+    let joined = join_of around.catalog.now step in
+    same-refused (λ result. JoinSeen (join_item outer around.trace left joined (joined.item.means outer around.trace left.names)) c.args.earlier.now before c.from_item.new.facts
+    c.from_item.new.scope result) c.from_residual.result c.in_err-from_item.field-0.0 c.from_residual.ensures.1
+    (join-refused outer around.trace left joined (joined.item.means outer around.trace left.names) c.args.earlier.now before c.args.facts.now c.from_item.new.facts c.args.scope.now
+    c.from_item.new.scope c.in_err-from_item.field-0.0 first
+    (subst (λ (m : ItemMeant). ItemSeen m c.args.scope.now c.args.facts.now c.from_item.new.facts c.from_item.new.scope (Err c.in_err-from_item.field-0.0))
+    (sym (joined-item around.catalog.now step outer around.trace left.names (c.args.earlier.now ++ c.args.scope.now.items) first.names)) c.in_err-from_item.ensures))
+
+pub sources::join_seen-returns-in-None : goal.sources::join_seen-returns-in-None
+sources::join_seen-returns-in-None t c = λ left before first.
+    let around = c.args.around.now in
+    let step = c.args.step.now in
+    let outer = scopes_of around.outer.now in
+    join-crossed outer around.trace left (join_of around.catalog.now step) ((join_of around.catalog.now step).item.means outer around.trace left.names) c.args.earlier.now before c.args.facts.now
+    c.from_item.new.facts c.args.scope.now c.from_item.new.scope (joined-condition around.catalog.now step None c.in-None.is) first
+    (subst (λ (m : ItemMeant). ItemAdded m c.args.scope.now c.args.facts.now c.from_item.new.facts c.from_item.new.scope)
+    (sym (joined-item around.catalog.now step outer around.trace left.names (c.args.earlier.now ++ c.args.scope.now.items) first.names)) c.in_ok-from_item.ensures)
+
+pub sources::join_seen-returns-in-Some : goal.sources::join_seen-returns-in-Some
+sources::join_seen-returns-in-Some t c = λ left before first.
+    let around = c.args.around.now in
+    let step = c.args.step.now in
+    let outer = scopes_of around.outer.now in
+    join-on outer around.trace left (join_of around.catalog.now step) (part_of around.catalog.now c.in-Some.condition)
+    ((join_of around.catalog.now step).item.means outer around.trace left.names) c.args.earlier.now before c.args.facts.now
+    c.from_item.new.facts c.args.scope.now c.from_item.new.scope c.on_seen.result (joined-condition around.catalog.now step (Some c.in-Some.condition) c.in-Some.is) first
+    (subst (λ (m : ItemMeant). ItemAdded m c.args.scope.now c.args.facts.now c.from_item.new.facts c.from_item.new.scope)
+    (sym (joined-item around.catalog.now step outer around.trace left.names (c.args.earlier.now ++ c.args.scope.now.items) first.names)) c.in_ok-from_item.ensures)
+    c.on_seen.ensures
+
+pub sources::source_items-returns-in_err-from_item : goal.sources::source_items-returns-in_err-from_item
+sources::source_items-returns-in_err-from_item t c =
+    let around = c.args.around.now in
+    let outer = scopes_of around.outer.now in
+    let tree = c.args.tree.now in
+    let first = (from_item_of around.catalog.now (out-FromTree tree).first).means outer around.trace c.args.earlier.now in
+    let joins = (out-FromTree tree).joins in
+    let join = join_of around.catalog.now in
+    same-refused (λ result. FromSeen ((from_of around.catalog.now tree).means outer around.trace c.args.earlier.now) c.args.earlier.now c.args.facts.now c.from_item.new.facts result)
+    c.from_residual.result c.in_err-from_item.field-0.0 c.from_residual.ensures.1
+    (subst (λ (m : FromMeant). FromSeen m c.args.earlier.now c.args.facts.now c.from_item.new.facts (Err c.in_err-from_item.field-0.0))
+    (sym (from-means around.catalog.now tree outer around.trace c.args.earlier.now))
+    (first-refused outer around.trace first (map join joins) c.args.earlier.now c.args.facts.now c.from_item.new.facts c.no_items-scope.result c.from_item.new.scope c.in_err-from_item.field-0.0
+    (subst (λ (names : List (List ℕ)). ItemSeen ((from_item_of around.catalog.now (out-FromTree tree).first).means outer around.trace names) c.no_items-scope.result c.args.facts.now
+    c.from_item.new.facts c.from_item.new.scope (Err c.in_err-from_item.field-0.0))
+    (none-held c.args.earlier.now c.no_items-scope.result c.no_items-scope.ensures) c.in_err-from_item.ensures)))
+
+pub sources::source_items-loop-step-init : goal.sources::source_items-loop-step-init
+sources::source_items-loop-step-init t c =
+    let around = c.args.around.now in
+    let outer = scopes_of around.outer.now in
+    let tree = c.args.tree.now in
+    let first = (from_item_of around.catalog.now (out-FromTree tree).first).means outer around.trace c.args.earlier.now in
+    let joins = (out-FromTree tree).joins in
+    let join = join_of around.catalog.now in
+    first-whole first c.args.earlier.now c.args.facts.now c.from_item.new.facts c.no_items-scope.result c.from_item.new.scope c.no_items-scope.ensures
+    (subst (λ (names : List (List ℕ)). ItemAdded ((from_item_of around.catalog.now (out-FromTree tree).first).means outer around.trace names) c.no_items-scope.result c.args.facts.now
+    c.from_item.new.facts c.from_item.new.scope)
+    (none-held c.args.earlier.now c.no_items-scope.result c.no_items-scope.ensures) c.in_ok-from_item.ensures)
+
+pub sources::source_items-returns-in_err-join_seen : goal.sources::source_items-returns-in_err-join_seen
+sources::source_items-returns-in_err-join_seen t c =
+    let around = c.args.around.now in
+    let outer = scopes_of around.outer.now in
+    let tree = c.args.tree.now in
+    let first = (from_item_of around.catalog.now (out-FromTree tree).first).means outer around.trace c.args.earlier.now in
+    let joins = (out-FromTree tree).joins in
+    let join = join_of around.catalog.now in
+    let so_far = join_all outer around.trace (first_item c.args.earlier.now first) (map join (take c.loop-step.step-index joins)) in
+    let within = rw c.as_slice-step-items.ensures at c.loop-step-test.true in
+    let is = rw c.as_slice-step-items.ensures at c.step-item.is in
+    same-refused (λ result. FromSeen ((from_of around.catalog.now tree).means outer around.trace c.args.earlier.now) c.args.earlier.now c.args.facts.now c.join_seen.new.facts result)
+    c.from_residual-in_err-join_seen.result c.in_err-join_seen.field-0.0 c.from_residual-in_err-join_seen.ensures.1
+    (subst (λ (m : FromMeant). FromSeen m c.args.earlier.now c.args.facts.now c.join_seen.new.facts (Err c.in_err-join_seen.field-0.0))
+    (sym (from-means around.catalog.now tree outer around.trace c.args.earlier.now
+    ∙ ap (join_all outer around.trace (first_item c.args.earlier.now first)) (mapped-at join joins c.loop-step.step-index c.step-item.result within is)))
+    (step-refused outer around.trace (first_item c.args.earlier.now first) (map join (take c.loop-step.step-index joins)) (join c.step-item.result)
+    (map join (drop (c.loop-step.step-index + 1) joins)) c.args.earlier.now c.args.facts.now c.join_seen.new.facts c.join_seen.new.scope c.in_err-join_seen.field-0.0
+    (c.in_err-join_seen.ensures so_far c.args.facts.now c.loop-step.invariant)))
+
+pub sources::source_items-loop-step-preserved : goal.sources::source_items-loop-step-preserved
+sources::source_items-loop-step-preserved t c =
+    let around = c.args.around.now in
+    let outer = scopes_of around.outer.now in
+    let tree = c.args.tree.now in
+    let first = (from_item_of around.catalog.now (out-FromTree tree).first).means outer around.trace c.args.earlier.now in
+    let joins = (out-FromTree tree).joins in
+    let join = join_of around.catalog.now in
+    let so_far = join_all outer around.trace (first_item c.args.earlier.now first) (map join (take c.loop-step.step-index joins)) in
+    let within = rw c.as_slice-step-items.ensures at c.loop-step-test.true in
+    let is = rw c.as_slice-step-items.ensures at c.step-item.is in
+    subst (λ (m : FromMeant). FromWhole m c.args.earlier.now c.args.facts.now c.join_seen.new.facts c.join_seen.new.scope)
+    (sym (ap (join_all outer around.trace (first_item c.args.earlier.now first)) (row-more join joins c.loop-step.step-index c.step-item.result within is)
+    ∙ joins-behind outer around.trace (first_item c.args.earlier.now first) (map join (take c.loop-step.step-index joins)) (join c.step-item.result)))
+    (c.in_ok-join_seen.ensures so_far c.args.facts.now c.loop-step.invariant)
+
+pub sources::source_items-returns : goal.sources::source_items-returns
+sources::source_items-returns t c =
+    let around = c.args.around.now in
+    let outer = scopes_of around.outer.now in
+    let tree = c.args.tree.now in
+    let first = (from_item_of around.catalog.now (out-FromTree tree).first).means outer around.trace c.args.earlier.now in
+    let joins = (out-FromTree tree).joins in
+    let join = join_of around.catalog.now in
+    let all = rw c.as_slice-step-items.ensures at c.loop-step-test.false in
+    subst (λ (m : FromMeant). FromWhole m c.args.earlier.now c.args.facts.now c.loop-step.facts c.loop-step.scope)
+    (ap (λ (steps : List JoinStep). join_all outer around.trace (first_item c.args.earlier.now first) (map join steps)) (take_all c.loop-step.step-index joins all)
+    ∙ sym (from-means around.catalog.now tree outer around.trace c.args.earlier.now)) c.loop-step.invariant
+
+pub sources::from_scope-returns-in_err-own : goal.sources::from_scope-returns-in_err-own
+sources::from_scope-returns-in_err-own t c =
+    let around = c.args.around.now in
+    let outer = scopes_of around.outer.now in
+    let part = from_of around.catalog.now in
+    let so_far = map part (take c.loop-source.source-index c.args.sources.now) in
+    same-refused (λ result. FromSeen (from_all outer around.trace (map part c.args.sources.now)) [] c.args.facts.now c.source_items.new.facts result)
+    c.from_residual.result c.in_err-own.field-0.0 c.from_residual.ensures.1
+    (subst (λ (parts : List FromPart). FromSeen (from_all outer around.trace parts) [] c.args.facts.now c.source_items.new.facts (Err c.in_err-own.field-0.0))
+    (sym (mapped-at part c.args.sources.now c.loop-source.source-index c.source-item.result c.loop-source-test.true c.source-item.is))
+    (source-refused outer around.trace so_far (part c.source-item.result) (map part (drop (c.loop-source.source-index + 1) c.args.sources.now)) c.args.facts.now c.loop-source.facts
+    c.source_items.new.facts c.loop-source.scope c.in_err-own.field-0.0 c.loop-source.invariant
+    (subst (λ (names : List (List ℕ)). FromSeen ((part c.source-item.result).means outer around.trace names) names c.loop-source.facts c.source_items.new.facts (Err c.in_err-own.field-0.0))
+    c.as_slice.ensures c.in_err-own.ensures)))
+
+pub sources::from_scope-loop-source-preserved : goal.sources::from_scope-loop-source-preserved
+sources::from_scope-loop-source-preserved t c =
+    let around = c.args.around.now in
+    let outer = scopes_of around.outer.now in
+    let part = from_of around.catalog.now in
+    let so_far = map part (take c.loop-source.source-index c.args.sources.now) in
+    subst (λ (parts : List FromPart). FromWhole (from_all outer around.trace parts) [] c.args.facts.now c.source_items.new.facts c.add_items.new.left)
+    (sym (row-more part c.args.sources.now c.loop-source.source-index c.source-item.result c.loop-source-test.true c.source-item.is))
+    (source-behind outer around.trace so_far (part c.source-item.result) c.args.facts.now c.loop-source.facts c.source_items.new.facts c.loop-source.scope c.in_ok-own.own c.add_items.new.left
+    c.loop-source.invariant (rw c.as_slice.ensures at c.in_ok-own.ensures) c.in_ok-add_items.ensures)
+
+pub cores::core_clauses-returns-in_err-condition_seen : goal.cores::core_clauses-returns-in_err-condition_seen
+cores::core_clauses-returns-in_err-condition_seen t c = λ before input items is adds.
+    let around = c.args.around.now in
+    same-refused (λ result. ColumnsSeen (core_behind around.catalog.now c.args.core.now (around_of around) input items) before c.condition_seen.new.facts result)
+    c.from_residual.result c.in_err-condition_seen.field-0.0 c.from_residual.ensures.1
+    (where-refused around.catalog.now c.args.core.now (around_of around) input items c.args.own before c.args.facts.now c.condition_seen.new.facts c.in_err-condition_seen.field-0.0 is
+    c.in_err-condition_seen.ensures)
+
+pub cores::core_clauses-returns-in_err-scope : goal.cores::core_clauses-returns-in_err-scope
+cores::core_clauses-returns-in_err-scope t c = λ before input items is adds.
+    let around = c.args.around.now in
+    same-refused (λ result. ColumnsSeen (core_behind around.catalog.now c.args.core.now (around_of around) input items) before c.condition_seen.new.facts result)
+    c.from_residual-in_err-scope.result c.in_err-scope.field-0.0 c.from_residual-in_err-scope.ensures.1
+    (groups-refused around.catalog.now c.args.core.now (around_of around) input items c.args.own before c.args.facts.now c.condition_seen.new.facts c.in_err-scope.field-0.0 is
+    c.in_ok-condition_seen.ensures (c.in_err-scope.ensures around.catalog.now))
+
+pub cores::core_clauses-returns-in_err-condition_seen-2 : goal.cores::core_clauses-returns-in_err-condition_seen-2
+cores::core_clauses-returns-in_err-condition_seen-2 t c = λ before input items is adds.
+    let around = c.args.around.now in
+    same-refused (λ result. ColumnsSeen (core_behind around.catalog.now c.args.core.now (around_of around) input items) before c.condition_seen-2.new.facts result)
+    c.from_residual-in_err-condition_seen-2.result c.in_err-condition_seen-2.field-0.0 c.from_residual-in_err-condition_seen-2.ensures.1
+    (having-refused around.catalog.now c.args.core.now (around_of around) input items c.args.own c.in_ok-scope.scope before c.args.facts.now c.condition_seen.new.facts
+    c.condition_seen-2.new.facts c.in_err-condition_seen-2.field-0.0 is c.in_ok-condition_seen.ensures (c.in_ok-scope.ensures around.catalog.now) c.in_err-condition_seen-2.ensures)
+
+pub cores::list_seen-returns-in_err-list_item : goal.cores::list_seen-returns-in_err-list_item
+cores::list_seen-returns-in_err-list_item t c =
+    let around = c.args.around.now in
+    let seen = (seen_at c.args.has_from c.args.scope.now (in_clause c.args.scope.now (scopes_of around.outer.now) around.trace true)) in
+    let item = item_of around.catalog.now in
+    same-refused (λ result. ListSeen (map seen (map item c.args.items.now)) c.args.facts.now c.list_item.new.facts result)
+    c.from_residual.result c.in_err-list_item.field-0.0 c.from_residual.ensures.1
+    (subst (λ (ms : List SelectMeant). ListSeen ms c.args.facts.now c.list_item.new.facts (Err c.in_err-list_item.field-0.0))
+    (sym (twice-at seen item c.args.items.now c.loop-item.item-index c.item-item.result c.loop-item-test.true c.item-item.is))
+    (list-refused (map seen (map item (take c.loop-item.item-index c.args.items.now))) (seen (item c.item-item.result))
+    (map seen (map item (drop (c.loop-item.item-index + 1) c.args.items.now))) c.args.facts.now c.loop-item.facts c.list_item.new.facts
+    c.loop-item.columns c.list_item.new.columns c.in_err-list_item.field-0.0 c.loop-item.invariant c.in_err-list_item.ensures))
