@@ -13,7 +13,7 @@ ghost use Rattle.statement_words.specs.Turns.{select};
 ghost use Rattle.query_answers.specs.Printed.{IsPrinted};
 
 use crate::order::in_order;
-use crate::stub::eliminate;
+use rewrite_driver::eliminate;
 use bag_algebra::{Answer, Env, Query};
 use csv_tables::answer_text;
 use expression_values::ExecError;

@@ -3,6 +3,5 @@
 
 mod answering;
 mod order;
-mod stub;
 
 pub use answering::select;
