@@ -33,7 +33,7 @@ pub record CoreScope (c : Contents) (tree : Core) (around : Around) (scope : Sco
   pub groups_whole : flat_map (group_break (scope_of items)) (out-Core tree).groups ≡ []
   pub scope_is : scope ≡ group_scope (scope_of items) (out-Core tree).groups (optional_part c (out-Core tree).having) (map (item_of c) (out-Core tree).items)
 
--- a break of FROM, or of GROUP BY where FROM breaks nothing
+-- of a refusal nothing is said: it is asked where FROM and GROUP BY break nothing
 abbrev pub CoreScoped : Contents → Core → Around → Result Scope Refusal → Type 0
 CoreScoped c tree around (Ok scope) = CoreScope c tree around scope
 CoreScoped c tree around (Err refusal) = Unit {0}

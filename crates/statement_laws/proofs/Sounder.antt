@@ -78,7 +78,7 @@ known None some = absurd (cc some)
 known (Some x) some = (x, refl)
 
 if-some : {X : Type 0} (P : X → Type 0) (o : Option X) (x : X) → o ≡ Some x → IfSome o P → P x
-if-some P o x e h = subst (λ (found : Option X). IfSome found P) e h
+if-some {X = X} P o x e h = subst (λ (found : Option X). IfSome found P) e h
 
 module _ (c : Contents) (sound : IsSound c) where
   identity : (name : List ℕ) (table : TableEntry) → table_named c name ≡ Some table → identity_of c name ≡ table.id
