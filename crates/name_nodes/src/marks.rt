@@ -23,7 +23,8 @@ fn column_kinds(alloc: Global, columns: &[Column]) -> Result<List<Kind>, NoMemor
     Ok(kinds)
 }
 
-fn column_names(alloc: Global, columns: &[Column]) -> Result<List<Chars>, NoMemory>
+/// The names of the columns.
+pub fn column_names(alloc: Global, columns: &[Column]) -> Result<List<Chars>, NoMemory>
     ensures { IfOk result (λ names. names ≡ names_of (table_columns columns.now)) }
 {
     let mut names = List::new(alloc);
