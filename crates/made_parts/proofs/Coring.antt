@@ -29,7 +29,7 @@ use Rattle.name_words.specs.declared.answer.Break.{Break}
 use Rattle.name_words.specs.declared.scope.Scope.{Scope}
 use Rattle.name_words.specs.declared.trace.Trace.{Trace}
 use Rattle.name_words.proofs.Equations.{token, selectitem-star, selectitem-tablestar, selectitem-value}
-use Rattle.name_forms.proofs.Opened.{opened_core}
+use Rattle.made_parts.proofs.Opened.{opened_core}
 use Rattle.name_nodes.specs.Cored.{clauses_over, condition_over, listed_over}
 use Rattle.name_nodes.specs.Listed.{MakesItems, widths}
 use Rattle.name_nodes.specs.Makes.{Makes, MakesQuery, nothing_found}

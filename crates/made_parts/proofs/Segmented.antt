@@ -1,10 +1,10 @@
 -- The items of a scope behind the first ones, with their columns.
-use Rattle.std.specs.Prelude.{◌≡◌, ℕ, suc, ◌+◌, ◌-◌, ◌<◌, ◌≤◌, Bool, true, false, cond, List, [], ◌∷◌, ◌++◌, length, map, nat_lt, Option, Some, None}
-use Rattle.std.proofs.Common.{refl, ap, sym, ◌∙◌, arith, take, drop, append_assoc, length-append}
+use Rattle.std.specs.Prelude.{◌≡◌, ℕ, suc, ◌+◌, ◌-◌, ◌<◌, ◌≤◌, inl, inr, Bool, true, false, cond, List, [], ◌∷◌, ◌++◌, length, map, nat_lt, Option, Some, None}
+use Rattle.std.proofs.Common.{refl, ap, sym, ◌∙◌, arith, get_or, take, drop, append_assoc, length-append}
 use Rattle.std.proofs.Math.Seq.{take-append_seam, drop-append_seam}
 use Rattle.std.proofs.lemmas.Bool.{cases_lt}
 use Rattle.std.proofs.lemmas.Bool.Decides.{nat_tests}
-use Rattle.std.proofs.lemmas.List.{append-nil, drop_all, drop-append-le, length-drop, length-map, map-append, take_all, take-append-le}
+use Rattle.std.proofs.lemmas.List.{append-nil, drop_all, drop-append-le, length-drop, length-map, length-take-le, map-append, take_all, take_more, take-append-le}
 use Rattle.name_words.specs.Scopes.{KnownColumn, ScopeItem, columns_from, numbered_columns, scope_of}
 use Rattle.name_words.specs.declared.scope.Scope.{Scope}
 use Rattle.name_words.specs.declared.scope.ScopeColumn.{ScopeColumn}
@@ -132,12 +132,10 @@ own-names before own after =
 -- one more name
 pub name-more : (first count : ℕ) (names : List (List ℕ)) (name : List ℕ)
     → take count (drop first (names ++ name ∷ [])) ≡ take count (drop first names) ++ name_in (back_in first count (length names)) name
-name-more first count names name = elim cases_lt (length names) first [
+name-more first count names name = elim (cases_lt (length names) first) [
   | inl before ↦ earlier before
-  | inr behind ↦ elim cases_lt (length names - first) count [ inl within ↦ kept behind within | inr outside ↦ later behind outside ]
+  | inr behind ↦ elim (cases_lt (length names - first) count) [ inl within ↦ kept behind within | inr outside ↦ later behind outside ]
 ] where
-  nothing : (n : ℕ) → take n [] ≡ []
-  nothing n = take_all n [] (omega arith)
   earlier : length names < first → take count (drop first (names ++ name ∷ [])) ≡ take count (drop first names) ++ name_in (back_in first count (length names)) name
   earlier before =
       let longer : length (names ++ name ∷ []) ≤ first = rw length-append (omega (arith, before)) in
@@ -185,3 +183,23 @@ segment-is scope part items first count stands counted is =
     (own-names stands.before stands.own stands.after)
     ∙ ap (λ (columns : List ScopeColumn). record { items = map name_of_item stands.own; columns = columns; groups = None }) (own-columns stands.before stands.own stands.after)
     ∙ ap scope_of same
+
+-- ---- columns, one after the other
+
+pub columns-more : (first count : ℕ) (columns : List ScopeColumn) (place : ℕ) (column : ScopeColumn) → place < length columns → column ≡ get_or columns place column
+    → columns_in first count (take (place + 1) columns) ≡ columns_in first count (take place columns) ++ column_in (back_in first count column.item) column
+columns-more first count columns place column within is =
+    ap (columns_in first count) (take_more columns place column within ∙ ap (λ (x : ScopeColumn). take place columns ++ x ∷ []) (sym is))
+    ∙ columns-append first count (take place columns) (column ∷ [])
+    ∙ ap (λ (more : List ScopeColumn). columns_in first count (take place columns) ++ more) (append-nil (column_in (back_in first count column.item) column))
+
+pub names-more : (first count : ℕ) (names : List (List ℕ)) (place : ℕ) (name : List ℕ) → place < length names → name ≡ get_or names place name
+    → take count (drop first (take (place + 1) names)) ≡ take count (drop first (take place names)) ++ name_in (back_in first count place) name
+names-more first count names place name within is =
+    let short : place ≤ length names = omega (arith, within) in
+    ap (λ (names : List (List ℕ)). take count (drop first names)) (take_more names place name within ∙ ap (λ (x : List ℕ). take place names ++ x ∷ []) (sym is))
+    ∙ name-more first count (take place names) name
+    ∙ ap (λ (n : ℕ). take count (drop first (take place names)) ++ name_in (back_in first count n) name) (length-take-le place names short)
+
+pub no-names : (first count : ℕ) → [] ≡ take count (drop first [])
+no-names first count = sym (ap (take count) (drop_all first [] (omega arith)) ∙ take_all count [] (omega arith))

@@ -9,7 +9,7 @@ use Rattle.perm_values.specs.declared.kind.Kind.TheVariants as kind
 use Rattle.sql_tree.specs.declared.expression.ExprBody.TheOpen.{SelectItem-F}
 use Rattle.sql_tree.specs.declared.name.Name.{Name}
 use Rattle.sql_tree.specs.declared.query.SelectItem.{SelectItem, out-SelectItem}
-use Rattle.name_words.specs.Cores.{settle_known}
+use Rattle.name_words.specs.Cores.{settle, settle_known}
 use Rattle.name_words.specs.Items.{Titled, Made, SelectMeant, SelectPart, all_known, columns_meant, first_wanted, item_step, items_breaks, made_before, made_items, named_from, no_columns, star_meant, table_star_meant, titled, value_meant, value_made, width_of_item}
 use Rattle.name_words.specs.Meanings.{Before, Built, Meant, OutColumn, Surroundings, is_whole, seen_kind, settled}
 use Rattle.name_words.specs.Operands.{behind}
@@ -18,10 +18,37 @@ use Rattle.name_words.specs.Trees.{item_of}
 use Rattle.name_words.specs.declared.answer.Break.{Break}
 use Rattle.name_words.specs.declared.scope.Scope.{Scope}
 use Rattle.name_words.proofs.Equations.{SelectItemFrame}
-use Rattle.name_laws.proofs.Settled.{settle_titles, settle-named, settle_titles-append, settled-twice}
 use Rattle.name_nodes.proofs.Parts.{none-first, none-second}
 use Rattle.made_parts.specs.Cored.{items_meant}
-use Rattle.name_forms.proofs.Opened.{shown_item, opened_item}
+use Rattle.made_parts.proofs.Opened.{shown_item, opened_item}
+
+-- ---- columns at the wanted kinds
+
+settled-twice : (k : Option Kind) (wanted : Kind) → settled k (settled k wanted) ≡ settled k wanted
+settled-twice None wanted = refl
+settled-twice (Some k) wanted = refl
+
+abbrev settle_titles : List Titled → List Kind → List Kind
+settle_titles [] wanted = []
+settle_titles (title ∷ titles) [] = settled title.kind kind.Text ∷ settle_titles titles []
+settle_titles (title ∷ titles) (k ∷ ks) = settled title.kind k ∷ settle_titles titles ks
+
+settle-named : (n : ℕ) (titles : List Titled) (wanted : List Kind) → settle (named_from n titles) wanted ≡ settle_titles titles wanted
+settle-named n [] wanted = refl
+settle-named n (title ∷ titles) [] = ap (λ kinds. settled title.kind kind.Text ∷ kinds) (settle-named (suc n) titles [])
+settle-named n (title ∷ titles) (k ∷ ks) = ap (λ kinds. settled title.kind k ∷ kinds) (settle-named (suc n) titles ks)
+
+settle_titles-append : (titles more : List Titled) (wanted : List Kind)
+    → settle_titles (titles ++ more) wanted ≡ settle_titles titles (take (length titles) wanted) ++ settle_titles more (drop (length titles) wanted)
+settle_titles-append [] more wanted = refl
+settle_titles-append (title ∷ titles) more [] = ap (λ kinds. settled title.kind kind.Text ∷ kinds) (settle_titles-append titles more [] ∙ none titles) where
+  none : (titles : List Titled) → settle_titles titles (take (length titles) []) ++ settle_titles more (drop (length titles) [])
+      ≡ settle_titles titles [] ++ settle_titles more []
+  none [] = refl
+  none (title ∷ titles) = refl
+settle_titles-append (title ∷ titles) more (k ∷ ks) = ap (λ kinds. settled title.kind k ∷ kinds) (settle_titles-append titles more ks)
+
+-- ---- items
 
 -- its columns are known, and it is made alike at the kinds to which the wanted ones settle
 pub record IsSettling (m : SelectMeant) : Type 0 where

@@ -24,7 +24,7 @@ use Rattle.name_words.specs.declared.answer.Break.{Break}
 use Rattle.name_words.specs.declared.scope.Scope.{Scope}
 use Rattle.name_words.specs.declared.trace.Trace.{Trace}
 use Rattle.name_words.proofs.Equations.{token, fromitem-record, fromsource-inner, fromsource-named}
-use Rattle.name_forms.proofs.Opened.{opened_from, opened_join}
+use Rattle.made_parts.proofs.Opened.{opened_from, opened_join}
 use Rattle.name_nodes.proofs.Parts.{none-first, none-second}
 use Rattle.made_parts.specs.Cored.{own_breaks}
 use Rattle.made_parts.specs.Sources.{JoinsMade, MakesFrom, MakesJoin, MakesOn, MakesSource, SourcesMade, StandsIn, beside_left, left_of, text_of}

@@ -4,6 +4,7 @@ use Rattle.bag_algebra.specs.declared.expr.Expr.{Expr}
 use Rattle.bag_algebra.specs.declared.query.Aggr.{Aggr}
 use Rattle.perm_catalog.specs.Contents.{Contents}
 use Rattle.perm_values.specs.declared.kind.Kind.{Kind}
+use Rattle.sql_tree.specs.declared.name.ColRef.{ColRef}
 use Rattle.sql_tree.specs.declared.query.Core.{Core, out-Core}
 use Rattle.name_words.specs.Cores.{core_over, has_some, in_clause, optional_built, optional_meant}
 use Rattle.name_words.specs.Froms.{FromMeant, FromPart, from_all}
@@ -22,6 +23,9 @@ use Rattle.name_seen.specs.Named.{here_only}
 use Rattle.made_parts.specs.declared.cores.Kept.{Kept}
 
 -- ---- the parts of a core
+
+abbrev pub core_groups : Core → List ColRef
+core_groups core = (out-Core core).groups
 
 abbrev pub source_parts : Contents → Core → List FromPart
 source_parts c core = map (from_of c) (out-Core core).sources

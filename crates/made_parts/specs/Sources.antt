@@ -1,12 +1,15 @@
 -- What the second pass makes of FROM.
 use Rattle.std.specs.Prelude.{◌≡◌, ℕ, suc, List, [], ◌∷◌, ◌++◌, length, Option, Some, None}
+use Rattle.std.specs.Option.{option_map_or}
 use Rattle.bag_algebra.specs.declared.expr.Expr.{Expr}
 use Rattle.bag_algebra.specs.declared.query.JoinKind.TheVariants as join
 use Rattle.bag_algebra.specs.declared.query.Query.{Query}
 use Rattle.bag_algebra.specs.declared.query.Query.TheVariants.{Join}
+use Rattle.perm_catalog.specs.Changes.{view_named}
+use Rattle.perm_catalog.specs.Contents.{Contents}
 use Rattle.sql_tree.specs.declared.name.Name.{Name}
-use Rattle.name_words.specs.Cores.{optional_meant}
-use Rattle.name_words.specs.Froms.{FromMeant, FromPart, ItemMeant, JoinPart, from_all, join_item, on_made, on_meant, read_names, read_query, yes}
+use Rattle.sql_tree.specs.declared.source.FromTree.{FromTree, out-FromTree}
+use Rattle.name_words.specs.Froms.{FromMeant, FromPart, ItemMeant, JoinPart, from_all, join_item, on_made, on_meant, Read, read_names, read_nothing, read_query, read_view, yes}
 use Rattle.name_words.specs.Meanings.{Part, QueryMeant}
 use Rattle.name_words.specs.Scopes.{ScopeItem, scope_of}
 use Rattle.name_words.specs.declared.scope.Scope.{Scope}
@@ -16,6 +19,13 @@ use Rattle.made_parts.specs.declared.reading.ShownNames.{ShownNames}
 
 abbrev pub text_of : Name → List ℕ
 text_of name = name.text
+
+-- a name that is no table's
+abbrev pub read_viewed : Contents → Name → Read
+read_viewed c name = option_map_or (read_view name.text) (view_named c name.text) (read_nothing name)
+
+abbrev pub join_count : FromTree → ℕ
+join_count tree = length (out-FromTree tree).joins
 
 -- what is behind a comma, beside what is before it
 abbrev pub beside_left : Option Query → Query → Query

@@ -7,7 +7,7 @@ ghost use Rattle.name_words.specs.Froms.{from_all};
 ghost use Rattle.name_words.specs.Meanings.{Around as Place};
 ghost use Rattle.name_words.specs.Trees.{from_of};
 ghost use Rattle.name_seen.specs.Named.{scopes_of};
-ghost use Rattle.made_parts.specs.Cored.{having_part, kept_of, select_parts};
+ghost use Rattle.made_parts.specs.Cored.{core_groups, having_part, kept_of, select_parts};
 ghost use Rattle.made_parts.specs.Sources.{IsScopeOf};
 
 use bag_algebra::{Aggr, Expr, Item};
@@ -101,7 +101,7 @@ pub fn groups_made(
     scope: &Scope,
     core: &Core,
 ) -> Result<Option<List<usize>>, NoMemory>
-    ensures { IfOk result (λ places. (c : Held) → places ≡ (group_scope scope.now core.now.groups (having_part c core.now) (select_parts c core.now)).groups) }
+    ensures { IfOk result (λ places. (c : Held) → places ≡ (group_scope scope.now (core_groups core.now) (having_part c core.now) (select_parts c core.now)).groups) }
 {
     if !is_grouped(core) {
         return Ok(None);

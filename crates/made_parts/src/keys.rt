@@ -3,6 +3,7 @@ ghost use Rattle.std.specs.Prelude.{◌≡◌, IfOk, map, position, pred, nat_ab
 ghost use Rattle.std.specs.Option.{option_map_or};
 ghost use Rattle.name_words.specs.Queries.{is_named, key_of, key_place};
 ghost use Rattle.clauses_seen.specs.Columns.{columns_of};
+ghost use Rattle.made_parts.specs.Shown.{is_shown_as};
 
 use clauses_seen::ShownColumn;
 use perm_values::{Chars, Key, List, NoMemory};
@@ -46,10 +47,16 @@ fn key_place(columns: &[ShownColumn], key: &OrderKey) -> usize
 fn place_named(columns: &[ShownColumn], name: &Chars) -> usize
     ensures { result ≡ option_map_or (λ place. place) (position (is_named name.now) (columns_of columns.now)) 0 }
 {
-    match columns.iter().position(|column| *name == column.name) {
+    match position_of(columns, name) {
         None => 0,
         Some(place) => place,
     }
+}
+
+fn position_of(columns: &[ShownColumn], name: &Chars) -> Option<usize>
+    ensures { result ≡ position (is_shown_as name.now) columns.now }
+{
+    columns.iter().position(|column| *name == column.name)
 }
 
 /// The place at a position, which counts from 1.

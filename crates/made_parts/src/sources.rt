@@ -6,8 +6,7 @@ ghost use Rattle.bag_algebra.specs.declared.query.Query.TheVariants.{Join as Pai
 ghost use Rattle.perm_catalog.specs.Sound.{IsSound};
 ghost use Rattle.name_words.specs.Froms.{external, join_kind, marked, read_named, read_names, read_query, read_table, read_view};
 ghost use Rattle.name_words.specs.Meanings.{QueryMeant};
-ghost use Rattle.sql_tree.specs.declared.source.FromTree.{out-FromTree};
-ghost use Rattle.made_parts.specs.Sources.{Shows, beside_left, text_of};
+ghost use Rattle.made_parts.specs.Sources.{Shows, beside_left, join_count, read_viewed, text_of};
 
 use crate::reading::ShownNames;
 use bag_algebra::{Expr, JoinKind, Query};
@@ -33,10 +32,24 @@ pub fn named_item(
 {
     match catalog.table(&name.text) {
         Some(table) => table_item(alloc, &name.text, table, mark),
-        None => match catalog.view(&name.text) {
-            Some(view) => view_item(alloc, &name.text, view, mark),
-            None => Ok(Query::Single),
-        },
+        None => viewed_item(alloc, catalog, name, mark),
+    }
+}
+
+/// The view of this name under the mark.
+fn viewed_item(
+    alloc: Global,
+    catalog: &Catalog,
+    name: &Name,
+    mark: &ScopeMark,
+) -> Result<Query, NoMemory>
+    requires { IsSound catalog.now }
+    ensures { IfOk result (λ made. (read_viewed catalog.now name.now).breaks ≡ []
+        → made ≡ marked mark.now name.now.text (read_names (read_viewed catalog.now name.now)) (read_viewed catalog.now name.now)) }
+{
+    match catalog.view(&name.text) {
+        Some(view) => view_item(alloc, &name.text, view, mark),
+        None => Ok(Query::Single),
     }
 }
 
@@ -207,7 +220,7 @@ pub fn input_or_single(whole: Option<Query>) -> Query
 /// How many items stand before what comes behind this part of FROM. It fails only where their number is none that can
 /// be counted.
 pub fn behind(first: usize, source: &FromTree) -> Result<usize, NoMemory>
-    ensures { IfOk result (λ next. next ≡ first + suc (length (out-FromTree source.now).joins)) }
+    ensures { IfOk result (λ next. next ≡ first + suc (join_count source.now)) }
 {
     match first.checked_add(source.joins.len() + 1) {
         Some(next) => Ok(next),

@@ -6,8 +6,7 @@ use Rattle.bag_algebra.specs.declared.expr.Item.{Item}
 use Rattle.name_words.specs.Items.{column_item}
 use Rattle.name_words.specs.Scopes.{Placed, placed}
 use Rattle.name_seen.specs.Stars.{is_in_item}
-use Rattle.name_seen.proofs.AnyColumns.{columns-are}
-use Rattle.name_seen.proofs.Matches.{filtered-more}
+use Rattle.made_parts.proofs.Starred.{columns-are, filtered-more}
 use Rattle.made_parts.proofs.items.add_columns.Goals as goal
 
 pub loop-place-preserved : goal.loop-place-preserved

@@ -8,4 +8,4 @@ use Rattle.made_parts.proofs.united.united_with_all.Given as goal
 -- the operands so far are united
 abbrev pub invariant-loop-tree : goal.invariant-loop-tree
 invariant-loop-tree l =
-    l.kind ≡ united_kind l.so_far (united (map (operand (surroundings l.here) l.need) (map (part_of l.here.catalog.now) (take l.tree-index l.trees))))
+    l.kind ≡ united_kind l.fn.so_far (united (map (operand (surroundings l.here) l.need) (map (part_of l.here.catalog.now) (take l.tree-index l.trees))))
