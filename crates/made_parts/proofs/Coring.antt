@@ -29,7 +29,7 @@ use Rattle.name_words.specs.declared.answer.Break.{Break}
 use Rattle.name_words.specs.declared.scope.Scope.{Scope}
 use Rattle.name_words.specs.declared.trace.Trace.{Trace}
 use Rattle.name_words.proofs.Equations.{token, selectitem-star, selectitem-tablestar, selectitem-value}
-use Rattle.made_parts.proofs.Opened.{opened_core}
+use Rattle.cores_seen.proofs.Opened.{core-is}
 use Rattle.name_nodes.specs.Cored.{clauses_over, condition_over, listed_over}
 use Rattle.name_nodes.specs.Listed.{MakesItems, widths}
 use Rattle.name_nodes.specs.Makes.{Makes, MakesQuery, nothing_found}
@@ -67,6 +67,10 @@ over-is input (Some m) = refl
 
 -- ---- the list
 
+apart : (ms more : List SelectMeant) → items_breaks ms ++ items_breaks more ≡ items_breaks (ms ++ more)
+apart [] more = refl
+apart (m ∷ ms) more = append_assoc m.breaks (items_breaks ms) (items_breaks more) ∙ ap (λ (rest : List Break). m.breaks ++ rest) (apart ms more)
+
 -- one more item, made behind as many columns as there are
 pub next-listed : (may_link : Bool) (ms more : List SelectMeant) (wanted : List Kind) (q r : List Item) (a b c : Within)
     → MakesItems may_link ms wanted [] q a b → MakesItems may_link more (drop (length q) wanted) q r b c → MakesItems may_link (ms ++ more) wanted [] r a c
@@ -76,14 +80,11 @@ next-listed may_link ms more wanted q r a b c first second =
       wide = λ whole. (all whole).wide whole;
       unlinked = λ none. second.unlinked none ∙ first.unlinked none;
     } where
-  all : items_breaks (ms ++ more) ≡ [] → MakesItems may_link (ms ++ more) wanted [] r a c
-  all whole =
-      let size = first.wide (none-first (items_breaks ms) (items_breaks more) (apart ms more ∙ whole)) in
-      let n : length q ≡ widths ms = omega (arith, size) in
-      more-listed may_link ms more wanted [] q r a b c first (subst (λ (n : ℕ). MakesItems may_link more (drop n wanted) q r b c) n second)
-  apart : (ms more : List SelectMeant) → items_breaks ms ++ items_breaks more ≡ items_breaks (ms ++ more)
-  apart [] more = refl
-  apart (m ∷ ms) more = simp append_assoc ∙ ap (λ (rest : List Break). m.breaks ++ rest) (apart ms more)
+      all : items_breaks (ms ++ more) ≡ [] → MakesItems may_link (ms ++ more) wanted [] r a c
+      all whole =
+          let size = first.wide (none-first (items_breaks ms) (items_breaks more) (apart ms more ∙ whole)) in
+          let n : length q ≡ widths ms = omega (arith, size) in
+          more-listed may_link ms more wanted [] q r a b c first (subst (λ (n : ℕ). MakesItems may_link more (drop n wanted) q r b c) n second)
 
 -- ---- the clauses
 
@@ -98,40 +99,41 @@ over-grouped : (c : Contents) (around : Around) (core : Core) (breaks : List Bre
     → input ≡ (sources_meant c around core).query → query ≡ clauses_over input clauses
     → MakesQuery (core_over_items c around core breaks items) wanted query
 over-grouped c around core breaks items wanted clauses input query makes from is =
-    record { makes = λ whole.
-        let grouped = group_scope (scope_of items) (out-Core core).groups (having_part c core) (select_parts c core) in
-        let here = in_clause (scope_of items) around.outer around.trace false in
-        let there = in_clause grouped around.outer around.trace true in
-        let wm = optional_meant here (condition_part c core) in
-        let hm = optional_meant there (having_part c core) in
-        let has_from = has_some (source_parts c core) in
-        let list = items_meant has_from grouped there (select_parts c core) in
-        let first = optional_breaks (condition_part c core) wm in
-        let second = flat_map (group_break (scope_of items)) (out-Core core).groups in
-        let third = optional_breaks (having_part c core) hm in
-        let all : first ++ second ++ third ++ items_breaks list ≡ [] = none-second breaks (first ++ second ++ third ++ items_breaks list) whole in
-        let front : first ++ second ++ third ≡ [] = none-first (first ++ second ++ third) (items_breaks list) all in
-        let of_list : items_breaks list ≡ [] = none-second (first ++ second ++ third) (items_breaks list) all in
-        let of_where = own-whole here (condition_part c core) (none-first first second (none-first (first ++ second) third front)) in
-        let of_having = own-whole there (having_part c core) (none-second (first ++ second) third front) in
-        let aggregates = (optional_built hm).aggregates in
-        let listed = (makes.selected.listed of_having has_from).makes of_list in
-        let made = made_items list (settle_known (option_map (named_from 1) (all_known list)) wanted) (behind nothing_before [] aggregates) in
-        let same : listed_in list wanted aggregates ≡ made =
-        sym (settled-list list wanted (behind nothing_before [] aggregates) (list-settles c (out-Core core).items has_from grouped there of_list)
-        ∙ ap (made_items list wanted) (start-is aggregates)) in
-        let of_items : clauses.list.items ≡ made.items = listed.items ∙ ap (λ (m : Made). m.items) same in
-        let of_subs : clauses.list.subs ≡ made.subs = ap (λ (w : Within). w.subs) listed.found ∙ ap (λ (m : Made). m.subs) same in
-        let of_aggregates : clauses.list.aggregates ≡ aggregates ++ made.aggregates =
-        ap (λ (w : Within). w.aggregates) listed.found ∙ ap (λ (m : Made). aggregates ++ m.aggregates) same in
-        let of_condition = makes.kept of_where in
-        let of_kept = makes.selected.kept of_having in
-        is
-        ∙ (λ i. distinct_if (makes.distinct i) (Project (condition_over (aggregated_input (condition_over (from i) (of_condition i)) (makes.groups i) (of_aggregates i)) (of_kept i)) (of_items i) (of_subs i)))
-        ∙ ap (λ (q : Query). distinct_if (out-Core core).distinct (Project (condition_over (aggregated_input q grouped.groups (aggregates ++ made.aggregates)) (option_map condition_of hm)) made.items made.subs))
-        (over-is (sources_meant c around core).query wm)
-        ∙ ap (λ (q : Query). distinct_if (out-Core core).distinct (Project q made.items made.subs))
-        (over-is (aggregated_input (filtered (sources_meant c around core).query wm) grouped.groups (aggregates ++ made.aggregates)) hm)
+    record {
+      makes = λ whole.
+          let grouped = group_scope (scope_of items) (out-Core core).groups (having_part c core) (select_parts c core) in
+          let here = in_clause (scope_of items) around.outer around.trace false in
+          let there = in_clause grouped around.outer around.trace true in
+          let wm = optional_meant here (condition_part c core) in
+          let hm = optional_meant there (having_part c core) in
+          let has_from = has_some (source_parts c core) in
+          let list = items_meant has_from grouped there (select_parts c core) in
+          let first = optional_breaks (condition_part c core) wm in
+          let second = flat_map (group_break (scope_of items)) (out-Core core).groups in
+          let third = optional_breaks (having_part c core) hm in
+          let all : first ++ second ++ third ++ items_breaks list ≡ [] = none-second breaks (first ++ second ++ third ++ items_breaks list) whole in
+          let front : first ++ second ++ third ≡ [] = none-first (first ++ second ++ third) (items_breaks list) all in
+          let of_list : items_breaks list ≡ [] = none-second (first ++ second ++ third) (items_breaks list) all in
+          let of_where = own-whole here (condition_part c core) (none-first first second (none-first (first ++ second) third front)) in
+          let of_having = own-whole there (having_part c core) (none-second (first ++ second) third front) in
+          let aggregates = (optional_built hm).aggregates in
+          let listed = (makes.selected.listed of_having has_from).makes of_list in
+          let made = made_items list (settle_known (option_map (named_from 1) (all_known list)) wanted) (behind nothing_before [] aggregates) in
+          let same : listed_in list wanted aggregates ≡ made =
+          sym (settled-list list wanted (behind nothing_before [] aggregates) (list-settles c (out-Core core).items has_from grouped there of_list)
+          ∙ ap (made_items list wanted) (start-is aggregates)) in
+          let of_items : clauses.list.items ≡ made.items = listed.items ∙ ap (λ (m : Made). m.items) same in
+          let of_subs : clauses.list.subs ≡ made.subs = ap (λ (w : Within). w.subs) listed.found ∙ ap (λ (m : Made). m.subs) same in
+          let of_aggregates : clauses.list.aggregates ≡ aggregates ++ made.aggregates =
+          ap (λ (w : Within). w.aggregates) listed.found ∙ ap (λ (m : Made). aggregates ++ m.aggregates) same in
+          let of_condition = makes.kept of_where in
+          let of_kept = makes.selected.kept of_having in
+          is
+          ∙ (λ i. distinct_if (makes.distinct i) (Project (condition_over (aggregated_input (condition_over (from i) (of_condition i)) (makes.groups i) (of_aggregates i)) (of_kept i)) (of_items i) (of_subs i)))
+          ∙ ap (λ (q : Query). distinct_if (out-Core core).distinct (Project (condition_over (aggregated_input q grouped.groups (aggregates ++ made.aggregates)) (option_map condition_of hm)) made.items made.subs))
+          (over-is (sources_meant c around core).query wm)
+          ∙ ap (λ (q : Query). distinct_if (out-Core core).distinct (Project q made.items made.subs))
+          (over-is (aggregated_input (filtered (sources_meant c around core).query wm) grouped.groups (aggregates ++ made.aggregates)) hm);
     }
 
 -- the clauses of a core make it
@@ -147,7 +149,7 @@ clauses-made c around core breaks items scope wanted clauses input query scoped 
 opened : (c : Contents) (around : Around) (core : Core) → (core_of c core).means around
     ≡ core_seen around (out-Core core).provenance (from_all around.outer (core_trace around (out-Core core).provenance) (source_parts c core))
     (has_some (source_parts c core)) (out-Core core).distinct (select_parts c core) (condition_part c core) (out-Core core).groups (having_part c core)
-opened c around core = ap (λ (body : BodyPart). body.means around) (opened_core c core)
+opened c around core = ap (λ (body : BodyPart). body.means around) (core-is c core)
 
 chosen : (whole : Bool) (a b : QueryMeant) (wanted : List Kind) (query : Query) → whole ≡ true → MakesQuery a wanted query → MakesQuery (cond whole a b) wanted query
 chosen true a b wanted query is makes = makes

@@ -1,5 +1,6 @@
 -- Lists gone through one after the other.
-use Rattle.std.specs.Prelude.{◌≡◌, ℕ, ◌+◌, ◌<◌, ◌≤◌, List, [], ◌∷◌, ◌++◌, length, map, flat_map, position, slice_index_or, Option, Some, None, Result, Ok, Err, IfOk}
+use Rattle.std.specs.Prelude.{◌≡◌, ℕ, ◌+◌, ◌<◌, ◌≤◌, cond, not, nat_lt, List, [], ◌∷◌, ◌++◌, length, map, flat_map, position, slice_index_or, Option, Some, None, Result, Ok, Err, IfOk}
+use Rattle.std.specs.List.{prefix_len}
 use Rattle.std.proofs.Common.{refl, ap, sym, ◌∙◌, arith, take, get_or}
 use Rattle.std.proofs.lemmas.Grind.{flat_map-append}
 use Rattle.std.proofs.lemmas.List.{append-nil, length-map, length-take-le, map-append, take_more}
@@ -32,9 +33,14 @@ mapped f xs i x within is = ap (map f) (taken xs i x within is) ∙ map-append f
 
 -- ---- names of columns
 
+before-named : (name : List ℕ) (columns : List ShownColumn)
+    → prefix_len (λ (column : ShownColumn). not (is_shown_as name column)) columns ≡ prefix_len (λ (column : OutColumn). not (is_named name column)) (columns_of columns)
+before-named name [] = refl
+before-named name (column ∷ columns) = ap (λ (n : ℕ). cond (not (is_shown_as name column)) (1 + n) 0) (before-named name columns)
+
 pub position-mapped : (name : List ℕ) (columns : List ShownColumn) → position (is_shown_as name) columns ≡ position (is_named name) (columns_of columns)
-position-mapped name [] = refl
-position-mapped name (column ∷ columns) = rw (position-mapped name columns) refl
+position-mapped name columns = λ i.
+    cond (nat_lt (before-named name columns i) (sym (length-map columns column_of) i)) (Some (before-named name columns i)) None
 
 -- ---- what operands are united to
 

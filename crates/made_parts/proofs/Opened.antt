@@ -40,19 +40,6 @@ unfolding body_of item_of set_of_tree source_of arm_of step_of part_of core_of q
 opened_item c tree = ap (item_of c) (sym (roll-out-SelectItem tree)) ∙ fold-roll-SelectItem Body SelectPart BodyPart SourcePart ArmPart StepPart Part BodyPart QueryPart SetStepPart FromItemPart FromPart JoinPart
     body_step item_step set_step source_step arm_step step_step expr_step core_step query_step set_step_step (from_item_step c) from_step join_step (out-SelectItem tree)
 
-abbrev pub Layer_core : Type 0
-Layer_core = Core-F ExprBody SelectItem SetTree FromSource ArmTree ExprStep ExprTree Core QueryTree SetStep FromItem FromTree JoinStep
-
-abbrev pub shown_core : Contents → Layer_core → CoreFrame
-shown_core c layer = map-Core ExprBody SelectItem SetTree FromSource ArmTree ExprStep ExprTree Core QueryTree SetStep FromItem FromTree JoinStep
-    Body SelectPart BodyPart SourcePart ArmPart StepPart Part BodyPart QueryPart SetStepPart FromItemPart FromPart JoinPart
-    (body_of c) (item_of c) (set_of_tree c) (source_of c) (arm_of c) (step_of c) (part_of c) (core_of c) (query_of c) (set_step_of c) (from_item_of c) (from_of c) (join_of c) layer
-
-pub opened_core : (c : Contents) (tree : Core) → core_of c tree ≡ core_step (shown_core c (out-Core tree))
-unfolding body_of item_of set_of_tree source_of arm_of step_of part_of core_of query_of set_step_of from_item_of from_of join_of
-opened_core c tree = ap (core_of c) (sym (roll-out-Core tree)) ∙ fold-roll-Core Body SelectPart BodyPart SourcePart ArmPart StepPart Part BodyPart QueryPart SetStepPart FromItemPart FromPart JoinPart
-    body_step item_step set_step source_step arm_step step_step expr_step core_step query_step set_step_step (from_item_step c) from_step join_step (out-Core tree)
-
 abbrev pub Layer_from : Type 0
 Layer_from = FromTree-F ExprBody SelectItem SetTree FromSource ArmTree ExprStep ExprTree Core QueryTree SetStep FromItem FromTree JoinStep
 
@@ -65,16 +52,3 @@ pub opened_from : (c : Contents) (tree : FromTree) → from_of c tree ≡ from_s
 unfolding body_of item_of set_of_tree source_of arm_of step_of part_of core_of query_of set_step_of from_item_of from_of join_of
 opened_from c tree = ap (from_of c) (sym (roll-out-FromTree tree)) ∙ fold-roll-FromTree Body SelectPart BodyPart SourcePart ArmPart StepPart Part BodyPart QueryPart SetStepPart FromItemPart FromPart JoinPart
     body_step item_step set_step source_step arm_step step_step expr_step core_step query_step set_step_step (from_item_step c) from_step join_step (out-FromTree tree)
-
-abbrev pub Layer_join : Type 0
-Layer_join = JoinStep-F ExprBody SelectItem SetTree FromSource ArmTree ExprStep ExprTree Core QueryTree SetStep FromItem FromTree JoinStep
-
-abbrev pub shown_join : Contents → Layer_join → JoinStepFrame
-shown_join c layer = map-JoinStep ExprBody SelectItem SetTree FromSource ArmTree ExprStep ExprTree Core QueryTree SetStep FromItem FromTree JoinStep
-    Body SelectPart BodyPart SourcePart ArmPart StepPart Part BodyPart QueryPart SetStepPart FromItemPart FromPart JoinPart
-    (body_of c) (item_of c) (set_of_tree c) (source_of c) (arm_of c) (step_of c) (part_of c) (core_of c) (query_of c) (set_step_of c) (from_item_of c) (from_of c) (join_of c) layer
-
-pub opened_join : (c : Contents) (tree : JoinStep) → join_of c tree ≡ join_step (shown_join c (out-JoinStep tree))
-unfolding body_of item_of set_of_tree source_of arm_of step_of part_of core_of query_of set_step_of from_item_of from_of join_of
-opened_join c tree = ap (join_of c) (sym (roll-out-JoinStep tree)) ∙ fold-roll-JoinStep Body SelectPart BodyPart SourcePart ArmPart StepPart Part BodyPart QueryPart SetStepPart FromItemPart FromPart JoinPart
-    body_step item_step set_step source_step arm_step step_step expr_step core_step query_step set_step_step (from_item_step c) from_step join_step (out-JoinStep tree)

@@ -70,11 +70,11 @@ chain-made c around tree first steps wanted kinds query is some settles makes =
           let settled = subst (λ (m : QueryMeant). Settles m wanted kinds) same (settles whole) in
           makes settled.serves ∙ ap m.make settled.settled ∙ alike steps some ∙ ap (λ (m : QueryMeant). m.make wanted) (sym same);
     } where
-  alike : (steps : List SetStep) → (steps ≡ [] → ⊥)
-      → (set_chain around ((set_of_tree c first).means around) (map (set_step_of c) steps)).make (settle_known (set_chain around ((set_of_tree c first).means around) (map (set_step_of c) steps)).columns wanted)
-      ≡ (set_chain around ((set_of_tree c first).means around) (map (set_step_of c) steps)).make wanted
-  alike [] some = absurd (some refl)
-  alike (step ∷ steps) some = chain-settled around ((set_of_tree c first).means around) (set_step_of c step) (map (set_step_of c) steps) wanted
+      alike : (steps : List SetStep) → (steps ≡ [] → ⊥)
+          → (set_chain around ((set_of_tree c first).means around) (map (set_step_of c) steps)).make (settle_known (set_chain around ((set_of_tree c first).means around) (map (set_step_of c) steps)).columns wanted)
+          ≡ (set_chain around ((set_of_tree c first).means around) (map (set_step_of c) steps)).make wanted
+      alike [] some = absurd (some refl)
+      alike (step ∷ steps) some = chain-settled around ((set_of_tree c first).means around) (set_step_of c step) (map (set_step_of c) steps) wanted
 
 pub chain-of-one : (c : Contents) (around : Around) (tree first : SetTree) (steps : List SetStep) (wanted : List Kind) (query : Query)
     → tree ≡ set.Chain first steps → steps ≡ [] → MakesQuery ((set_of_tree c first).means around) wanted query → MakesQuery ((set_of_tree c tree).means around) wanted query

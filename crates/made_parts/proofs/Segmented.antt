@@ -1,6 +1,6 @@
 -- The items of a scope behind the first ones, with their columns.
-use Rattle.std.specs.Prelude.{◌≡◌, ℕ, suc, ◌+◌, ◌-◌, ◌<◌, ◌≤◌, inl, inr, Bool, true, false, cond, List, [], ◌∷◌, ◌++◌, length, map, nat_lt, Option, Some, None}
-use Rattle.std.proofs.Common.{refl, ap, sym, ◌∙◌, arith, get_or, take, drop, append_assoc, length-append}
+use Rattle.std.specs.Prelude.{◌≡◌, ℕ, suc, ◌+◌, ◌-◌, ◌<◌, ◌≤◌, Bool, true, false, cond, List, [], ◌∷◌, ◌++◌, length, map, nat_lt, Option, Some, None}
+use Rattle.std.proofs.Common.{inl, inr, refl, ap, sym, ◌∙◌, arith, get_or, take, drop, append_assoc, length-append}
 use Rattle.std.proofs.Math.Seq.{take-append_seam, drop-append_seam}
 use Rattle.std.proofs.lemmas.Bool.{cases_lt}
 use Rattle.std.proofs.lemmas.Bool.Decides.{nat_tests}
@@ -143,6 +143,7 @@ name-more first count names name = elim (cases_lt (length names) first) [
       ap (take count) (drop_all first (names ++ name ∷ []) longer ∙ sym (drop_all first names none))
       ∙ sym (append-nil (take count (drop first names)))
       ∙ ap (λ (back : Option ℕ). take count (drop first names) ++ name_in back name) (sym (back-before first count (length names) before))
+
   kept : first ≤ length names → length names - first < count
       → take count (drop first (names ++ name ∷ [])) ≡ take count (drop first names) ++ name_in (back_in first count (length names)) name
   kept behind within =
@@ -154,6 +155,7 @@ name-more first count names name = elim (cases_lt (length names) first) [
       ∙ ap (λ (names : List (List ℕ)). names ++ name ∷ []) (sym (take_all count (drop first names) before))
       ∙ ap (λ (back : Option ℕ). take count (drop first names) ++ name_in back name)
       (sym (ap (back_in first count) (sym same) ∙ back-within first count (length names - first) within))
+
   later : first ≤ length names → count ≤ length names - first
       → take count (drop first (names ++ name ∷ [])) ≡ take count (drop first names) ++ name_in (back_in first count (length names)) name
   later behind outside =
@@ -201,5 +203,7 @@ names-more first count names place name within is =
     ∙ name-more first count (take place names) name
     ∙ ap (λ (n : ℕ). take count (drop first (take place names)) ++ name_in (back_in first count n) name) (length-take-le place names short)
 
-pub no-names : (first count : ℕ) → [] ≡ take count (drop first [])
-no-names first count = sym (ap (take count) (drop_all first [] (omega arith)) ∙ take_all count [] (omega arith))
+pub no-names : (first count : ℕ) → ◌≡◌ {A = List (List ℕ)} [] (take count (drop first []))
+no-names first count =
+    let none : List (List ℕ) = [] in
+    sym (ap (take count) (drop_all first none (omega arith)) ∙ take_all count none (omega arith))

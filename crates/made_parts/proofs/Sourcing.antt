@@ -14,7 +14,10 @@ use Rattle.sql_tree.specs.declared.query.QueryTree.{QueryTree}
 use Rattle.sql_tree.specs.declared.source.FromItem.{FromItem}
 use Rattle.sql_tree.specs.declared.source.FromSource.TheVariants as source
 use Rattle.sql_tree.specs.declared.source.FromTree.{FromTree, out-FromTree}
-use Rattle.sql_tree.specs.declared.source.JoinStep.{JoinStep, out-JoinStep}
+use Rattle.sql_tree.specs.declared.source.JoinStep.{JoinStep, out-JoinStep, roll-JoinStep}
+use Rattle.sql_tree.specs.declared.source.JoinWord.{JoinWord}
+use Rattle.sql_tree.specs.declared.expression.ExprTree.{ExprTree}
+use Rattle.sql_tree.specs.declared.expression.ExprBody.TheViews.{roll-out-JoinStep}
 use Rattle.sql_tree.specs.declared.source.ScopeMark.{ScopeMark}
 use Rattle.name_words.specs.Froms.{FromMeant, FromPart, ItemMeant, JoinPart, Read, SourcePart, beside_from, both_known, condition_breaks, first_item, from_all, from_more, item_meant, join_all, join_item, join_kind, joined, label_of, mark_breaks, marked, names_of, no_from, named as named_source, inner as inner_source, on_breaks, on_made, on_meant, read_named, read_names, read_of, read_query, scope_break, scope_items, scope_name, trace_under, yes}
 use Rattle.name_words.specs.Meanings.{Meant, Part, QueryMeant, broken_if, query_means_at}
@@ -23,8 +26,8 @@ use Rattle.name_words.specs.Trees.{from_item_of, from_of, join_of, part_of, quer
 use Rattle.name_words.specs.declared.answer.Break.{Break}
 use Rattle.name_words.specs.declared.scope.Scope.{Scope}
 use Rattle.name_words.specs.declared.trace.Trace.{Trace}
-use Rattle.name_words.proofs.Equations.{token, fromitem-record, fromsource-inner, fromsource-named}
-use Rattle.made_parts.proofs.Opened.{opened_from, opened_join}
+use Rattle.name_words.proofs.Equations.{token, fromitem-record, fromsource-inner, fromsource-named, joinstep-record-none, joinstep-record-some}
+use Rattle.made_parts.proofs.Opened.{opened_from}
 use Rattle.name_nodes.proofs.Parts.{none-first, none-second}
 use Rattle.made_parts.specs.Cored.{own_breaks}
 use Rattle.made_parts.specs.Sources.{JoinsMade, MakesFrom, MakesJoin, MakesOn, MakesSource, SourcesMade, StandsIn, beside_left, left_of, text_of}
@@ -174,15 +177,23 @@ source-more outer trace [] part scope before next after count joins so_far makes
 source-more outer trace (first ∷ parts) part scope before next after count joins so_far makes counts is =
     let left = from_more outer trace (first.means outer trace []) parts in
     let right = part.means outer trace left.names in
-    rw more-append outer trace (first.means outer trace []) parts part
-    (record {
+    let start : 0 + count ≡ count = omega arith in
+    let is_beside : from_more outer trace (first.means outer trace []) (parts ++ part ∷ []) ≡ beside_from left right =
+    more-append outer trace (first.means outer trace []) parts part in
+    record {
       makes = λ whole stands.
+          let none : left.breaks ++ right.breaks ≡ [] = subst (λ (m : FromMeant). m.breaks ≡ []) is_beside whole in
+          let both : StandsIn (both_known left.items right.items) 0 scope = subst (λ (m : FromMeant). StandsIn m.items 0 scope) is_beside stands in
           ap Some (is ∙ ap (λ (left : Option Query). beside_left left next)
-          (so_far.makes (none-first left.breaks right.breaks whole) (stands-left left.items right.items 0 scope stands))
+          (so_far.makes (none-first left.breaks right.breaks none) (stands-left left.items right.items 0 scope both))
           ∙ ap (λ (q : Query). Join join.Inner left.query q yes [])
-          (makes left.names (none-second left.breaks right.breaks whole) (stands-right left.items right.items 0 count scope so_far.counts stands)));
-      counts = λ items known. both-count left.items right.items count (suc joins) so_far.counts (counts left.names) items known;
-    })
+          (makes left.names (none-second left.breaks right.breaks none)
+          (subst (λ (n : ℕ). StandsIn right.items n scope) start (stands-right left.items right.items 0 count scope so_far.counts both)))
+          ∙ ap (λ (m : FromMeant). m.query) (sym is_beside));
+      counts = λ items known.
+          both-count left.items right.items count (suc joins) so_far.counts (counts left.names) items
+          (ap (λ (m : FromMeant). m.items) (sym is_beside) ∙ known);
+    }
 
 -- all of FROM
 pub sources-made : (outer : List Scope) (trace : Trace) (parts : List FromPart) (scope : Scope) (made : Option Query) (count : ℕ) (query : Query)
@@ -199,12 +210,23 @@ pub from-fields : (c : Contents) (tree : FromTree) (outer : List Scope) (trace :
     ≡ join_all outer trace (first_item earlier ((from_item_of c (out-FromTree tree).first).means outer trace earlier)) (map (join_of c) (out-FromTree tree).joins)
 from-fields c tree outer trace earlier = ap (λ (part : FromPart). part.means outer trace earlier) (opened_from c tree)
 
+join-record : (c : Contents) (word : JoinWord) (item : FromItem) (condition : Option ExprTree)
+    → join_of c (roll-JoinStep (record { word = word; item = item; condition = condition })) ≡ record {
+      word = word;
+      item = from_item_of c item;
+      condition = option_map (part_of c) condition;
+    }
+unfolding token
+join-record c word item None = joinstep-record-none c word item
+join-record c word item (Some condition) = joinstep-record-some c word item condition
+
 pub join-fields : (c : Contents) (tree : JoinStep) → join_of c tree ≡ record {
   word = (out-JoinStep tree).word;
   item = from_item_of c (out-JoinStep tree).item;
   condition = option_map (part_of c) (out-JoinStep tree).condition;
 }
-join-fields c tree = opened_join c tree
+join-fields c tree =
+    ap (join_of c) (sym (roll-out-JoinStep tree)) ∙ join-record c (out-JoinStep tree).word (out-JoinStep tree).item (out-JoinStep tree).condition
 
 -- ---- items
 

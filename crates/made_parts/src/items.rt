@@ -31,11 +31,7 @@ pub fn add_star(scope: &Scope, items: &mut List<Item>) -> Result<(), NoMemory>
 }
 
 /// The columns of one item of FROM, behind the columns so far.
-pub fn add_table_star(
-    scope: &Scope,
-    table: &Name,
-    items: &mut List<Item>,
-) -> Result<(), NoMemory>
+pub fn add_table_star(scope: &Scope, table: &Name, items: &mut List<Item>) -> Result<(), NoMemory>
     ensures { OnOk result ((may_link : Bool) (wanted : Items Sort) (w : Within) →
         MakesItems may_link (table_star_meant scope.now table.now ∷ []) wanted items.old items.new w w) }
 {
@@ -61,11 +57,7 @@ pub fn item_kind(
 }
 
 /// The columns for which a star stands, those of one item or of all, behind the items so far.
-fn add_columns(
-    scope: &Scope,
-    item: Option<usize>,
-    items: &mut List<Item>,
-) -> Result<(), NoMemory>
+fn add_columns(scope: &Scope, item: Option<usize>, items: &mut List<Item>) -> Result<(), NoMemory>
     ensures { OnOk result (items.new ≡ items.old ++ map (column_item scope.now) (columns_of item scope.now)) }
 {
     let columns = scope.columns.as_slice();

@@ -59,11 +59,7 @@ pub fn limit_keys(tree: &QueryTree, around: &Around) -> Result<List<Key>, NoMemo
 }
 
 /// The kinds at which the operands of a chain are made.
-pub fn chain_kinds(
-    tree: &SetTree,
-    wanted: &[Kind],
-    around: &Around,
-) -> Result<List<Kind>, NoMemory>
+pub fn chain_kinds(tree: &SetTree, wanted: &[Kind], around: &Around) -> Result<List<Kind>, NoMemory>
     requires { IsSound around.now.catalog.now }
     ensures { IfOk result (λ kinds. ((set_of_tree around.now.catalog.now tree.now).means (around_of around.now)).breaks ≡ []
         → Settles ((set_of_tree around.now.catalog.now tree.now).means (around_of around.now)) wanted.now kinds) }

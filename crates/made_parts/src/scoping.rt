@@ -9,12 +9,7 @@ use perm_values::{Chars, Copyable, List, NoMemory};
 use std::alloc::Global;
 
 /// The scope of as many items as `count` says, behind the first ones of a scope.
-pub fn segment(
-    alloc: Global,
-    scope: &Scope,
-    first: usize,
-    count: usize,
-) -> Result<Scope, NoMemory>
+pub fn segment(alloc: Global, scope: &Scope, first: usize, count: usize) -> Result<Scope, NoMemory>
     ensures { IfOk result (λ part. (items : Items ScopeItem) → StandsIn (Some items) first scope.now → length items ≡ count → part ≡ scope_of items) }
 {
     let items = names_in(alloc, scope.items.as_slice(), first, count)?;
@@ -50,7 +45,12 @@ fn names_in(
 {
     let mut found = List::new(alloc);
     for place in 0..names.len() {
-        add_name(alloc, &names[place], back_in(first, count, place), &mut found)?;
+        add_name(
+            alloc,
+            &names[place],
+            back_in(first, count, place),
+            &mut found,
+        )?;
     }
     Ok(found)
 }
@@ -79,7 +79,12 @@ fn columns_in(
 {
     let mut found = List::new(alloc);
     for column in columns {
-        add_column(alloc, column, back_in(first, count, column.item), &mut found)?;
+        add_column(
+            alloc,
+            column,
+            back_in(first, count, column.item),
+            &mut found,
+        )?;
     }
     Ok(found)
 }

@@ -11,8 +11,7 @@ ghost use Rattle.made_parts.specs.Sources.{Shows, beside_left, join_count, read_
 use crate::reading::ShownNames;
 use bag_algebra::{Expr, JoinKind, Query};
 use name_nodes::{
-    attributes_of, column_names, external, join, table_plain, table_rows, truth_value,
-    whole_source,
+    attributes_of, column_names, external, join, table_plain, table_rows, truth_value, whole_source,
 };
 use perm_catalog::{Catalog, TableEntry, ViewEntry};
 use perm_values::{Boxed, Chars, Copyable, NoMemory};

@@ -139,11 +139,7 @@ pub fn alike_of_three(
 }
 
 /// The kind that one operand and those behind it take which are to be alike, under what gives a truth.
-pub fn alike_behind(
-    first: &ExprTree,
-    more: &[ExprTree],
-    here: &Here,
-) -> Result<Kind, NoMemory>
+pub fn alike_behind(first: &ExprTree, more: &[ExprTree], here: &Here) -> Result<Kind, NoMemory>
     requires { IsSound here.now.catalog.now }
     ensures { IfOk result (λ kind. kind ≡ settled
         (united (operand (surroundings here.now) Same (part_of here.now.catalog.now first.now)
@@ -236,11 +232,7 @@ fn untested_kind(tree: &ExprTree, here: &Here) -> Result<Option<Kind>, NoMemory>
 }
 
 /// The kind at which the left operand of a sublink and its query's column are made.
-pub fn tested_kind(
-    tested: &ExprTree,
-    query: &QueryTree,
-    here: &Here,
-) -> Result<Kind, NoMemory>
+pub fn tested_kind(tested: &ExprTree, query: &QueryTree, here: &Here) -> Result<Kind, NoMemory>
     requires { IsSound here.now.catalog.now }
     ensures { IfOk result (λ kind. kind ≡ tested_kind
         (means_at (part_of here.now.catalog.now tested.now) (in_tested (surroundings here.now)))

@@ -21,32 +21,108 @@ ghost use Rattle.name_seen.specs.Standing.{around_of as standing_of, surrounding
 ghost use Rattle.made_parts.specs.Cored.{Keeps, MakesClauses, MakesList, MakesSelected, core_over_items, having_part, items_meant, select_parts, sources_meant};
 ghost use Rattle.made_parts.specs.Sources.{IsScope, MakesFrom, MakesJoin, MakesOn, MakesSource};
 
-use bag_algebra::{Aggr, Arm, ChainStep, Expr, Item, Query, SubKind};
+use bag_algebra::Aggr;
+use bag_algebra::Arm;
+use bag_algebra::ChainStep;
+use bag_algebra::Expr;
+use bag_algebra::Item;
+use bag_algebra::Query;
+use bag_algebra::SubKind;
 use clauses_seen::grouped;
-use cores_seen::{in_clause, in_on, is_proving};
-use expression_seen::{in_argument, in_tested, trace_below};
+use cores_seen::in_clause;
+use cores_seen::in_on;
+use cores_seen::is_proving;
+use expression_seen::in_argument;
+use expression_seen::in_tested;
+use expression_seen::trace_below;
 use items_seen::trace_under;
-use made_parts::{
-    Kept, add_star, add_table_star, alike_behind, alike_of_all, alike_of_arms, alike_of_case,
-    alike_of_three, alike_of_two, behind, behind_aggregates, beside_from, chain_kinds,
-    condition_found, core_trace, group_count, groups_made, groups_of, in_clause, in_on, input_or_single, is_proving, item_kind,
-    join_kind, joined, kind_or_any, limit_keys, listed_with, marked_query, named_item,
-    scalar_kind, scope_or_none, segment, shown_names, tested_kind, trace_inside,
-};
-use name_nodes::{
-    Clauses, Condition, Listed, Within, aggregate_made, argument_wanted, chain_start, column_made,
-    core_query, count_made, finished, in_kind, in_list_kind, integer_value, negated_if, null_at,
-    null_test, same_test, set_joined, sublink_made, text_value, times, truth_test, truth_value,
-    wanted_of,
-};
-use name_seen::{Around, Here, gives_of, inside, look_up, need_of, ungrouped};
-use name_words::{Gives, Need, Scope};
+use made_parts::Kept;
+use made_parts::add_star;
+use made_parts::add_table_star;
+use made_parts::alike_behind;
+use made_parts::alike_of_all;
+use made_parts::alike_of_arms;
+use made_parts::alike_of_case;
+use made_parts::alike_of_three;
+use made_parts::alike_of_two;
+use made_parts::behind;
+use made_parts::behind_aggregates;
+use made_parts::beside_from;
+use made_parts::chain_kinds;
+use made_parts::condition_found;
+use made_parts::core_trace;
+use made_parts::group_count;
+use made_parts::groups_made;
+use made_parts::groups_of;
+use made_parts::input_or_single;
+use made_parts::item_kind;
+use made_parts::join_kind;
+use made_parts::joined;
+use made_parts::kind_or_any;
+use made_parts::limit_keys;
+use made_parts::listed_with;
+use made_parts::marked_query;
+use made_parts::named_item;
+use made_parts::scalar_kind;
+use made_parts::scope_or_none;
+use made_parts::segment;
+use made_parts::shown_names;
+use made_parts::tested_kind;
+use made_parts::trace_inside;
+use name_nodes::Clauses;
+use name_nodes::Condition;
+use name_nodes::Listed;
+use name_nodes::Within;
+use name_nodes::aggregate_made;
+use name_nodes::argument_wanted;
+use name_nodes::chain_start;
+use name_nodes::column_made;
+use name_nodes::core_query;
+use name_nodes::count_made;
+use name_nodes::finished;
+use name_nodes::in_kind;
+use name_nodes::in_list_kind;
+use name_nodes::integer_value;
+use name_nodes::negated_if;
+use name_nodes::null_at;
+use name_nodes::null_test;
+use name_nodes::same_test;
+use name_nodes::set_joined;
+use name_nodes::sublink_made;
+use name_nodes::text_value;
+use name_nodes::times;
+use name_nodes::truth_test;
+use name_nodes::truth_value;
+use name_nodes::wanted_of;
+use name_seen::Around;
+use name_seen::Here;
+use name_seen::gives_of;
+use name_seen::inside;
+use name_seen::look_up;
+use name_seen::need_of;
+use name_seen::ungrouped;
+use name_words::Gives;
+use name_words::Need;
+use name_words::Scope;
 use null_logic::Operator;
-use perm_values::{Boxed, Kind, List, NoMemory};
-use sql_tree::{
-    AggWord, ArmTree, Core, ExprBody, ExprStep, ExprTree, FromItem, FromSource, FromTree, JoinStep,
-    QueryTree, SelectItem, SetStep, SetTree,
-};
+use perm_values::Boxed;
+use perm_values::Kind;
+use perm_values::List;
+use perm_values::NoMemory;
+use sql_tree::AggWord;
+use sql_tree::ArmTree;
+use sql_tree::Core;
+use sql_tree::ExprBody;
+use sql_tree::ExprStep;
+use sql_tree::ExprTree;
+use sql_tree::FromItem;
+use sql_tree::FromSource;
+use sql_tree::FromTree;
+use sql_tree::JoinStep;
+use sql_tree::QueryTree;
+use sql_tree::SelectItem;
+use sql_tree::SetStep;
+use sql_tree::SetTree;
 
 /// The expression where it stands, at the kind that is wanted of it if it may be of any. What it adds to the sublinks and
 /// aggregates of its clause comes behind those found so far. It fails only for want of memory.
@@ -586,12 +662,7 @@ fn core_made(core: &Core, wanted: &[Kind], around: &Around) -> Result<Query, NoM
 
 /// The core over all items of its FROM, which are in scope.
 #[cycle(made)]
-fn over_items(
-    core: &Core,
-    wanted: &[Kind],
-    around: &Around,
-    own: Scope,
-) -> Result<Query, NoMemory>
+fn over_items(core: &Core, wanted: &[Kind], around: &Around, own: Scope) -> Result<Query, NoMemory>
     requires { IsSound around.now.catalog.now }
     ensures { IfOk result (λ query. IsScope (sources_meant around.now.catalog.now (standing_of around.now) core.now) own → (breaks : Items Broken) (items : Items ScopeItem)
         → own ≡ scope_of items → MakesQuery (core_over_items around.now.catalog.now (standing_of around.now) core.now breaks items) wanted.now query) }
@@ -765,11 +836,7 @@ fn item_listed(
 
 /// All of FROM, whose items are in scope.
 #[cycle(made)]
-fn sources_made(
-    sources: &[FromTree],
-    around: &Around,
-    scope: &Scope,
-) -> Result<Query, NoMemory>
+fn sources_made(sources: &[FromTree], around: &Around, scope: &Scope) -> Result<Query, NoMemory>
     requires { IsSound around.now.catalog.now }
     ensures { IfOk result (MakesFrom (from_all (scopes_of around.now.outer.now) around.now.trace (map (from_of around.now.catalog.now) sources.now)) 0 scope.now) }
 {

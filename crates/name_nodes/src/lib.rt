@@ -18,9 +18,7 @@ pub use exprs::{
     integer_value, negated_if, null_at, null_test, same_test, text_value, times, truth_test,
     truth_value,
 };
-pub use marks::{
-    attributes_of, column_names, external, table_plain, table_rows, whole_source,
-};
+pub use marks::{attributes_of, column_names, external, table_plain, table_rows, whole_source};
 pub use nodes::{
     aggregate, distinct_if, filter, finished, join, limited, project, proved, set_joined, source,
 };
