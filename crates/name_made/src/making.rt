@@ -10,7 +10,7 @@ ghost use Rattle.name_words.specs.Meanings.{QueryMeant as Meaning, means_at, que
 ghost use Rattle.name_words.specs.Operands.{node, operand};
 ghost use Rattle.name_words.specs.Queries.{set_chain};
 ghost use Rattle.name_words.specs.Scopes.{ScopeItem, scope_of};
-ghost use Rattle.name_words.specs.Sublinks.{aggregated, around_of, exists_meant, if_standing, in_argument, scalar_meant};
+ghost use Rattle.name_words.specs.Sublinks.{aggregated, around_of, exists_meant, if_standing, in_argument, in_tested, scalar_meant};
 ghost use Rattle.name_words.specs.Trees.{arm_of, core_of, from_item_of, from_of, item_of, join_of, part_of, query_of, set_of_tree, set_step_of, step_of};
 ghost use Rattle.name_nodes.specs.Chained.{Serves};
 ghost use Rattle.name_nodes.specs.Listed.{MakesItems};
