@@ -1,0 +1,8 @@
+mod Called
+pub mod Cored
+pub mod Grouped
+pub mod Lists
+mod Named
+pub mod Opened
+pub mod Queried
+mod Starred

@@ -1,0 +1,77 @@
+//! The provenance columns of a query behind its own.
+ghost use Rattle.std.specs.Prelude.{◌≡◌, ◌++◌, ◌+◌, ◌<◌, ◌^◌, map, IfOk, OnOk};
+ghost use Rattle.std.specs.List.{range_with_len};
+ghost use Rattle.bag_algebra.specs.Kinds.{place_kinds};
+ghost use Rattle.name_words.specs.Froms.{named_columns};
+ghost use Rattle.name_words.specs.Queries.{out_column};
+ghost use Rattle.clauses_seen.specs.Columns.{columns_of};
+ghost use Rattle.cores_seen.specs.Behind.{PlacesBehind};
+
+use bag_algebra::Place;
+use clauses_seen::ShownColumn;
+use contribution::{PlaceList, prov_names};
+use perm_values::{Chars, Copyable, Kind, List, NoMemory};
+use query_facts::{Facts, QueryShown};
+use std::alloc::Global;
+
+/// What a query shows that asks for the provenance of one with these columns and facts.
+pub(crate) fn with_places(
+    alloc: Global,
+    mut columns: List<ShownColumn>,
+    facts: Facts,
+) -> Result<QueryShown, NoMemory>
+    ensures { IfOk result (PlacesBehind columns facts) }
+{
+    let own = columns.len();
+    let traceable = facts.traceable;
+    let Facts { places, .. } = facts;
+    let list = PlaceList { places };
+    let kinds = kinds_of_places(alloc, list.places.as_slice())?;
+    let names = prov_names(alloc, &list)?;
+    add_named(alloc, &mut columns, names.as_slice(), kinds.as_slice())?;
+    Ok(QueryShown {
+        columns,
+        places: Some(places_from(alloc, own, kinds.len())?),
+        facts: Facts::proved(alloc, traceable),
+    })
+}
+
+fn kinds_of_places(alloc: Global, places: &[Place]) -> Result<List<Kind>, NoMemory>
+    ensures { IfOk result (λ kinds. kinds ≡ place_kinds places.now) }
+{
+    let mut kinds = List::new(alloc);
+    for place in places {
+        kinds.append(place.kinds.copy(alloc)?)?;
+    }
+    Ok(kinds)
+}
+
+/// The columns of these names and kinds behind those so far.
+fn add_named(
+    alloc: Global,
+    columns: &mut List<ShownColumn>,
+    names: &[Chars],
+    kinds: &[Kind],
+) -> Result<(), NoMemory>
+    ensures { OnOk result (columns_of columns.new ≡ columns_of columns.old ++ map out_column (named_columns names.now kinds.now)) }
+{
+    for at in 0..names.len().min(kinds.len()) {
+        columns.push(ShownColumn {
+            name: names[at].copy(alloc)?,
+            kind: Some(kinds[at]),
+        })?;
+    }
+    Ok(())
+}
+
+/// As many places in a row.
+fn places_from(alloc: Global, start: usize, count: usize) -> Result<List<usize>, NoMemory>
+    requires { start + count < 2 ^ 64 }
+    ensures { IfOk result (λ places. places ≡ range_with_len start count) }
+{
+    let mut places = List::new(alloc);
+    for at in 0..count {
+        places.push(start + at)?;
+    }
+    Ok(places)
+}

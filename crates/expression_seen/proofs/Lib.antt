@@ -1,0 +1,5 @@
+pub mod Adding
+pub mod Alone
+pub mod Behind
+pub mod Forms
+pub mod Sublinked

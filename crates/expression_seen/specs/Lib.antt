@@ -1,0 +1,2 @@
+pub mod Expressed
+pub mod Inner

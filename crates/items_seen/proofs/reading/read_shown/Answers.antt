@@ -1,0 +1,33 @@
+use Rattle.std.specs.Prelude.{[], List, Some, false, option_map}
+use Rattle.std.specs.Option.{option_map_or}
+use Rattle.std.proofs.Common.{refl, ap, sym, ◌∙◌, ◌≡◌}
+use Rattle.bag_algebra.specs.Kinds.{kinds_of}
+use Rattle.perm_catalog.specs.Columns.{column_kinds}
+use Rattle.name_words.specs.Froms.{names_of, settled_columns, table_columns}
+use Rattle.clauses_seen.specs.Columns.{columns_of}
+use Rattle.clauses_seen.specs.declared.column.ShownColumn.{ShownColumn}
+use Rattle.query_facts.specs.Added.{facts_in}
+use Rattle.items_seen.specs.Readings.{external_facts, known_names}
+use Rattle.items_seen.proofs.Plain.{shown-plain}
+use Rattle.items_seen.proofs.Settled.{kinds-settled}
+use Rattle.items_seen.proofs.reading.read_shown.Goals as goal
+
+pub returns : goal.returns
+returns c = λ m whole.
+    let shown = c.args.shown in
+    let columns = c.in_ok-columns.columns in
+    let kinds = c.in_ok-kinds.kinds in
+    let settles : table_columns columns ≡ settled_columns (columns_of shown.columns) =
+    c.in_ok-columns.ensures ∙ ap (λ (columns : List ShownColumn). settled_columns (columns_of columns)) c.as_slice.ensures in
+    let sorts : kinds_of (m.make []) ≡ kinds =
+    whole.kinds [] ∙ kinds-settled (columns_of shown.columns) columns settles ∙ sym (c.in_ok-kinds.ensures ∙ ap column_kinds c.as_slice-2.ensures) in
+    record {
+      whole = whole.whole;
+      columns = ap (option_map settled_columns) whole.known ∙ ap Some (sym settles);
+      kinds = sorts;
+      table = whole.inner [];
+      viewed = refl;
+      plain = sym (c.in_ok-plain.ensures
+          ∙ (λ i. option_map_or (external_facts (known_names (c.as_slice-3.ensures i)) (c.as_slice-4.ensures i) false) shown.places (facts_in shown.facts))
+          ∙ shown-plain m shown (known_names columns) kinds whole (ap names_of settles) sorts);
+    }

@@ -1,0 +1,8 @@
+mod Conditions
+mod CoreSteps
+mod FromTrees
+mod Joined
+mod ListItems
+mod QuerySteps
+mod Rows
+mod WhereSeen
