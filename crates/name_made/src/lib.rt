@@ -1,6 +1,10 @@
 //! What the names and kinds of a statement resolve to: the second pass of name analysis, over what the first pass found.
 #![tactic(auto)]
 
-mod making;
+mod cores;
+mod expressions;
+mod queries;
+mod sources;
 
-pub use making::{made, query_made};
+pub use expressions::made;
+pub use queries::query_made;
