@@ -1,0 +1,6 @@
+pub mod Arms
+pub mod Bare
+pub mod Cores
+pub mod Forms
+pub mod Gone
+pub mod Over

@@ -1,0 +1,21 @@
+ghost use Rattle.std.specs.Prelude.{◌≡◌};
+ghost use Rattle.name_seen.specs.Seen.{first_or};
+ghost use Rattle.name_words.specs.Statements.{width_limit};
+
+use name_words::Break;
+
+/// The most columns that a query may have.
+const MOST_COLUMNS: usize = 1024;
+
+/// That the first of the queries with more than 1,024 columns, at its offset, has too many.
+pub fn first_wide(queries: &[(usize, usize)]) -> Result<(), Break>
+    ensures { result ≡ first_or (width_limit queries.now) tt }
+{
+    match queries.iter().find(|query| query.1 > MOST_COLUMNS) {
+        None => Ok(()),
+        Some(query) => Err(Break {
+            code: 26,
+            at: query.0,
+        }),
+    }
+}

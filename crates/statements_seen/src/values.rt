@@ -1,0 +1,108 @@
+//! The values of INSERT.
+ghost use Rattle.std.specs.Prelude.{◌≡◌, ◌<◌, ◌++◌, [], Err, not, flat_map, length};
+ghost use Rattle.clauses_seen.specs.Told.{Tells};
+ghost use Rattle.name_seen.specs.Named.{scopes_of};
+ghost use Rattle.name_seen.specs.Seen.{first_or, seen};
+ghost use Rattle.name_seen.specs.Standing.{surroundings};
+ghost use Rattle.name_seen.specs.declared.refusal.Refusal.TheVariants.{NoMemory as Short};
+ghost use Rattle.name_words.specs.Meanings.{Meant, broken_if, means_at};
+ghost use Rattle.name_words.specs.Statements as words;
+ghost use Rattle.name_words.specs.Trees.{part_of};
+ghost use Rattle.perm_catalog.specs.Columns.{column_kinds};
+ghost use Rattle.perm_catalog.specs.Sound.{IsSound};
+
+use name_seen::{Here, Refusal, Scopes, Standing, unites};
+use name_words::{Break, Trace};
+use perm_catalog::{Catalog, Column};
+use perm_values::Kind;
+use query_seen::kind_of;
+use sql_tree::{ExprTree, ValuesRow};
+use std::alloc::Global;
+
+/// The first row that has another number of values than the table has columns, or the first break of a value before it.
+pub fn rows_break(
+    alloc: Global,
+    catalog: &Catalog,
+    columns: &[Column],
+    rows: &[ValuesRow],
+) -> Result<(), Refusal>
+    requires { IsSound catalog.now }
+    ensures { Tells (first_or (flat_map (words.row_breaks catalog.now (column_kinds columns.now)) rows.now) tt) result }
+{
+    let outermost = Scopes::Outermost;
+    let here = here_alone(alloc, catalog, &outermost);
+    for row in rows {
+        row_break(&here, columns, row)?;
+    }
+    Ok(())
+}
+
+fn row_break(here: &Here, columns: &[Column], row: &ValuesRow) -> Result<(), Refusal>
+    requires sound { IsSound here.now.catalog.now }
+    requires alone { surroundings here.now ≡ words.bare [] }
+    ensures { Tells (first_or (words.row_breaks here.now.catalog.now (column_kinds columns.now) row.now) tt) result }
+{
+    let values = row.values.as_slice();
+    if values.len() != columns.len() {
+        let at = row.at;
+        return Err(Refusal::Break(Break { code: 21, at }));
+    }
+    values_break(here, columns, values)
+}
+
+fn values_break(here: &Here, columns: &[Column], values: &[ExprTree]) -> Result<(), Refusal>
+    requires sound { IsSound here.now.catalog.now }
+    requires alone { surroundings here.now ≡ words.bare [] }
+    requires even { length values.now ≡ length columns.now }
+    ensures { Tells (first_or (words.values_breaks here.now.catalog.now (column_kinds columns.now) values.now) tt) result }
+{
+    for at in 0..values.len() {
+        value_break(here, columns[at].kind, &values[at])?;
+    }
+    Ok(())
+}
+
+/// The first break of a value of a column of this kind.
+fn value_break(here: &Here, kind: Kind, tree: &ExprTree) -> Result<(), Refusal>
+    requires { IsSound here.now.catalog.now }
+    ensures { Tells (first_or (words.value_breaks kind tree.now.at (means_at (part_of here.now.catalog.now tree.now) (surroundings here.now))) tt) result }
+{
+    value_over(kind, tree.at, kind_of(tree, here))
+}
+
+/// That a value at this offset, whose kind was answered or refused, breaks a rule or doesn't fit a column of this kind.
+fn value_over(
+    kind: Kind,
+    at: usize,
+    answer: Result<Option<Kind>, Refusal>,
+) -> Result<(), Refusal>
+    ensures { (meant : Meant) → Tells (seen meant) answer → Tells (first_or (words.value_breaks kind at meant) tt) result }
+{
+    match answer {
+        Ok(found) => {
+            if !unites(Some(kind), found) {
+                return Err(Refusal::Break(Break { code: 20, at }));
+            }
+            Ok(())
+        }
+        Err(refusal) => Err(refusal),
+    }
+}
+
+/// Where an expression stands outside a query: neither an aggregate nor a sublink may stand there.
+pub fn here_alone<'a>(alloc: Global, catalog: &'a Catalog, scopes: &'a Scopes<'a>) -> Here<'a>
+    ensures place { surroundings result ≡ words.bare (scopes_of scopes.now) }
+    ensures catalog { result.catalog.now ≡ catalog.now }
+{
+    Here {
+        alloc,
+        catalog,
+        scopes,
+        standing: Standing {
+            trace: Trace::Untraced,
+            aggregates: false,
+            sublinks: false,
+            argument: false,
+        },
+    }
+}
