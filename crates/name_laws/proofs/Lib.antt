@@ -1,6 +1,6 @@
-mod Every
+pub mod Every
 pub mod FactsOf
-mod Induction
+pub mod Induction
 mod Kept
 mod KeptCores
 mod KeptFroms

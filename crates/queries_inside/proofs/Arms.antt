@@ -35,6 +35,16 @@ pub arm-held : (c : Contents) (here : Surroundings) (arm : ArmTree)
 unfolding token
 arm-held c here arm = ap (held_arm here) (sym (armtree-record c arm.condition arm.value))
 
+pub step-adds : (c : Contents) (here : Surroundings) (step : ExprStep) {old new : Gathered}
+    → Adds (held_at here (part_of c step.part) ∷ []) old new → Adds (held_step here (step_of c step) ∷ []) old new
+step-adds c here step {old = old} {new = new} added = subst (λ (h : Held). Adds (h ∷ []) old new) (step-held c here step) added
+
+pub arm-adds : (c : Contents) (here : Surroundings) (arm : ArmTree) {old middle new : Gathered}
+    → Adds (held_at here (part_of c arm.condition) ∷ []) old middle → Adds (held_at here (part_of c arm.value) ∷ []) middle new
+    → Adds (held_arm here (arm_of c arm)) old new
+arm-adds c here arm {old = old} {new = new} condition value =
+    subst (λ (hs : List Held). Adds hs old new) (arm-held c here arm) (adds-both condition value)
+
 module _ (c : Contents) (here : Surroundings) where
   abbrev pub Held_part : ExprTree → Held
   Held_part tree = held_at here (part_of c tree)

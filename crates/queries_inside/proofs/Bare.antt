@@ -62,7 +62,7 @@ unlooked false m at kind e none = absurd (cc)
 
 untested : (b : Bool) (m tested : Meant) (at : ℕ) → b ≡ false → IsBare (held (cond b m (tested_unlooked at tested)))
 untested true m tested at e none = absurd (true≢false e)
-untested false m tested at e none = absurd (last-some tested.breaks none)
+untested false m tested at e none = absurd (last-some tested.breaks _ none)
 
 parts-bare : (here : Surroundings) → here.sublinks ≡ false → (parts : List Part) → Every BarePart parts → Every IsBare (map (held_at here) parts)
 unfolding means_at
@@ -82,11 +82,11 @@ module _ (c : Contents) where
 
   bare-body : (frame : ExprBodyFrame) → Parts frame → BareBody (body_step frame)
   unfolding means_at
-  bare-body ExprBody-F.Null h at here e none = refl
-  bare-body (ExprBody-F.NullOf k) h at here e none = refl
-  bare-body (ExprBody-F.Integer number) h at here e none = refl
-  bare-body (ExprBody-F.Text text) h at here e none = refl
-  bare-body (ExprBody-F.Truth truth) h at here e none = refl
+  bare-body ExprBody-F.Null h at here e = λ none. refl
+  bare-body (ExprBody-F.NullOf k) h at here e = λ none. refl
+  bare-body (ExprBody-F.Integer number) h at here e = λ none. refl
+  bare-body (ExprBody-F.Text text) h at here e = λ none. refl
+  bare-body (ExprBody-F.Truth truth) h at here e = λ none. refl
   bare-body (ExprBody-F.Column reference) h at here e = bare-over (over-body (ExprBody-F.Column reference) tt at here) tt
   bare-body (ExprBody-F.«ExprBody::Paren» part) h at here e = h here e
   bare-body (ExprBody-F.Nots count part) h at here e = bare-over (over-body (ExprBody-F.Nots count part) tt at here) (h here e, tt)
@@ -124,7 +124,7 @@ module _ (c : Contents) where
       bare-over (over-body (ExprBody-F.Coalesce list) tt at here) (parts-bare here e list h)
   bare-body (ExprBody-F.NullIf first second) h at here e =
       bare-over (over-body (ExprBody-F.NullIf first second) tt at here) (h.0 here e, (h.1 here e, tt))
-  bare-body (ExprBody-F.Aggregate function None) h at here e none = refl
+  bare-body (ExprBody-F.Aggregate function None) h at here e = λ none. refl
   bare-body (ExprBody-F.Aggregate function (Some argument)) h at here e =
       bare-over (over-body (ExprBody-F.Aggregate function (Some argument)) h at here) tt
   bare-body (ExprBody-F.Exists query) h at here e =

@@ -1,5 +1,5 @@
 -- Over which parts queries, set operations, cores and FROM are.
-use Rattle.std.specs.Prelude.{◌≡◌, ⊤, ℕ, ℤ, Bool, true, false, cond, not, List, [], ◌∷◌, ◌++◌, map, flat_map, Option, Some, None, option_map}
+use Rattle.std.specs.Prelude.{◌≡◌, ⊤, ℕ, ℤ, Bool, true, false, cond, not, List, [], ◌∷◌, ◌++◌, map, flat_map, Option, Some, None, option_map, is_some}
 use Rattle.std.proofs.Common.{refl, ap, sym, subst, ◌∙◌, append-nil, true≢false}
 use Rattle.std.specs.List.{list_any}
 use Rattle.std.specs.Option.{option_map_or}
@@ -23,7 +23,7 @@ use Rattle.sql_tree.specs.declared.source.JoinStep.{JoinStep, out-JoinStep}
 use Rattle.sql_tree.specs.declared.source.ScopeMark.{ScopeMark}
 use Rattle.name_words.proofs.Equations.{token, settree-core, settree-paren, settree-chain, setstep-record, querytree-record, selectitem-star, selectitem-tablestar, selectitem-value, fromitem-record, fromsource-named, fromsource-inner}
 use Rattle.name_words.specs.Cores.{BodyPart, Clauses, clause_breaks, core_clauses, core_over, core_seen, core_trace, core_unlooked, group_break, group_scope, has_some, in_clause, optional_breaks, optional_inside, optional_meant, word_breaks}
-use Rattle.name_words.specs.Froms.{FromMeant, FromPart, ItemMeant, JoinPart, Read, SourcePart, beside_from, both_known, condition_breaks, first_item, from_all, from_more, item_meant, join_all, join_item, label_of, mark_breaks, on_breaks, on_meant, read_named, read_of, scope_items, scope_name, trace_under}
+use Rattle.name_words.specs.Froms.{FromMeant, FromPart, ItemMeant, JoinPart, Read, SourcePart, beside_from, both_known, condition_breaks, first_item, from_all, from_more, in_on, item_meant, join_all, join_item, label_of, mark_breaks, on_breaks, on_meant, read_named, read_of, scope_items, scope_name, trace_under}
 use Rattle.name_words.specs.Items.{SelectMeant, SelectPart, columns_meant, item_step, items_breaks, items_inside, no_columns, star_meant, table_star_meant}
 use Rattle.name_words.specs.Meanings.{Around, Inside, Meant, OutColumn, Part, QueryMeant, QueryPart, Surroundings, both_inside, broken_if, is_whole, means_at, nothing_inside, query_means_at}
 use Rattle.name_words.specs.Queries.{SetStepPart, count_columns, is_proving, keys_breaks, keys_of, limited, operand_breaks, plain_query, proved_query, query_seen, set_chain, set_joined, unprovable}
@@ -34,7 +34,7 @@ use Rattle.name_words.specs.declared.scope.Scope.{Scope}
 use Rattle.name_words.specs.declared.trace.Trace.{Trace}
 use Rattle.name_words.specs.declared.trace.Trace.TheVariants.{InProvenance as in_provenance}
 use Rattle.name_laws.proofs.Every.{Every, front-none, back-none}
-use Rattle.name_forms.proofs.Opened.{Layer_core, Layer_from, Layer_join, opened_core, opened_from, opened_join, opened_from_item, shown_core, shown_from, shown_join}
+use Rattle.queries_inside.proofs.Opened.{core-is, from-is, from_item-is, join-is}
 use Rattle.queries_inside.specs.Held.{Adds, Held, all_breaks, all_inside, around_body, around_parts, clauses_of, condition_of, having_of, held, held_at, held_clauses, held_from, held_froms, held_item, held_items, held_joins, held_operand, held_optional, held_query, held_read, held_select, inside_in, items_of, query_alone, sources_of}
 use Rattle.queries_inside.specs.Passed.{HasScope, HasWidth}
 use Rattle.queries_inside.specs.declared.gathered.Gathered.{Gathered}
@@ -75,10 +75,32 @@ module _ (c : Contents) (around : Around) (tree : SetTree) where
       (ap (λ (t : SetTree). held_query ((set_of_tree c t).means around)) is ∙ ap (λ (body : BodyPart). held_query (body.means around)) (settree-chain c first steps))
       (chain-over around ((set_of_tree c first).means around) (map (set_step_of c) steps))
 
-pub operand-stands : (c : Contents) (around : Around) (step : SetStep)
+-- whether PROVENANCE stands behind the first SELECT
+pub core-word : (c : Contents) (tree : SetTree) (core read : Core) → tree ≡ set.Core core → read ≡ core
+    → is_some (out-Core read).provenance ≡ is_some (set_of_tree c tree).word
+unfolding token
+core-word c tree core read is same = sym (ap (λ (t : SetTree). is_some (set_of_tree c t).word) is
+    ∙ ap (λ (body : BodyPart). is_some body.word) (settree-core c core) ∙ ap (λ (body : BodyPart). is_some body.word) (core-is c core)
+    ∙ ap (λ (k : Core). is_some (out-Core k).provenance) (sym same))
+
+pub paren-word : (c : Contents) (tree : SetTree) (query : QueryTree) → tree ≡ set.Paren query → false ≡ is_some (set_of_tree c tree).word
+unfolding token
+paren-word c tree query is = sym (ap (λ (t : SetTree). is_some (set_of_tree c t).word) is ∙ ap (λ (body : BodyPart). is_some body.word) (settree-paren c query))
+
+pub chain-word : (c : Contents) (tree first read : SetTree) (steps : List SetStep) (b : Bool) → tree ≡ set.Chain first steps → read ≡ first
+    → b ≡ is_some (set_of_tree c read).word → b ≡ is_some (set_of_tree c tree).word
+unfolding token
+chain-word c tree first read steps b is same e = e ∙ ap (λ (t : SetTree). is_some (set_of_tree c t).word) same
+    ∙ sym (ap (λ (t : SetTree). is_some (set_of_tree c t).word) is ∙ ap (λ (body : BodyPart). is_some body.word) (settree-chain c first steps))
+
+operand-stands : (c : Contents) (around : Around) (step : SetStep)
     → held_operand around (set_step_of c step) ≡ held_query ((set_of_tree c step.operand).means (unprovable around))
 unfolding token
 operand-stands c around step = ap (held_operand around) (setstep-record c step.word step.all step.at step.operand)
+
+pub operand-adds : (c : Contents) (around : Around) (step : SetStep) {old new : Gathered}
+    → Adds (held_query ((set_of_tree c step.operand).means (unprovable around)) ∷ []) old new → Adds (held_operand around (set_step_of c step) ∷ []) old new
+operand-adds c around step {old = old} {new = new} added = subst (λ (h : Held). Adds (h ∷ []) old new) (sym (operand-stands c around step)) added
 
 -- ---- a query
 
@@ -103,9 +125,6 @@ proved-over at m order limit query =
 seen-over : (around : Around) (at : ℕ) (body : BodyPart) (order : List OrderTree) (limit : Option ℤ)
     → IsOver (held_query (query_seen around at body order limit)) (held_alone at (query_seen around at body order limit) ∷ held_query (body.means (around_body around body)) ∷ [])
 seen-over around at body order limit = chosen (is_proving around body) where
-  proved : QueryMeant
-  proved = let m = body.means (record around { trace = in_provenance }) in
-      proved_query at m order limit (limited limit (keys_of m.columns order) (m.make []))
   chosen : (b : Bool) → IsOver (held_query (cond b
       (let m = body.means (record around { trace = in_provenance }) in proved_query at m order limit (limited limit (keys_of m.columns order) (m.make [])))
       (plain_query at (body.means around) order limit)))
@@ -161,7 +180,8 @@ on-nothing : (outer : List Scope) (trace : Trace) (items : Option (List ScopeIte
     → option_map_or (λ (m : Meant). m.inside) (on_meant outer trace items condition) nothing_inside ≡ nothing_inside
 on-nothing outer trace None condition bare none = refl
 on-nothing outer trace (Some items) None bare none = refl
-on-nothing outer trace (Some items) (Some condition) bare none = bare _ refl (front-none _ _ none)
+on-nothing outer trace (Some items) (Some condition) bare none =
+    bare (in_on items outer trace) refl (front-none (condition.means (in_on items outer trace)).breaks _ none)
 
 join-over : (outer : List Scope) (trace : Trace) (left : FromMeant) (step : JoinPart) (m : ItemMeant) → BareJoin step
     → IsOver (held_from (join_item outer trace left step m)) (held_from left ∷ held_item m ∷ [])
@@ -182,12 +202,12 @@ joins-over outer trace left (step ∷ steps) bare =
     (joins-over outer trace (join_item outer trace left step m) steps bare.1) (join-over outer trace left step m bare.0)
 
 module _ (c : Contents) where
-  on-bare : (layer : Layer_join) (condition : Option ExprTree) → BareOn (shown_join c (record layer { condition = condition })).condition
-  on-bare layer None = tt
-  on-bare layer (Some condition) = bare-tree c condition
+  on-bare : (condition : Option ExprTree) → BareOn (option_map (part_of c) condition)
+  on-bare None = tt
+  on-bare (Some condition) = bare-tree c condition
 
   join-bare : (step : JoinStep) → BareJoin (join_of c step)
-  join-bare step = subst BareJoin (sym (opened_join c step)) (on-bare (out-JoinStep step) (out-JoinStep step).condition)
+  join-bare step = subst BareJoin (sym (join-is c step)) (on-bare (out-JoinStep step).condition)
 
   joins-bare : (steps : List JoinStep) → Every BareJoin (map (join_of c) steps)
   joins-bare [] = tt
@@ -200,12 +220,27 @@ module _ (c : Contents) where
       ∷ held_joins outer trace (names ++ ((from_item_of c (out-FromTree tree).first).means outer trace names).name ∷ []) (map (join_of c) (out-FromTree tree).joins))
   from-stands outer trace names tree =
       let m = (from_item_of c (out-FromTree tree).first).means outer trace names in
-      over-alike (ap (λ (part : FromPart). held_from (part.means outer trace names)) (opened_from c tree))
+      over-alike (ap (λ (part : FromPart). held_from (part.means outer trace names)) (from-is c tree))
       (joins-over outer trace (first_item names m) (map (join_of c) (out-FromTree tree).joins) (joins-bare (out-FromTree tree).joins))
 
-  pub join-stands : (outer : List Scope) (trace : Trace) (names : List (List ℕ)) (step : JoinStep)
+  join-stands : (outer : List Scope) (trace : Trace) (names : List (List ℕ)) (step : JoinStep)
       → held_item ((join_of c step).item.means outer trace names) ≡ held_item ((from_item_of c (out-JoinStep step).item).means outer trace names)
-  join-stands outer trace names step = ap (λ (part : JoinPart). held_item (part.item.means outer trace names)) (opened_join c step)
+  join-stands outer trace names step = ap (λ (part : JoinPart). held_item (part.item.means outer trace names)) (join-is c step)
+
+  pub from-adds : (outer : List Scope) (trace : Trace) (tree : FromTree) (read : List JoinStep) (old middle new : Gathered) → read ≡ (out-FromTree tree).joins
+      → ((names : List (List ℕ)) → Adds (held_item ((from_item_of c (out-FromTree tree).first).means outer trace names) ∷ []) old middle)
+      → ((names : List (List ℕ)) → Adds (held_joins outer trace names (map (join_of c) read)) middle new)
+      → (names : List (List ℕ)) → Adds (held_from ((from_of c tree).means outer trace names) ∷ []) old new
+  from-adds outer trace tree read old middle new same first joins names =
+      adds-over (from-stands outer trace names tree) (adds-both (first names)
+      (subst (λ (steps : List JoinStep). Adds (held_joins outer trace (names ++ ((from_item_of c (out-FromTree tree).first).means outer trace names).name ∷ []) (map (join_of c) steps)) middle new)
+      same (joins (names ++ ((from_item_of c (out-FromTree tree).first).means outer trace names).name ∷ []))))
+
+  pub join-adds : (outer : List Scope) (trace : Trace) (step : JoinStep) {old new : Gathered}
+      → ((names : List (List ℕ)) → Adds (held_item ((from_item_of c (out-JoinStep step).item).means outer trace names) ∷ []) old new)
+      → (names : List (List ℕ)) → Adds (held_item ((join_of c step).item.means outer trace names) ∷ []) old new
+  join-adds outer trace step {old = old} {new = new} added names =
+      subst (λ (h : Held). Adds (h ∷ []) old new) (sym (join-stands outer trace names step)) (added names)
 
   item-over : (at : ℕ) (mark : ScopeMark) (trace : Trace) (earlier : List (List ℕ)) (name label : List ℕ) (read : Read)
       → IsOver (held_item (item_meant at mark trace earlier name label read)) (held_read read ∷ [])
@@ -216,7 +251,7 @@ module _ (c : Contents) where
 
   module _ (outer : List Scope) (trace : Trace) (names : List (List ℕ)) (item : FromItem) where
     item-stands : IsOver (held_item ((from_item_of c item).means outer trace names)) (held_read (read_of c item.mark outer trace (source_of c item.source)) ∷ [])
-    item-stands = over-alike (ap (λ part. held_item (part.means outer trace names)) (opened_from_item c item))
+    item-stands = over-alike (ap (λ part. held_item (part.means outer trace names)) (from_item-is c item))
         (item-over item.at item.mark trace names (scope_name (source_of c item.source) item.alias) (label_of (source_of c item.source) item.alias)
         (read_of c item.mark outer trace (source_of c item.source)))
 
@@ -345,7 +380,7 @@ module _ (around : Around) (word : Option ℕ) (has_from is_distinct : Bool) (it
         let clauses : clause_breaks plain_scope condition groups having seen_clauses ≡ [] = back-none (word_breaks around word) _ none in
         let listed : items_breaks seen_clauses.list ≡ [] = back-none _ (items_breaks seen_clauses.list) clauses in
         let before : (optional_breaks condition seen_clauses.where_meant ++ flat_map (group_break plain_scope) groups) ++ optional_breaks having seen_clauses.having_meant ≡ [] =
-            front-none _ (items_breaks seen_clauses.list) clauses in
+        front-none _ (items_breaks seen_clauses.list) clauses in
         appended-none (held_items has_from wide_scope list_here items) _ (list-breaks has_from wide_scope list_here items ∙ listed)
         (appended-none (held_froms around.outer (core_trace around word) [] sources) _ ((all-over around.outer (core_trace around word) sources).breaks from_none)
         (appended-none (held_optional where_here condition) _
@@ -388,37 +423,55 @@ module _ (around : Around) (word : Option ℕ) (has_from is_distinct : Bool) (it
     chosen false e none = broken (back-none (word_breaks around word) input.breaks none)
 
 module _ (c : Contents) (around : Around) (core : Core) where
-  abbrev layer : Layer_core
-  layer = out-Core core
+  abbrev seen_core : QueryMeant
+  seen_core = core_seen around (out-Core core).provenance (from_all around.outer (core_trace around (out-Core core).provenance) (sources_of c core))
+      (has_some (sources_of c core)) (out-Core core).distinct (items_of c core) (condition_of c core) (out-Core core).groups (having_of c core)
 
-  abbrev seen_with : Option Part → Option Part → QueryMeant
-  seen_with condition having = core_seen around layer.provenance (from_all around.outer (core_trace around layer.provenance) (sources_of c core))
-      (has_some (sources_of c core)) layer.distinct (items_of c core) condition layer.groups having
+  core-stands-so : (core_of c core).means around ≡ seen_core
+  core-stands-so = ap (λ (body : BodyPart). body.means around) (core-is c core)
 
-  condition-is : (l : Layer_core) (o : Option ExprTree) → (shown_core c (record l { condition = o })).condition ≡ option_map (part_of c) o
-  condition-is l None = refl
-  condition-is l (Some part) = refl
+  module _ (own : Around) (k : Contents) (same : own ≡ around_parts around (out-Core core).provenance) (held_same : k ≡ c) where
+    abbrev Found : Option Scope → Type 0
+    Found found = HasScope (from_all own.outer own.trace (sources_of k core)) (out-Core core).groups (having_of k core) (items_of k core) found
 
-  having-is : (l : Layer_core) (o : Option ExprTree) → (shown_core c (record l { having = o })).having ≡ option_map (part_of c) o
-  having-is l None = refl
-  having-is l (Some part) = refl
+    found-here : (found : Option Scope) → Found found
+        → HasScope (from_all around.outer (core_trace around (out-Core core).provenance) (sources_of c core)) (out-Core core).groups (having_of c core) (items_of c core) found
+    found-here found is =
+        subst (λ (a : Around). HasScope (from_all a.outer a.trace (sources_of c core)) (out-Core core).groups (having_of c core) (items_of c core) found) same
+        (subst (λ (h : Contents). HasScope (from_all own.outer own.trace (sources_of h core)) (out-Core core).groups (having_of h core) (items_of h core) found) held_same is)
 
-  core-is : (core_of c core).means around ≡ seen_with (condition_of c core) (having_of c core)
-  core-is = ap (λ (body : BodyPart). body.means around) (opened_core c core)
-      ∙ (λ i. seen_with (condition-is layer layer.condition i) (having-is layer layer.having i))
+    clauses-here : (scope : Scope) (old new : Gathered) → Adds (clauses_of k own scope core) old new
+        → Adds (clauses_of c (around_parts around (out-Core core).provenance) scope core) old new
+    clauses-here scope old new added =
+        subst (λ (a : Around). Adds (clauses_of c a scope core) old new) same (subst (λ (h : Contents). Adds (clauses_of h own scope core) old new) held_same added)
 
-  pub core-adds : (scope : Scope) (old new : Gathered)
-      → HasScope (from_all around.outer (core_trace around layer.provenance) (sources_of c core)) layer.groups (having_of c core) (items_of c core) (Some scope)
-      → Adds (clauses_of c (around_parts around layer.provenance) scope core) old new → Adds (held_query ((core_of c core).means around) ∷ []) old new
-  core-adds scope old new is added = adds-over
-      (over-alike (ap held_query core-is)
-      (core_seen-over around layer.provenance (has_some (sources_of c core)) layer.distinct (items_of c core) (sources_of c core)
-      (condition_of c core) layer.groups (having_of c core) scope is))
-      added
+    pub core-adds : (found : Option Scope) (scope : Scope) (old new : Gathered) → Found found → found ≡ Some scope → Adds (clauses_of k own scope core) old new
+        → Adds (held_query ((core_of c core).means around) ∷ []) old new
+    core-adds found scope old new is some added = adds-over
+        (over-alike (ap held_query core-stands-so)
+        (core_seen-over around (out-Core core).provenance (has_some (sources_of c core)) (out-Core core).distinct (items_of c core) (sources_of c core)
+        (condition_of c core) (out-Core core).groups (having_of c core) scope (found-here (Some scope) (subst Found some is))))
+        (clauses-here scope old new added)
 
-  pub core-broken : (old : Gathered)
-      → HasScope (from_all around.outer (core_trace around layer.provenance) (sources_of c core)) layer.groups (having_of c core) (items_of c core) None
-      → Adds (held_query ((core_of c core).means around) ∷ []) old old
-  core-broken old broken = adds-broken old
-      (λ none. core_seen-broken around layer.provenance (has_some (sources_of c core)) layer.distinct (items_of c core) (sources_of c core)
-      (condition_of c core) layer.groups (having_of c core) broken (ap (λ (m : QueryMeant). m.breaks) (sym core-is) ∙ none))
+    pub core-broken : (found : Option Scope) (old : Gathered) → Found found → found ≡ None → Adds (held_query ((core_of c core).means around) ∷ []) old old
+    core-broken found old is none = adds-broken old
+        (λ whole. core_seen-broken around (out-Core core).provenance (has_some (sources_of c core)) (out-Core core).distinct (items_of c core) (sources_of c core)
+        (condition_of c core) (out-Core core).groups (having_of c core) (found-here None (subst Found none is)) (ap (λ (m : QueryMeant). m.breaks) (sym core-stands-so) ∙ whole))
+
+-- the clauses of a core one after the other
+pub clauses-adds : (c : Contents) (around : Around) (scope : Scope) (core : Core) (in_list in_where : Surroundings) (items : List SelectItem) (sources : List FromTree)
+    (old first second third new : Gathered) → in_list ≡ in_clause scope around.outer around.trace true
+    → in_where ≡ in_clause (record scope { groups = None }) around.outer around.trace false
+    → items ≡ (out-Core core).items → sources ≡ (out-Core core).sources
+    → ((has_from : Bool) (sight : Scope) → Adds (held_items has_from sight in_list (map (item_of c) items)) old first)
+    → ((names : List (List ℕ)) → Adds (held_froms around.outer around.trace names (map (from_of c) sources)) first second)
+    → Adds (held_optional in_where (condition_of c core)) second third → Adds (held_optional in_list (having_of c core)) third new
+    → Adds (clauses_of c around scope core) old new
+clauses-adds c around scope core in_list in_where items sources old first second third new list_is where_is same same_too listed from condition having =
+    adds-both
+    (subst (λ (here : Surroundings). Adds (held_items (has_some (sources_of c core)) scope here (items_of c core)) old first) list_is
+    (subst (λ (items : List SelectItem). Adds (held_items (has_some (sources_of c core)) scope in_list (map (item_of c) items)) old first) same
+    (listed (has_some (sources_of c core)) scope)))
+    (adds-both (subst (λ (sources : List FromTree). Adds (held_froms around.outer around.trace [] (map (from_of c) sources)) first second) same_too (from []))
+    (adds-both (subst (λ (here : Surroundings). Adds (held_optional here (condition_of c core)) second third) where_is condition)
+    (subst (λ (here : Surroundings). Adds (held_optional here (having_of c core)) third new) list_is having)))

@@ -1,6 +1,7 @@
 -- Over which parts an expression of each form is; and that nothing stands inside one in which no sublink may stand.
 use Rattle.std.specs.Prelude.{◌≡◌, ⊤, ℕ, Bool, true, false, cond, not, List, [], ◌∷◌, ◌++◌, map, flat_map, Option, Some, None}
-use Rattle.std.proofs.Common.{refl, ap, sym, subst, ◌∙◌, append-nil, map-append}
+use Rattle.std.proofs.Common.{refl, ap, sym, subst, ◌∙◌, append-nil}
+use Rattle.std.proofs.lemmas.List.{map-append}
 use Rattle.null_logic.specs.declared.operator.Operator.{Operator}
 use Rattle.null_logic.specs.declared.operator.Operator.TheVariants as x
 use Rattle.null_logic.specs.declared.compare.Compare.TheVariants.{Equal, NotEqual}
@@ -16,7 +17,7 @@ use Rattle.sql_tree.specs.declared.expression.ExprTree.{ExprTree}
 use Rattle.name_words.proofs.Equations.{ExprBodyFrame}
 use Rattle.name_words.specs.Expressions.{ArmPart, Body, StepPart, arm_operands, body_step, case_made, case_meant, chain_gives, chain_made, else_operand, first_need, first_of, in_kind, negated_if, null_meant, second_of, step_operand, times}
 use Rattle.name_words.specs.Meanings.{Inside, Meant, Part, QueryMeant, QueryPart, Surroundings, both_inside, broken_if, means_at, nothing_inside, seen_kind}
-use Rattle.name_words.specs.Operands.{Operand, first_unfit, node, operand, operated, need_of, parts_breaks, parts_inside, unfit_break}
+use Rattle.name_words.specs.Operands.{Operand, first_unfit, gives_of, node, operand, operated, need_of, parts_breaks, parts_inside, unfit_break}
 use Rattle.name_words.specs.Scopes.{look_up}
 use Rattle.name_words.specs.Sublinks.{aggregate_meant, around_of, breaking, column_meant, exists_meant, if_standing, in_argument, in_tested, is_one_column, scalar_meant, takes_kind, tested_break, tested_looked, tested_meant, tested_unlooked}
 use Rattle.name_words.specs.Trees.{part_of}
@@ -136,9 +137,9 @@ scalar-over here at query = record {
   inside = λ none. sym (inside-one (held_query query));
 }
 
-pub last-some : (bs : List Break) {b : Break} → bs ++ b ∷ [] ≡ [] → ⊥
-last-some [] none = cc
-last-some (a ∷ bs) none = cc
+pub last-some : (bs : List Break) (b : Break) → bs ++ b ∷ [] ≡ [] → ⊥
+last-some [] b none = cc
+last-some (a ∷ bs) b none = cc
 
 tested-over : (here : Surroundings) (at : ℕ) (sub : SubKind) (part : Part) (query : QueryPart) → IsBare (held (part.means (in_tested here)))
     → IsOver (held (tested_meant here at sub part query)) (held_query (query.means (around_of here)) ∷ [])
@@ -159,8 +160,8 @@ tested-over here at sub part query bare = chosen here.sublinks where
         ∙ sym (inside-one (held_query (query.means (around_of here))));
   }
   chosen false = record {
-    breaks = λ none. absurd (last-some (part.means (in_tested here)).breaks none);
-    inside = λ none. absurd (last-some (part.means (in_tested here)).breaks none);
+    breaks = λ none. absurd (last-some (part.means (in_tested here)).breaks _ none);
+    inside = λ none. absurd (last-some (part.means (in_tested here)).breaks _ none);
   }
 
 -- ---- every form
@@ -230,7 +231,7 @@ TestedBare (ExprBody-F.Scalar query) = ⊤
 operated-over : (op : Operator) (prefix : Bool) (assembled : List Expr → Expr) (here : Surroundings) (parts : List Part)
     → IsOver (held (operated op prefix assembled here parts)) (map (held_at here) parts)
 operated-over op prefix assembled here parts =
-    node-over _ assembled (map (operand here (need_of op prefix)) parts) (map (held_at here) parts) (operands-held here (need_of op prefix) parts)
+    node-over (gives_of op prefix) assembled (map (operand here (need_of op prefix)) parts) (map (held_at here) parts) (operands-held here (need_of op prefix) parts)
 
 pub over-body : (frame : ExprBodyFrame) → TestedBare frame → (at : ℕ) (here : Surroundings)
     → IsOver (held ((body_step frame).means at here)) (parts_in here frame)

@@ -1,7 +1,7 @@
 -- Lists that are gone through from the left.
 use Rattle.std.specs.Prelude.{◌≡◌, ℕ, ◌+◌, ◌<◌, List, [], ◌∷◌, ◌++◌, length, map, flat_map}
-use Rattle.std.proofs.Common.{refl, ap, sym, subst, ◌∙◌, take, get_or, append_assoc, append-nil, map-append}
-use Rattle.std.proofs.lemmas.List.{take_more}
+use Rattle.std.proofs.Common.{refl, ap, sym, subst, ◌∙◌, take, get_or, append_assoc, append-nil}
+use Rattle.std.proofs.lemmas.List.{map-append, take_more}
 use Rattle.name_words.specs.Froms.{FromMeant, FromPart, ItemMeant, JoinPart}
 use Rattle.name_words.specs.declared.scope.Scope.{Scope}
 use Rattle.name_words.specs.declared.trace.Trace.{Trace}

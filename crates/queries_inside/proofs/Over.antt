@@ -98,3 +98,6 @@ pub adds-this : {h : Held} {old new : Gathered} → (h.breaks ≡ [] → inside_
 adds-this {h = h} {old = old} same = record {
   adds = λ whole. same (sym (breaks-one h) ∙ whole) ∙ ap (both_inside (inside_in old)) (sym (inside-one h));
 }
+
+pub adds-alike : {h k : Held} {old new : Gathered} → h ≡ k → Adds (k ∷ []) old new → Adds (h ∷ []) old new
+adds-alike {old = old} {new = new} e added = subst (λ (h : Held). Adds (h ∷ []) old new) (sym e) added

@@ -1,5 +1,5 @@
 -- What stands inside parts that may break.
-use Rattle.std.specs.Prelude.{◌≡◌, ℕ, Bool, true, false, cond, List, [], ◌∷◌, ◌++◌, map, Option, Some, None, option_map}
+use Rattle.std.specs.Prelude.{◌≡◌, ℕ, Bool, true, false, cond, List, [], ◌∷◌, ◌++◌, map, Option, Some, None, option_map, nat_lt}
 use Rattle.perm_catalog.specs.Contents.{Contents}
 use Rattle.sql_tree.specs.declared.query.Core.{Core, out-Core}
 use Rattle.name_words.specs.Cores.{BodyPart, core_trace, has_some, in_clause}
@@ -8,6 +8,7 @@ use Rattle.name_words.specs.Froms.{FromMeant, FromPart, ItemMeant, JoinPart, Rea
 use Rattle.name_words.specs.Items.{SelectMeant, SelectPart}
 use Rattle.name_words.specs.Meanings.{Around, Inside, Meant, Part, QueryMeant, Surroundings, both_inside, nothing_inside, means_at}
 use Rattle.name_words.specs.Queries.{SetStepPart, is_proving, unprovable}
+use Rattle.name_words.specs.Statements.{most_query_columns}
 use Rattle.name_words.specs.Trees.{from_of, item_of, part_of}
 use Rattle.name_words.specs.declared.answer.Break.{Break}
 use Rattle.name_words.specs.declared.scope.Scope.{Scope}
@@ -23,6 +24,10 @@ query_alone at columns = record { queries = (at, columns) ∷ []; names = [] }
 
 abbrev pub names_alone : List (List ℕ) → Inside
 names_alone names = record { queries = []; names = names }
+
+-- more columns than a query may have
+abbrev pub is_wide : ℕ → Bool
+is_wide columns = nat_lt most_query_columns columns
 
 -- ---- parts
 

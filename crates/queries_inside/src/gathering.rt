@@ -12,7 +12,7 @@ ghost use Rattle.name_words.specs.Sublinks.{around_of as below};
 use crate::first_pass::{scope_of, width_of};
 use crate::gathered::Gathered;
 use crate::standing::{
-    around_body, around_inner, around_parts, around_sublink, here_in, unprovable,
+    around_body, around_inner, around_parts, around_sublink, in_clause, unprovable,
 };
 use name_seen::{Around, Here, inside};
 use name_words::Scope;
@@ -24,11 +24,7 @@ use sql_tree::{
 
 /// Gathers what stands inside a query that breaks nothing behind what was gathered so far.
 #[cycle(gathering)]
-pub fn query_inside(
-    tree: &QueryTree,
-    around: &Around,
-    found: &mut Gathered,
-) -> Result<(), NoMemory>
+pub fn query_inside(tree: &QueryTree, around: &Around, found: &mut Gathered) -> Result<(), NoMemory>
     requires { IsSound around.now.catalog.now }
     ensures { OnOk result (Adds (held_query (query_means_at (query_of around.now.catalog.now tree.now) (around_of around.now)) ∷ []) found.old found.new) }
 {
@@ -65,11 +61,7 @@ fn set_inside(tree: &SetTree, around: &Around, found: &mut Gathered) -> Result<(
 }
 
 #[cycle(gathering)]
-fn operands_inside(
-    steps: &[SetStep],
-    around: &Around,
-    found: &mut Gathered,
-) -> Result<(), NoMemory>
+fn operands_inside(steps: &[SetStep], around: &Around, found: &mut Gathered) -> Result<(), NoMemory>
     requires { IsSound around.now.catalog.now }
     ensures { OnOk result (Adds (map (held_operand (around_of around.now)) (map (set_step_of around.now.catalog.now) steps.now)) found.old found.new) }
 {
@@ -105,13 +97,24 @@ fn clauses_inside(
     requires { IsSound around.now.catalog.now }
     ensures { OnOk result (Adds (clauses_of around.now.catalog.now (around_of around.now) scope.now core.now) found.old found.new) }
 {
-    let grouped = inside(scope, false, around.outer)?;
-    let here = here_in(around, &grouped, true);
-    items_inside(core.items.as_slice(), &here, found)?;
+    let grouped = inside(&*scope, false, &*around.outer)?;
+    let in_list = Here {
+        alloc: around.alloc,
+        catalog: &*around.catalog,
+        scopes: &grouped,
+        standing: in_clause(around.trace, true),
+    };
+    items_inside(core.items.as_slice(), &in_list, found)?;
     sources_inside(core.sources.as_slice(), around, found)?;
-    let rows = inside(scope, true, around.outer)?;
-    condition_inside(&core.condition, &here_in(around, &rows, false), found)?;
-    condition_inside(&core.having, &here, found)?;
+    let rows = inside(&*scope, true, &*around.outer)?;
+    let in_where = Here {
+        alloc: around.alloc,
+        catalog: &*around.catalog,
+        scopes: &rows,
+        standing: in_clause(around.trace, false),
+    };
+    condition_inside(&core.condition, &in_where, found)?;
+    condition_inside(&core.having, &in_list, found)?;
     Ok(())
 }
 
@@ -160,11 +163,7 @@ fn condition_inside(
 }
 
 #[cycle(gathering)]
-fn sources_inside(
-    trees: &[FromTree],
-    around: &Around,
-    found: &mut Gathered,
-) -> Result<(), NoMemory>
+fn sources_inside(trees: &[FromTree], around: &Around, found: &mut Gathered) -> Result<(), NoMemory>
     requires { IsSound around.now.catalog.now }
     ensures { OnOk result ((names : Items (Items ℕ)) → Adds (held_froms (around_of around.now).outer around.now.trace names (map (from_of around.now.catalog.now) trees.now)) found.old found.new) }
 {
@@ -213,11 +212,7 @@ fn source_inside(item: &FromItem, around: &Around, found: &mut Gathered) -> Resu
 }
 
 #[cycle(gathering)]
-fn sublink_inside(
-    query: &QueryTree,
-    here: &Here,
-    found: &mut Gathered,
-) -> Result<(), NoMemory>
+fn sublink_inside(query: &QueryTree, here: &Here, found: &mut Gathered) -> Result<(), NoMemory>
     requires { IsSound here.now.catalog.now }
     ensures { OnOk result (Adds (held_query (query_means_at (query_of here.now.catalog.now query.now) (below (surroundings here.now))) ∷ []) found.old found.new) }
 {
@@ -227,11 +222,7 @@ fn sublink_inside(
 
 /// Only sublinks have a query inside; none stands in an argument of an aggregate or before the query of another.
 #[cycle(gathering)]
-fn expression_inside(
-    tree: &ExprTree,
-    here: &Here,
-    found: &mut Gathered,
-) -> Result<(), NoMemory>
+fn expression_inside(tree: &ExprTree, here: &Here, found: &mut Gathered) -> Result<(), NoMemory>
     requires { IsSound here.now.catalog.now }
     ensures { OnOk result (Adds (held_at (surroundings here.now) (part_of here.now.catalog.now tree.now) ∷ []) found.old found.new) }
 {
@@ -337,11 +328,7 @@ fn expression_inside(
 }
 
 #[cycle(gathering)]
-fn expressions_inside(
-    trees: &[ExprTree],
-    here: &Here,
-    found: &mut Gathered,
-) -> Result<(), NoMemory>
+fn expressions_inside(trees: &[ExprTree], here: &Here, found: &mut Gathered) -> Result<(), NoMemory>
     requires { IsSound here.now.catalog.now }
     ensures { OnOk result (Adds (map (held_at (surroundings here.now)) (map (part_of here.now.catalog.now) trees.now)) found.old found.new) }
 {

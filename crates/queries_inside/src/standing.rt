@@ -1,5 +1,5 @@
 //! Where the parts of a query stand.
-ghost use Rattle.std.specs.Prelude.{◌≡◌, ◌∷◌, true, cond, is_some};
+ghost use Rattle.std.specs.Prelude.{◌≡◌, ◌∷◌, List as Sights, true, cond, is_some};
 ghost use Rattle.name_words.specs.Cores.{in_clause};
 ghost use Rattle.name_words.specs.Froms.{trace_under};
 ghost use Rattle.name_words.specs.Meanings.{trace_below};
@@ -9,12 +9,11 @@ ghost use Rattle.name_words.specs.Trees.{set_of_tree};
 ghost use Rattle.name_words.specs.declared.scope.Scope.{Scope as Sight};
 ghost use Rattle.name_words.specs.declared.trace.Trace.TheVariants.{InProvenance as Proving, Untraced as Alone};
 ghost use Rattle.sql_tree.specs.declared.query.Core.{out-Core};
-ghost use Rattle.name_seen.specs.Named.{scopes_of};
-ghost use Rattle.name_seen.specs.Standing.{around_of, surroundings};
+ghost use Rattle.name_seen.specs.Standing.{around_of, standing_in, surroundings};
 ghost use Rattle.perm_catalog.specs.Contents.{Contents};
 ghost use Rattle.queries_inside.specs.Held.{around_body, around_parts};
 
-use name_seen::{Around, Here, Scopes, Standing};
+use name_seen::{Around, Here, Standing};
 use name_words::Trace;
 use sql_tree::{Core, ScopeMark, SetTree};
 
@@ -131,21 +130,14 @@ fn trace_under(mark: &ScopeMark, trace: Trace) -> Trace
     }
 }
 
-/// Where the expressions of a clause stand among these scopes.
-pub(crate) fn here_in<'a>(around: &Around<'a>, scopes: &'a Scopes<'a>, aggregates: bool) -> Here<'a>
-    ensures place { (scope : Sight) → scopes_of scopes.now ≡ scope ∷ (around_of around.now).outer
-        → surroundings result ≡ in_clause scope (around_of around.now).outer around.now.trace aggregates }
-    ensures catalog { result.catalog.now ≡ around.now.catalog.now }
+/// How the expressions of a clause stand.
+pub(crate) fn in_clause(trace: Trace, aggregates: bool) -> Standing
+    ensures { (scope : Sight) (outer : Sights Sight) → standing_in (scope ∷ outer) result ≡ in_clause scope outer trace aggregates }
 {
-    Here {
-        alloc: around.alloc,
-        catalog: around.catalog,
-        scopes,
-        standing: Standing {
-            trace: around.trace,
-            aggregates,
-            sublinks: true,
-            argument: false,
-        },
+    Standing {
+        trace,
+        aggregates,
+        sublinks: true,
+        argument: false,
     }
 }

@@ -1,6 +1,7 @@
 ghost use Rattle.std.specs.Prelude.{◌≡◌};
 ghost use Rattle.name_seen.specs.Seen.{first_or};
 ghost use Rattle.name_words.specs.Statements.{width_limit};
+ghost use Rattle.queries_inside.specs.Held.{is_wide};
 
 use name_words::Break;
 
@@ -11,11 +12,17 @@ const MOST_COLUMNS: usize = 1024;
 pub fn first_wide(queries: &[(usize, usize)]) -> Result<(), Break>
     ensures { result ≡ first_or (width_limit queries.now) tt }
 {
-    match queries.iter().find(|query| query.1 > MOST_COLUMNS) {
-        None => Ok(()),
-        Some(query) => Err(Break {
-            code: 26,
-            at: query.0,
-        }),
+    for place in 0..queries.len() {
+        let (at, columns) = queries[place];
+        if is_wide(columns) {
+            return Err(Break { code: 26, at });
+        }
     }
+    Ok(())
+}
+
+fn is_wide(columns: usize) -> bool
+    ensures { result ≡ is_wide columns }
+{
+    columns > MOST_COLUMNS
 }

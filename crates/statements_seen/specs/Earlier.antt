@@ -1,7 +1,16 @@
--- The names of columns in the order in which they were met, the last one first.
-use Rattle.std.specs.Prelude.{ℕ, List, map}
-use mathlib.Core.List.{reverse}
+-- Columns of a name.
+use Rattle.std.specs.Prelude.{ℕ, Bool, List, map}
+use Rattle.std.specs.List.{list_any}
+use Rattle.clauses_seen.specs.declared.column.ShownColumn.{ShownColumn}
 use Rattle.sql_tree.specs.declared.statement.ColumnDef.{ColumnDef}
+use Rattle.name_words.specs.Froms.{named_so}
 
 abbrev pub texts_of : List ColumnDef → List (List ℕ)
-texts_of columns = reverse (map (λ (column : ColumnDef). column.name.text) columns)
+texts_of columns = map (λ (column : ColumnDef). column.name.text) columns
+
+-- one of the columns has this name
+abbrev pub is_defined : List ColumnDef → List ℕ → Bool
+is_defined columns name = list_any (λ (column : ColumnDef). named_so name column.name.text) columns
+
+abbrev pub is_shown : List ShownColumn → List ℕ → Bool
+is_shown columns name = list_any (λ (column : ShownColumn). named_so name column.name) columns

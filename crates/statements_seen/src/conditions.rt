@@ -9,13 +9,13 @@ ghost use Rattle.name_words.specs.Trees.{part_of};
 ghost use Rattle.name_words.specs.Statements as words;
 ghost use Rattle.perm_catalog.specs.Sound.{IsSound};
 
-use crate::values::here_alone;
+use crate::values::alone;
 use clauses_seen::condition_over;
-use name_seen::{Refusal, Scopes, inside};
+use name_seen::{Here, Refusal, Scopes, inside};
 use name_words::{Scope, ScopeColumn};
 use perm_catalog::{Catalog, Column, TableEntry};
 use perm_values::{Chars, Copyable, List, NoMemory};
-use query_seen::kind_of;
+use crate::first_pass::kind_of;
 use sql_tree::{ExprTree, Name};
 use std::alloc::Global;
 
@@ -51,8 +51,14 @@ fn condition_break(
         (means_at (part_of catalog.now tree.now) (words.bare (scope.now ∷ [])))) tt) result }
 {
     let outermost = Scopes::Outermost;
-    let scopes = inside(scope, false, &outermost)?;
-    condition_over(tree.at, kind_of(tree, &here_alone(alloc, catalog, &scopes)))
+    let scopes = inside(&*scope, false, &outermost)?;
+    let here = Here {
+        alloc,
+        catalog: &*catalog,
+        scopes: &scopes,
+        standing: alone(),
+    };
+    condition_over(tree.at, kind_of(tree, &here))
 }
 
 /// The scope of a table's columns under its name.

@@ -2,6 +2,7 @@
 #![tactic(auto)]
 
 mod conditions;
+mod first_pass;
 mod names;
 mod shown;
 mod values;
@@ -9,4 +10,4 @@ mod values;
 pub use conditions::{delete_break, table_scope};
 pub use names::{repeated_columns, table_limit, taken, unknown_table, unknown_view, used};
 pub use shown::{boolean_break, repeats_break};
-pub use values::{here_alone, rows_break};
+pub use values::{alone, rows_break};

@@ -1,12 +1,10 @@
 //! Names of tables, views and columns.
-ghost use Rattle.std.specs.Prelude.{◌≡◌, [], length};
+ghost use Rattle.std.specs.Prelude.{◌≡◌, []};
 ghost use Rattle.name_words.specs.Meanings.{broken_if};
-ghost use Rattle.name_words.specs.Froms.{named_so};
 ghost use Rattle.name_words.specs.Statements as words;
 ghost use Rattle.name_seen.specs.Seen.{first_or};
 ghost use Rattle.perm_catalog.specs.Changes.{is_free};
-ghost use Rattle.std.specs.List.{list_any};
-ghost use Rattle.statements_seen.specs.Earlier.{texts_of};
+ghost use Rattle.statements_seen.specs.Earlier.{is_defined};
 
 use name_words::Break;
 use perm_catalog::Catalog;
@@ -101,7 +99,7 @@ pub fn repeated_columns(columns: &[ColumnDef]) -> Result<(), Break>
 }
 
 fn repeated_column(earlier: &[ColumnDef], name: &Name) -> Result<(), Break>
-    ensures { result ≡ first_or (broken_if (list_any (named_so name.now.text) (texts_of earlier.now)) 14 name.now.at) tt }
+    ensures { result ≡ first_or (broken_if (is_defined earlier.now name.now.text) 14 name.now.at) tt }
 {
     if is_among(earlier, &name.text) {
         return Err(Break {
@@ -113,7 +111,7 @@ fn repeated_column(earlier: &[ColumnDef], name: &Name) -> Result<(), Break>
 }
 
 fn is_among(columns: &[ColumnDef], name: &Chars) -> bool
-    ensures { result ≡ list_any (named_so name.now) (texts_of columns.now) }
+    ensures { result ≡ is_defined columns.now name.now }
 {
     columns.iter().any(|column| *name == column.name.text)
 }

@@ -1,12 +1,12 @@
 //! What a statement asks of the columns of its query.
 ghost use Rattle.std.specs.Prelude.{◌≡◌};
-ghost use Rattle.std.specs.List.{list_any};
 ghost use Rattle.perm_values.specs.declared.kind.Kind.TheVariants.{Text as Words, Boolean as Truths};
-ghost use Rattle.name_words.specs.Froms.{named_so, names_of, settled_columns};
+ghost use Rattle.name_words.specs.Froms.{names_of, settled_columns};
 ghost use Rattle.name_words.specs.Meanings.{broken_if, is_same_kind, settled};
 ghost use Rattle.name_words.specs.Statements.{has_boolean, repeats};
 ghost use Rattle.name_seen.specs.Seen.{first_or};
 ghost use Rattle.clauses_seen.specs.Columns.{columns_of};
+ghost use Rattle.statements_seen.specs.Earlier.{is_shown};
 
 use clauses_seen::ShownColumn;
 use name_words::Break;
@@ -34,7 +34,7 @@ fn do_repeat(columns: &[ShownColumn]) -> bool
 }
 
 fn is_among(columns: &[ShownColumn], name: &Chars) -> bool
-    ensures { result ≡ list_any (named_so name.now) (names_of (settled_columns (columns_of columns.now))) }
+    ensures { result ≡ is_shown columns.now name.now }
 {
     columns.iter().any(|column| *name == column.name)
 }

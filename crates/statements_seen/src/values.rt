@@ -1,13 +1,12 @@
 //! The values of INSERT.
-ghost use Rattle.std.specs.Prelude.{◌≡◌, ◌<◌, ◌++◌, [], Err, not, flat_map, length};
+ghost use Rattle.std.specs.Prelude.{◌≡◌, [], List as Sights, flat_map, length};
 ghost use Rattle.clauses_seen.specs.Told.{Tells};
-ghost use Rattle.name_seen.specs.Named.{scopes_of};
 ghost use Rattle.name_seen.specs.Seen.{first_or, seen};
-ghost use Rattle.name_seen.specs.Standing.{surroundings};
-ghost use Rattle.name_seen.specs.declared.refusal.Refusal.TheVariants.{NoMemory as Short};
-ghost use Rattle.name_words.specs.Meanings.{Meant, broken_if, means_at};
+ghost use Rattle.name_seen.specs.Standing.{standing_in, surroundings};
+ghost use Rattle.name_words.specs.Meanings.{Meant, means_at};
 ghost use Rattle.name_words.specs.Statements as words;
 ghost use Rattle.name_words.specs.Trees.{part_of};
+ghost use Rattle.name_words.specs.declared.scope.Scope.{Scope as Sight};
 ghost use Rattle.perm_catalog.specs.Columns.{column_kinds};
 ghost use Rattle.perm_catalog.specs.Sound.{IsSound};
 
@@ -15,7 +14,7 @@ use name_seen::{Here, Refusal, Scopes, Standing, unites};
 use name_words::{Break, Trace};
 use perm_catalog::{Catalog, Column};
 use perm_values::Kind;
-use query_seen::kind_of;
+use crate::first_pass::kind_of;
 use sql_tree::{ExprTree, ValuesRow};
 use std::alloc::Global;
 
@@ -30,7 +29,12 @@ pub fn rows_break(
     ensures { Tells (first_or (flat_map (words.row_breaks catalog.now (column_kinds columns.now)) rows.now) tt) result }
 {
     let outermost = Scopes::Outermost;
-    let here = here_alone(alloc, catalog, &outermost);
+    let here = Here {
+        alloc,
+        catalog: &*catalog,
+        scopes: &outermost,
+        standing: alone(),
+    };
     for row in rows {
         row_break(&here, columns, row)?;
     }
@@ -89,20 +93,14 @@ fn value_over(
     }
 }
 
-/// Where an expression stands outside a query: neither an aggregate nor a sublink may stand there.
-pub fn here_alone<'a>(alloc: Global, catalog: &'a Catalog, scopes: &'a Scopes<'a>) -> Here<'a>
-    ensures place { surroundings result ≡ words.bare (scopes_of scopes.now) }
-    ensures catalog { result.catalog.now ≡ catalog.now }
+/// How an expression stands outside a query: neither an aggregate nor a sublink may stand there.
+pub fn alone() -> Standing
+    ensures { (scopes : Sights Sight) → standing_in scopes result ≡ words.bare scopes }
 {
-    Here {
-        alloc,
-        catalog,
-        scopes,
-        standing: Standing {
-            trace: Trace::Untraced,
-            aggregates: false,
-            sublinks: false,
-            argument: false,
-        },
+    Standing {
+        trace: Trace::Untraced,
+        aggregates: false,
+        sublinks: false,
+        argument: false,
     }
 }

@@ -1,0 +1,20 @@
+use Rattle.std.specs.Prelude.{List}
+use Rattle.std.proofs.Common.{ap, sym, ◌∙◌, take}
+use Rattle.name_words.specs.declared.answer.Break.{Break}
+use Rattle.name_seen.specs.Seen.{first_or}
+use Rattle.clauses_seen.proofs.Firsts.{none-broken}
+use Rattle.statements_seen.proofs.Broken.{column_break, columns-first, columns-step}
+use Rattle.statements_seen.proofs.names.repeated_columns.Goals as goal
+
+pub returns-in-Err : goal.returns-in-Err
+returns-in-Err c =
+    sym (ap (λ (breaks : List Break). first_or breaks (tt {0})) c.loop-at.invariant
+    ∙ columns-first c.args.columns.now c.loop-at.at c.index-columns-at.result c.in-Err.first
+    c.loop-at-test.true c.index-columns-at.is (sym c.repeated_column.ensures ∙ c.in-Err.is))
+
+pub loop-at-preserved : goal.loop-at-preserved
+loop-at-preserved c =
+    c.loop-at.invariant
+    ∙ columns-step c.args.columns.now c.loop-at.at c.index-columns-at.result c.loop-at-test.true c.index-columns-at.is
+    (none-broken (column_break (take c.loop-at.at c.args.columns.now) c.index-columns-at.result) (tt {0}) (tt {0})
+    (sym c.repeated_column.ensures ∙ c.in-Ok.is))
