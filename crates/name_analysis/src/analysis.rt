@@ -15,17 +15,15 @@ use std::alloc::Global;
 
 /// The statement with its names looked up and its kinds settled, exactly where it breaks no rule of names and kinds and
 /// keeps within the limits; otherwise the first break. `NoMemory` comes only for want of memory.
-pub fn resolve(
-    alloc: Global,
-    catalog: &Catalog,
-    statement: Statement,
-) -> Result<Resolved, Refusal>
+pub fn resolve(alloc: Global, catalog: &Catalog, statement: Statement) -> Result<Resolved, Refusal>
     requires { IsSound catalog.now }
     ensures { Resolves (breaks catalog.now statement) (resolved catalog.now statement) result }
 {
     let Statement { body, at: _at } = statement;
     match body {
-        StatementBody::CreateTable { table, columns } => create_table(alloc, catalog, table, columns),
+        StatementBody::CreateTable { table, columns } => create_table(
+            alloc, catalog, table, columns,
+        ),
         StatementBody::CreateTableAs { table, query } => {
             create_table_as(alloc, catalog, table, &query)
         }

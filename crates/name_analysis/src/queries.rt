@@ -17,10 +17,10 @@ ghost use Rattle.name_analysis.specs.Resolves.{ResolvesBody, WholeSeen};
 
 use crate::answers::{names_of, stored_columns};
 use crate::limits::size_break;
+use crate::passes::{keys_of, query_made, query_seen};
 use crate::tables::text_of;
 use bag_algebra::{Answer, Query};
 use clauses_seen::ShownColumn;
-use crate::passes::{keys_of, query_made, query_seen};
 use name_seen::{Around, Refusal, Scopes};
 use name_words::{Break, Resolved, Trace};
 use perm_catalog::{Catalog, Column, ViewEntry};
@@ -209,10 +209,10 @@ fn with_shown(
     gathered: Gathered,
 ) -> Result<Whole, NoMemory>
     ensures { IfOk result (λ whole. whole ≡ record {
-        answer = record { query = made; names = names_of (settled_columns (columns_of shown.columns)); keys = map (key_of (columns_of shown.columns)) order.now };
-        places = shown.places;
-        columns = stored_columns (settled_columns (columns_of shown.columns));
-        names = gathered.names;
+      answer = record { query = made; names = names_of (settled_columns (columns_of shown.columns)); keys = map (key_of (columns_of shown.columns)) order.now };
+      places = shown.places;
+      columns = stored_columns (settled_columns (columns_of shown.columns));
+      names = gathered.names;
     }) }
 {
     let columns = stored_columns(alloc, shown.columns.as_slice())?;

@@ -12,9 +12,9 @@ ghost use Rattle.bag_algebra.specs.declared.expr.Expr.TheVariants.{Lit as Writte
 ghost use Rattle.perm_values.specs.declared.kind.Kind.TheVariants.{Text as Words};
 ghost use Rattle.perm_values.specs.declared.value.Value.TheVariants.{Text as Chain};
 
+use crate::passes::made;
 use crate::tables::text_of;
 use bag_algebra::Expr;
-use crate::passes::made;
 use name_nodes::{Within, integer_value, null_at, truth_value};
 use name_seen::{Here, Refusal, Scopes};
 use name_words::{Break, Resolved};

@@ -1,7 +1,7 @@
 -- The first break of names and values, gone through from the left.
 use Rattle.std.specs.Prelude.{◌≡◌, ℕ, suc, ◌+◌, ◌<◌, Bool, true, false, not, ◌||◌, List, [], ◌∷◌, ◌++◌, length, map, Option, Some, None, Result, Ok, Err, ◌≤◌, flat_map}
-use Rattle.std.proofs.Common.{refl, ap, sym, subst, ◌∙◌, drop, take, get_or}
-use Rattle.std.proofs.lemmas.List.{map_more, reverse-append}
+use Rattle.std.proofs.Common.{refl, ap, sym, subst, ◌∙◌, drop, take, get_or, ◌-◌, arith, length-drop}
+use Rattle.std.proofs.lemmas.List.{map_more, reverse-append, take_all}
 use Rattle.std.proofs.lemmas.List.Folds.{list_any-append}
 use Rattle.std.specs.List.{list_any}
 use mathlib.Core.List.{reverse}
@@ -12,11 +12,12 @@ use Rattle.perm_catalog.specs.Contents.{Contents}
 use Rattle.perm_catalog.specs.declared.column.Column.{Column}
 use Rattle.sql_tree.specs.declared.expression.ExprTree.{ExprTree}
 use Rattle.sql_tree.specs.declared.statement.ColumnDef.{ColumnDef}
-use Rattle.name_words.specs.Froms.{named_so, names_of, settled_columns}
-use Rattle.name_words.specs.Meanings.{Meant, broken, broken_if, is_same_kind, means_at, seen_kind, settled, unites}
+use Rattle.name_words.specs.Froms.{condition_breaks, named_so, names_of, settled_columns}
+use Rattle.name_words.specs.Meanings.{Meant, Surroundings, broken_if, is_same_kind, means_at, seen_kind, settled, unites}
 use Rattle.name_words.specs.Statements.{bare, has_boolean, repeated_columns, repeats, value_breaks, values_breaks}
 use Rattle.name_words.specs.Trees.{part_of}
 use Rattle.name_words.specs.declared.answer.Break.{Break}
+use Rattle.name_words.specs.declared.scope.Scope.{Scope}
 use Rattle.name_seen.proofs.Arms.{part-at}
 use Rattle.name_seen.specs.Seen.{first_or, seen}
 use Rattle.name_seen.specs.declared.refusal.Refusal.{Refusal}
@@ -26,7 +27,7 @@ use Rattle.std.proofs.Math.ListN.{drop_of_length-le}
 use Rattle.clauses_seen.specs.Columns.{columns_of}
 use Rattle.clauses_seen.specs.declared.column.ShownColumn.{ShownColumn}
 use Rattle.clauses_seen.proofs.Firsts.{dropped, first-stays, flat-first}
-use Rattle.statements_seen.specs.Earlier.{is_defined, is_shown, texts_of}
+use Rattle.statements_seen.specs.Earlier.{column_break, is_defined, is_shown, texts_of}
 
 -- ---- the order of names is of no account
 
@@ -58,10 +59,6 @@ texts-more columns at column within e =
     ap reverse (map_more (λ (column : ColumnDef). column.name.text) columns at column within ∙ ap (λ (column : ColumnDef). texts_of (take at columns) ++ column.name.text ∷ []) (sym e))
     ∙ reverse-append (texts_of (take at columns)) (column.name.text ∷ [])
 
--- what one column breaks, behind others
-abbrev pub column_break : List ColumnDef → ColumnDef → List Break
-column_break earlier column = broken_if (is_defined earlier column.name.text) 14 column.name.at
-
 column-found : (earlier : List ColumnDef) (column : ColumnDef)
     → broken_if (list_any (named_so column.name.text) (reverse (texts_of earlier))) 14 column.name.at ≡ column_break earlier column
 column-found earlier column = ap (λ (b : Bool). broken_if b 14 column.name.at) (sym (any-named (named_so column.name.text) earlier))
@@ -77,14 +74,14 @@ columns-step columns at column within e none =
     ∙ ap (λ (earlier : List (List ℕ)). repeated_columns earlier (drop (at + 1) columns)) (sym (texts-more columns at column within e))
 
 pub columns-first : (columns : List ColumnDef) (at : ℕ) (column : ColumnDef) (first : Break) → at < length columns → column ≡ get_or columns at column
-    → first_or (column_break (take at columns) column) tt ≡ Err first
-    → first_or (repeated_columns (reverse (texts_of (take at columns))) (drop at columns)) tt ≡ Err first
+    → first_or (column_break (take at columns) column) (tt {0}) ≡ Err first
+    → first_or (repeated_columns (reverse (texts_of (take at columns))) (drop at columns)) (tt {0}) ≡ Err first
 columns-first columns at column first within e broken =
-    ap (λ (more : List ColumnDef). first_or (repeated_columns (reverse (texts_of (take at columns))) more) tt) (dropped columns at column within e)
-    ∙ ap (λ (breaks : List Break). first_or (breaks ++ repeated_columns (column.name.text ∷ reverse (texts_of (take at columns))) (drop (at + 1) columns)) tt)
+    ap (λ (more : List ColumnDef). first_or (repeated_columns (reverse (texts_of (take at columns))) more) (tt {0})) (dropped columns at column within e)
+    ∙ ap (λ (breaks : List Break). first_or (breaks ++ repeated_columns (column.name.text ∷ reverse (texts_of (take at columns))) (drop (at + 1) columns)) (tt {0}))
     (column-found (take at columns) column)
     ∙ first-stays (column_break (take at columns) column)
-    (repeated_columns (column.name.text ∷ reverse (texts_of (take at columns))) (drop (at + 1) columns)) tt tt first broken
+    (repeated_columns (column.name.text ∷ reverse (texts_of (take at columns))) (drop (at + 1) columns)) (tt {0}) (tt {0}) first broken
 
 -- ---- the columns of a query
 
@@ -94,6 +91,9 @@ shown_names columns = names_of (settled_columns (columns_of columns))
 any-shown : (test : List ℕ → Bool) (columns : List ShownColumn) → list_any (λ (column : ShownColumn). test column.name) columns ≡ list_any test (shown_names columns)
 any-shown test [] = refl
 any-shown test (column ∷ columns) = ap (λ b. test column.name || b) (any-shown test columns)
+
+pub all-behind : (columns : List ShownColumn) (k : ℕ) → take (length columns - k) (drop k columns) ≡ drop k columns
+all-behind columns k = take_all (length columns - k) (drop k columns) (omega (arith, length-drop k columns))
 
 pub repeats-at : (columns : List ShownColumn) (at : ℕ) (column : ShownColumn) (b : Bool) → at < length columns → column ≡ get_or columns at column
     → b ≡ is_shown (drop (at + 1) columns) column.name
@@ -143,11 +143,11 @@ value-step c columns values at column tree within e within_too f none =
 
 pub value-first : (c : Contents) (columns : List Column) (values : List ExprTree) (at : ℕ) (column : Column) (tree : ExprTree) (first : Break)
     → at < length columns → column ≡ get_or columns at column → at < length values → tree ≡ get_or values at tree
-    → first_or (value_break c column.kind tree) tt ≡ Err first
-    → first_or (values_breaks c (column_kinds (drop at columns)) (drop at values)) tt ≡ Err first
+    → first_or (value_break c column.kind tree) (tt {0}) ≡ Err first
+    → first_or (values_breaks c (column_kinds (drop at columns)) (drop at values)) (tt {0}) ≡ Err first
 value-first c columns values at column tree first within e within_too f broken =
-    ap (λ (breaks : List Break). first_or breaks tt) (value-before c columns values at column tree within e within_too f)
-    ∙ first-stays (value_break c column.kind tree) (values_breaks c (column_kinds (drop (at + 1) columns)) (drop (at + 1) values)) tt tt first broken
+    ap (λ (breaks : List Break). first_or breaks (tt {0})) (value-before c columns values at column tree within e within_too f)
+    ∙ first-stays (value_break c column.kind tree) (values_breaks c (column_kinds (drop (at + 1) columns)) (drop (at + 1) values)) (tt {0}) (tt {0}) first broken
 
 -- the kind of a value that breaks nothing is that which is seen
 pub kind-seen : (m : Meant) (found : Option Kind) → seen m ≡ Ok found → (m.breaks ≡ []) × (seen_kind m ≡ found)
@@ -202,3 +202,14 @@ values-end c columns values at past same =
       no-values : (kinds : List Kind) → values_breaks c kinds [] ≡ []
       no-values [] = refl
       no-values (kind ∷ kinds) = refl
+
+-- ---- the condition of DELETE
+
+pub condition-told : (c : Contents) (tree : ExprTree) (scopes : List Scope) (here : Surroundings) (kind : Result (Option Kind) Refusal) (result : Result (Unit {0}) Refusal)
+    → here ≡ bare scopes
+    → ((meant : Meant) → Tells (seen meant) kind → Tells (first_or (condition_breaks tree.at meant) (tt {0})) result)
+    → Tells (seen (means_at (part_of c tree) here)) kind
+    → Tells (first_or (condition_breaks (part_of c tree).at (means_at (part_of c tree) (bare scopes))) (tt {0})) result
+condition-told c tree scopes here kind result same so told =
+    subst (λ (at : ℕ). Tells (first_or (condition_breaks at (means_at (part_of c tree) (bare scopes))) (tt {0})) result) (sym (part-at c tree))
+    (so (means_at (part_of c tree) (bare scopes)) (subst (λ (h : Surroundings). Tells (seen (means_at (part_of c tree) h)) kind) same told))

@@ -4,6 +4,8 @@ use Rattle.std.specs.List.{list_any}
 use Rattle.clauses_seen.specs.declared.column.ShownColumn.{ShownColumn}
 use Rattle.sql_tree.specs.declared.statement.ColumnDef.{ColumnDef}
 use Rattle.name_words.specs.Froms.{named_so}
+use Rattle.name_words.specs.Meanings.{broken_if}
+use Rattle.name_words.specs.declared.answer.Break.{Break}
 
 abbrev pub texts_of : List ColumnDef → List (List ℕ)
 texts_of columns = map (λ (column : ColumnDef). column.name.text) columns
@@ -14,3 +16,7 @@ is_defined columns name = list_any (λ (column : ColumnDef). named_so name colum
 
 abbrev pub is_shown : List ShownColumn → List ℕ → Bool
 is_shown columns name = list_any (λ (column : ShownColumn). named_so name column.name) columns
+
+-- what one column breaks, behind others
+abbrev pub column_break : List ColumnDef → ColumnDef → List Break
+column_break earlier column = broken_if (is_defined earlier column.name.text) 14 column.name.at

@@ -1,5 +1,5 @@
 //! The condition of DELETE.
-ghost use Rattle.std.specs.Prelude.{◌≡◌, ◌∷◌, ◌++◌, [], IfOk, None};
+ghost use Rattle.std.specs.Prelude.{◌≡◌, ◌∷◌, ◌++◌, [], IfOk};
 ghost use Rattle.clauses_seen.specs.Told.{Tells};
 ghost use Rattle.name_seen.specs.Seen.{first_or};
 ghost use Rattle.name_words.specs.Froms.{condition_breaks, table_columns};
@@ -9,13 +9,13 @@ ghost use Rattle.name_words.specs.Trees.{part_of};
 ghost use Rattle.name_words.specs.Statements as words;
 ghost use Rattle.perm_catalog.specs.Sound.{IsSound};
 
+use crate::first_pass::kind_of;
 use crate::values::alone;
 use clauses_seen::condition_over;
 use name_seen::{Here, Refusal, Scopes, inside};
 use name_words::{Scope, ScopeColumn};
 use perm_catalog::{Catalog, Column, TableEntry};
 use perm_values::{Chars, Copyable, List, NoMemory};
-use crate::first_pass::kind_of;
 use sql_tree::{ExprTree, Name};
 use std::alloc::Global;
 
@@ -47,7 +47,7 @@ fn condition_break(
     tree: &ExprTree,
 ) -> Result<(), Refusal>
     requires { IsSound catalog.now }
-    ensures { scope.now.groups ≡ None → Tells (first_or (condition_breaks (part_of catalog.now tree.now).at
+    ensures { Tells (first_or (condition_breaks (part_of catalog.now tree.now).at
         (means_at (part_of catalog.now tree.now) (words.bare (scope.now ∷ [])))) tt) result }
 {
     let outermost = Scopes::Outermost;

@@ -1,10 +1,9 @@
 //! Names of tables, views and columns.
 ghost use Rattle.std.specs.Prelude.{◌≡◌, []};
-ghost use Rattle.name_words.specs.Meanings.{broken_if};
 ghost use Rattle.name_words.specs.Statements as words;
 ghost use Rattle.name_seen.specs.Seen.{first_or};
 ghost use Rattle.perm_catalog.specs.Changes.{is_free};
-ghost use Rattle.statements_seen.specs.Earlier.{is_defined};
+ghost use Rattle.statements_seen.specs.Earlier.{column_break, is_defined};
 
 use name_words::Break;
 use perm_catalog::Catalog;
@@ -90,7 +89,7 @@ pub fn repeated_columns(columns: &[ColumnDef]) -> Result<(), Break>
     ensures { result ≡ first_or (words.repeated_columns [] columns.now) tt }
 {
     for at in 0..columns.len() {
-        match repeated_column(&columns[..at], &columns[at].name) {
+        match repeated_column(&columns[..at], &columns[at]) {
             Ok(()) => {}
             Err(first) => return Err(first),
         }
@@ -98,13 +97,13 @@ pub fn repeated_columns(columns: &[ColumnDef]) -> Result<(), Break>
     Ok(())
 }
 
-fn repeated_column(earlier: &[ColumnDef], name: &Name) -> Result<(), Break>
-    ensures { result ≡ first_or (broken_if (is_defined earlier.now name.now.text) 14 name.now.at) tt }
+fn repeated_column(earlier: &[ColumnDef], column: &ColumnDef) -> Result<(), Break>
+    ensures { result ≡ first_or (column_break earlier.now column.now) tt }
 {
-    if is_among(earlier, &name.text) {
+    if is_among(earlier, &column.name.text) {
         return Err(Break {
             code: 14,
-            at: name.at,
+            at: column.name.at,
         });
     }
     Ok(())

@@ -10,7 +10,7 @@ ghost use Rattle.statements_seen.specs.Earlier.{is_shown};
 
 use clauses_seen::ShownColumn;
 use name_words::Break;
-use perm_values::{Chars, Kind};
+use perm_values::Kind;
 
 /// That two columns of the query at this offset have one name.
 pub fn repeats_break(at: usize, columns: &[ShownColumn]) -> Result<(), Break>
@@ -26,17 +26,18 @@ fn do_repeat(columns: &[ShownColumn]) -> bool
     ensures { result ≡ repeats (names_of (settled_columns (columns_of columns.now))) }
 {
     for at in 0..columns.len() {
-        if is_among(&columns[at + 1..], &columns[at].name) {
+        if is_among(&columns[at + 1..], &columns[at]) {
             return true;
         }
     }
     false
 }
 
-fn is_among(columns: &[ShownColumn], name: &Chars) -> bool
-    ensures { result ≡ is_shown columns.now name.now }
+fn is_among(columns: &[ShownColumn], column: &ShownColumn) -> bool
+    ensures { result ≡ is_shown columns.now column.now.name }
 {
-    columns.iter().any(|column| *name == column.name)
+    let name = &column.name;
+    columns.iter().any(|other| *name == other.name)
 }
 
 /// That a column of the query at this offset holds truths.

@@ -10,11 +10,11 @@ ghost use Rattle.name_words.specs.declared.scope.Scope.{Scope as Sight};
 ghost use Rattle.perm_catalog.specs.Columns.{column_kinds};
 ghost use Rattle.perm_catalog.specs.Sound.{IsSound};
 
+use crate::first_pass::kind_of;
 use name_seen::{Here, Refusal, Scopes, Standing, unites};
 use name_words::{Break, Trace};
 use perm_catalog::{Catalog, Column};
 use perm_values::Kind;
-use crate::first_pass::kind_of;
 use sql_tree::{ExprTree, ValuesRow};
 use std::alloc::Global;
 
@@ -61,25 +61,24 @@ fn values_break(here: &Here, columns: &[Column], values: &[ExprTree]) -> Result<
     ensures { Tells (first_or (words.values_breaks here.now.catalog.now (column_kinds columns.now) values.now) tt) result }
 {
     for at in 0..values.len() {
-        value_break(here, columns[at].kind, &values[at])?;
+        match value_break(here, &columns[at], &values[at]) {
+            Ok(()) => {}
+            Err(refusal) => return Err(refusal),
+        }
     }
     Ok(())
 }
 
-/// The first break of a value of a column of this kind.
-fn value_break(here: &Here, kind: Kind, tree: &ExprTree) -> Result<(), Refusal>
+/// The first break of a value of this column.
+fn value_break(here: &Here, column: &Column, tree: &ExprTree) -> Result<(), Refusal>
     requires { IsSound here.now.catalog.now }
-    ensures { Tells (first_or (words.value_breaks kind tree.now.at (means_at (part_of here.now.catalog.now tree.now) (surroundings here.now))) tt) result }
+    ensures { Tells (first_or (words.value_breaks column.now.kind tree.now.at (means_at (part_of here.now.catalog.now tree.now) (surroundings here.now))) tt) result }
 {
-    value_over(kind, tree.at, kind_of(tree, here))
+    value_over(column.kind, tree.at, kind_of(tree, here))
 }
 
 /// That a value at this offset, whose kind was answered or refused, breaks a rule or doesn't fit a column of this kind.
-fn value_over(
-    kind: Kind,
-    at: usize,
-    answer: Result<Option<Kind>, Refusal>,
-) -> Result<(), Refusal>
+fn value_over(kind: Kind, at: usize, answer: Result<Option<Kind>, Refusal>) -> Result<(), Refusal>
     ensures { (meant : Meant) → Tells (seen meant) answer → Tells (first_or (words.value_breaks kind at meant) tt) result }
 {
     match answer {

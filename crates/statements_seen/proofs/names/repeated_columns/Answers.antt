@@ -3,7 +3,8 @@ use Rattle.std.proofs.Common.{ap, sym, ◌∙◌, take}
 use Rattle.name_words.specs.declared.answer.Break.{Break}
 use Rattle.name_seen.specs.Seen.{first_or}
 use Rattle.clauses_seen.proofs.Firsts.{none-broken}
-use Rattle.statements_seen.proofs.Broken.{column_break, columns-first, columns-step}
+use Rattle.statements_seen.specs.Earlier.{column_break}
+use Rattle.statements_seen.proofs.Broken.{columns-first, columns-step}
 use Rattle.statements_seen.proofs.names.repeated_columns.Goals as goal
 
 pub returns-in-Err : goal.returns-in-Err

@@ -1,19 +1,23 @@
-use Rattle.std.specs.Prelude.{Bool, ◌||◌, ◌+◌}
+use Rattle.std.specs.Prelude.{List, Bool, ◌||◌, ◌+◌}
 use Rattle.std.proofs.Common.{sym, ap, ◌∙◌, drop}
 use Rattle.clauses_seen.specs.Columns.{columns_of}
 use Rattle.name_words.specs.Froms.{names_of, settled_columns}
 use Rattle.name_words.specs.Statements.{repeats}
-use Rattle.statements_seen.proofs.Broken.{repeats-at}
+use Rattle.clauses_seen.specs.declared.column.ShownColumn.{ShownColumn}
+use Rattle.statements_seen.specs.Earlier.{is_shown}
+use Rattle.statements_seen.proofs.Broken.{all-behind, repeats-at}
 use Rattle.statements_seen.proofs.shown.do_repeat.Goals as goal
 
 pub returns-then-is_among : goal.returns-then-is_among
 returns-then-is_among c =
     sym (c.loop-at.invariant
-    ∙ repeats-at c.args.columns.now c.loop-at.at c.index-columns-at.result c.is_among.result c.loop-at-test.true c.index-columns-at.is c.is_among.ensures
+    ∙ repeats-at c.args.columns.now c.loop-at.at c.index-columns-at.result c.is_among.result c.loop-at-test.true c.index-columns-at.is
+    (c.is_among.ensures ∙ ap (λ (more : List ShownColumn). is_shown more c.index-columns-at.result.name) (all-behind c.args.columns.now (c.loop-at.at + 1)))
     ∙ ap (λ (b : Bool). b || repeats (names_of (settled_columns (columns_of (drop (c.loop-at.at + 1) c.args.columns.now))))) c.if-is_among.true)
 
 pub loop-at-preserved : goal.loop-at-preserved
 loop-at-preserved c =
     c.loop-at.invariant
-    ∙ repeats-at c.args.columns.now c.loop-at.at c.index-columns-at.result c.is_among.result c.loop-at-test.true c.index-columns-at.is c.is_among.ensures
+    ∙ repeats-at c.args.columns.now c.loop-at.at c.index-columns-at.result c.is_among.result c.loop-at-test.true c.index-columns-at.is
+    (c.is_among.ensures ∙ ap (λ (more : List ShownColumn). is_shown more c.index-columns-at.result.name) (all-behind c.args.columns.now (c.loop-at.at + 1)))
     ∙ ap (λ (b : Bool). b || repeats (names_of (settled_columns (columns_of (drop (c.loop-at.at + 1) c.args.columns.now))))) c.if-is_among.false
