@@ -1,3 +1,4 @@
 pub mod Bodies
 pub mod Keys
 pub mod Values
+pub mod Wholes

@@ -176,10 +176,11 @@ fn around_alone<'a>(alloc: Global, catalog: &'a Catalog, outermost: &'a Scopes<'
 }
 
 /// A query that was seen to break nothing, made, or the first limit that it passes.
+#[tactic(auto, using(crate::proofs::Wholes::wide_first, crate::proofs::Wholes::size_second, crate::proofs::Wholes::whole_made))]
 fn whole_of(query: &QueryTree, around: &Around, shown: QueryShown) -> Result<Whole, Refusal>
-    requires { IsSound around.now.catalog.now }
-    ensures { QueryWhole (query_means_at (query_of around.now.catalog.now query.now) (around_of around.now)) shown
-        → WholeSeen query.now.at (query_means_at (query_of around.now.catalog.now query.now) (around_of around.now)) result }
+    requires sound { IsSound around.now.catalog.now }
+    requires seen { QueryWhole (query_means_at (query_of around.now.catalog.now query.now) (around_of around.now)) shown }
+    ensures { WholeSeen query.now.at (query_means_at (query_of around.now.catalog.now query.now) (around_of around.now)) result }
 {
     let gathered = gathered_in(query, around)?;
     first_wide(gathered.queries.as_slice())?;
@@ -191,9 +192,9 @@ fn whole_of(query: &QueryTree, around: &Around, shown: QueryShown) -> Result<Who
 
 /// What stands inside the query.
 fn gathered_in(query: &QueryTree, around: &Around) -> Result<Gathered, NoMemory>
-    requires { IsSound around.now.catalog.now }
-    ensures { (query_means_at (query_of around.now.catalog.now query.now) (around_of around.now)).breaks ≡ []
-        → IfOk result (λ found. inside_in found ≡ (query_means_at (query_of around.now.catalog.now query.now) (around_of around.now)).inside) }
+    requires sound { IsSound around.now.catalog.now }
+    requires whole { (query_means_at (query_of around.now.catalog.now query.now) (around_of around.now)).breaks ≡ [] }
+    ensures { IfOk result (λ found. inside_in found ≡ (query_means_at (query_of around.now.catalog.now query.now) (around_of around.now)).inside) }
 {
     let mut found = Gathered::nothing(around.alloc);
     query_inside(query, around, &mut found)?;

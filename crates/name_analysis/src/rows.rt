@@ -1,4 +1,4 @@
-//! INSERT: its values are moved where they stand for themselves.
+//! INSERT.
 ghost use Rattle.std.specs.Prelude.{◌≡◌, [], IfOk, flat_map, length};
 ghost use Rattle.name_seen.specs.Standing.{surroundings};
 ghost use Rattle.name_words.specs.Meanings.{means_at};
@@ -8,19 +8,16 @@ ghost use Rattle.perm_catalog.specs.Columns.{column_kinds};
 ghost use Rattle.perm_catalog.specs.Sound.{IsSound};
 ghost use Rattle.sql_tree.specs.declared.statement.StatementBody.TheVariants as asked;
 ghost use Rattle.name_analysis.specs.Resolves.{ResolvesBody};
-ghost use Rattle.bag_algebra.specs.declared.expr.Expr.TheVariants.{Lit as Written};
-ghost use Rattle.perm_values.specs.declared.kind.Kind.TheVariants.{Text as Words};
-ghost use Rattle.perm_values.specs.declared.value.Value.TheVariants.{Text as Chain};
 
 use crate::passes::made;
 use crate::tables::text_of;
 use bag_algebra::Expr;
-use name_nodes::{Within, integer_value, null_at, truth_value};
+use name_nodes::Within;
 use name_seen::{Here, Refusal, Scopes};
 use name_words::{Break, Resolved};
 use perm_catalog::{Catalog, Column};
-use perm_values::{Chars, Kind, List, NoMemory, Value};
-use sql_tree::{ExprBody, ExprTree, Name, ValuesRow};
+use perm_values::{List, NoMemory};
+use sql_tree::{ExprTree, Name, ValuesRow};
 use statements_seen::{alone, rows_break};
 use std::alloc::Global;
 
@@ -41,7 +38,7 @@ pub(crate) fn insert(
         Some(entry) => {
             let columns = entry.columns.as_slice();
             rows_break(alloc, catalog, columns, rows.as_slice())?;
-            let rows = rows_made(alloc, catalog, columns, rows)?;
+            let rows = rows_made(alloc, catalog, columns, rows.as_slice())?;
             Ok(Resolved::Insert {
                 name: text_of(table),
                 rows,
@@ -54,11 +51,11 @@ fn rows_made(
     alloc: Global,
     catalog: &Catalog,
     columns: &[Column],
-    rows: List<ValuesRow>,
+    rows: &[ValuesRow],
 ) -> Result<List<List<Expr>>, NoMemory>
     requires sound { IsSound catalog.now }
-    requires whole { flat_map (words.row_breaks catalog.now (column_kinds columns.now)) rows ≡ [] }
-    ensures { IfOk result (λ made. made ≡ words.rows_made catalog.now (column_kinds columns.now) rows) }
+    requires whole { flat_map (words.row_breaks catalog.now (column_kinds columns.now)) rows.now ≡ [] }
+    ensures { IfOk result (λ made. made ≡ words.rows_made catalog.now (column_kinds columns.now) rows.now) }
 {
     let outermost = Scopes::Outermost;
     let here = Here {
@@ -67,59 +64,42 @@ fn rows_made(
         scopes: &outermost,
         standing: alone(),
     };
-    let mut made = List::with_room(alloc, rows.len())?;
-    for row in rows.into_vec() {
+    let mut made = List::new(alloc);
+    for row in rows {
         made.push(row_made(&here, columns, row)?)?;
     }
     Ok(made)
 }
 
-fn row_made(here: &Here, columns: &[Column], row: ValuesRow) -> Result<List<Expr>, NoMemory>
+fn row_made(here: &Here, columns: &[Column], row: &ValuesRow) -> Result<List<Expr>, NoMemory>
     requires sound { IsSound here.now.catalog.now }
     requires alone { surroundings here.now ≡ words.bare [] }
-    requires whole { words.row_breaks here.now.catalog.now (column_kinds columns.now) row ≡ [] }
-    ensures { IfOk result (λ made. made ≡ words.row_made here.now.catalog.now (column_kinds columns.now) row.values) }
+    requires whole { words.row_breaks here.now.catalog.now (column_kinds columns.now) row.now ≡ [] }
+    ensures { IfOk result (λ made. made ≡ words.row_made here.now.catalog.now (column_kinds columns.now) row.now.values) }
 {
-    let ValuesRow { values, at: _at } = row;
-    let mut made = List::with_room(here.alloc, values.len())?;
-    let mut place = 0;
-    for tree in values.into_vec() {
-        made.push(value_made(here, columns[place].kind, tree)?)?;
-        place += 1;
+    let made = values_made(here, columns, row.values.as_slice())?;
+    Ok(made)
+}
+
+fn values_made(here: &Here, columns: &[Column], values: &[ExprTree]) -> Result<List<Expr>, NoMemory>
+    requires sound { IsSound here.now.catalog.now }
+    requires alone { surroundings here.now ≡ words.bare [] }
+    requires whole { words.values_breaks here.now.catalog.now (column_kinds columns.now) values.now ≡ [] }
+    ensures { IfOk result (λ made. made ≡ words.row_made here.now.catalog.now (column_kinds columns.now) values.now) }
+{
+    let mut made = List::new(here.alloc);
+    for at in 0..values.len().min(columns.len()) {
+        made.push(value_made(here, &columns[at], &values[at])?)?;
     }
     Ok(made)
 }
 
-/// The value at the kind of its column, moved where it is a literal.
-fn value_made(here: &Here, kind: Kind, tree: ExprTree) -> Result<Expr, NoMemory>
-    requires sound { IsSound here.now.catalog.now }
-    requires whole { (means_at (part_of here.now.catalog.now tree) (surroundings here.now)).breaks ≡ [] }
-    ensures { IfOk result (λ e. e ≡ words.made_alone kind (means_at (part_of here.now.catalog.now tree) (surroundings here.now))) }
-{
-    let ExprTree { at, body } = tree;
-    match body {
-        ExprBody::Null => Ok(null_at(kind)),
-        ExprBody::Integer(number) => Ok(integer_value(number)),
-        ExprBody::Text(text) => Ok(text_moved(text)),
-        ExprBody::Truth(truth) => Ok(truth_value(truth)),
-        other => tree_made(here, kind, &ExprTree { at, body: other }),
-    }
-}
-
-fn text_moved(text: Chars) -> Expr
-    ensures { result ≡ Written (Chain text) Words }
-{
-    Expr::Lit {
-        value: Value::Text(text),
-        kind: Kind::Text,
-    }
-}
-
-fn tree_made(here: &Here, kind: Kind, tree: &ExprTree) -> Result<Expr, NoMemory>
+/// The value at the kind of its column.
+fn value_made(here: &Here, column: &Column, tree: &ExprTree) -> Result<Expr, NoMemory>
     requires sound { IsSound here.now.catalog.now }
     requires whole { (means_at (part_of here.now.catalog.now tree.now) (surroundings here.now)).breaks ≡ [] }
-    ensures { IfOk result (λ e. e ≡ words.made_alone kind (means_at (part_of here.now.catalog.now tree.now) (surroundings here.now))) }
+    ensures { IfOk result (λ e. e ≡ words.made_alone column.now.kind (means_at (part_of here.now.catalog.now tree.now) (surroundings here.now))) }
 {
     let mut found = Within::nothing(here.alloc);
-    made(tree, kind, here, &mut found)
+    made(tree, column.kind, here, &mut found)
 }

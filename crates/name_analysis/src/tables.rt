@@ -160,8 +160,9 @@ fn condition_made(
     entry: &TableEntry,
     tree: &ExprTree,
 ) -> Result<Expr, NoMemory>
-    requires { IsSound catalog.now }
-    ensures { words.delete_breaks catalog.now table.now (Some tree.now) entry.now ≡ [] → IfOk result (λ e. e ≡ words.condition_made catalog.now table.now tree.now entry.now) }
+    requires sound { IsSound catalog.now }
+    requires whole { words.delete_breaks catalog.now table.now (Some tree.now) entry.now ≡ [] }
+    ensures { IfOk result (λ e. e ≡ words.condition_made catalog.now table.now tree.now entry.now) }
 {
     let scope = table_scope(alloc, &table.text, entry.columns.as_slice())?;
     let outermost = Scopes::Outermost;
@@ -173,7 +174,8 @@ fn condition_made(
         scopes: &scopes,
         standing: alone(),
     };
-    made(tree, Kind::Boolean, &here, &mut found)
+    let condition = made(tree, Kind::Boolean, &here, &mut found)?;
+    Ok(condition)
 }
 
 pub(crate) fn drop_table(catalog: &Catalog, table: Name) -> Result<Resolved, Refusal>
