@@ -92,19 +92,21 @@ module _ (c : Contents) (columns : List Column) (values : List ExprTree) (at : �
     whole = back-none (value_break c column.kind tree) _ (sym (value-before c columns values at column tree within e within_too f) ∙ row.whole);
   }
 
-no-kinds : (c : Contents) (values : List ExprTree) → row_made c [] values ≡ []
-no-kinds c values = refl
-
 no-values : (c : Contents) (kinds : List Kind) → row_made c kinds [] ≡ []
 no-values c [] = refl
 no-values c (k ∷ ks) = refl
 
+row-none : (c : Contents) (columns : List Column) (values : List ExprTree) (at n : ℕ) → n ≡ min (length values) (length columns) → n ≤ at
+    → row_made c (column_kinds (drop at columns)) (drop at values) ≡ []
+row-none c columns values at n least past =
+    elim (cases_lt (length values) (length columns)) [
+      | inl shorter ↦
+          ap (λ (more : List ExprTree). row_made c (column_kinds (drop at columns)) more) (drop_of_length-le values (omega (arith, shorter, least, past)))
+          ∙ no-values c (column_kinds (drop at columns))
+      | inr longer ↦ ap (λ (more : List Column). row_made c (column_kinds more) (drop at values)) (drop_of_length-le columns (omega (arith, longer, least, past)))
+    ]
+
 pub row-end : (c : Contents) (columns : List Column) (values : List ExprTree) (at n : ℕ) (made : List Expr) → n ≡ min (length values) (length columns) → n ≤ at
     → RowSoFar c columns values at made → made ≡ row_made c (column_kinds columns) values
 row-end c columns values at n made least past row =
-    sym (row.so_far ∙ ap (λ (behind : List Expr). made ++ behind) none ∙ append-nil made) where
-      none : row_made c (column_kinds (drop at columns)) (drop at values) ≡ []
-      none = elim (cases_lt (length values) (length columns)) [
-        | inl shorter ↦ ap (row_made c (column_kinds (drop at columns))) (drop_of_length-le values (omega (arith, shorter, least, past))) ∙ no-values c (column_kinds (drop at columns))
-        | inr longer ↦ ap (λ (more : List Column). row_made c (column_kinds more) (drop at values)) (drop_of_length-le columns (omega (arith, longer, least, past)))
-      ]
+    sym (row.so_far ∙ ap (λ (behind : List Expr). made ++ behind) (row-none c columns values at n least past) ∙ append-nil made)

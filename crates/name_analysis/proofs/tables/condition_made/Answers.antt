@@ -10,8 +10,8 @@ use Rattle.perm_catalog.specs.declared.column.Column.{Column}
 use Rattle.name_analysis.proofs.Values.{condition-alone}
 use Rattle.name_analysis.proofs.tables.condition_made.Goals as goal
 
-pub returns-in_ok-condition : goal.returns-in_ok-condition
-returns-in_ok-condition c =
+pub returns : goal.returns
+returns c =
     condition-alone c.args.catalog.now c.args.table.now c.args.tree.now c.args.entry.now (standing_in (scopes_of c.in_ok-scopes.scopes) c.alone.result) _ _ _ _
     c.in_ok-condition.ensures c.nothing-found.ensures
     (ap (λ (scopes : List Scope). standing_in scopes c.alone.result) c.in_ok-scopes.ensures ∙ c.alone.ensures (c.in_ok-scope.scope ∷ [])
