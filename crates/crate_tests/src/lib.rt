@@ -11,6 +11,8 @@ mod disk;
 #[cfg(test)]
 mod expressions;
 #[cfg(test)]
+mod joins;
+#[cfg(test)]
 mod owners;
 #[cfg(test)]
 mod places;
