@@ -131,7 +131,7 @@ fn rows(alloc: Global) -> Result<Rows, NoMemory> {
 }
 
 /// The table of identity 1 with these rows.
-pub fn tables(alloc: Global) -> Result<Tables, NoMemory> {
+fn tables(alloc: Global) -> Result<Tables, NoMemory> {
     let mut tables = Tables::new(alloc);
     tables.put(1, rows(alloc)?)?;
     Ok(tables)

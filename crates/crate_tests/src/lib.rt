@@ -11,8 +11,6 @@ mod disk;
 #[cfg(test)]
 mod expressions;
 #[cfg(test)]
-mod joins;
-#[cfg(test)]
 mod owners;
 #[cfg(test)]
 mod places;

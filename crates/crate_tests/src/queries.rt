@@ -77,20 +77,6 @@ pub fn exists(alloc: Global, inner: Boxed<Query>) -> Result<List<Sublink>, NoMem
     Ok(subs)
 }
 
-/// The rows of which the first sublink is true.
-pub fn where_true(
-    alloc: Global,
-    input: Boxed<Query>,
-    subs: List<Sublink>,
-) -> Result<Boxed<Query>, NoMemory> {
-    let query = Query::Filter {
-        input,
-        condition: Expr::Sub { number: 0 },
-        subs,
-    };
-    Boxed::new(alloc, query)
-}
-
 /// The rows of the first, where the second has a row.
 pub fn where_exists(
     alloc: Global,
@@ -98,7 +84,12 @@ pub fn where_exists(
     inner: Boxed<Query>,
 ) -> Result<Boxed<Query>, NoMemory> {
     let subs = exists(alloc, inner)?;
-    where_true(alloc, input, subs)
+    let query = Query::Filter {
+        input,
+        condition: Expr::Sub { number: 0 },
+        subs,
+    };
+    Boxed::new(alloc, query)
 }
 
 pub fn provenance(alloc: Global, input: Boxed<Query>) -> Result<Boxed<Query>, NoMemory> {

@@ -1,4 +1,3 @@
-pub mod Among
 pub mod Built
 pub mod Conditions
 pub mod Equality

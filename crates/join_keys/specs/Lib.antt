@@ -1,5 +1,4 @@
 pub mod Agreeing
-pub mod Cells
 pub mod Equated
 pub mod Hashed
 pub mod Joins

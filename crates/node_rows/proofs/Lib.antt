@@ -1,4 +1,3 @@
-pub mod Equality
 pub mod Flags
 pub mod Joining
 pub mod Seeing

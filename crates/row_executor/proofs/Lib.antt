@@ -1,4 +1,3 @@
-pub mod Filters
 pub mod Joining
 pub mod Knowing
 pub mod OuterRows
