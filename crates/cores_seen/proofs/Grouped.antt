@@ -27,3 +27,19 @@ pub value-aggregates : (c : Contents) (item : SelectItem) (tree : ExprTree) (nam
     → (part_of c tree).aggregating ≡ is_aggregating (item_of c item)
 unfolding token
 value-aggregates c item tree name is = sym (ap (λ (t : SelectItem). is_aggregating (item_of c t)) is ∙ ap is_aggregating (selectitem-value c tree name))
+
+-- ---- the test
+
+some-part : (c : Contents) (tree : Option ExprTree) → is_some (optional_part c tree) ≡ is_some tree
+some-part c None = refl
+some-part c (Some tree) = refl
+
+pub grouped-by : (c : Contents) (groups : List ColRef) (having : Option ExprTree) (items : List SelectPart) (some_having any : Bool)
+    → some_having ≡ is_some having → any ≡ list_any is_aggregating items
+    → (groups ≡ [] → (some_having || any) ≡ is_grouped groups (optional_part c having) items)
+grouped-by c [] having items some_having any is are none = λ i. (is ∙ sym (some-part c having)) i || are i
+grouped-by c (group ∷ groups) having items some_having any is are none = absurd (cc none)
+
+pub grouped-some : (groups : List ColRef) (having : Option Part) (items : List SelectPart) → (groups ≡ [] → ⊥) → true ≡ is_grouped groups having items
+grouped-some [] having items some = absurd (some refl)
+grouped-some (group ∷ groups) having items some = refl

@@ -105,6 +105,16 @@ pub chain-behind : (around : Around) (left : QueryMeant) (steps : List SetStepPa
 chain-behind around left [] step = refl
 chain-behind around left (first ∷ steps) step = chain-behind around (set_joined left first (first.operand.means (unprovable around))) steps step
 
+-- a query in parentheses
+pub shown-whole : (m : QueryMeant) (shown : QueryShown) (old new : Gathered) → QueryWhole m shown
+    → facts_in new ≡ both_facts (facts_in old) (facts_in shown.facts) → ColumnsWhole m old new shown.columns
+shown-whole m shown old new query added = record {
+  whole = query.whole;
+  known = query.known;
+  inner = query.inner;
+  adds = λ wanted. added ∙ ap (both_facts (facts_in old)) (query.facts wanted);
+}
+
 -- ---- ORDER BY and LIMIT
 
 limited-inner : (limit : Option ℤ) (keys : List Key) (query : Query) → is_table query ≡ false → is_table (limited limit keys query) ≡ false
@@ -130,6 +140,16 @@ kinds-are m columns has known wanted =
 keys-are : (body : QueryMeant) (columns : List OutColumn) (order : List OrderTree) → body.columns ≡ Some columns
     → keys_breaks body.columns order ≡ keys_breaks (Some columns) order
 keys-are body columns order known = ap (λ (cs : Option (List OutColumn)). keys_breaks cs order) known
+
+pub keys-break : (proving : Bool) (at : ℕ) (body : QueryMeant) (order : List OrderTree) (limit : Option ℤ) (none facts : Gathered) (columns : List ShownColumn) (b : Break)
+    → ColumnsWhole body none facts columns → first_or (keys_breaks (Some (columns_of columns)) order) (tt {0}) ≡ Err b
+    → first_or (query_behind proving at body order limit).breaks (tt {0}) ≡ Err b
+keys-break false at body order limit none facts columns b is broken =
+    first-behind body.breaks (keys_breaks body.columns order) tt is.whole
+    ∙ ap (λ (breaks : List Break). first_or breaks tt) (keys-are body (columns_of columns) order is.known) ∙ broken
+keys-break true at body order limit none facts columns b is broken =
+    first-behind body.breaks (keys_breaks body.columns order) tt is.whole
+    ∙ ap (λ (breaks : List Break). first_or breaks tt) (keys-are body (columns_of columns) order is.known) ∙ broken
 
 plain-whole : (at : ℕ) (body : QueryMeant) (order : List OrderTree) (limit : Option ℤ) (none facts : Gathered) (columns : List ShownColumn)
     → facts_in none ≡ no_facts → ColumnsWhole body none facts columns → keys_breaks (Some (columns_of columns)) order ≡ []

@@ -72,7 +72,24 @@ table_star-whole scope table number columns wider facts is fine added = subst (�
     (λ fine. columns-whole scope table.at (filter (is_of_item number) (placed scope)) columns wider facts fine
     (added ∙ ap (λ (own : List OutColumn). columns_of columns ++ own) (sym (chosen-shown number 0 scope.columns)))) fine
 
+pub no-table : (scope : Scope) (table : Name) → item_number table.text scope ≡ None → first_or (table_star_meant scope table).breaks (tt {0}) ≡ Ok (tt {0}) → ⊥
+no-table scope table is fine = subst (λ (found : Option ℕ). first_or (starred scope table found).breaks (tt {0}) ≡ Ok (tt {0}) → ⊥) (sym is) (λ fine. cc fine) fine
+
 -- ---- one more column
+
+one-chosen : (item : Option ℕ) (column : ScopeColumn) (is_chosen : Bool) → is_of item column ≡ is_chosen → filter (is_of item) (column ∷ []) ≡ cond is_chosen (column ∷ []) []
+one-chosen item column is_chosen e = ap (λ (b : Bool). cond b (column ∷ []) []) e
+
+pub column-added : (item : Option ℕ) (column : ScopeColumn) (columns wider : List ShownColumn) (added : ShownColumn) (is_chosen : Bool) → is_chosen ≡ is_of item column → is_chosen ≡ true
+    → wider ≡ columns ++ added ∷ [] → column_of added ≡ shown column → columns_of wider ≡ columns_of columns ++ map shown (filter (is_of item) (column ∷ []))
+column-added item column columns wider added is_chosen e chosen more is =
+    ap columns_of more ∙ map-append column_of columns (added ∷ []) ∙ ap (λ (c : OutColumn). columns_of columns ++ c ∷ []) is
+    ∙ ap (λ (cs : List ScopeColumn). columns_of columns ++ map shown cs) (sym (one-chosen item column true (sym e ∙ chosen)))
+
+pub column-passed : (item : Option ℕ) (column : ScopeColumn) (columns : List ShownColumn) (is_chosen : Bool) → is_chosen ≡ is_of item column → is_chosen ≡ false
+    → columns_of columns ≡ columns_of columns ++ map shown (filter (is_of item) (column ∷ []))
+column-passed item column columns is_chosen e passed =
+    sym (ap (λ (cs : List ScopeColumn). columns_of columns ++ map shown cs) (one-chosen item column false (sym e ∙ passed)) ∙ append-nil (columns_of columns))
 
 pub columns-more : (item : Option ℕ) (xs : List ScopeColumn) (i : ℕ) (x : ScopeColumn) (initial so_far wider : List ShownColumn) → i < length xs → x ≡ get_or xs i x
     → columns_of so_far ≡ columns_of initial ++ map shown (filter (is_of item) (take i xs))

@@ -24,6 +24,9 @@ use Rattle.cores_seen.specs.Behind.{ConditionSeen, ConditionWhole, optional_part
 use Rattle.expression_seen.specs.Expressed.{ExpressionSeen}
 use Rattle.expression_seen.proofs.Alone.{told-so}
 
+pub no-condition : (here : Surroundings) (facts : Gathered) → ConditionSeen None (optional_meant here None) facts facts (Ok (tt {0}))
+no-condition here facts = record { whole = refl; adds = sym (both_facts-none (facts_in facts)) }
+
 -- what a step tells of every condition of this kind
 abbrev TellsAll : ℕ → Result (Option Kind) Refusal → Result Unit Refusal → Type 0
 TellsAll at kind result = (meant : Meant) → Tells (seen meant) kind → Tells (first_or (condition_breaks at meant) tt) result

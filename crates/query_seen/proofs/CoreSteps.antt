@@ -1,6 +1,5 @@
 -- A core, clause by clause, where its parts were answered or refused.
-use Rattle.std.specs.Prelude.{◌≡◌, Bool, true, false, not, List, [], ◌∷◌, flat_map, map, Option, Result, Ok, Err}
-use Rattle.std.specs.Option.{option_map_or}
+use Rattle.std.specs.Prelude.{◌≡◌, Bool, true, false, not, List, [], ◌∷◌, flat_map, map, Result, Ok, Err}
 use Rattle.std.proofs.Common.{refl, ap, sym, subst, ◌∙◌}
 use Rattle.perm_catalog.specs.Contents.{Contents}
 use Rattle.sql_tree.specs.declared.query.Core.{Core, out-Core}
@@ -19,7 +18,6 @@ use Rattle.name_seen.specs.Seen.{first_or}
 use Rattle.name_seen.specs.declared.refusal.Refusal.{Refusal}
 use Rattle.name_seen.specs.declared.refusal.Refusal.TheVariants.{Break as Broken, NoMemory}
 use Rattle.clauses_seen.specs.declared.column.ShownColumn.{ShownColumn}
-use Rattle.clauses_seen.proofs.Firsts.{first-behind, first-stays}
 use Rattle.query_facts.specs.Added.{facts_in}
 use Rattle.query_facts.specs.Queried.{ColumnsSeen, FromSeen, FromWhole}
 use Rattle.query_facts.specs.declared.facts.Facts.{Facts as Gathered}
@@ -155,17 +153,4 @@ core-scoped c tree around old new own (Ok scope) input groups =
     let is : GroupsWhole (scope_of input.items) (out-Core tree).groups (optional_part c (out-Core tree).having) (map (item_of c) (out-Core tree).items) scope =
     subst (λ (s : Scope). GroupsWhole s (out-Core tree).groups (optional_part c (out-Core tree).having) (map (item_of c) (out-Core tree).items) scope) input.scope_is groups in
     record { whole = input.whole; items = input.items; known = input.known; groups_whole = is.whole; scope_is = is.scope_is }
-core-scoped c tree around old new own (Err (Broken b)) input groups =
-    let broken : Scope → Result Unit Break = λ s. first_or (flat_map (group_break s) (out-Core tree).groups) tt in
-    first-behind (input_of c tree around).breaks
-    (flat_map (group_break (scope_of (option_map_or (λ known. known) (input_of c tree around).items []))) (out-Core tree).groups) tt input.whole
-    ∙ ap (λ (known : Option (List ScopeItem)). broken (scope_of (option_map_or (λ items. items) known []))) input.known
-    ∙ ap broken (sym input.scope_is) ∙ groups
-core-scoped c tree around old new own (Err NoMemory) input groups = tt
-
-pub scope-refused : (c : Contents) (tree : Core) (around : Around) (old new : Gathered) (refusal : Refusal) → FromSeen (input_of c tree around) [] old new (Err refusal)
-    → CoreScoped c tree around (Err refusal)
-scope-refused c tree around old new (Broken b) broken =
-    first-stays (input_of c tree around).breaks
-    (flat_map (group_break (scope_of (option_map_or (λ known. known) (input_of c tree around).items []))) (out-Core tree).groups) (tt {0}) (tt {0}) b broken
-scope-refused c tree around old new NoMemory broken = tt
+core-scoped c tree around old new own (Err refusal) input groups = tt

@@ -44,7 +44,7 @@ unfolding token
 join-record c word item None = joinstep-record-none c word item
 join-record c word item (Some condition) = joinstep-record-some c word item condition
 
-join-is : (c : Contents) (step : JoinStep) → join_of c step ≡ joined_by (out-JoinStep step).word (from_item_of c (out-JoinStep step).item) (optional_part c (out-JoinStep step).condition)
+pub join-is : (c : Contents) (step : JoinStep) → join_of c step ≡ joined_by (out-JoinStep step).word (from_item_of c (out-JoinStep step).item) (optional_part c (out-JoinStep step).condition)
 join-is c step = ap (join_of c) (sym (roll-out-JoinStep step)) ∙ join-record c (out-JoinStep step).word (out-JoinStep step).item (out-JoinStep step).condition
 
 pub item-means : (c : Contents) (item : FromItem) (outer : List Scope) (trace : Trace) (earlier : List (List ℕ))

@@ -46,7 +46,7 @@ first-whole m earlier old new scope wider empty added =
       adds = added.adds;
     }
 
-join-whole : (outer : List Scope) (trace : Trace) (left : FromMeant) (step : JoinPart) (m : ItemMeant) (earlier : List (List ℕ)) (before old new : Gathered) (scope wider : Scope)
+pub join-whole : (outer : List Scope) (trace : Trace) (left : FromMeant) (step : JoinPart) (m : ItemMeant) (earlier : List (List ℕ)) (before old new : Gathered) (scope wider : Scope)
     → FromWhole left earlier before old scope → ItemAdded m scope old new wider
     → on_breaks step.condition (on_meant outer trace (both_known left.items (scope_items m)) step.condition) ≡ []
     → FromWhole (join_item outer trace left step m) earlier before new wider
@@ -72,12 +72,12 @@ pub joins-behind : (outer : List Scope) (trace : Trace) (left : FromMeant) (step
 joins-behind outer trace left [] step = refl
 joins-behind outer trace left (s ∷ steps) step = joins-behind outer trace (join_item outer trace left s (s.item.means outer trace left.names)) steps step
 
-joins-so-far : (outer : List Scope) (trace : Trace) (left : FromMeant) (steps more : List JoinPart)
+pub joins-so-far : (outer : List Scope) (trace : Trace) (left : FromMeant) (steps more : List JoinPart)
     → join_all outer trace left (steps ++ more) ≡ join_all outer trace (join_all outer trace left steps) more
 joins-so-far outer trace left [] more = refl
 joins-so-far outer trace left (s ∷ steps) more = joins-so-far outer trace (join_item outer trace left s (s.item.means outer trace left.names)) steps more
 
-joins-stay : (outer : List Scope) (trace : Trace) (left : FromMeant) (steps : List JoinPart) (b : Break) → first_or left.breaks (tt {0}) ≡ Err b
+pub joins-stay : (outer : List Scope) (trace : Trace) (left : FromMeant) (steps : List JoinPart) (b : Break) → first_or left.breaks (tt {0}) ≡ Err b
     → first_or (join_all outer trace left steps).breaks (tt {0}) ≡ Err b
 joins-stay outer trace left [] b e = e
 joins-stay outer trace left (s ∷ steps) b e =
@@ -130,6 +130,18 @@ join-on outer trace left step part m earlier before old new scope wider result i
           first-behind_two left.breaks m.breaks (on_breaks step.condition (on_meant outer trace (both_known left.items (scope_items m)) step.condition)) tt first.whole added.whole
           ∙ ap (λ (breaks : List Break). first_or breaks tt) are ∙ broken
       by-result (Err NoMemory) items told are = tt
+
+-- ---- all of FROM
+
+pub nothing-read : (outer : List Scope) (trace : Trace) (facts : Gathered) (scope : Scope) → scope ≡ scope_of [] → FromWhole (from_all outer trace []) [] facts facts scope
+nothing-read outer trace facts scope is = record {
+  whole = refl;
+  items = [];
+  known = refl;
+  scope_is = is;
+  names = ap (λ (s : Scope). s.items) (sym is);
+  adds = sym (both_facts-none (facts_in facts));
+}
 
 -- ---- a break of a source stands
 

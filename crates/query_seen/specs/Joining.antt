@@ -1,6 +1,5 @@
 -- What the code answers of the joins of a source, and of the scope of a core.
-use Rattle.std.specs.Prelude.{◌≡◌, ℕ, List, [], ◌++◌, flat_map, map, Some, Result, Ok, Err}
-use Rattle.std.specs.Option.{option_map_or}
+use Rattle.std.specs.Prelude.{◌≡◌, ℕ, List, [], flat_map, map, Option, Some, Result, Ok, Err}
 use Rattle.perm_catalog.specs.Contents.{Contents}
 use Rattle.sql_tree.specs.declared.query.Core.{Core, out-Core}
 use Rattle.name_words.specs.Cores.{group_break, group_scope}
@@ -8,7 +7,6 @@ use Rattle.name_words.specs.Froms.{FromMeant, from_all}
 use Rattle.name_words.specs.Meanings.{Around}
 use Rattle.name_words.specs.Scopes.{ScopeItem, scope_of}
 use Rattle.name_words.specs.Trees.{from_of, item_of}
-use Rattle.name_words.specs.declared.answer.Break.{Break}
 use Rattle.name_words.specs.declared.scope.Scope.{Scope}
 use Rattle.name_seen.specs.Seen.{first_or}
 use Rattle.name_seen.specs.declared.refusal.Refusal.{Refusal}
@@ -35,12 +33,7 @@ pub record CoreScope (c : Contents) (tree : Core) (around : Around) (scope : Sco
   pub groups_whole : flat_map (group_break (scope_of items)) (out-Core tree).groups ≡ []
   pub scope_is : scope ≡ group_scope (scope_of items) (out-Core tree).groups (optional_part c (out-Core tree).having) (map (item_of c) (out-Core tree).items)
 
--- what FROM breaks, and then GROUP BY over its items
-abbrev pub scope_breaks : Contents → Core → Around → List Break
-scope_breaks c tree around = (input_of c tree around).breaks
-    ++ flat_map (group_break (scope_of (option_map_or (λ known. known) (input_of c tree around).items []))) (out-Core tree).groups
-
+-- a break of FROM, or of GROUP BY where FROM breaks nothing
 abbrev pub CoreScoped : Contents → Core → Around → Result Scope Refusal → Type 0
 CoreScoped c tree around (Ok scope) = CoreScope c tree around scope
-CoreScoped c tree around (Err (Broken first)) = first_or (scope_breaks c tree around) (tt {0}) ≡ Err first
-CoreScoped c tree around (Err NoMemory) = Unit {0}
+CoreScoped c tree around (Err refusal) = Unit {0}
