@@ -1,4 +1,4 @@
-ghost use Rattle.std.specs.Prelude.{◌≡◌, IsSome};
+ghost use Rattle.std.specs.Prelude.{IsSome};
 ghost use Rattle.perm_catalog.specs.Changes.{table_named};
 ghost use Rattle.statement_words.specs.Answers.{IsTurn};
 ghost use Rattle.statement_words.specs.Turns.{add_rows};

@@ -1,4 +1,4 @@
-ghost use Rattle.std.specs.Prelude.{◌≡◌, IsTrue};
+ghost use Rattle.std.specs.Prelude.{IsTrue};
 ghost use Rattle.perm_catalog.specs.Changes.{is_free};
 ghost use Rattle.statement_words.specs.Answers.{IsTurn};
 ghost use Rattle.statement_words.specs.Turns.{create_table, view_created};

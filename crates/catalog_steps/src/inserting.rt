@@ -1,4 +1,4 @@
-ghost use Rattle.std.specs.Prelude.{◌≡◌, [], IsSome};
+ghost use Rattle.std.specs.Prelude.{[], IsSome};
 ghost use Rattle.bag_algebra.specs.Expressions.{value};
 ghost use Rattle.bag_algebra.specs.Outcome.{each};
 ghost use Rattle.expression_values.specs.Answers.{Gives};

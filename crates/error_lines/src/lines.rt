@@ -1,5 +1,5 @@
-ghost use Rattle.std.specs.Prelude.{◌≡◌, ◌++◌, ◌≤◌, ◌+◌, length};
-ghost use Rattle.error_lines.specs.Lines.{data_line, error_line, field_line, record_line, two_digits};
+ghost use Rattle.std.specs.Prelude.{◌≡◌, ◌≤◌, length};
+ghost use Rattle.error_lines.specs.Lines.{data_line, error_line, field_line, record_line};
 
 use crate::line::Line;
 use csv_tables::DataError;

@@ -1,7 +1,6 @@
 -- The turn of a query, by what the rows of a query that stands for it are.
 use mathlib.Core.Bool.{true≢false}
 use Rattle.std.proofs.Common.{◌≡◌, ◌∙◌, ℕ, true, List, [], Result, Ok, Err, refl, sym, ap, subst}
-use Rattle.null_logic.specs.declared.run_fault.RunFault.{RunFault}
 use Rattle.perm_values.specs.Rows.{printed_cmp}
 use Rattle.perm_values.specs.declared.key.Key.{Key}
 use Rattle.bag_algebra.proofs.SortedBags.{printed_unique}
@@ -19,7 +18,7 @@ use Rattle.expression_values.specs.declared.error.ExecError.TheVariants.{Fault, 
 use Rattle.perm_catalog.specs.Contents.{Contents}
 use Rattle.statement_words.specs.Answers.{IsText, Names, met}
 use Rattle.statement_words.specs.Ready.{CanRun}
-use Rattle.statement_words.specs.Turns.{Turn, Stands as stands, answered, on_good, select}
+use Rattle.statement_words.specs.Turns.{Stands as stands, answered, on_good, select}
 use Rattle.statement_words.specs.declared.refusal.StepRefusal.{StepRefusal}
 use Rattle.query_answers.specs.Printed.{IsPrinted}
 

@@ -1,9 +1,9 @@
 -- What a call answers that carries a statement out.
-use Rattle.std.specs.Prelude.{◌≡◌, ◌⊎◌, ℕ, ◌<◌, Bool, true, false, List, Option, Result, Ok, Err, IsTrue}
+use Rattle.std.specs.Prelude.{◌≡◌, ℕ, ◌<◌, Bool, true, false, List, Option, Result, Ok, Err, IsTrue}
 use Rattle.bag_algebra.specs.Outcome.{Faults, has}
 use Rattle.csv_tables.specs.declared.data_error.DataError.TheVariants as broken_rule
 use Rattle.perm_catalog.specs.Contents.{Contents}
-use Rattle.perm_io.specs.Counts.{HasRisen, CountsFault, next_count}
+use Rattle.perm_io.specs.Counts.{HasRisen}
 use Rattle.perm_io.specs.Found.{Found, CanBe}
 use Rattle.perm_io.specs.declared.named_file.NamedFile.{NamedFile}
 use Rattle.expression_values.specs.declared.error.ExecError.{ExecError}

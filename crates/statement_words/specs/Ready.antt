@@ -1,5 +1,5 @@
 -- When a resolved statement can be carried out: what its names name is there, and its query is one that can run.
-use Rattle.std.specs.Prelude.{◌≡◌, true, List, [], None, IsSome}
+use Rattle.std.specs.Prelude.{◌≡◌, true, [], None, IsSome}
 use Rattle.bag_algebra.specs.Fits.{TablesFit}
 use Rattle.bag_algebra.specs.Scoped.{is_scoped}
 use Rattle.bag_algebra.specs.TableRows.{rows_in}
