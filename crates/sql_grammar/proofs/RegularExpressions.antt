@@ -149,7 +149,7 @@ literal-regular false false false true number spelled p = made.truth-regular fal
 literal-regular false false false false number spelled p = made.null-regular
 
 pub literal-builds : Builds n.Literal
-literal-builds t (among, number) = literal-regular (b.is t s.Digits) (b.is t s.Literal) (b.is t s.True) (b.is t s.False) t.number t.spelled number
+literal-builds t (among, number) = literal-regular (b.is t s.Digits) (b.is t s.Literal) (b.is t s.True) (b.is t s.False) t.number t.spelled number.0
 
 pub cast-builds : Builds n.Cast
 cast-builds v h = made.null_of-regular v.1.1.0.1.1

@@ -1,14 +1,13 @@
 -- What the rules of queries build of regular parts is regular.
 use Rattle.std.proofs.Common.{◌≡◌, inl, inr, Bool, true, false, List, [], ◌∷◌, Some, None, refl}
 use Rattle.std.specs.Prelude.{if◌then◌else◌, option_map, is_some}
-use Rattle.std.specs.Int.{IsNonNegative}
 use Rattle.sql_grammar.specs.Building as b
 use Rattle.sql_grammar.specs.Symbols as n
 use Rattle.sql_grammar.specs.declared.sort.Sort.TheVariants as s
 use Rattle.sql_grammar.proofs.Holding.{none-each, none-there, some-there}
 use Rattle.sql_grammar.proofs.RegularTrees.{Builds, items-each}
 use Rattle.sql_tree.proofs.Made as made
-use Rattle.sql_tree.specs.Regular.{Each, RegularOrder, RegularExpr, RegularSet, RegularSetStep, RegularFrom, RegularItem, has_condition, regular_query, regular_set_step, regular_from_item}
+use Rattle.sql_tree.specs.Regular.{Each, IsTokenNumber, RegularOrder, RegularExpr, RegularSet, RegularSetStep, RegularFrom, RegularItem, has_condition, regular_query, regular_set_step, regular_from_item}
 use Rattle.sql_tree.specs.declared.query.SetStep.{SetStep}
 use Rattle.sql_tree.specs.declared.query.SetTree.{SetTree}
 use Rattle.sql_tree.specs.declared.source.JoinWord.TheVariants.{Left, Right, Full, Cross}
@@ -53,11 +52,11 @@ order-builds (Some (order, (by, (key, more)))) h = items-each RegularOrder key m
 
 pub key-builds : Builds n.Key
 key-builds (inl t, direction) h = tt
-key-builds (inr t, direction) h = h.0.1
+key-builds (inr t, direction) h = h.0.1.0
 
 pub limit-builds : Builds n.Limit
-limit-builds None h = none-there IsNonNegative
-limit-builds (Some (limit, t)) h = some-there IsNonNegative t.number h.1.1
+limit-builds None h = none-there IsTokenNumber
+limit-builds (Some (limit, t)) h = some-there IsTokenNumber t.number h.1.1
 
 -- ---- a SELECT
 

@@ -1,6 +1,5 @@
 -- When the tree of each symbol is regular. A function is where it makes a regular tree of regular parts.
 use Rattle.std.proofs.Common.{◌≡◌, ℕ, Bool, true, List, [], ◌∷◌, map}
-use Rattle.std.specs.Int.{IsNonNegative}
 use Rattle.perm_values.specs.declared.kind.Kind.TheVariants.{Boolean}
 use Rattle.sql_grammar.specs.Building.{Word, items}
 use Rattle.sql_grammar.specs.Grammar.{sql}
@@ -9,7 +8,7 @@ use Rattle.sql_grammar.specs.Symbols.{Symbol, Tree}
 use Rattle.sql_grammar.proofs.Holding as holding
 use Rattle.sql_grammar.proofs.Holding.{none-each, cons-each, head-of, tail-of}
 use Rattle.sql_grammar.proofs.TokenNumbers.{HasNumber}
-use Rattle.sql_tree.specs.Regular.{IsFilled, Each, IfThere, has_condition, RegularMark, RegularOrder, RegularExpr, RegularBody, RegularStep, RegularArm, RegularQuery, RegularSet, RegularSetStep, RegularCore, RegularItem, RegularFrom, RegularJoin, RegularFromItem, RegularSource, RegularColumn, RegularRow, RegularStatementBody, RegularStatement, Regular}
+use Rattle.sql_tree.specs.Regular.{IsTokenNumber, IsFilled, Each, IfThere, has_condition, RegularMark, RegularOrder, RegularExpr, RegularBody, RegularStep, RegularArm, RegularQuery, RegularSet, RegularSetStep, RegularCore, RegularItem, RegularFrom, RegularJoin, RegularFromItem, RegularSource, RegularColumn, RegularRow, RegularStatementBody, RegularStatement, Regular}
 use Rattle.sql_tree.specs.declared.expression.ExprTree.{ExprTree}
 use Rattle.sql_tree.specs.declared.query.SetTree.{SetTree}
 
@@ -43,7 +42,7 @@ RegularOf n.IntersectStep tree = RegularSetStep tree
 RegularOf n.UnionStep tree = RegularSetStep tree
 RegularOf n.Order list = Each RegularOrder list
 RegularOf n.Key tree = RegularOrder tree
-RegularOf n.Limit limit = IfThere IsNonNegative limit
+RegularOf n.Limit limit = IfThere IsTokenNumber limit
 RegularOf n.CoreOf tree = RegularCore tree
 RegularOf n.Items list = IsFilled list × Each RegularItem list
 RegularOf n.Item tree = RegularItem tree

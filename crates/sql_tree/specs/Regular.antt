@@ -1,5 +1,5 @@
 -- Which syntax trees are regular: what the tree of every script keeps, and the types of the tree don't say.
-use Rattle.std.specs.Prelude.{◌≡◌, ℕ, ◌≤◌, ℤ, Bool, true, false, not, ◌&&◌, List, [], ◌∷◌, find, Option, Some, is_some, option_map, Contains, ◌⊎◌}
+use Rattle.std.specs.Prelude.{◌≡◌, ℕ, ◌≤◌, ◌<◌, ◌^◌, ◌×◌, ℤ, nat_abs, Bool, true, false, not, ◌&&◌, List, [], ◌∷◌, find, Option, Some, is_some, option_map, Contains, ◌⊎◌}
 use Rattle.std.specs.Int.{IsNonNegative}
 use Rattle.std.specs.Str.{bytes_eq}
 use Rattle.null_logic.specs.Operators.{operator_table, arith_spelling}
@@ -94,6 +94,10 @@ RegularMark mark.Plain = Unit {0}
 RegularMark mark.BaseRelation = Unit {0}
 RegularMark (mark.External attributes) = IsFilled attributes
 
+-- a number as a token has it: 63 bits, without a sign
+abbrev pub IsTokenNumber : ℤ → Type 0
+IsTokenNumber number = IsNonNegative number × (nat_abs number < 2 ^ 63)
+
 abbrev pub RegularKey : OrderKey → Type 0
 RegularKey (named_key name) = Unit {0}
 RegularKey (Position number) = IsNonNegative number
@@ -178,7 +182,7 @@ mutual
 
   pub data RegularQuery : QueryTree → Type 0 where
     regular_query : {tree : QueryTree} → RegularSetLayer (out-SetTree tree.body) → Each RegularOrder tree.order
-        → IfThere IsNonNegative tree.limit → RegularQuery tree
+        → IfThere IsTokenNumber tree.limit → RegularQuery tree
 
   pub data RegularSetLayer : SetLayer → Type 0 where
     regular_set_core : {core : Core} → RegularCore core → RegularSetLayer (SetTree-F.Core core)
