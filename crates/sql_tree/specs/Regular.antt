@@ -1,5 +1,5 @@
 -- Which syntax trees are regular: what the tree of every script keeps, and the types of the tree don't say.
-use Rattle.std.specs.Prelude.{◌≡◌, ℕ, ◌≤◌, ◌<◌, ◌^◌, ◌×◌, ℤ, nat_abs, Bool, true, false, not, ◌&&◌, List, [], ◌∷◌, find, Option, Some, is_some, option_map, Contains, ◌⊎◌}
+use Rattle.std.specs.Prelude.{◌≡◌, ℕ, ◌≤◌, ◌<◌, ◌^◌, ℤ, nat_abs, Bool, true, false, not, ◌&&◌, List, [], ◌∷◌, find, Option, Some, is_some, option_map, Contains, ◌⊎◌}
 use Rattle.std.specs.Int.{IsNonNegative}
 use Rattle.std.specs.Str.{bytes_eq}
 use Rattle.null_logic.specs.Operators.{operator_table, arith_spelling}
