@@ -14,7 +14,6 @@ mod Items
 pub mod TreeLaws
 mod Needs
 mod Opened
-mod OpenedLimits
 mod Queries
 mod Standing
 mod Sublinks

@@ -1,5 +1,5 @@
 -- Set operations, ORDER BY, LIMIT and PROVENANCE over what is made well formed.
-use Rattle.std.specs.Prelude.{◌≡◌, ⊤, ℕ, zero, suc, pred, ◌+◌, ◌<◌, ◌≤◌, ◌^◌, ℤ, pos, negsuc, nat_abs, Bool, true, false, cond, not, ◌&&◌, nat_eq, nat_lt, nat_le, List, [], ◌∷◌, ◌++◌, map, flat_map, length, position, Option, Some, None, option_map, IfSome}
+use Rattle.std.specs.Prelude.{◌≡◌, ⊤, ℕ, zero, suc, pred, ◌+◌, ◌<◌, ◌≤◌, ℤ, pos, negsuc, nat_abs, Bool, true, false, cond, not, ◌&&◌, nat_eq, nat_lt, nat_le, List, [], ◌∷◌, ◌++◌, map, flat_map, length, position, Option, Some, None, option_map, IfSome}
 use Rattle.std.proofs.Common.{refl, ap, sym, ◌∙◌, subst, true≢false, arith, ltb-true, leb-true, eqb-true}
 use Rattle.std.proofs.lemmas.List.{length-append}
 use Rattle.std.proofs.lemmas.List.Elements.{All-nil, All-cons}
@@ -14,6 +14,7 @@ use Rattle.bag_algebra.specs.Kinds.{kinds_of, width_of, shape, place_kinds}
 use Rattle.bag_algebra.specs.WellFormed.{WellFormed, PlacesIn, KeysIn}
 use Rattle.bag_algebra.specs.declared.query.Query.{Query}
 use Rattle.bag_algebra.specs.declared.query.Query.TheVariants.{Prov}
+use Rattle.sql_tree.specs.Regular.{IfThere, IsTokenNumber}
 use Rattle.sql_tree.specs.declared.query.OrderKey.{OrderKey}
 use Rattle.sql_tree.specs.declared.query.OrderKey.TheVariants.{Named as named_key, Position}
 use Rattle.sql_tree.specs.declared.query.OrderTree.{OrderTree}
@@ -25,7 +26,6 @@ use Rattle.name_words.specs.Queries.{SetStepPart, set_of, united_columns, do_uni
 use Rattle.name_words.specs.declared.answer.Break.{Break}
 use Rattle.name_words.specs.declared.trace.Trace.TheVariants.{InProvenance as in_provenance}
 use Rattle.name_laws.specs.Known.{HasItsKinds}
-use Rattle.name_forms.specs.Limits.{limit_fits}
 use Rattle.name_forms.specs.Standing.{RowsHold}
 use Rattle.name_forms.proofs.Aggregates.{unbroken}
 use Rattle.name_forms.proofs.Cores.{by}
@@ -213,11 +213,11 @@ kinds-limited : (limit : Option ℤ) (keys : List Key) (query : Query) → kinds
 kinds-limited None keys query = refl
 kinds-limited (Some n) keys query = kinds_of-Limit query keys (nat_abs n)
 
-formed-limited : (rows : List (List Kind)) (limit : Option ℤ) (keys : List Key) (query : Query) → limit_fits limit ≡ true → WellFormed rows query
+formed-limited : (rows : List (List Kind)) (limit : Option ℤ) (keys : List Key) (query : Query) → IfThere IsTokenNumber limit → WellFormed rows query
     → KeysIn (width_of query) keys → WellFormed rows (limited limit keys query)
 formed-limited rows None keys query fits f k = f
 formed-limited rows (Some n) keys query fits f k =
-    by (sym (WellFormed-Limit rows query keys (nat_abs n))) (record { input = f; keys = k; bound = ltb-true (nat_abs n) (2 ^ 63) fits })
+    by (sym (WellFormed-Limit rows query keys (nat_abs n))) (record { input = f; keys = k; bound = (fits n refl).1 })
 
 -- ---- a query
 
@@ -234,13 +234,13 @@ width-made : (body : QueryMeant) (known : HasItsKinds body) (wanted : List Kind)
 width-made body known wanted = ap length (known.kinds wanted) ∙ length-settle known.columns wanted
 
 formed-body : (body : QueryMeant) (order : List OrderTree) (limit : Option ℤ) (known : HasItsKinds body) (rows : List (List Kind)) (wanted : List Kind)
-    → limit_fits limit ≡ true → WellFormed rows (body.make wanted) → keys_breaks body.columns order ≡ []
+    → IfThere IsTokenNumber limit → WellFormed rows (body.make wanted) → keys_breaks body.columns order ≡ []
     → WellFormed rows (limited limit (keys_of body.columns order) (body.make wanted))
 formed-body body order limit known rows wanted fits f whole =
     formed-limited rows limit (keys_of body.columns order) (body.make wanted) fits f
     (subst (λ w. KeysIn w (keys_of body.columns order)) (sym (width-made body known wanted)) (keys_of-in body order known whole))
 
-good-plain : (around : Around) (at : ℕ) (body : QueryMeant) (order : List OrderTree) (limit : Option ℤ) → limit_fits limit ≡ true → GoodBodyMeant around body
+good-plain : (around : Around) (at : ℕ) (body : QueryMeant) (order : List OrderTree) (limit : Option ℤ) → IfThere IsTokenNumber limit → GoodBodyMeant around body
     → GoodQueryMeant around (plain_query at body order limit)
 good-plain around at body order limit fits good =
     let own : List Break = keys_breaks body.columns order in
@@ -259,7 +259,7 @@ good-plain around at body order limit fits good =
 width-proved : (query : Query) → width_of (Prov query) ≡ width_of query + length (place_kinds (shape query))
 width-proved query = ap length (kinds_of-Prov query) ∙ length-append (kinds_of query) (place_kinds (shape query))
 
-good-proved : (around : Around) (at : ℕ) (body : QueryMeant) (order : List OrderTree) (limit : Option ℤ) → limit_fits limit ≡ true
+good-proved : (around : Around) (at : ℕ) (body : QueryMeant) (order : List OrderTree) (limit : Option ℤ) → IfThere IsTokenNumber limit
     → GoodBodyMeant around body
     → GoodQueryMeant around (proved_query at body order limit (limited limit (keys_of body.columns order) (body.make [])))
 good-proved around at body order limit fits good =
@@ -288,7 +288,7 @@ good-proved around at body order limit fits good =
           (keys_of-in body order known (back-none body.breaks own whole));
     }
 
-pub good-query_seen : (around : Around) (at : ℕ) (body : BodyPart) (order : List OrderTree) (limit : Option ℤ) → limit_fits limit ≡ true → GoodBody body
+pub good-query_seen : (around : Around) (at : ℕ) (body : BodyPart) (order : List OrderTree) (limit : Option ℤ) → IfThere IsTokenNumber limit → GoodBody body
     → GoodQueryMeant around (query_seen around at body order limit)
 good-query_seen around at body order limit fits good = chosen (is_proving around body) where
   chosen : (b : Bool) → GoodQueryMeant around (cond b

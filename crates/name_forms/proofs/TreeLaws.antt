@@ -14,37 +14,36 @@ use Rattle.name_words.specs.Meanings.{Surroundings, Before, Around, means_at, qu
 use Rattle.name_words.specs.Trees.{part_of, query_of}
 use Rattle.name_laws.proofs.Trees.{query-known}
 use Rattle.name_forms.specs.Formed.{IsFormedExpr, IsAnswer}
-use Rattle.name_forms.specs.Limits.{limits_of_expr, limits_of_query}
 use Rattle.name_forms.specs.Standing.{RowsHold}
 use Rattle.name_forms.proofs.Queries.{length-settle}
 use Rattle.name_forms.proofs.Trees.{good-expr, good-query}
 
-pub expr-formed : (c : Contents) (tree : ExprTree) (here : Surroundings) → IsSound c → RegularExpr tree → limits_of_expr tree ≡ true
+pub expr-formed : (c : Contents) (tree : ExprTree) (here : Surroundings) → IsSound c → RegularExpr tree
     → (means_at (part_of c tree) here).breaks ≡ [] → (wanted : Kind) (before : Before)
     → IsFormedExpr here before ((means_at (part_of c tree) here).make wanted before) (settled (means_at (part_of c tree) here).kind wanted)
 unfolding means_at
-expr-formed c tree here sound regular fit whole wanted before = (good-expr c sound regular fit).formed here whole wanted before
+expr-formed c tree here sound regular whole wanted before = (good-expr c sound regular).formed here whole wanted before
 
-pub query-formed : (c : Contents) (tree : QueryTree) (around : Around) → IsSound c → RegularQuery tree → limits_of_query tree ≡ true
+pub query-formed : (c : Contents) (tree : QueryTree) (around : Around) → IsSound c → RegularQuery tree
     → (query_means_at (query_of c tree) around).breaks ≡ [] → (rows : List (List Kind)) → RowsHold around.outer rows → (wanted : List Kind)
     → WellFormed rows ((query_means_at (query_of c tree) around).make wanted)
 unfolding query_means_at
-query-formed c tree around sound regular fit whole rows hold wanted = (good-query c sound regular fit around).formed whole rows hold wanted
+query-formed c tree around sound regular whole rows hold wanted = (good-query c sound regular around).formed whole rows hold wanted
 
-pub query-closed : (c : Contents) (tree : QueryTree) (around : Around) → IsSound c → RegularQuery tree → limits_of_query tree ≡ true
+pub query-closed : (c : Contents) (tree : QueryTree) (around : Around) → IsSound c → RegularQuery tree
     → (query_means_at (query_of c tree) around).breaks ≡ [] → around.outer ≡ [] → (wanted : List Kind)
     → WellFormed [] ((query_means_at (query_of c tree) around).make wanted) × (is_closed ((query_means_at (query_of c tree) around).make wanted) ≡ true)
-query-closed c tree around sound regular fit whole none wanted =
+query-closed c tree around sound regular whole none wanted =
     let query = (query_means_at (query_of c tree) around).make wanted in
-    let formed : WellFormed [] query = query-formed c tree around sound regular fit whole [] (subst (λ scopes. RowsHold scopes []) (sym none) tt) wanted in
+    let formed : WellFormed [] query = query-formed c tree around sound regular whole [] (subst (λ scopes. RowsHold scopes []) (sym none) tt) wanted in
     (formed, query_within [] query 0 refl formed)
 
-pub query-answer : (c : Contents) (tree : QueryTree) (around : Around) → IsSound c → RegularQuery tree → limits_of_query tree ≡ true
+pub query-answer : (c : Contents) (tree : QueryTree) (around : Around) → IsSound c → RegularQuery tree
     → (query_means_at (query_of c tree) around).breaks ≡ [] → IsAnswer (query_means_at (query_of c tree) around)
 unfolding query_means_at
-query-answer c tree around sound regular fit whole =
+query-answer c tree around sound regular whole =
     let known = query-known c tree around sound whole in
-    let good = good-query c sound regular fit around in
+    let good = good-query c sound regular around in
     record {
       columns = known.columns;
       known = known.known;

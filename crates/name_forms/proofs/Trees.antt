@@ -1,5 +1,5 @@
 -- Every regular tree is made well formed: each of its forms is, where its parts are.
-use Rattle.std.specs.Prelude.{◌≡◌, ⊤, ℕ, zero, suc, ◌<◌, Bool, true, false, ◌&&◌, List, [], ◌∷◌, ◌++◌, map, length, is_some, slice_index_or, Contains, Option, Some, None}
+use Rattle.std.specs.Prelude.{◌≡◌, ⊤, ℕ, zero, suc, ◌<◌, Bool, true, false, List, [], ◌∷◌, ◌++◌, map, length, is_some, slice_index_or, Contains, Option, Some, None}
 use Rattle.std.proofs.Common.{refl, ap, sym, ◌∙◌, subst, true≢false, arith}
 use Rattle.std.specs.List.{AllByRecursion as Every}
 use Rattle.null_logic.specs.declared.operator.Operator.{Operator}
@@ -31,7 +31,6 @@ use Rattle.name_words.specs.Meanings.{Surroundings, Part, Around, QueryMeant, Qu
 use Rattle.name_words.specs.Queries.{SetStepPart, set_step, set_step_step, query_step, unprovable}
 use Rattle.name_words.specs.Trees.{body_of, item_of, set_of_tree, source_of, arm_of, step_of, part_of, core_of, query_of, set_step_of, from_item_of, from_of, join_of}
 use Rattle.name_laws.proofs.Trees.{query-known, core-known}
-use Rattle.name_forms.specs.Limits.{all_fit, if_there, limit_fits, body_fits, item_fits, set_fits, source_fits, core_fits, from_fits, join_fits, limits_of_body, limits_of_item, limits_of_set, limits_of_source, limits_of_arm, limits_of_step, limits_of_expr, limits_of_core, limits_of_query, limits_of_set_step, limits_of_from_item, limits_of_from, limits_of_join}
 use Rattle.name_forms.proofs.Arms.{GoodStep, GoodArm, GoodOptional}
 use Rattle.name_forms.proofs.Bodies.{GoodQueryPart, FormParts, formed-body, plain-body}
 use Rattle.name_forms.proofs.CoreSteps.{FormedQuery, formed-core_seen}
@@ -39,19 +38,17 @@ use Rattle.name_forms.proofs.Froms.{GoodSource, GoodFromItem, GoodFromPart, Good
 use Rattle.name_forms.proofs.GoodMeant.{GoodMeant, GoodPart, IsPlain}
 use Rattle.name_forms.proofs.Items.{GoodItem, good-star, plain-star, good-table_star, plain-table_star, good-value, plain-value}
 use Rattle.name_forms.proofs.Opened.{Layer_core, Layer_from, Layer_join, shown_body, shown_item, shown_set, shown_source, shown_core, shown_from, shown_join, opened_body, opened_item, opened_set, opened_source, opened_core, opened_from, opened_join, opened_expr, opened_arm, opened_step, opened_query, opened_set_step, opened_from_item}
-use Rattle.name_forms.proofs.OpenedLimits.{fitting_body, fitting_item, fitting_set, fitting_source, fitting_core, fitting_from, fitting_join, limits_body, limits_item, limits_set, limits_source, limits_core, limits_from, limits_join, limits_expr, limits_arm, limits_step, limits_query, limits_set_step, limits_from_item}
-use Rattle.name_forms.proofs.Queries.{GoodBody, GoodBodyMeant, GoodQueryMeant, good-chain, good-query_seen, left-true, right-true}
+use Rattle.name_forms.proofs.Queries.{GoodBody, GoodBodyMeant, GoodQueryMeant, good-chain, good-query_seen}
 use Rattle.name_forms.proofs.Sublinks.{GoodQuery}
 
 -- ---- lists
 
--- what holds of the meaning of each, where it fits, holds of the meanings of all
-all-meant : {X Y : Type 0} (P : Y → Type 0) (means : X → Y) (fits : X → Bool) (xs : List X) → all_fit (map fits xs) ≡ true
-    → ((x : X) → Contains xs x → fits x ≡ true → P (means x)) → Every P (map means xs)
-all-meant P means fits [] fit h = tt
-all-meant P means fits (x ∷ xs) fit h = (
-  h x (0, omega arith, refl) (left-true (fits x) (all_fit (map fits xs)) fit),
-  all-meant P means fits xs (right-true (fits x) (all_fit (map fits xs)) fit) (λ y there. h y (suc there.0, (let l = there.1 in omega (arith, l)), there.2)),
+-- what holds of the meaning of each holds of the meanings of all
+all-meant : {X Y : Type 0} (P : Y → Type 0) (means : X → Y) (xs : List X) → ((x : X) → Contains xs x → P (means x)) → Every P (map means xs)
+all-meant P means [] h = tt
+all-meant P means (x ∷ xs) h = (
+  h x (0, omega arith, refl),
+  all-meant P means xs (λ y there. h y (suc there.0, (let l = there.1 in omega (arith, l)), there.2)),
 )
 
 filled-meant : {X Y : Type 0} (means : X → Y) (xs : List X) → IsFilled xs → IsFilled (map means xs)
@@ -86,20 +83,20 @@ module _ (c : Contents) (sound : IsSound c) where
     places = (good around).places;
   }
 
-  core-condition : (layer : Layer_core) (o : Option ExprTree) → if_there (fitting_core (record layer { condition = o })).condition ≡ true
-      → ((part : ExprTree) → o ≡ Some part → limits_of_expr part ≡ true → GoodPart (part_of c part)) → GoodOptional (shown_core c (record layer { condition = o })).condition
-  core-condition layer None fit h = tt
-  core-condition layer (Some part) fit h = h part refl fit
+  core-condition : (layer : Layer_core) (o : Option ExprTree) → ((part : ExprTree) → o ≡ Some part → GoodPart (part_of c part))
+      → GoodOptional (shown_core c (record layer { condition = o })).condition
+  core-condition layer None h = tt
+  core-condition layer (Some part) h = h part refl
 
-  core-having : (layer : Layer_core) (o : Option ExprTree) → if_there (fitting_core (record layer { having = o })).having ≡ true
-      → ((part : ExprTree) → o ≡ Some part → limits_of_expr part ≡ true → GoodPart (part_of c part)) → GoodOptional (shown_core c (record layer { having = o })).having
-  core-having layer None fit h = tt
-  core-having layer (Some part) fit h = h part refl fit
+  core-having : (layer : Layer_core) (o : Option ExprTree) → ((part : ExprTree) → o ≡ Some part → GoodPart (part_of c part))
+      → GoodOptional (shown_core c (record layer { having = o })).having
+  core-having layer None h = tt
+  core-having layer (Some part) h = h part refl
 
-  join-condition : (layer : Layer_join) (o : Option ExprTree) → if_there (fitting_join (record layer { condition = o })).condition ≡ true
-      → ((part : ExprTree) → o ≡ Some part → limits_of_expr part ≡ true → GoodPart (part_of c part)) → GoodOptional (shown_join c (record layer { condition = o })).condition
-  join-condition layer None fit h = tt
-  join-condition layer (Some part) fit h = h part refl fit
+  join-condition : (layer : Layer_join) (o : Option ExprTree) → ((part : ExprTree) → o ≡ Some part → GoodPart (part_of c part))
+      → GoodOptional (shown_join c (record layer { condition = o })).condition
+  join-condition layer None h = tt
+  join-condition layer (Some part) h = h part refl
 
   core-of_parts : (core : Core) → Every GoodItem (shown_core c (out-Core core)).items → Every GoodFromPart (shown_core c (out-Core core)).sources
       → GoodOptional (shown_core c (out-Core core)).condition → GoodOptional (shown_core c (out-Core core)).having → GoodBody (core_of c core)
@@ -136,174 +133,130 @@ module _ (c : Contents) (sound : IsSound c) where
   -- ---- the recursion over what makes a tree regular
 
   mutual
-    pub good-expr : {tree : ExprTree} → RegularExpr tree → limits_of_expr tree ≡ true → GoodPart (part_of c tree)
-    good-expr (regular_expr {tree = tree} regular) fit =
-        part-of_body tree (body-of_layer tree.body (good-layer regular (sym (limits_body tree.body) ∙ sym (limits_expr tree) ∙ fit)))
+    pub good-expr : {tree : ExprTree} → RegularExpr tree → GoodPart (part_of c tree)
+    good-expr (regular_expr {tree = tree} regular) = part-of_body tree (body-of_layer tree.body (good-layer regular))
 
-    good-layer : {layer : BodyLayer} → RegularBodyLayer layer → body_fits (fitting_body layer) ≡ true → FormParts (shown_body c layer)
-    good-layer regular_null fit = tt
-    good-layer regular_null_of fit = tt
-    good-layer (regular_integer positive) fit = tt
-    good-layer regular_text fit = tt
-    good-layer regular_truth fit = tt
-    good-layer regular_column fit = tt
-    good-layer (regular_paren part) fit = good-expr part fit
-    good-layer (regular_nots some part) fit = good-expr part fit
-    good-layer (regular_signs some part) fit = good-expr part fit
-    good-layer (regular_logic {parts = parts} connective several each) fit = (
+    good-layer : {layer : BodyLayer} → RegularBodyLayer layer → FormParts (shown_body c layer)
+    good-layer regular_null = tt
+    good-layer regular_null_of = tt
+    good-layer (regular_integer positive) = tt
+    good-layer regular_text = tt
+    good-layer regular_truth = tt
+    good-layer regular_column = tt
+    good-layer (regular_paren part) = good-expr part
+    good-layer (regular_nots some part) = good-expr part
+    good-layer (regular_signs some part) = good-expr part
+    good-layer (regular_logic {parts = parts} connective several each) = (
       connective,
       several-meant (part_of c) parts several,
-      all-meant GoodPart (part_of c) limits_of_expr parts fit (λ part in_parts fits. good-expr (each part in_parts) fits),
+      all-meant GoodPart (part_of c) parts (λ part in_parts. good-expr (each part in_parts)),
     )
-    good-layer (regular_chain level {first = first} {steps = steps} regular filled each) fit = (
+    good-layer (regular_chain level {steps = steps} regular filled each) = (
       level,
-      good-expr regular (left-true (limits_of_expr first) (all_fit (map limits_of_step steps)) fit),
+      good-expr regular,
       filled-meant (step_of c) steps filled,
-      all-meant (GoodStep level) (step_of c) limits_of_step steps (right-true (limits_of_expr first) (all_fit (map limits_of_step steps)) fit)
-          (λ step in_steps fits. good-step (each step in_steps) fits),
+      all-meant (GoodStep level) (step_of c) steps (λ step in_steps. good-step (each step in_steps)),
     )
-    good-layer (regular_compared {first = first} {second = second} f s) fit =
-        (good-expr f (left-true (limits_of_expr first) (limits_of_expr second) fit), good-expr s (right-true (limits_of_expr first) (limits_of_expr second) fit))
-    good-layer (regular_like {part = first} {pattern = second} f s) fit =
-        (good-expr f (left-true (limits_of_expr first) (limits_of_expr second) fit), good-expr s (right-true (limits_of_expr first) (limits_of_expr second) fit))
-    good-layer (regular_between {part = part} {low = low} {high = high} f s t) fit =
-        let rest = right-true (limits_of_expr part) (limits_of_expr low && limits_of_expr high) fit in (
-          good-expr f (left-true (limits_of_expr part) (limits_of_expr low && limits_of_expr high) fit),
-          good-expr s (left-true (limits_of_expr low) (limits_of_expr high) rest),
-          good-expr t (right-true (limits_of_expr low) (limits_of_expr high) rest),
-        )
-    good-layer (regular_in_list {part = part} {list = list} f filled each) fit = (
-      good-expr f (left-true (limits_of_expr part) (all_fit (map limits_of_expr list)) fit),
+    good-layer (regular_compared first second) = (good-expr first, good-expr second)
+    good-layer (regular_like part pattern) = (good-expr part, good-expr pattern)
+    good-layer (regular_between part low high) = (good-expr part, good-expr low, good-expr high)
+    good-layer (regular_in_list {list = list} part filled each) = (
+      good-expr part,
       filled-meant (part_of c) list filled,
-      all-meant GoodPart (part_of c) limits_of_expr list (right-true (limits_of_expr part) (all_fit (map limits_of_expr list)) fit)
-          (λ part in_list fits. good-expr (each part in_list) fits),
+      all-meant GoodPart (part_of c) list (λ other in_list. good-expr (each other in_list)),
     )
-    good-layer (regular_in_query {part = part} {query = query} f q) fit = (
-      good-expr f (left-true (limits_of_expr part) (limits_of_query query) fit),
-      good-of_query query (λ around. good-query q (right-true (limits_of_expr part) (limits_of_query query) fit) around),
-    )
-    good-layer (regular_quantified {part = part} {query = query} f q) fit = (
-      good-expr f (left-true (limits_of_expr part) (limits_of_query query) fit),
-      good-of_query query (λ around. good-query q (right-true (limits_of_expr part) (limits_of_query query) fit) around),
-    )
-    good-layer (regular_is_null part) fit = good-expr part fit
-    good-layer (regular_is_truth part) fit = good-expr part fit
-    good-layer (regular_is_distinct {first = first} {second = second} f s) fit =
-        (good-expr f (left-true (limits_of_expr first) (limits_of_expr second) fit), good-expr s (right-true (limits_of_expr first) (limits_of_expr second) fit))
-    good-layer (regular_case {arms = arms} {otherwise = None} filled each other) fit = (
+    good-layer (regular_in_query {query = query} part q) = (good-expr part, good-of_query query (λ around. good-query q around))
+    good-layer (regular_quantified {query = query} part q) = (good-expr part, good-of_query query (λ around. good-query q around))
+    good-layer (regular_is_null part) = good-expr part
+    good-layer (regular_is_truth part) = good-expr part
+    good-layer (regular_is_distinct first second) = (good-expr first, good-expr second)
+    good-layer (regular_case {arms = arms} {otherwise = None} filled each other) = (
       filled-meant (arm_of c) arms filled,
-      all-meant GoodArm (arm_of c) limits_of_arm arms (left-true (all_fit (map limits_of_arm arms)) true fit) (λ arm in_arms fits. good-arm (each arm in_arms) fits),
+      all-meant GoodArm (arm_of c) arms (λ arm in_arms. good-arm (each arm in_arms)),
       tt,
     )
-    good-layer (regular_case {arms = arms} {otherwise = Some part} filled each other) fit = (
+    good-layer (regular_case {arms = arms} {otherwise = Some part} filled each other) = (
       filled-meant (arm_of c) arms filled,
-      all-meant GoodArm (arm_of c) limits_of_arm arms (left-true (all_fit (map limits_of_arm arms)) (limits_of_expr part) fit)
-          (λ arm in_arms fits. good-arm (each arm in_arms) fits),
-      good-expr (other part refl) (right-true (all_fit (map limits_of_arm arms)) (limits_of_expr part) fit),
+      all-meant GoodArm (arm_of c) arms (λ arm in_arms. good-arm (each arm in_arms)),
+      good-expr (other part refl),
     )
-    good-layer (regular_coalesce {list = list} filled each) fit = (
+    good-layer (regular_coalesce {list = list} filled each) = (
       filled-meant (part_of c) list filled,
-      all-meant GoodPart (part_of c) limits_of_expr list fit (λ part in_list fits. good-expr (each part in_list) fits),
+      all-meant GoodPart (part_of c) list (λ part in_list. good-expr (each part in_list)),
     )
-    good-layer (regular_null_if {first = first} {second = second} f s) fit =
-        (good-expr f (left-true (limits_of_expr first) (limits_of_expr second) fit), good-expr s (right-true (limits_of_expr first) (limits_of_expr second) fit))
-    good-layer (regular_aggregate {argument = None} same each) fit = (same, tt)
-    good-layer (regular_aggregate {argument = Some part} same each) fit = (same, good-expr (each part refl) fit)
-    good-layer (regular_exists {query = query} q) fit = good-of_query query (λ around. good-query q fit around)
-    good-layer (regular_scalar {query = query} q) fit = good-of_query query (λ around. good-query q fit around)
+    good-layer (regular_null_if first second) = (good-expr first, good-expr second)
+    good-layer (regular_aggregate {argument = None} same each) = (same, tt)
+    good-layer (regular_aggregate {argument = Some part} same each) = (same, good-expr (each part refl))
+    good-layer (regular_exists {query = query} q) = good-of_query query (λ around. good-query q around)
+    good-layer (regular_scalar {query = query} q) = good-of_query query (λ around. good-query q around)
 
-    good-step : {level : ℕ} {step : ExprStep} → RegularStep level step → limits_of_step step ≡ true → GoodStep level (step_of c step)
-    good-step (regular_step {level = level} {tree = step} of_level part) fit =
-        subst (GoodStep level) (sym (opened_step c step)) (good-expr part (sym (limits_step step) ∙ fit), of_level)
+    good-step : {level : ℕ} {step : ExprStep} → RegularStep level step → GoodStep level (step_of c step)
+    good-step (regular_step {level = level} {tree = step} of_level part) =
+        subst (GoodStep level) (sym (opened_step c step)) (good-expr part, of_level)
 
-    good-arm : {arm : ArmTree} → RegularArm arm → limits_of_arm arm ≡ true → GoodArm (arm_of c arm)
-    good-arm (regular_arm {tree = arm} condition value) fit =
-        let both = sym (limits_arm arm) ∙ fit in
-        subst GoodArm (sym (opened_arm c arm)) (
-          good-expr condition (left-true (limits_of_expr arm.condition) (limits_of_expr arm.value) both),
-          good-expr value (right-true (limits_of_expr arm.condition) (limits_of_expr arm.value) both),
-        )
+    good-arm : {arm : ArmTree} → RegularArm arm → GoodArm (arm_of c arm)
+    good-arm (regular_arm {tree = arm} condition value) =
+        subst GoodArm (sym (opened_arm c arm)) (good-expr condition, good-expr value)
 
-    pub good-query : {tree : QueryTree} → RegularQuery tree → limits_of_query tree ≡ true → (around : Around) → GoodQueryMeant around ((query_of c tree).means around)
-    good-query (regular_query {tree = tree} body order limit) fit around =
-        let both = sym (limits_query tree) ∙ fit in
+    pub good-query : {tree : QueryTree} → RegularQuery tree → (around : Around) → GoodQueryMeant around ((query_of c tree).means around)
+    good-query (regular_query {tree = tree} body order limit) around =
         subst (λ (query : QueryPart). GoodQueryMeant around (query.means around)) (sym (opened_query c tree))
-        (good-query_seen around tree.at (set_of_tree c tree.body) tree.order tree.limit (right-true (limits_of_set tree.body) (limit_fits tree.limit) both)
-        (subst GoodBody (sym (opened_set c tree.body))
-        (good-set body (sym (limits_set tree.body) ∙ left-true (limits_of_set tree.body) (limit_fits tree.limit) both))))
+        (good-query_seen around tree.at (set_of_tree c tree.body) tree.order tree.limit limit
+        (subst GoodBody (sym (opened_set c tree.body)) (good-set body)))
 
-    good-set : {layer : SetLayer} → RegularSetLayer layer → set_fits (fitting_set layer) ≡ true → GoodBody (set_step (shown_set c layer))
-    good-set (regular_set_core core) fit around = good-core core fit around
-    good-set (regular_set_paren {query = query} q) fit around = paren-body query around (good-query q fit (unprovable around))
-    good-set (regular_set_chain {first = first} {steps = steps} regular filled each) fit around =
+    good-set : {layer : SetLayer} → RegularSetLayer layer → GoodBody (set_step (shown_set c layer))
+    good-set (regular_set_core core) around = good-core core around
+    good-set (regular_set_paren {query = query} q) around = paren-body query around (good-query q (unprovable around))
+    good-set (regular_set_chain {first = first} {steps = steps} regular filled each) around =
         good-chain around ((set_of_tree c first).means around) (map (set_step_of c) steps)
-        (subst GoodBody (sym (opened_set c first))
-        (good-set regular (sym (limits_set first) ∙ left-true (limits_of_set first) (all_fit (map limits_of_set_step steps)) fit)) around)
-        (all-meant (λ (step : SetStepPart). GoodBody step.operand) (set_step_of c) limits_of_set_step steps
-        (right-true (limits_of_set first) (all_fit (map limits_of_set_step steps)) fit) (λ step in_steps fits. good-set_step (each step in_steps) fits))
+        (subst GoodBody (sym (opened_set c first)) (good-set regular) around)
+        (all-meant (λ (step : SetStepPart). GoodBody step.operand) (set_step_of c) steps (λ step in_steps. good-set_step (each step in_steps)))
 
-    good-set_step : {step : SetStep} → RegularSetStep step → limits_of_set_step step ≡ true → GoodBody (set_step_of c step).operand
-    good-set_step (regular_set_step {step = step} regular) fit =
+    good-set_step : {step : SetStep} → RegularSetStep step → GoodBody (set_step_of c step).operand
+    good-set_step (regular_set_step {step = step} regular) =
         subst (λ (part : SetStepPart). GoodBody part.operand) (sym (opened_set_step c step))
-        (subst GoodBody (sym (opened_set c step.operand)) (good-set regular (sym (limits_set step.operand) ∙ sym (limits_set_step step) ∙ fit)))
+        (subst GoodBody (sym (opened_set c step.operand)) (good-set regular))
 
-    good-core : {core : Core} → RegularCore core → limits_of_core core ≡ true → GoodBody (core_of c core)
-    good-core (regular_core {core = core} filled items sources condition having) fit =
+    good-core : {core : Core} → RegularCore core → GoodBody (core_of c core)
+    good-core (regular_core {core = core} filled items sources condition having) =
         let layer = out-Core core in
-        let all = sym (limits_core core) ∙ fit in
-        let lists = left-true (all_fit (map limits_of_item layer.items) && all_fit (map limits_of_from layer.sources))
-        (if_there (fitting_core layer).condition && if_there (fitting_core layer).having) all in
-        let tests = right-true (all_fit (map limits_of_item layer.items) && all_fit (map limits_of_from layer.sources))
-        (if_there (fitting_core layer).condition && if_there (fitting_core layer).having) all in
         core-of_parts core
-        (all-meant GoodItem (item_of c) limits_of_item layer.items (left-true (all_fit (map limits_of_item layer.items)) (all_fit (map limits_of_from layer.sources)) lists)
-        (λ item in_items fits. subst GoodItem (sym (opened_item c item)) (good-item (items item in_items) (sym (limits_item item) ∙ fits))))
-        (all-meant GoodFromPart (from_of c) limits_of_from layer.sources (right-true (all_fit (map limits_of_item layer.items)) (all_fit (map limits_of_from layer.sources)) lists)
-        (λ tree in_sources fits. good-from (sources tree in_sources) fits))
-        (core-condition layer layer.condition (left-true (if_there (fitting_core layer).condition) (if_there (fitting_core layer).having) tests)
-        (λ part is fits. good-expr (condition part is) fits))
-        (core-having layer layer.having (right-true (if_there (fitting_core layer).condition) (if_there (fitting_core layer).having) tests)
-        (λ part is fits. good-expr (having part is) fits))
+        (all-meant GoodItem (item_of c) layer.items (λ item in_items. subst GoodItem (sym (opened_item c item)) (good-item (items item in_items))))
+        (all-meant GoodFromPart (from_of c) layer.sources (λ tree in_sources. good-from (sources tree in_sources)))
+        (core-condition layer layer.condition (λ part is. good-expr (condition part is)))
+        (core-having layer layer.having (λ part is. good-expr (having part is)))
 
-    good-item : {layer : ItemLayer} → RegularItemLayer layer → item_fits (fitting_item layer) ≡ true → GoodItem (item_step (shown_item c layer))
-    good-item (regular_star {at = at}) fit = record {
+    good-item : {layer : ItemLayer} → RegularItemLayer layer → GoodItem (item_step (shown_item c layer))
+    good-item (regular_star {at = at}) = record {
       formed = λ has_from scope outer here is. good-star at has_from scope outer here is;
       plain = λ e has_from scope here. plain-star at has_from scope;
     }
-    good-item (regular_table_star {table = table}) fit = record {
+    good-item (regular_table_star {table = table}) = record {
       formed = λ has_from scope outer here is. good-table_star table scope outer here is;
       plain = λ e has_from scope here. plain-table_star table scope;
     }
-    good-item (regular_value {expr = expr} {name = name} regular) fit = value-item name (part_of c expr) (good-expr regular fit)
+    good-item (regular_value {expr = expr} {name = name} regular) = value-item name (part_of c expr) (good-expr regular)
 
-    good-from : {tree : FromTree} → RegularFrom tree → limits_of_from tree ≡ true → GoodFromPart (from_of c tree)
-    good-from (regular_from {tree = tree} first joins) fit =
+    good-from : {tree : FromTree} → RegularFrom tree → GoodFromPart (from_of c tree)
+    good-from (regular_from {tree = tree} first joins) =
         let layer = out-FromTree tree in
-        let both = sym (limits_from tree) ∙ fit in
-        let item : GoodFromItem (from_item_of c layer.first) = good-from_item first (left-true (limits_of_from_item layer.first) (all_fit (map limits_of_join layer.joins)) both) in
+        let item : GoodFromItem (from_item_of c layer.first) = good-from_item first in
         let steps : Every GoodJoin (map (join_of c) layer.joins) =
-        all-meant GoodJoin (join_of c) limits_of_join layer.joins (right-true (limits_of_from_item layer.first) (all_fit (map limits_of_join layer.joins)) both)
-        (λ step in_joins fits. good-join (joins step in_joins) fits) in
+        all-meant GoodJoin (join_of c) layer.joins (λ step in_joins. good-join (joins step in_joins)) in
         subst GoodFromPart (sym (opened_from c tree))
         (λ outer trace earlier. good-join_all outer trace (first_item earlier ((from_item_of c layer.first).means outer trace earlier)) (map (join_of c) layer.joins)
         (good-first outer earlier ((from_item_of c layer.first).means outer trace earlier) (item outer trace earlier)) steps)
 
-    good-join : {step : JoinStep} → RegularJoin step → limits_of_join step ≡ true → GoodJoin (join_of c step)
-    good-join (regular_join_step {step = step} same item condition) fit =
+    good-join : {step : JoinStep} → RegularJoin step → GoodJoin (join_of c step)
+    good-join (regular_join_step {step = step} same item condition) =
         let layer = out-JoinStep step in
-        let both = sym (limits_join step) ∙ fit in
-        subst GoodJoin (sym (opened_join c step)) (
-          good-from_item item (left-true (limits_of_from_item layer.item) (if_there (fitting_join layer).condition) both),
-          join-condition layer layer.condition (right-true (limits_of_from_item layer.item) (if_there (fitting_join layer).condition) both)
-              (λ part is fits. good-expr (condition part is) fits),
-        )
+        subst GoodJoin (sym (opened_join c step))
+        (good-from_item item, join-condition layer layer.condition (λ part is. good-expr (condition part is)))
 
-    good-from_item : {item : FromItem} → RegularFromItem item → limits_of_from_item item ≡ true → GoodFromItem (from_item_of c item)
-    good-from_item (regular_from_item {item = item} regular mark) fit =
-        item-of_source item (subst (GoodSource c sound) (sym (opened_source c item.source))
-        (good-source regular (sym (limits_source item.source) ∙ sym (limits_from_item item) ∙ fit)))
+    good-from_item : {item : FromItem} → RegularFromItem item → GoodFromItem (from_item_of c item)
+    good-from_item (regular_from_item {item = item} regular mark) =
+        item-of_source item (subst (GoodSource c sound) (sym (opened_source c item.source)) (good-source regular))
 
-    good-source : {layer : SourceLayer} {alias : Option Name} → RegularSourceLayer layer alias → source_fits (fitting_source layer) ≡ true
-        → GoodSource c sound (source_step (shown_source c layer))
-    good-source regular_named fit = tt
-    good-source (regular_inner {query = query} q) fit = good-of_query query (λ around. good-query q fit around)
+    good-source : {layer : SourceLayer} {alias : Option Name} → RegularSourceLayer layer alias → GoodSource c sound (source_step (shown_source c layer))
+    good-source regular_named = tt
+    good-source (regular_inner {query = query} q) = good-of_query query (λ around. good-query q around)

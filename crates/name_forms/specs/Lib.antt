@@ -1,3 +1,2 @@
 pub mod Formed
-pub mod Limits
 pub mod Standing

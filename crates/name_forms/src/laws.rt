@@ -3,7 +3,6 @@ ghost use Rattle.std.specs.Prelude.{◌≡◌, true, List, []};
 ghost use Rattle.bag_algebra.specs.Closed.{is_closed};
 ghost use Rattle.bag_algebra.specs.WellFormed.{WellFormed};
 ghost use Rattle.name_forms.specs.Formed.{IsFormedExpr, IsAnswer};
-ghost use Rattle.name_forms.specs.Limits.{limits_of_expr, limits_of_query};
 ghost use Rattle.name_forms.specs.Standing.{RowsHold};
 ghost use Rattle.name_words.specs.Meanings.{Surroundings, Before, Around, means_at, query_means_at, settled};
 ghost use Rattle.name_words.specs.Trees.{part_of, query_of};
@@ -18,7 +17,7 @@ ghost use Rattle.sql_tree.specs.declared.query.QueryTree.{QueryTree};
 /// it, to one that is well formed and has its kind in rows that hold the scopes around it, with sublinks and aggregates
 /// that are well formed there.
 pub fn expressions_are_well_formed()
-    ensures { (c : Contents) (tree : ExprTree) (here : Surroundings) → IsSound c → RegularExpr tree → limits_of_expr tree ≡ true
+    ensures { (c : Contents) (tree : ExprTree) (here : Surroundings) → IsSound c → RegularExpr tree
         → (means_at (part_of c tree) here).breaks ≡ [] → (wanted : Kind) (before : Before)
         → IsFormedExpr here before ((means_at (part_of c tree) here).make wanted before) (settled (means_at (part_of c tree) here).kind wanted) }
 {}
@@ -26,20 +25,20 @@ pub fn expressions_are_well_formed()
 /// Over a sound catalog, a query that breaks nothing is made to one that is well formed under outer rows that hold the
 /// scopes around it, whatever kinds are wanted of its columns.
 pub fn queries_are_well_formed()
-    ensures { (c : Contents) (tree : QueryTree) (around : Around) → IsSound c → RegularQuery tree → limits_of_query tree ≡ true
+    ensures { (c : Contents) (tree : QueryTree) (around : Around) → IsSound c → RegularQuery tree
         → (query_means_at (query_of c tree) around).breaks ≡ [] → (rows : List (List Kind)) → RowsHold around.outer rows → (wanted : List Kind)
         → WellFormed rows ((query_means_at (query_of c tree) around).make wanted) }
 {}
 
 /// With no scopes around it, it is well formed under no outer rows, and reads none.
 pub fn outermost_queries_are_closed()
-    ensures { (c : Contents) (tree : QueryTree) (around : Around) → IsSound c → RegularQuery tree → limits_of_query tree ≡ true
+    ensures { (c : Contents) (tree : QueryTree) (around : Around) → IsSound c → RegularQuery tree
         → (query_means_at (query_of c tree) around).breaks ≡ [] → around.outer ≡ [] → (wanted : List Kind)
         → WellFormed [] ((query_means_at (query_of c tree) around).make wanted) × (is_closed ((query_means_at (query_of c tree) around).make wanted) ≡ true) }
 {}
 
 /// It has as many names as columns, and its keys and its provenance columns are among its columns.
 pub fn queries_are_answers()
-    ensures { (c : Contents) (tree : QueryTree) (around : Around) → IsSound c → RegularQuery tree → limits_of_query tree ≡ true
+    ensures { (c : Contents) (tree : QueryTree) (around : Around) → IsSound c → RegularQuery tree
         → (query_means_at (query_of c tree) around).breaks ≡ [] → IsAnswer (query_means_at (query_of c tree) around) }
 {}

@@ -2,4 +2,4 @@ use Rattle.name_forms.proofs.TreeLaws.{query-answer}
 use Rattle.name_forms.proofs.laws.queries_are_answers.Goals as goal
 
 pub returns : goal.returns
-returns c catalog tree around sound regular fit whole = query-answer catalog tree around sound regular fit whole
+returns c catalog tree around sound regular whole = query-answer catalog tree around sound regular whole
