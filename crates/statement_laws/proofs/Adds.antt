@@ -1,10 +1,9 @@
 -- What a statement adds that breaks no rule: columns of a table, and values of the kinds of their columns.
 use Rattle.std.proofs.Common.{◌≡◌, ◌≢◌, ◌∙◌, ℕ, Bool, true, false, cond, not, ◌||◌, nat_eq, List, [], ◌∷◌, ◌++◌, map, length, Option, Some, None, IfSome, refl, sym, ap, subst, arith}
-use Rattle.std.proofs.lemmas.Bool.{and_parts}
 use Rattle.std.proofs.lemmas.Bool.Decides.{nat_tests}
 use Rattle.std.proofs.lemmas.List.Elements.{All-head, All-tail, All-map, All-weaker, All-contains_itself}
 use Rattle.std.specs.Cmp.Lexicographic.{pointwise, nat_list_eq_equiv}
-use Rattle.std.specs.List.{All, AllByRecursion, Contains, IsDistinct, flat_map, list_all, list_any}
+use Rattle.std.specs.List.{All, AllByRecursion, Contains, IsDistinct, flat_map, list_any}
 use Rattle.std.specs.Option.{option_map_or}
 use Rattle.perm_values.specs.declared.kind.Kind.{Kind}
 use Rattle.perm_values.specs.declared.kind.Kind.TheVariants as kind
@@ -34,11 +33,9 @@ use Rattle.name_words.specs.Trees.{part_of}
 use Rattle.name_words.specs.declared.answer.Break.{Break}
 use Rattle.name_laws.proofs.Every.{front-none, back-none}
 use Rattle.name_forms.specs.Formed.{IsFormedExpr}
-use Rattle.name_forms.specs.Limits.{limits_of_expr}
 use Rattle.name_forms.specs.Standing.{StandAt, AggregatesStand}
 use Rattle.name_forms.proofs.TreeLaws.{expr-formed}
 use Rattle.statement_laws.proofs.Ready.{names-whole, unbroken, not-false}
-use Rattle.statement_laws.specs.Limited.{limits_of_statement}
 use Rattle.statement_laws.specs.Sounder.{AddsSoundly, HaveKinds, MakesSoundView, RowsHaveKinds}
 
 all-of : {X : Type 0} (P : X → Type 0) (xs : List X) → Each P xs → All P xs
@@ -117,77 +114,75 @@ same-length : (a b : ℕ) → nat_eq a b ≡ true → a ≡ b
 same-length a b e = grind (arith, nat_tests)
 
 module _ (c : Contents) (sound : IsSound c) where
-  made-kind : (k : Kind) (tree : ExprTree) → RegularExpr tree → limits_of_expr tree ≡ true
+  made-kind : (k : Kind) (tree : ExprTree) → RegularExpr tree
       → value_breaks k (part_of c tree).at (means_at (part_of c tree) (bare [])) ≡ []
       → HasKind ([] ∷ []) [] (made_alone k (means_at (part_of c tree) (bare []))) k
-  made-kind k tree regular fit e =
+  made-kind k tree regular e =
       let m : Meant = means_at (part_of c tree) (bare []) in
       let differs : Bool = not (unites (Some k) (seen_kind m)) in
       let whole = front-none m.breaks (broken_if differs 20 (part_of c tree).at) e in
       let united = not-false (unites (Some k) (seen_kind m)) (unbroken differs 20 (part_of c tree).at (back-none m.breaks (broken_if differs 20 (part_of c tree).at) e)) in
-      let f : IsFormedExpr (bare []) nothing_before (m.make k nothing_before) (settled m.kind k) = expr-formed c tree (bare []) sound regular fit whole k nothing_before in
+      let f : IsFormedExpr (bare []) nothing_before (m.make k nothing_before) (settled m.kind k) = expr-formed c tree (bare []) sound regular whole k nothing_before in
       subst (λ (found : Kind). HasKind ([] ∷ []) [] (made_alone k m) found)
       (united-settled k m.kind (subst (λ (o : Option Kind). unites (Some k) o ≡ true) (seen-whole m whole) united))
       (f.holds ([] ∷ []) [] tt
       (subst (λ (aggregates : List Aggr). AggregatesStand (bare []).scopes nothing_before.aggregates aggregates ([] ∷ [])) (sym (f.without_aggregates refl)) tt)
       (subst (λ (subs : List Sublink). StandAt nothing_before.subs (subs_kinds subs) []) (sym (f.without_subs refl)) tt))
 
-  values-have : (kinds : List Kind) (trees : List ExprTree) → length trees ≡ length kinds → All RegularExpr trees → list_all limits_of_expr trees ≡ true
+  values-have : (kinds : List Kind) (trees : List ExprTree) → length trees ≡ length kinds → All RegularExpr trees
       → values_breaks c kinds trees ≡ [] → HaveKinds (row_made c kinds trees) kinds
-  values-have [] trees long regular fit e = tt
-  values-have (k ∷ kinds) [] long regular fit e = absurd (omega arith)
-  values-have (k ∷ kinds) (tree ∷ trees) long regular fit e =
-      let first : List Break = value_breaks k (part_of c tree).at (means_at (part_of c tree) (bare [])) in
-      let fits = and_parts (limits_of_expr tree) (list_all limits_of_expr trees) fit in (
-        made-kind k tree (All-head RegularExpr tree trees regular) fits.0 (front-none first (values_breaks c kinds trees) e),
-        values-have kinds trees (omega arith) (All-tail RegularExpr tree trees regular) fits.1 (back-none first (values_breaks c kinds trees) e),
+  values-have [] trees long regular e = tt
+  values-have (k ∷ kinds) [] long regular e = absurd (omega arith)
+  values-have (k ∷ kinds) (tree ∷ trees) long regular e =
+      let first : List Break = value_breaks k (part_of c tree).at (means_at (part_of c tree) (bare [])) in (
+        made-kind k tree (All-head RegularExpr tree trees regular) (front-none first (values_breaks c kinds trees) e),
+        values-have kinds trees (omega arith) (All-tail RegularExpr tree trees regular) (back-none first (values_breaks c kinds trees) e),
       )
 
-  row-has : (kinds : List Kind) (row : ValuesRow) → RegularRow row → list_all limits_of_expr row.values ≡ true → row_breaks c kinds row ≡ []
+  row-has : (kinds : List Kind) (row : ValuesRow) → RegularRow row → row_breaks c kinds row ≡ []
       → HaveKinds (row_made c kinds row.values) kinds
-  row-has kinds row regular fit = chosen (nat_eq (length row.values) (length kinds)) refl where
+  row-has kinds row regular = chosen (nat_eq (length row.values) (length kinds)) refl where
     chosen : (b : Bool) → nat_eq (length row.values) (length kinds) ≡ b → cond b (values_breaks c kinds row.values) (broken 21 row.at ∷ []) ≡ []
         → HaveKinds (row_made c kinds row.values) kinds
-    chosen true same e = values-have kinds row.values (same-length (length row.values) (length kinds) same) (all-of RegularExpr row.values regular.1) fit e
+    chosen true same e = values-have kinds row.values (same-length (length row.values) (length kinds) same) (all-of RegularExpr row.values regular.1) e
     chosen false same e = absurd (cc e)
 
-  rows-have : (kinds : List Kind) (rows : List ValuesRow) → All RegularRow rows → list_all (λ (row : ValuesRow). list_all limits_of_expr row.values) rows ≡ true
+  rows-have : (kinds : List Kind) (rows : List ValuesRow) → All RegularRow rows
       → flat_map (row_breaks c kinds) rows ≡ [] → RowsHaveKinds (rows_made c kinds rows) kinds
-  rows-have kinds [] regular fit e = tt
-  rows-have kinds (row ∷ rows) regular fit e =
-      let fits = and_parts (list_all limits_of_expr row.values) (list_all (λ (other : ValuesRow). list_all limits_of_expr other.values) rows) fit in (
-        row-has kinds row (All-head RegularRow row rows regular) fits.0 (front-none (row_breaks c kinds row) (flat_map (row_breaks c kinds) rows) e),
-        rows-have kinds rows (All-tail RegularRow row rows regular) fits.1 (back-none (row_breaks c kinds row) (flat_map (row_breaks c kinds) rows) e),
-      )
+  rows-have kinds [] regular e = tt
+  rows-have kinds (row ∷ rows) regular e = (
+    row-has kinds row (All-head RegularRow row rows regular) (front-none (row_breaks c kinds row) (flat_map (row_breaks c kinds) rows) e),
+    rows-have kinds rows (All-tail RegularRow row rows regular) (back-none (row_breaks c kinds row) (flat_map (row_breaks c kinds) rows) e),
+  )
 
-  insert-adds : (table : Name) (rows : List ValuesRow) → All RegularRow rows → list_all (λ (row : ValuesRow). list_all limits_of_expr row.values) rows ≡ true
+  insert-adds : (table : Name) (rows : List ValuesRow) → All RegularRow rows
       → on_table c table (λ (entry : TableEntry). flat_map (row_breaks c (column_kinds entry.columns)) rows) ≡ []
       → IfSome (table_named c table.text) (λ (entry : TableEntry). RowsHaveKinds (rows_made c (kinds_of_table c table) rows) (column_kinds entry.columns))
-  insert-adds table rows regular fit = chosen (table_named c table.text) where
+  insert-adds table rows regular = chosen (table_named c table.text) where
     chosen : (o : Option TableEntry) → option_map_or (λ (entry : TableEntry). flat_map (row_breaks c (column_kinds entry.columns)) rows) o (broken 10 table.at ∷ []) ≡ []
         → IfSome o (λ (entry : TableEntry). RowsHaveKinds (rows_made c (option_map_or (λ (known : TableEntry). column_kinds known.columns) o []) rows) (column_kinds entry.columns))
     chosen None e = tt
-    chosen (Some entry) e = rows-have (column_kinds entry.columns) rows regular fit e
+    chosen (Some entry) e = rows-have (column_kinds entry.columns) rows regular e
 
   copy-adds : (o : Option TableEntry) → IfSome o (λ (entry : TableEntry). option_map_or (λ (known : TableEntry). column_kinds known.columns) o [] ≡ column_kinds entry.columns)
   copy-adds None = tt
   copy-adds (Some entry) = refl
 
-  body-adds : (body : StatementBody) → RegularStatementBody body → limits_of_statement body ≡ true → name_breaks c body ≡ [] → MakesSoundView c body
+  body-adds : (body : StatementBody) → RegularStatementBody body → name_breaks c body ≡ [] → MakesSoundView c body
       → AddsSoundly c (resolved_body c body)
-  body-adds (st.CreateTable table columns) regular fit whole view =
+  body-adds (st.CreateTable table columns) regular whole view =
       table-columns columns regular.0 regular.1 (back-none (taken c table) (repeated_columns [] columns) whole)
-  body-adds (st.CreateTableAs table query) regular fit whole view = tt
-  body-adds (st.CreateView name query) regular fit whole view = view
-  body-adds (st.Copy table file header mark) regular fit whole view = copy-adds (table_named c table.text)
-  body-adds (st.Insert table rows) regular fit whole view = insert-adds table rows (all-of RegularRow rows regular.1) fit whole
-  body-adds (st.Delete table condition) regular fit whole view = tt
-  body-adds (st.DropTable table) regular fit whole view = tt
-  body-adds (st.DropView name) regular fit whole view = tt
-  body-adds (st.Select query) regular fit whole view = tt
-  body-adds (st.Explain query) regular fit whole view = tt
-  body-adds (st.ShowFresh table) regular fit whole view = tt
+  body-adds (st.CreateTableAs table query) regular whole view = tt
+  body-adds (st.CreateView name query) regular whole view = view
+  body-adds (st.Copy table file header mark) regular whole view = copy-adds (table_named c table.text)
+  body-adds (st.Insert table rows) regular whole view = insert-adds table rows (all-of RegularRow rows regular.1) whole
+  body-adds (st.Delete table condition) regular whole view = tt
+  body-adds (st.DropTable table) regular whole view = tt
+  body-adds (st.DropView name) regular whole view = tt
+  body-adds (st.Select query) regular whole view = tt
+  body-adds (st.Explain query) regular whole view = tt
+  body-adds (st.ShowFresh table) regular whole view = tt
 
-pub whole-adds : (c : Contents) (statement : Statement) → IsSound c → RegularStatement statement → limits_of_statement statement.body ≡ true
+pub whole-adds : (c : Contents) (statement : Statement) → IsSound c → RegularStatement statement
     → breaks c statement ≡ [] → MakesSoundView c statement.body → AddsSoundly c (resolved c statement)
-whole-adds c statement sound regular fit whole view = body-adds c sound statement.body regular fit (names-whole c statement whole) view
+whole-adds c statement sound regular whole view = body-adds c sound statement.body regular (names-whole c statement whole) view

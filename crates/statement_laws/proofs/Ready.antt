@@ -19,11 +19,9 @@ use Rattle.name_words.specs.Statements.{alone, answer_of, query_meant, breaks, n
 use Rattle.name_words.specs.declared.answer.Break.{Break}
 use Rattle.name_laws.proofs.Every.{front-none, back-none}
 use Rattle.name_laws.proofs.Trees.{query-in_scope}
-use Rattle.name_forms.specs.Limits.{limits_of_query}
 use Rattle.name_forms.proofs.TreeLaws.{query-closed}
 use Rattle.name_tables.proofs.Tables.{tables-fit}
 use Rattle.statement_words.specs.Ready.{CanRun, IsReady}
-use Rattle.statement_laws.specs.Limited.{limits_of_statement}
 
 -- the rules of names are looked at first
 pub names-whole : (c : Contents) (statement : Statement) → breaks c statement ≡ [] → name_breaks c statement.body ≡ []
@@ -67,31 +65,31 @@ module _ (c : Contents) where
     chosen None e = absurd (cc e)
     chosen (Some entry) e = refl
 
-  can_run : (tree : QueryTree) → IsSound c → RegularQuery tree → limits_of_query tree ≡ true → (query_meant c tree).breaks ≡ []
+  can_run : (tree : QueryTree) → IsSound c → RegularQuery tree → (query_meant c tree).breaks ≡ []
       → CanRun c (answer_of (query_meant c tree))
-  can_run tree sound regular fit whole = record {
-    formed = (query-closed c tree alone sound regular fit whole refl []).0;
+  can_run tree sound regular whole = record {
+    formed = (query-closed c tree alone sound regular whole refl []).0;
     scoped = (query-in_scope c tree alone sound whole []).scoped;
     fitting = tables-fit c tree alone sound [];
   }
 
-  body-ready : (body : StatementBody) → IsSound c → RegularStatementBody body → limits_of_statement body ≡ true → name_breaks c body ≡ []
+  body-ready : (body : StatementBody) → IsSound c → RegularStatementBody body → name_breaks c body ≡ []
       → IsReady c (resolved_body c body)
-  body-ready (st.CreateTable table columns) sound regular fit whole = free table (front-none (taken c table) (repeated_columns [] columns) whole)
-  body-ready (st.CreateTableAs table query) sound regular fit whole = tt
-  body-ready (st.CreateView view query) sound regular fit whole =
+  body-ready (st.CreateTable table columns) sound regular whole = free table (front-none (taken c table) (repeated_columns [] columns) whole)
+  body-ready (st.CreateTableAs table query) sound regular whole = tt
+  body-ready (st.CreateView view query) sound regular whole =
       free view (front-none (taken c view) (named_query_breaks query.at (query_meant c query)) whole)
-  body-ready (st.Copy table file header mark) sound regular fit whole = known table whole
-  body-ready (st.Insert table rows) sound regular fit whole = looked-at table _ whole
-  body-ready (st.Delete table condition) sound regular fit whole = looked-at table _ whole
-  body-ready (st.DropTable table) sound regular fit whole =
+  body-ready (st.Copy table file header mark) sound regular whole = known table whole
+  body-ready (st.Insert table rows) sound regular whole = looked-at table _ whole
+  body-ready (st.Delete table condition) sound regular whole = looked-at table _ whole
+  body-ready (st.DropTable table) sound regular whole =
       (known table (front-none (unknown_table c table) (used c table) whole), unused table (back-none (unknown_table c table) (used c table) whole))
-  body-ready (st.DropView view) sound regular fit whole =
+  body-ready (st.DropView view) sound regular whole =
       (known-view view (front-none (unknown_view c view) (used c view) whole), unused view (back-none (unknown_view c view) (used c view) whole))
-  body-ready (st.Select query) sound regular fit whole = can_run query sound regular fit whole
-  body-ready (st.Explain query) sound regular fit whole = tt
-  body-ready (st.ShowFresh table) sound regular fit whole = tt
+  body-ready (st.Select query) sound regular whole = can_run query sound regular whole
+  body-ready (st.Explain query) sound regular whole = tt
+  body-ready (st.ShowFresh table) sound regular whole = tt
 
-pub whole-ready : (c : Contents) (statement : Statement) → IsSound c → RegularStatement statement → limits_of_statement statement.body ≡ true
+pub whole-ready : (c : Contents) (statement : Statement) → IsSound c → RegularStatement statement
     → breaks c statement ≡ [] → IsReady c (resolved c statement)
-whole-ready c statement sound regular fit whole = body-ready c statement.body sound regular fit (names-whole c statement whole)
+whole-ready c statement sound regular whole = body-ready c statement.body sound regular (names-whole c statement whole)

@@ -1,5 +1,5 @@
 //! Each law is the contract of a function that does nothing.
-ghost use Rattle.std.specs.Prelude.{◌≡◌, ℕ, Bool, true, List, [], Option};
+ghost use Rattle.std.specs.Prelude.{◌≡◌, ℕ, Bool, List, [], Option};
 ghost use Rattle.bag_algebra.specs.Bags.{Bag};
 ghost use Rattle.bag_algebra.specs.Outcome.{Good, each};
 ghost use Rattle.bag_algebra.specs.declared.expr.Expr.{Expr};
@@ -11,7 +11,6 @@ ghost use Rattle.perm_values.specs.Marked.{unmarked};
 ghost use Rattle.sql_tree.specs.Regular.{RegularStatement};
 ghost use Rattle.sql_tree.specs.declared.statement.Statement.{Statement};
 ghost use Rattle.statement_laws.specs.Kept.{rows_left};
-ghost use Rattle.statement_laws.specs.Limited.{limits_of_statement};
 ghost use Rattle.statement_laws.specs.Sounder.{AddsSoundly, KeepsSound, MakesSoundView};
 ghost use Rattle.statement_words.specs.Asking.{asks};
 ghost use Rattle.statement_words.specs.Ready.{IsReady};
@@ -19,7 +18,7 @@ ghost use Rattle.statement_words.specs.Turns.{goes};
 
 /// Over a sound catalog, a statement that breaks no rule of names and kinds can be carried out.
 pub fn whole_statements_are_ready()
-    ensures { (c : Contents) (statement : Statement) → IsSound c → RegularStatement statement → limits_of_statement statement.body ≡ true
+    ensures { (c : Contents) (statement : Statement) → IsSound c → RegularStatement statement
         → breaks c statement ≡ [] → IsReady c (resolved c statement) }
 {}
 
@@ -38,6 +37,6 @@ pub fn statements_keep_catalogs_sound()
 
 /// A statement that breaks no rule adds columns of a table, and rows of the kinds of their table's columns.
 pub fn whole_statements_add_soundly()
-    ensures { (c : Contents) (statement : Statement) → IsSound c → RegularStatement statement → limits_of_statement statement.body ≡ true
+    ensures { (c : Contents) (statement : Statement) → IsSound c → RegularStatement statement
         → breaks c statement ≡ [] → MakesSoundView c statement.body → AddsSoundly c (resolved c statement) }
 {}
