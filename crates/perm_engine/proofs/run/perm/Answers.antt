@@ -69,4 +69,4 @@ pub returns-in-Err-NoMemory-clause-complete : goal.returns-in-Err-NoMemory-claus
 returns-in-Err-NoMemory-clause-complete g c = λ none calm. inl refl
 
 pub returns-in-Ok-clause-steady : goal.returns-in-Ok-clause-steady
-returns-in-Ok-clause-steady g c = λ h. (c.run_script.ensures.steady h ∙ c.in-Ok.ensures.faults, steadied _ _ _ _ _ c.run_script.result c.run_script.ensures.ends h)
+returns-in-Ok-clause-steady g c = λ h. (c.run_script.ensures.steady h ∙ c.in-Ok.ensures.faults, steadied 0 _ _ _ _ c.run_script.result c.run_script.ensures.ends h)
