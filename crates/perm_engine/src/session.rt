@@ -1,10 +1,11 @@
-ghost use Rattle.std.specs.Prelude.{◌≡◌, ◌⊎◌, Err, IsTrue, true, false};
+ghost use Rattle.std.specs.Prelude.{◌≡◌, ◌⊎◌, [], Err, IfOk, IsTrue, true, false};
 ghost use Rattle.perm_catalog.specs.Changes.{nothing_held};
 ghost use Rattle.perm_catalog.specs.Sound.{IsSound};
 ghost use Rattle.perm_io.specs.Counts.{next_count, CountsFault};
 ghost use Rattle.sql_tree.specs.Regular.{RegularStatement};
 ghost use Rattle.name_words.specs.Statements.{breaks, resolved};
-ghost use Rattle.name_analysis.specs.Resolves.{Resolves};
+ghost use Rattle.name_seen.specs.Seen.{first_or};
+ghost use Rattle.name_words.specs.declared.answer.Break.{Break};
 ghost use Rattle.statement_laws.specs.Limited.{limits_of_statement};
 ghost use Rattle.statement_laws.specs.Sounder.{MakesSoundView};
 ghost use Rattle.statement_words.specs.Answers.{begins, can_be, has_failed, over, IsBacked, TakesTurn};
@@ -13,7 +14,7 @@ ghost use Rattle.statement_words.specs.declared.refusal.StepRefusal.TheVariants.
 
 use name_analysis::resolve;
 use name_seen::Refusal;
-use name_words::Break;
+use name_words::{Break, Resolved};
 use perm_catalog::Catalog;
 use perm_io::Files;
 use perm_values::Bytes;
@@ -100,11 +101,18 @@ impl Session {
         if is_unbuilt(&statement) {
             return Err(StepRefusal::Break(Break { code: 29, at }));
         }
-        whole_statements_are_ready();
-        whole_statements_add_soundly();
-        statements_keep_catalogs_sound();
+        let resolved = self.resolved(statement)?;
+        step(self.alloc, &mut self.catalog, files, at, &resolved)
+    }
+
+    /// The statement with its names looked up, which can be carried out and keeps the catalog sound, or its first break.
+    fn resolved(&self, statement: Statement) -> Result<Resolved, StepRefusal>
+        requires { RegularStatement statement }
+        ensures whole { IfOk result (λ made. (breaks self.now statement ≡ []) × (made ≡ resolved self.now statement)) }
+        ensures first { (b : Break) → result ≡ Err (StepRefusal.Break b) → first_or (breaks self.now statement) (tt {0}) ≡ Err b }
+    {
         match resolve(self.alloc, &self.catalog, statement) {
-            Ok(resolved) => step(self.alloc, &mut self.catalog, files, at, &resolved),
+            Ok(resolved) => Ok(resolved),
             Err(Refusal::Break(found)) => Err(StepRefusal::Break(found)),
             Err(Refusal::NoMemory) => Err(StepRefusal::NoMemory),
         }
