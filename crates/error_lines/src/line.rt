@@ -10,6 +10,7 @@ use std::marker::Model;
 pub(crate) const LONGEST: usize = 96;
 
 /// A line of at most 96 bytes, in place, seen as its bytes.
+#[derive(Drop)]
 pub struct Line {
     bytes: ArrayVec<u8, LONGEST>,
 }

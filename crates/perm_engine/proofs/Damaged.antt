@@ -19,7 +19,7 @@ use Rattle.statement_steps.specs.declared.refusal.Break.{Break}
 use Rattle.perm_engine.proofs.Ending.{opened-more}
 use Rattle.perm_engine.proofs.Numbers.{next-spent}
 use Rattle.perm_engine.proofs.Turns.{begun-told}
-use Rattle.perm_engine.specs.DataLines.{data_line}
+use Rattle.error_lines.specs.Lines.{data_line}
 use Rattle.perm_engine.specs.Ends.{Written, Ends, EndsStopped, EndsUnfit, EndsBroken, IsBadFile, opened}
 use Rattle.perm_engine.specs.Lines.{error_line}
 use Rattle.perm_engine.specs.Run.{line_alone, refusal_line}

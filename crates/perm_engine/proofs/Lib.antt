@@ -1,3 +1,4 @@
+pub mod Completing
 pub mod CopyAnswers
 pub mod Damaged
 pub mod Ending

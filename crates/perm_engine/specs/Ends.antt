@@ -6,7 +6,7 @@ use Rattle.perm_io.specs.Counts.{HasRisen, next_count}
 use Rattle.perm_engine.specs.Run.{Ran, text_of, line_alone, refusal_line, script_limit, IsWhole}
 use Rattle.csv_tables.specs.declared.data_error.DataError.{DataError}
 use Rattle.csv_tables.specs.declared.data_error.DataError.TheVariants as broken
-use Rattle.perm_engine.specs.DataLines.{data_line}
+use Rattle.error_lines.specs.Lines.{data_line}
 use Rattle.perm_engine.specs.Lines.{error_line}
 use Rattle.statement_steps.specs.Copying.{file_limit}
 use Rattle.statement_steps.specs.declared.refusal.Break.{Break}
@@ -110,6 +110,10 @@ EndsSome IsRun w before after s = (ran : Ran) × IsRun ran × Ends ran w s × Op
 -- that, or memory was wanting before anything was written, when some files were begun
 abbrev pub EndsOne : ℕ → (Ran → Type 0) → Written → ℕ → ℕ → Status → Type 0
 EndsOne files IsRun w before after s = EndsSome IsRun w before after s ⊎ (IsSilent w s × (after ≡ opened files before))
+
+-- memory was wanting, or one of the runs is written whole, and its files are begun
+abbrev pub Completes : (Ran → Type 0) → Written → ℕ → ℕ → Status → Type 0
+Completes IsRun w before after s = (s ≡ status.NoMemory) ⊎ ((ran : Ran) × IsRun ran × IsSaid ran w s × (after ≡ opened ran.begun before))
 
 -- ---- why a run ends with a status, also where the bytes of files aren't told; a line is named where the output is told
 

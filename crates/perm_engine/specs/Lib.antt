@@ -1,5 +1,4 @@
 pub mod Asking
-pub mod DataLines
 pub mod Ends
 pub mod Lines
 pub mod Run

@@ -8,7 +8,7 @@ use Rattle.sql_tree.specs.declared.statement.Script.{Script}
 use Rattle.sql_tree.specs.declared.statement.Statement.{Statement}
 use Rattle.perm_engine.specs.Asking.{Outcome, Asked, Settled, Begins, asked}
 use Rattle.statement_steps.specs.Copying.{file_limit}
-use Rattle.perm_engine.specs.DataLines.{data_line}
+use Rattle.error_lines.specs.Lines.{data_line}
 use Rattle.perm_io.specs.Found.{Found, Read, Missing, TooLong, Failed, CanBe}
 use Rattle.perm_engine.specs.Lines.{error_line}
 use Rattle.perm_engine.specs.Scripts.{IsScriptOf, IsMisspelled}
@@ -146,7 +146,7 @@ IsWhole status.ReadFault = Unit {0}
 IsWhole status.WriteFault = ⊥
 IsWhole status.NoMemory = ⊥
 
--- the status of a run in which no file failed either
+-- the status of a run in which neither a file nor the output failed
 abbrev pub IsSteady : Status → Type 0
 IsSteady status.Done = Unit {0}
 IsSteady status.Usage = Unit {0}
@@ -156,7 +156,7 @@ IsSteady status.RunFault = Unit {0}
 IsSteady status.BadData = Unit {0}
 IsSteady status.ReadFault = ⊥
 IsSteady status.WriteFault = ⊥
-IsSteady status.NoMemory = ⊥
+IsSteady status.NoMemory = Unit {0}
 
 -- the status of a run whose script was read
 abbrev pub IsOfScript : Status → Type 0

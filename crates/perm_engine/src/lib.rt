@@ -1,9 +1,7 @@
 //! Runs scripts of SQL with provenance: from a command line and files to what is written and a status.
 #![tactic(auto)]
 
-mod data_line;
 mod laws;
-mod line;
 mod run;
 mod script;
 mod session;

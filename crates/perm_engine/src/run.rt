@@ -2,19 +2,18 @@ ghost use Rattle.std.specs.Prelude.{◌≡◌, ◌⊎◌, true, false};
 ghost use Rattle.perm_io.specs.Counts.{HasRisen};
 ghost use Rattle.perm_catalog.specs.Changes.{nothing_held};
 ghost use Rattle.statement_steps.specs.Copying.{file_limit};
-ghost use Rattle.perm_engine.specs.DataLines.{data_line};
-ghost use Rattle.perm_engine.specs.Ends.{Ends, EndsOne, EndsSome, EndsBroken, EndsRefused, EndsStopped, IsBadFile, IsBadScript, over};
+ghost use Rattle.error_lines.specs.Lines.{data_line};
+ghost use Rattle.perm_engine.specs.Ends.{Completes, Ends, EndsOne, EndsSome, EndsBroken, EndsRefused, EndsStopped, IsBadFile, IsBadScript, over};
 ghost use Rattle.perm_io.specs.Found.{CanBe};
 ghost use Rattle.perm_engine.specs.Lines.{error_line};
 ghost use Rattle.perm_engine.specs.Run.{Runs, RunsFrom, RunsScript, line_alone, is_failed, is_one, IsWhole, IsSteady, IsOfScript};
 
-use crate::data_line::data_line;
-use crate::line::error_line;
 use crate::script::script_of;
 use crate::session::Session;
 use crate::status::Status;
 use crate::step_refusal::StepRefusal;
 use csv_tables::DataError;
+use error_lines::{data_line, error_line};
 use perm_io::{Files, ReadError, Sink, read_all, write_all};
 use perm_values::{Chars, List};
 use sql_tree::Statement;
@@ -39,63 +38,49 @@ fn finish<K: Sink>(out: &mut K, line: &[u8], status: Status) -> Status
     }
 }
 
-/// Writes the line of a break and flushes the output; the status is the one given, unless the output fails or memory is
-/// wanting for the line.
-fn end_broken<K: Sink>(alloc: Global, found: Break, status: Status, out: &mut K) -> Status
-    requires whole { IsWhole status }
-    requires script { IsOfScript status }
-    requires data { status ≡ Status.ReadFault → ⊥ }
+/// Writes the line of a break and flushes the output; the status is the one given, unless the output fails.
+fn end_broken<K: Sink>(found: Break, status: Status, out: &mut K) -> Status
+    requires { IsWhole status }
     ensures ends { Ends (line_alone (error_line found) status) (over K.written K.faults K.unflushed out.old out.new) result }
-    ensures status { IsOfScript result }
-    ensures data { result ≡ Status.ReadFault → ⊥ }
-    ensures given { (result ≡ status) ⊎ ((result ≡ Status.WriteFault) ⊎ (result ≡ Status.NoMemory)) }
+    ensures status { (result ≡ status) ⊎ (result ≡ Status.WriteFault) }
 {
-    match error_line(alloc, found) {
-        Ok(line) => finish(out, line.as_slice(), status),
-        Err(_) => Status::NoMemory,
-    }
+    let line = error_line(found.code, found.at);
+    finish(out, line.as_slice(), status)
 }
 
 /// Ends the output with the line of a rule that a file's record breaks.
-fn end_unfit<K: Sink>(alloc: Global, rule: DataError, out: &mut K) -> Status
+fn end_unfit<K: Sink>(rule: DataError, out: &mut K) -> Status
     ensures ends { Ends (line_alone (data_line rule) Status.BadData) (over K.written K.faults K.unflushed out.old out.new) result }
-    ensures status { IsOfScript result }
-    ensures data { result ≡ Status.ReadFault → ⊥ }
+    ensures status { (result ≡ Status.BadData) ⊎ (result ≡ Status.WriteFault) }
 {
-    match data_line(alloc, rule) {
-        Ok(line) => finish(out, line.as_slice(), Status::BadData),
-        Err(_) => Status::NoMemory,
-    }
+    let line = data_line(rule);
+    finish(out, line.as_slice(), Status::BadData)
 }
 
 /// Ends the output with what the refusal of a script says.
-fn refuse<K: Sink>(alloc: Global, refusal: CommandRefusal, out: &mut K) -> Status
+fn refuse<K: Sink>(refusal: CommandRefusal, out: &mut K) -> Status
     ensures ends { EndsRefused refusal (over K.written K.faults K.unflushed out.old out.new) result }
     ensures status { IsOfScript result }
     ensures data { (result ≡ Status.ReadFault → ⊥) × (result ≡ Status.BadData → ⊥) × (result ≡ Status.Refused → ⊥) }
 {
     match refusal {
-        CommandRefusal::Break(found) => end_broken(alloc, found, Status::Syntax, out),
+        CommandRefusal::Break(found) => end_broken(found, Status::Syntax, out),
         CommandRefusal::NoMemory => Status::NoMemory,
     }
 }
 
 /// Ends the output with what the refusal of a statement says.
-fn stop<K: Sink>(alloc: Global, refusal: StepRefusal, out: &mut K) -> Status
+fn stop<K: Sink>(refusal: StepRefusal, out: &mut K) -> Status
     ensures ends { EndsStopped refusal (over K.written K.faults K.unflushed out.old out.new) result }
     ensures status { IsOfScript result }
     ensures failed { result ≡ Status.ReadFault → is_failed refusal ≡ true }
     ensures steady { IsSteady result → is_failed refusal ≡ false }
 {
     match refusal {
-        StepRefusal::Break(found) => end_broken(alloc, found, Status::Refused, out),
-        StepRefusal::Missing { at } => {
-            end_broken(alloc, Break { code: 40, at }, Status::BadData, out)
-        }
-        StepRefusal::TooLarge { at } => {
-            end_broken(alloc, Break { code: 41, at }, Status::BadData, out)
-        }
-        StepRefusal::Unfit(rule) => end_unfit(alloc, rule, out),
+        StepRefusal::Break(found) => end_broken(found, Status::Refused, out),
+        StepRefusal::Missing { at } => end_broken(Break { code: 40, at }, Status::BadData, out),
+        StepRefusal::TooLarge { at } => end_broken(Break { code: 41, at }, Status::BadData, out),
+        StepRefusal::Unfit(rule) => end_unfit(rule, out),
         StepRefusal::ReadFault => finish(out, b"error E50\n", Status::ReadFault),
         StepRefusal::NoMemory => Status::NoMemory,
     }
@@ -125,7 +110,7 @@ fn run_statements<F: Files, K: Sink>(
                 Ok(()) => {}
                 Err(_) => return Status::WriteFault,
             },
-            Err(refusal) => return stop(alloc, refusal, out),
+            Err(refusal) => return stop(refusal, out),
         }
     }
     finish(out, b"", Status::Done)
@@ -145,7 +130,7 @@ fn run_script<F: Files, K: Sink>(alloc: Global, bytes: &[u8], files: &mut F, out
 {
     match script_of(alloc, bytes) {
         Ok(script) => run_statements(alloc, &script.statements, files, out),
-        Err(refusal) => refuse(alloc, refusal, out),
+        Err(refusal) => refuse(refusal, out),
     }
 }
 
@@ -154,6 +139,10 @@ pub fn perm<F: Files, K: Sink>(alloc: Global, words: &[Chars], files: &mut F, ou
     // The run that the words and files stand for is what is written, and its status is answered.
     ensures run { EndsOne 1 (Runs words.now (F.held files.old) (HasRisen (F.faults files.old) (F.faults files.new)))
         (over K.written K.faults K.unflushed out.old out.new) (F.begun files.old) (F.begun files.new) result }
+
+    // Where no file and no write failed, it is a whole run in which none failed, unless memory was wanting.
+    ensures complete { (HasRisen (F.faults files.old) (F.faults files.new) → ⊥) → (HasRisen (K.faults out.old) (K.faults out.new) → ⊥)
+        → Completes (Runs words.now (F.held files.old) ⊥) (over K.written K.faults K.unflushed out.old out.new) (F.begun files.old) (F.begun files.new) result }
 
     // When each status comes.
     ensures usage { result ≡ Status.Usage → is_one words.now ≡ false }

@@ -1,5 +1,6 @@
 -- The numbers of the tokens of some bytes have 63 bits.
 use Rattle.std.proofs.Common.{◌≡◌, ℕ, ◌<◌, ◌^◌, ℤ, pos, List, [], sym, subst}
+use native.Mathlib.Omega.{arith}
 use Rattle.sql_lexer.specs.declared.token.Token.{Token}
 use Rattle.sql_lexer.specs.declared.token.TokenKind.{TokenKind}
 use Rattle.sql_lexer.specs.declared.token.TokenKind.TheVariants.{Word, Quoted, Number, Text, Symbol}
@@ -15,7 +16,7 @@ of_natural : (number : ℤ) (n : ℕ) → n < 2 ^ 63 → number ≡ pos n → Is
 of_natural number n small same = subst IsTokenNumber (sym same) (tt, small)
 
 small : 0 < 2 ^ 63
-small = omega
+small = omega arith
 
 spelled-number : (kind : TokenKind) (bytes spelled : List ℕ) (number : ℤ) → Spells kind bytes spelled number → IsTokenNumber number
 spelled-number Word bytes spelled number s = of_natural number _ small s.2

@@ -4,7 +4,7 @@ use Rattle.std.specs.Fmt.{digits}
 use Rattle.csv_tables.specs.declared.data_error.DataError.TheVariants as rule
 use Rattle.perm_values.specs.declared.kind.Kind.TheVariants as kind
 use Rattle.statement_steps.specs.Copying.{copied, copy_text}
-use Rattle.perm_engine.specs.DataLines.{data_line}
+use Rattle.error_lines.specs.Lines.{data_line}
 use Rattle.perm_io.specs.Found.{Missing, TooLong, Failed}
 use Rattle.statement_steps.specs.declared.copying.CopyRefusal.TheVariants as refusal
 

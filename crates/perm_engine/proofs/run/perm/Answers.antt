@@ -1,6 +1,7 @@
-use Rattle.std.proofs.Common.{List, ℕ, Err, ap, refl, inl, inr, subst}
+use Rattle.std.proofs.Common.{◌∙◌, List, ℕ, Err, ap, refl, inl, inr, subst}
 use Rattle.perm_io.specs.Answers.{is_fault}
 use Rattle.perm_io.specs.Counts.{CountsFault}
+use Rattle.perm_engine.proofs.Completing.{completes, steadied}
 use Rattle.perm_engine.proofs.Damaged.{bad_file-later}
 use Rattle.perm_engine.proofs.Running.{Runs-misused, Runs-found, EndsOne-moved, Opens-none, one_word, none_or_more}
 use Rattle.perm_io.specs.Found.{Read, Missing, TooLong, Failed}
@@ -48,3 +49,24 @@ returns-in-Err-Fault-clause-run g c =
     (subst (λ e. CountsFault (g.F.Files.faults c.args.files.now) (g.F.Files.faults c.read_all.new.files) (is_fault {T = List ℕ} (Err e)))
     c.in-Err-Fault.field-0-is c.in-Err-Fault.ensures.faults)
     (inl (_, refl, c.finish-in-Err-Fault.ensures.ends, Opens-none _ status.ReadFault _ _))
+
+pub returns-then-words-ne1-clause-complete : goal.returns-then-words-ne1-clause-complete
+returns-then-words-ne1-clause-complete g c = completes _ _ _ _ _ _ _ (returns-then-words-ne1-clause-run g c)
+
+pub returns-in-Ok-clause-complete : goal.returns-in-Ok-clause-complete
+returns-in-Ok-clause-complete g c = completes _ _ _ _ _ _ _ (returns-in-Ok-clause-run g c)
+
+pub returns-in-Err-Missing-clause-complete : goal.returns-in-Err-Missing-clause-complete
+returns-in-Err-Missing-clause-complete g c = completes _ _ _ _ _ _ _ (returns-in-Err-Missing-clause-run g c)
+
+pub returns-in-Err-TooLarge-clause-complete : goal.returns-in-Err-TooLarge-clause-complete
+returns-in-Err-TooLarge-clause-complete g c = completes _ _ _ _ _ _ _ (returns-in-Err-TooLarge-clause-run g c)
+
+pub returns-in-Err-Fault-clause-complete : goal.returns-in-Err-Fault-clause-complete
+returns-in-Err-Fault-clause-complete g c = completes _ _ _ _ _ _ _ (returns-in-Err-Fault-clause-run g c)
+
+pub returns-in-Err-NoMemory-clause-complete : goal.returns-in-Err-NoMemory-clause-complete
+returns-in-Err-NoMemory-clause-complete g c = λ none calm. inl refl
+
+pub returns-in-Ok-clause-steady : goal.returns-in-Ok-clause-steady
+returns-in-Ok-clause-steady g c = λ h. (c.run_script.ensures.steady h ∙ c.in-Ok.ensures.faults, steadied 0 _ _ _ _ c.run_script.result c.run_script.ensures.ends h)

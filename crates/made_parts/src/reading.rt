@@ -1,0 +1,57 @@
+//! What a subquery of FROM shows.
+ghost use Rattle.std.specs.Prelude.{◌≡◌, IfOk};
+ghost use Rattle.perm_catalog.specs.Sound.{IsSound};
+ghost use Rattle.name_words.specs.Froms.{names_of, settled_columns};
+ghost use Rattle.name_words.specs.Meanings.{query_means_at};
+ghost use Rattle.name_words.specs.Trees.{query_of};
+ghost use Rattle.name_seen.specs.Standing.{around_of};
+ghost use Rattle.clauses_seen.specs.Columns.{columns_of};
+ghost use Rattle.made_parts.specs.Sources.{Shows};
+
+use clauses_seen::ShownColumn;
+use name_seen::{Around, Refusal};
+use perm_values::{Chars, Copyable, List, NoMemory};
+use query_facts::QueryShown;
+use query_seen::query_seen;
+use sql_tree::QueryTree;
+use std::alloc::Global;
+
+/// The names of a query's columns, and the places of its provenance columns where it asks for provenance.
+#[derive(Debug, Drop)]
+pub struct ShownNames {
+    pub names: List<Chars>,
+    pub places: Option<List<usize>>,
+}
+
+/// The names that a query shows; none, where it breaks.
+pub fn shown_names(query: &QueryTree, around: &Around) -> Result<ShownNames, NoMemory>
+    requires { IsSound around.now.catalog.now }
+    ensures { IfOk result (Shows (query_means_at (query_of around.now.catalog.now query.now) (around_of around.now))) }
+{
+    match query_seen(query, around) {
+        Ok(shown) => names_shown(around.alloc, shown),
+        Err(Refusal::Break(_)) => Ok(ShownNames {
+            names: List::new(around.alloc),
+            places: None,
+        }),
+        Err(Refusal::NoMemory) => Err(NoMemory),
+    }
+}
+
+fn names_shown(alloc: Global, shown: QueryShown) -> Result<ShownNames, NoMemory>
+    ensures { IfOk result (λ found. (found.names ≡ names_of (settled_columns (columns_of shown.columns))) × (found.places ≡ shown.places)) }
+{
+    let names = column_names(alloc, shown.columns.as_slice())?;
+    let QueryShown { places, .. } = shown;
+    Ok(ShownNames { names, places })
+}
+
+fn column_names(alloc: Global, columns: &[ShownColumn]) -> Result<List<Chars>, NoMemory>
+    ensures { IfOk result (λ names. names ≡ names_of (settled_columns (columns_of columns.now))) }
+{
+    let mut names = List::new(alloc);
+    for column in columns {
+        names.push(column.name.copy(alloc)?)?;
+    }
+    Ok(names)
+}
