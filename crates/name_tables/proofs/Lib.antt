@@ -1,3 +1,4 @@
+pub mod Named
 mod ReadCores
 mod ReadFroms
 mod ReadMeant

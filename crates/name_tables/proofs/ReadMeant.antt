@@ -10,9 +10,9 @@ use Rattle.bag_algebra.specs.declared.query.SubKind.{SubKind}
 use Rattle.sql_tree.specs.declared.expression.AggWord.{AggWord}
 use Rattle.sql_tree.specs.declared.name.Name.{Name}
 use Rattle.name_words.specs.Expressions.{known, null_meant, StepPart, ArmPart, step_operand, arm_operands, else_operand, case_made, case_meant}
-use Rattle.name_words.specs.Items.{Made, SelectMeant, SelectPart, columns_meant, no_columns, star_meant, table_star_meant, first_wanted, value_meant, width_of_item, made_items}
+use Rattle.name_words.specs.Items.{Made, SelectMeant, SelectPart, columns_meant, no_columns, star_meant, table_star_meant, first_wanted, value_meant, width_of_item, made_items, items_inside}
 use Rattle.name_words.specs.Meanings.{Surroundings, Before, Built, Meant, Part, Around, QueryMeant, QueryPart, settled}
-use Rattle.name_words.specs.Operands.{Operand, operand, node, need_of, gives_of, operated, made_parts, behind, wanted_of, alike_wanted, united}
+use Rattle.name_words.specs.Operands.{Operand, operand, node, need_of, gives_of, operated, made_parts, behind, wanted_of, alike_wanted, united, parts_inside}
 use Rattle.name_words.specs.Scopes.{Placed, item_columns}
 use Rattle.name_words.specs.Sublinks.{column_meant, breaking, aggregate_meant, around_of, exists_meant, scalar_meant, in_tested, first_kind, tested_kind, tested_meant, tested_looked, tested_unlooked, if_standing}
 use Rattle.name_words.specs.declared.need.Gives.{Gives}
@@ -22,14 +22,14 @@ use Rattle.name_words.specs.declared.scope.Found.{Found}
 use Rattle.name_words.specs.declared.scope.Found.TheVariants.{Absent as absent, Ambiguous as ambiguous, Column as found}
 use Rattle.name_words.specs.declared.scope.Scope.{Scope}
 use Rattle.name_laws.proofs.Every.{Every, every-append, every-map, every-flat_map}
-use Rattle.name_tables.proofs.ReadNodes.{reads-append}
+use Rattle.name_tables.proofs.ReadNodes.{Grows, wide-right, subs-left, subs-right, reads-append}
 
-module _ (P : ℕ → List Kind → Type 0) where
+module _ (P : List (List ℕ) → ℕ → List Kind → Type 0) (g : Grows P) where
   abbrev pub MeantReads : Meant → Type 0
-  MeantReads m = (w : Kind) (n : Before) → EachTableOfSubs P (m.make w n).subs
+  MeantReads m = (w : Kind) (n : Before) → EachTableOfSubs (P m.inside.names) (m.make w n).subs
 
   abbrev pub QueryReads : QueryMeant → Type 0
-  QueryReads m = (w : List Kind) → EachTable P (m.make w)
+  QueryReads m = (w : List Kind) → EachTable (P m.inside.names) (m.make w)
 
   abbrev pub PartReads : Part → Type 0
   PartReads part = (here : Surroundings) → MeantReads (part.means here)
@@ -42,12 +42,15 @@ module _ (P : ℕ → List Kind → Type 0) where
 
   -- ---- operands
 
-  reads-parts : (k : Kind) (os : List Operand) (n : Before) → Every OperandReads os → EachTableOfSubs P (made_parts k os n).subs
+  reads-parts : (k : Kind) (os : List Operand) (n : Before) → Every OperandReads os → EachTableOfSubs (P (parts_inside os).names) (made_parts k os n).subs
   reads-parts k [] n h = tt
   reads-parts k (o ∷ os) n h =
       let first : Built = o.meant.make (wanted_of k o.need) n in
       let after : Before = behind n first.subs first.aggregates in
-      reads-append P first.subs (made_parts k os after).subs (h.0 (wanted_of k o.need) n) (reads-parts k os after h.1)
+      let own : List (List ℕ) = o.meant.inside.names in
+      let others : List (List ℕ) = (parts_inside os).names in
+      reads-append (P (own ++ others)) first.subs (made_parts k os after).subs (subs-left P g own others first.subs (h.0 (wanted_of k o.need) n))
+      (subs-right P g own others (made_parts k os after).subs (reads-parts k os after h.1))
 
   pub reads-node : (gives : Gives) (assembled : List Expr → Expr) (os : List Operand) → Every OperandReads os → MeantReads (node gives assembled os)
   reads-node gives assembled os h w n = reads-parts (settled (united os) (alike_wanted gives w)) os n h
@@ -112,13 +115,17 @@ module _ (P : ℕ → List Kind → Type 0) where
   reads-tested here at sub part query good inner = chosen here.sublinks where
     chosen : (b : Bool) → MeantReads (cond b (tested_looked sub (part.means (in_tested here)) query.at (query.means (around_of here)))
         (tested_unlooked at (part.means (in_tested here))))
-    chosen true = λ w n. (inner (around_of here) (tested_kind (part.means (in_tested here)) (query.means (around_of here)) ∷ []), tt)
+    chosen true = λ w n.
+        let m : Meant = part.means (in_tested here) in
+        let q : QueryMeant = query.means (around_of here) in
+        let kind : List Kind = tested_kind m q ∷ [] in
+        (wide-right P g m.inside.names q.inside.names (q.make kind) (inner (around_of here) kind), tt)
     chosen false = good (in_tested here)
 
   -- ---- a SELECT list
 
   abbrev pub SelectReads : SelectMeant → Type 0
-  SelectReads m = (w : List Kind) (n : Before) → EachTableOfSubs P (m.make w n).subs
+  SelectReads m = (w : List Kind) (n : Before) → EachTableOfSubs (P m.inside.names) (m.make w n).subs
 
   abbrev pub ItemReads : SelectPart → Type 0
   ItemReads item = (has_from : Bool) (scope : Scope) (here : Surroundings) → SelectReads (item.means has_from scope here)
@@ -136,10 +143,13 @@ module _ (P : ℕ → List Kind → Type 0) where
   pub reads-value : (name : Option (List ℕ)) (m : Meant) → MeantReads m → SelectReads (value_meant name m)
   reads-value name m good w n = good (settled m.kind (first_wanted w)) n
 
-  pub reads-list : (ms : List SelectMeant) (w : List Kind) (n : Before) → Every SelectReads ms → EachTableOfSubs P (made_items ms w n).subs
+  pub reads-list : (ms : List SelectMeant) (w : List Kind) (n : Before) → Every SelectReads ms → EachTableOfSubs (P (items_inside ms).names) (made_items ms w n).subs
   reads-list [] w n h = tt
   reads-list (m ∷ ms) w n h =
       let width = width_of_item m in
       let first : Made = m.make (take width w) n in
       let after : Before = behind n first.subs first.aggregates in
-      reads-append P first.subs (made_items ms (drop width w) after).subs (h.0 (take width w) n) (reads-list ms (drop width w) after h.1)
+      let own : List (List ℕ) = m.inside.names in
+      let others : List (List ℕ) = (items_inside ms).names in
+      reads-append (P (own ++ others)) first.subs (made_items ms (drop width w) after).subs (subs-left P g own others first.subs (h.0 (take width w) n))
+      (subs-right P g own others (made_items ms (drop width w) after).subs (reads-list ms (drop width w) after h.1))

@@ -3,6 +3,7 @@ use Rattle.std.specs.Prelude.{ℕ, Bool, List, [], ◌∷◌, ◌++◌}
 use Rattle.std.proofs.Common.{◌≡◌, sym, subst}
 use Rattle.perm_values.specs.declared.key.Key.{Key}
 use Rattle.perm_values.specs.declared.kind.Kind.{Kind}
+use Rattle.bag_algebra.proofs.TablesRead.{each_table-kept}
 use Rattle.bag_algebra.specs.BuiltForms.{EachTableOfSubs, EachTable-Base, EachTable-Filter, EachTable-Project, EachTable-Join, EachTable-Union, EachTable-Intersect, EachTable-Except, EachTable-Distinct, EachTable-Aggregate, EachTable-Limit, EachTable-Prov}
 use Rattle.bag_algebra.specs.TablesRead.{EachTable}
 use Rattle.bag_algebra.specs.declared.expr.Expr.{Expr}
@@ -13,6 +14,26 @@ use Rattle.bag_algebra.specs.declared.query.Label.{Label}
 use Rattle.bag_algebra.specs.declared.query.Query.{Query}
 use Rattle.bag_algebra.specs.declared.query.Query.TheVariants.{Base, Filter, Project, Join, Union, Intersect, Except, Distinct, Aggregate, Limit, Prov}
 use Rattle.bag_algebra.specs.declared.query.Sublink.{Sublink}
+
+-- what holds of the tables that some names name holds of those that more names do
+pub record Grows (P : List (List ℕ) → ℕ → List Kind → Type 0) : Type 0 where
+  pub left : (a b : List (List ℕ)) (id : ℕ) (kinds : List Kind) → P a id kinds → P (a ++ b) id kinds
+  pub right : (a b : List (List ℕ)) (id : ℕ) (kinds : List Kind) → P b id kinds → P (a ++ b) id kinds
+
+module _ (P : List (List ℕ) → ℕ → List Kind → Type 0) (g : Grows P) where
+  pub wide-left : (a b : List (List ℕ)) (query : Query) → EachTable (P a) query → EachTable (P (a ++ b)) query
+  wide-left a b query f = each_table-kept (P a) (P (a ++ b)) (g.left a b) query f
+
+  pub wide-right : (a b : List (List ℕ)) (query : Query) → EachTable (P b) query → EachTable (P (a ++ b)) query
+  wide-right a b query f = each_table-kept (P b) (P (a ++ b)) (g.right a b) query f
+
+  pub subs-left : (a b : List (List ℕ)) (subs : List Sublink) → EachTableOfSubs (P a) subs → EachTableOfSubs (P (a ++ b)) subs
+  subs-left a b [] f = tt
+  subs-left a b (sub ∷ subs) f = (wide-left a b sub.query f.0, subs-left a b subs f.1)
+
+  pub subs-right : (a b : List (List ℕ)) (subs : List Sublink) → EachTableOfSubs (P b) subs → EachTableOfSubs (P (a ++ b)) subs
+  subs-right a b [] f = tt
+  subs-right a b (sub ∷ subs) f = (wide-right a b sub.query f.0, subs-right a b subs f.1)
 
 along : {A B : Type 0} → A ≡ B → B → A
 along e b = subst (λ (X : Type 0). X) (sym e) b

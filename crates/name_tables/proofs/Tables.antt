@@ -1,10 +1,8 @@
 -- The rows of a sound catalog fit whatever names make of a query.
-use Rattle.std.proofs.Common.{◌≡◌, ◌∙◌, ℕ, true, List, Some, ap, subst, rules}
+use Rattle.std.proofs.Common.{◌≡◌, ℕ, true, List, Some, subst}
 use Rattle.std.proofs.lemmas.List.Elements.{All-contains}
-use Rattle.std.specs.FinMap as map
 use Rattle.perm_values.specs.declared.kind.Kind.{Kind}
 use Rattle.bag_algebra.proofs.TablesRead.{each_table-from_told}
-use Rattle.bag_algebra.specs.Bags.{Bag}
 use Rattle.bag_algebra.specs.Fits.{bag_fits, TablesFit}
 use Rattle.bag_algebra.specs.TableRows.{rows_in}
 use Rattle.bag_algebra.specs.TablesRead.{TableRead, tables_read}
@@ -18,10 +16,15 @@ use Rattle.sql_tree.specs.declared.query.QueryTree.{QueryTree}
 use Rattle.name_words.specs.Meanings.{Around, query_means_at}
 use Rattle.name_words.specs.Trees.{query_of}
 use Rattle.name_tables.proofs.ReadFroms.{IsHeld}
+use Rattle.name_tables.proofs.ReadNodes.{Grows}
 use Rattle.name_tables.proofs.ReadTrees.{reads-query_tree}
 
 abbrev Fit : Contents → ℕ → List Kind → Type 0
 Fit c id kinds = bag_fits (rows_in c.rows id) kinds ≡ true
+
+-- what doesn't hang on names
+always-grows : (P : ℕ → List Kind → Type 0) → Grows (λ (names : List (List ℕ)). P)
+always-grows P = record { left = λ a b id kinds h. h; right = λ a b id kinds h. h }
 
 module _ (c : Contents) (sound : IsSound c) where
   table-fits : (name : List ℕ) (table : TableEntry) → table_named c name ≡ Some table → Fit c table.id (column_kinds table.columns)
@@ -34,7 +37,7 @@ module _ (c : Contents) (sound : IsSound c) where
       subst (λ (kinds : List Kind). Fit c r.id kinds) held.kinds
       (subst (λ (id : ℕ). Fit c id (column_kinds held.table.columns)) held.id (table-fits held.name held.table held.named))
 
-  pub sound-held : IsHeld (Fit c) c
+  sound-held : IsHeld (λ names. Fit c) (always-grows (Fit c)) c
   sound-held = record {
     tables = table-fits;
     views = λ name view e.
@@ -45,4 +48,4 @@ module _ (c : Contents) (sound : IsSound c) where
 
 pub tables-fit : (c : Contents) (tree : QueryTree) (around : Around) → IsSound c → (wanted : List Kind) → TablesFit (rows_in c.rows) ((query_means_at (query_of c tree) around).make wanted)
 unfolding query_means_at
-tables-fit c tree around sound wanted = reads-query_tree (Fit c) c (sound-held c sound) tree around wanted
+tables-fit c tree around sound wanted = reads-query_tree (λ names. Fit c) (always-grows (Fit c)) c (sound-held c sound) tree around wanted

@@ -3,4 +3,4 @@
 
 mod laws;
 
-pub use laws::tables_fit_queries;
+pub use laws::{tables_fit_queries, views_name_what_they_read};
