@@ -1,5 +1,5 @@
 -- What a statement adds that breaks no rule: columns of a table, and values of the kinds of their columns.
-use Rattle.std.proofs.Common.{◌≡◌, ◌≢◌, ◌∙◌, ℕ, Bool, true, false, cond, not, ◌||◌, nat_eq, List, [], ◌∷◌, ◌++◌, map, length, Option, Some, None, IfSome, refl, sym, ap, subst, arith}
+use Rattle.std.proofs.Common.{◌≡◌, ◌≢◌, ◌<◌, ◌∙◌, ℕ, suc, Bool, true, false, cond, not, ◌||◌, nat_eq, List, [], ◌∷◌, ◌++◌, map, length, Option, Some, None, IfSome, refl, sym, ap, subst, arith}
 use Rattle.std.proofs.lemmas.Bool.Decides.{nat_tests}
 use Rattle.std.proofs.lemmas.List.Elements.{All-head, All-tail, All-map, All-weaker, All-contains_itself}
 use Rattle.std.specs.Cmp.Lexicographic.{pointwise, nat_list_eq_equiv}
@@ -8,35 +8,39 @@ use Rattle.std.specs.Option.{option_map_or}
 use Rattle.perm_values.specs.declared.kind.Kind.{Kind}
 use Rattle.perm_values.specs.declared.kind.Kind.TheVariants as kind
 use Rattle.bag_algebra.specs.BuiltForms.{subs_kinds}
+use Rattle.bag_algebra.specs.Kinds.{width_of}
 use Rattle.bag_algebra.specs.WellFormed.{HasKind}
 use Rattle.bag_algebra.specs.declared.query.Aggr.{Aggr}
 use Rattle.bag_algebra.specs.declared.query.Sublink.{Sublink}
 use Rattle.perm_catalog.specs.Changes.{table_named}
 use Rattle.perm_catalog.specs.Columns.{AreTableColumns, column_kinds, column_names}
 use Rattle.perm_catalog.specs.Contents.{Contents}
-use Rattle.perm_catalog.specs.Sound.{IsSound}
+use Rattle.perm_catalog.specs.Sound.{IsSound, IsSoundView}
 use Rattle.perm_catalog.specs.declared.column.Column.{Column}
 use Rattle.perm_catalog.specs.declared.entries.TableEntry.{TableEntry}
-use Rattle.sql_tree.specs.Regular.{Each, IsFilled, RegularColumn, RegularExpr, RegularRow, RegularStatement, RegularStatementBody}
+use Rattle.sql_tree.specs.Regular.{Each, IsFilled, RegularColumn, RegularExpr, RegularQuery, RegularRow, RegularStatement, RegularStatementBody}
 use Rattle.sql_tree.specs.declared.expression.ExprTree.{ExprTree}
 use Rattle.sql_tree.specs.declared.name.Name.{Name}
+use Rattle.sql_tree.specs.declared.query.QueryTree.{QueryTree}
 use Rattle.sql_tree.specs.declared.statement.ColumnDef.{ColumnDef}
 use Rattle.sql_tree.specs.declared.statement.Statement.{Statement}
 use Rattle.sql_tree.specs.declared.statement.StatementBody.{StatementBody}
 use Rattle.sql_tree.specs.declared.statement.StatementBody.TheVariants as st
 use Rattle.sql_tree.specs.declared.statement.ValuesRow.{ValuesRow}
-use Rattle.name_words.specs.Froms.{named_so}
-use Rattle.name_words.specs.Meanings.{Meant, means_at, broken, broken_if, is_whole, is_same_kind, seen_kind, settled, unites}
-use Rattle.name_words.specs.Statements.{bare, breaks, defined_columns, kinds_of_table, made_alone, name_breaks, on_table, repeated_columns, resolved, resolved_body, row_breaks, row_made, rows_made, taken, value_breaks, values_breaks}
+use Rattle.name_words.specs.Froms.{named_so, names_of, settled_columns}
+use Rattle.name_words.specs.Meanings.{Meant, OutColumn, QueryMeant, means_at, broken, broken_if, is_whole, is_same_kind, seen_kind, settled, unites}
+use Rattle.name_words.specs.Statements.{alone, bare, breaks, columns_of, defined_columns, kinds_of_table, made_alone, name_breaks, named_query_breaks, on_table, query_meant, repeated_columns, repeats, resolved, resolved_body, row_breaks, row_made, rows_made, taken, value_breaks, values_breaks, view_entry}
 use Rattle.name_words.specs.Sublinks.{nothing_before}
 use Rattle.name_words.specs.Trees.{part_of}
 use Rattle.name_words.specs.declared.answer.Break.{Break}
 use Rattle.name_laws.proofs.Every.{front-none, back-none}
-use Rattle.name_forms.specs.Formed.{IsFormedExpr}
+use Rattle.name_laws.proofs.Trees.{query-in_scope}
+use Rattle.name_forms.specs.Formed.{IsAnswer, IsFormedExpr}
 use Rattle.name_forms.specs.Standing.{StandAt, AggregatesStand}
-use Rattle.name_forms.proofs.TreeLaws.{expr-formed}
+use Rattle.name_forms.proofs.TreeLaws.{expr-formed, query-answer, query-closed}
+use Rattle.name_tables.proofs.Named.{view-reads}
 use Rattle.statement_laws.proofs.Ready.{names-whole, unbroken, not-false}
-use Rattle.statement_laws.specs.Sounder.{AddsSoundly, HaveKinds, MakesSoundView, RowsHaveKinds}
+use Rattle.statement_laws.specs.Sounder.{AddsSoundly, HaveKinds, ViewHasColumn, RowsHaveKinds}
 
 all-of : {X : Type 0} (P : X → Type 0) (xs : List X) → Each P xs → All P xs
 all-of P xs each = All-weaker (Contains xs) P (λ x among. each x among) xs (All-contains_itself xs)
@@ -113,6 +117,10 @@ seen-whole m whole = ap (λ (breaks : List Break). cond (is_whole breaks) m.kind
 same-length : (a b : ℕ) → nat_eq a b ≡ true → a ≡ b
 same-length a b e = grind (arith, nat_tests)
 
+length-names : (columns : List OutColumn) → length (names_of (settled_columns columns)) ≡ length columns
+length-names [] = refl
+length-names (column ∷ columns) = ap suc (length-names columns)
+
 module _ (c : Contents) (sound : IsSound c) where
   made-kind : (k : Kind) (tree : ExprTree) → RegularExpr tree
       → value_breaks k (part_of c tree).at (means_at (part_of c tree) (bare [])) ≡ []
@@ -168,12 +176,32 @@ module _ (c : Contents) (sound : IsSound c) where
   copy-adds None = tt
   copy-adds (Some entry) = refl
 
-  body-adds : (body : StatementBody) → RegularStatementBody body → name_breaks c body ≡ [] → MakesSoundView c body
+  view-sound : (tree : QueryTree) → RegularQuery tree → (query_meant c tree).breaks ≡ [] → 0 < width_of (view_entry (query_meant c tree)).answer.query
+      → IsSoundView c (view_entry (query_meant c tree))
+  view-sound tree regular whole some =
+      let m : QueryMeant = query_meant c tree in
+      let a : IsAnswer m = query-answer c tree alone sound regular whole in
+      record {
+        answer = record {
+          closed = (query-closed c tree alone sound regular whole refl []).0;
+          scoped = (query-in_scope c tree alone sound whole []).scoped;
+          some = some;
+          named = ap (λ (o : Option (List OutColumn)). length (names_of (option_map_or settled_columns o []))) a.known ∙ length-names a.columns ∙ a.named [];
+          keys = a.keys [];
+        };
+        places = a.places;
+        reads = view-reads c sound tree;
+      }
+
+  body-adds : (body : StatementBody) → RegularStatementBody body → name_breaks c body ≡ [] → ViewHasColumn c body
       → AddsSoundly c (resolved_body c body)
   body-adds (st.CreateTable table columns) regular whole view =
       table-columns columns regular.0 regular.1 (back-none (taken c table) (repeated_columns [] columns) whole)
   body-adds (st.CreateTableAs table query) regular whole view = tt
-  body-adds (st.CreateView name query) regular whole view = view
+  body-adds (st.CreateView name query) regular whole view =
+      let more : List Break = named_query_breaks query.at (query_meant c query) in
+      view-sound query regular
+      (front-none (query_meant c query).breaks (broken_if (repeats (names_of (columns_of (query_meant c query)))) 14 query.at) (back-none (taken c name) more whole)) view
   body-adds (st.Copy table file header mark) regular whole view = copy-adds (table_named c table.text)
   body-adds (st.Insert table rows) regular whole view = insert-adds table rows (all-of RegularRow rows regular.1) whole
   body-adds (st.Delete table condition) regular whole view = tt
@@ -184,5 +212,5 @@ module _ (c : Contents) (sound : IsSound c) where
   body-adds (st.ShowFresh table) regular whole view = tt
 
 pub whole-adds : (c : Contents) (statement : Statement) → IsSound c → RegularStatement statement
-    → breaks c statement ≡ [] → MakesSoundView c statement.body → AddsSoundly c (resolved c statement)
+    → breaks c statement ≡ [] → ViewHasColumn c statement.body → AddsSoundly c (resolved c statement)
 whole-adds c statement sound regular whole view = body-adds c sound statement.body regular (names-whole c statement whole) view

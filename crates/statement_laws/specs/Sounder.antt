@@ -1,6 +1,7 @@
 -- When what a resolved statement adds to a catalog is sound, and that a statement keeps a catalog sound.
-use Rattle.std.specs.Prelude.{◌≡◌, ⊤, List, [], ◌∷◌, IfSome}
+use Rattle.std.specs.Prelude.{◌≡◌, ◌<◌, ⊤, List, [], ◌∷◌, IfSome}
 use Rattle.perm_values.specs.declared.kind.Kind.{Kind}
+use Rattle.bag_algebra.specs.Kinds.{width_of}
 use Rattle.bag_algebra.specs.WellFormed.{HasKind}
 use Rattle.bag_algebra.specs.declared.expr.Expr.{Expr}
 use Rattle.perm_catalog.specs.Changes.{table_named}
@@ -52,16 +53,16 @@ abbrev pub KeepsSound : Asked → Type 0
 KeepsSound (Settled turn) = StandsSound turn
 KeepsSound (Begins name after) = (found : Found) → StandsSound (after found)
 
--- the view that a statement makes is sound, if it makes one
-abbrev pub MakesSoundView : Contents → StatementBody → Type 0
-MakesSoundView c (st.CreateTable table columns) = ⊤
-MakesSoundView c (st.CreateTableAs table query) = ⊤
-MakesSoundView c (st.CreateView view query) = IsSoundView c (view_entry (query_meant c query))
-MakesSoundView c (st.Copy table file header mark) = ⊤
-MakesSoundView c (st.Insert table rows) = ⊤
-MakesSoundView c (st.Delete table condition) = ⊤
-MakesSoundView c (st.DropTable table) = ⊤
-MakesSoundView c (st.DropView view) = ⊤
-MakesSoundView c (st.Select query) = ⊤
-MakesSoundView c (st.Explain query) = ⊤
-MakesSoundView c (st.ShowFresh table) = ⊤
+-- a view that a statement makes has a column
+abbrev pub ViewHasColumn : Contents → StatementBody → Type 0
+ViewHasColumn c (st.CreateTable table columns) = ⊤
+ViewHasColumn c (st.CreateTableAs table query) = ⊤
+ViewHasColumn c (st.CreateView view query) = 0 < width_of (view_entry (query_meant c query)).answer.query
+ViewHasColumn c (st.Copy table file header mark) = ⊤
+ViewHasColumn c (st.Insert table rows) = ⊤
+ViewHasColumn c (st.Delete table condition) = ⊤
+ViewHasColumn c (st.DropTable table) = ⊤
+ViewHasColumn c (st.DropView view) = ⊤
+ViewHasColumn c (st.Select query) = ⊤
+ViewHasColumn c (st.Explain query) = ⊤
+ViewHasColumn c (st.ShowFresh table) = ⊤
