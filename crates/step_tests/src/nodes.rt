@@ -1,8 +1,8 @@
 //! Single nodes of what names resolve to (`name_nodes`).
 use bag_algebra::{Expr, Query};
 use name_nodes::{
-    Clauses, Condition, Listed, core_query, finished, negated_if, set_joined,
-    table_plain, text_value, truth_test, truth_value,
+    Clauses, Condition, Listed, core_query, finished, negated_if, set_joined, table_plain,
+    text_value, truth_test, truth_value,
 };
 use null_logic::Truth;
 use perm_catalog::{Column, TableEntry};

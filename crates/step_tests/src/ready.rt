@@ -96,10 +96,16 @@ fn is_numbers(tables: &Tables, query: &Query) -> bool
 {
     match query {
         Query::Table { id, kinds } => {
-            kinds.as_slice() == [Kind::Integer].as_slice() && holds_numbers(tables, *id)
+            are_numbers(kinds.as_slice()) && holds_numbers(tables, *id)
         }
         _ => false,
     }
+}
+
+fn are_numbers(kinds: &[Kind]) -> bool
+    ensures { IsTrue result → kinds.now ≡ Number ∷ [] }
+{
+    kinds == [Kind::Integer].as_slice()
 }
 
 fn holds_numbers(tables: &Tables, id: u64) -> bool

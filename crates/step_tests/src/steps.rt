@@ -193,7 +193,14 @@ fn statements_are_carried_out(rt: HostRuntime) {
     let held = &mut catalog;
     assert!(rt; gives(alloc, &mut *held, create(alloc), b"CREATE TABLE\n"));
     assert!(rt; gives(alloc, &mut *held, insert(alloc), b"INSERT 2\n"));
-    assert!(rt; gives(alloc, &mut *held, select(alloc), b"\"c\",\"prov_t_c\"\n1,1\n2,2\n(2 rows)\n"));
+    assert!(rt;
+        gives(
+            alloc,
+            &mut *held,
+            select(alloc),
+            b"\"c\",\"prov_t_c\"\n1,1\n2,2\n(2 rows)\n"
+        )
+    );
     assert!(rt; gives(alloc, &mut *held, delete(alloc), b"DELETE 1\n"));
     assert!(rt; gives(alloc, &mut *held, copy(alloc), b"COPY 1\n"));
     assert!(rt; gives(alloc, &mut *held, create_view(alloc), b"CREATE VIEW\n"));
