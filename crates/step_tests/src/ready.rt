@@ -105,7 +105,21 @@ fn is_numbers(tables: &Tables, query: &Query) -> bool
 fn are_numbers(kinds: &[Kind]) -> bool
     ensures { IsTrue result → kinds.now ≡ Number ∷ [] }
 {
-    kinds == [Kind::Integer].as_slice()
+    match kinds {
+        [] => false,
+        [kind] => is_integer(*kind),
+        [_, _, ..] => false,
+    }
+}
+
+fn is_integer(kind: Kind) -> bool
+    ensures { IsTrue result → kind ≡ Number }
+{
+    match kind {
+        Kind::Integer => true,
+        Kind::Text => false,
+        Kind::Boolean => false,
+    }
 }
 
 fn holds_numbers(tables: &Tables, id: u64) -> bool
