@@ -89,11 +89,13 @@ pub step-more : (c : Contents) (outer : List Scope) (trace : Trace) (left : From
     → i < length joins → step ≡ get_or joins i step
     → JoinsMade (join_all outer trace left (map (join_of c) (take i joins))) first scope before i
     → MakesJoin outer trace (join_of c step) first (i + 2) scope before after
-    → JoinsMade (join_all outer trace left (map (join_of c) (take (i + 1) joins))) first scope after (suc i)
+    → JoinsMade (join_all outer trace left (map (join_of c) (take (i + 1) joins))) first scope after (i + 1)
 step-more c outer trace left joins i step first scope before after within is so_far makes =
-    subst (λ (m : FromMeant). JoinsMade m first scope after (suc i))
+    let next : suc i ≡ i + 1 = omega arith in
+    subst (λ (n : ℕ). JoinsMade (join_all outer trace left (map (join_of c) (take (i + 1) joins))) first scope after n) next
+    (subst (λ (m : FromMeant). JoinsMade m first scope after (suc i))
     (sym (ap (join_all outer trace left) (mapped (join_of c) joins i step within is) ∙ joins-append outer trace left (map (join_of c) (take i joins)) (join_of c step)))
-    (join-more outer trace (join_all outer trace left (map (join_of c) (take i joins))) (join_of c step) first i scope before after so_far makes)
+    (join-more outer trace (join_all outer trace left (map (join_of c) (take i joins))) (join_of c step) first i scope before after so_far makes))
 
 pub tree-join : (c : Contents) (outer : List Scope) (trace : Trace) (tree : JoinStep) (first count : ℕ) (scope : Scope) (before right after : Query) (condition : Expr)
     → MakesOn outer trace (option_map (part_of c) (out-JoinStep tree).condition) first count scope condition

@@ -26,7 +26,7 @@ use Rattle.made_parts.proofs.Listing.{mapped}
 use Rattle.bag_algebra.specs.declared.query.Query.TheVariants.{Prov}
 use Rattle.name_words.specs.Queries.{limited, unprovable}
 use Rattle.made_parts.proofs.Coring.{core-none, core-some}
-use Rattle.made_parts.proofs.Querying.{chain-made, core-is, paren-is, query-is, step-is}
+use Rattle.made_parts.proofs.Querying.{chain-made, core-is, paren-is, query-is}
 use Rattle.null_logic.specs.declared.operator.Operator.TheVariants as x
 use Rattle.bag_algebra.specs.declared.query.SubKind.TheVariants as sub
 use Rattle.perm_values.specs.declared.kind.Kind.TheVariants as kind
@@ -459,3 +459,24 @@ sources::item_made-returns-in_ok-query t c =
     let of_query = rw (c.get-2.ensures, c.trace_under.ensures) at c.in_ok-query.ensures in
     of-ok _ _ c.marked_query.result
     (λ made is. item-inner around.catalog.now (scopes_of around.outer.now) around.trace c.args.item.now c.in-Inner.query made c.in-Inner.is (λ whole. is m whole shown (of_query.makes whole))) c.marked_query.ensures
+
+pub sources::source_made-loop-place-preserved : goal.sources::source_made-loop-place-preserved
+sources::source_made-loop-place-preserved t c = λ earlier.
+    let around = c.args.around.now in
+    let outer = scopes_of around.outer.now in
+    let tree = c.args.source.now in
+    let first = (from_item_of around.catalog.now (out-FromTree tree).first).means outer around.trace earlier in
+    step-more around.catalog.now outer around.trace (first_item earlier first) (out-FromTree tree).joins c.loop-place.place c.step-item.result c.args.first c.args.scope.now c.loop-place.whole c.in_ok-whole-2.whole
+    (rw c.as_slice-step-items.ensures at c.loop-place-test.true) (rw c.as_slice-step-items.ensures at c.step-item.is) (c.loop-place.invariant earlier) c.in_ok-whole-2.ensures
+
+pub sources::source_made-returns : goal.sources::source_made-returns
+sources::source_made-returns t c = λ earlier whole stands.
+    let around = c.args.around.now in
+    let outer = scopes_of around.outer.now in
+    let tree = c.args.source.now in
+    let first = (from_item_of around.catalog.now (out-FromTree tree).first).means outer around.trace earlier in
+    let all = rw c.as_slice-step-items.ensures at c.loop-place-test.false in
+    let made = subst (λ (m : FromMeant). JoinsMade m c.args.first c.args.scope.now c.loop-place.whole c.loop-place.place)
+    (ap (λ (steps : List JoinStep). join_all outer around.trace (first_item earlier first) (map (join_of around.catalog.now) steps)) (take_all c.loop-place.place (out-FromTree tree).joins all)
+    ∙ sym (from-fields around.catalog.now tree outer around.trace earlier)) (c.loop-place.invariant earlier) in
+    made.makes whole stands

@@ -1,5 +1,5 @@
 use Rattle.std.proofs.Common.{take, ℕ, List, Bool, []}
-use Rattle.std.specs.Prelude.{map, length}
+use Rattle.std.specs.Prelude.{map}
 use Rattle.perm_values.specs.declared.kind.Kind.{Kind}
 use Rattle.name_words.specs.Operands.{operand}
 use Rattle.name_words.specs.Trees.{arm_of, part_of, step_of, from_item_of, from_of, join_of, set_step_of, item_of}
@@ -49,7 +49,7 @@ abbrev pub invariant-sources::source_made-loop-place : goal.invariant-sources::s
 invariant-sources::source_made-loop-place l =
     (earlier : List (List ℕ)) → JoinsMade (join_all (scopes_of l.around.outer.now) l.around.trace
     (first_item earlier ((from_item_of l.around.catalog.now (out-FromTree l.source).first).means (scopes_of l.around.outer.now) l.around.trace earlier))
-    (map (join_of l.around.catalog.now) (take (length l.yielded) (out-FromTree l.source).joins))) l.first l.scope l.whole (length l.yielded)
+    (map (join_of l.around.catalog.now) (take l.place (out-FromTree l.source).joins))) l.first l.scope l.whole l.place
 
 -- the items so far are made
 abbrev pub invariant-cores::items_made-loop-item : goal.invariant-cores::items_made-loop-item
