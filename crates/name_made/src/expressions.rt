@@ -1,9 +1,10 @@
 //! Expressions, made where they stand at the kinds that are wanted of them.
-ghost use Rattle.std.specs.Prelude.{ℕ, false, ◌∷◌, [], IfOk, OnOk, map};
-ghost use Rattle.bag_algebra.specs.declared.expr.Expr.TheVariants.{Op as Operated};
+ghost use Rattle.std.specs.Prelude.{◌≡◌, ℕ, false, ◌∷◌, [], IfOk, OnOk, map};
+ghost use Rattle.bag_algebra.specs.declared.expr.Expr.TheVariants.{Lit as Number, Op as Operated};
 ghost use Rattle.perm_catalog.specs.Sound.{IsSound};
 ghost use Rattle.perm_values.specs.declared.kind.Kind.{Kind as Sort};
-ghost use Rattle.perm_values.specs.declared.kind.Kind.TheVariants.{Boolean as Truths};
+ghost use Rattle.perm_values.specs.declared.kind.Kind.TheVariants.{Boolean as Truths, Integer as Counts};
+ghost use Rattle.perm_values.specs.declared.value.Value.TheVariants.{Integer as Whole};
 ghost use Rattle.name_words.specs.Meanings.{means_at, query_means_at};
 ghost use Rattle.name_words.specs.Operands.{node, operand};
 ghost use Rattle.name_words.specs.Sublinks.{aggregated, around_of, exists_meant, if_standing, in_argument, in_tested, scalar_meant};
@@ -46,7 +47,7 @@ pub fn made(
     match &tree.body {
         ExprBody::Null => Ok(null_at(wanted)),
         ExprBody::NullOf(kind) => Ok(null_at(*kind)),
-        ExprBody::Integer(number) => Ok(integer_value(*number)),
+        ExprBody::Integer(number) => Ok(integer_read(number)),
         ExprBody::Text(text) => text_value(alloc, text),
         ExprBody::Truth(truth) => Ok(truth_value(*truth)),
         ExprBody::Column(reference) => {
@@ -241,6 +242,12 @@ pub fn made(
             linked(query.get(), sub, Some(tested), &[kind], here, found)
         }
     }
+}
+
+fn integer_read(number: &i64) -> Expr
+    ensures { result ≡ Number (Whole number.now) Counts }
+{
+    integer_value(*number)
 }
 
 /// The expression in a box.

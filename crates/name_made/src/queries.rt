@@ -58,11 +58,12 @@ fn set_made(tree: &SetTree, wanted: &[Kind], around: &Around) -> Result<Query, N
             query_made(query.get(), wanted, &inner)
         }
         SetTree::Chain { first, steps } => {
+            let before = first.get();
             if steps.is_empty() {
-                return set_made(first.get(), wanted, around);
+                return set_made(before, wanted, around);
             }
             let kinds = chain_kinds(tree, wanted, around)?;
-            let whole = set_made(first.get(), kinds.as_slice(), around)?;
+            let whole = set_made(before, kinds.as_slice(), around)?;
             chained(steps.as_slice(), whole, kinds.as_slice(), around)
         }
     }

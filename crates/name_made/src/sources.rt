@@ -137,8 +137,9 @@ fn item_made(item: &FromItem, around: &Around) -> Result<Query, NoMemory>
                 trace: trace_under(&item.mark, around.trace),
                 provable: true,
             };
-            let shown = shown_names(query.get(), &inner)?;
-            let query = query_made(query.get(), &[], &inner)?;
+            let tree = query.get();
+            let shown = shown_names(tree, &inner)?;
+            let query = query_made(tree, &[], &inner)?;
             marked_query(around.alloc, query, shown, &item.alias, &item.mark)
         }
     }

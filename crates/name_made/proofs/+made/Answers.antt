@@ -26,7 +26,7 @@ use Rattle.made_parts.proofs.Listing.{mapped}
 use Rattle.bag_algebra.specs.declared.query.Query.TheVariants.{Prov}
 use Rattle.name_words.specs.Queries.{limited, unprovable}
 use Rattle.made_parts.proofs.Coring.{core-none, core-some}
-use Rattle.made_parts.proofs.Querying.{chain-made, core-is, paren-is, query-is}
+use Rattle.made_parts.proofs.Querying.{chain-made, chain-of-one, core-is, paren-is, query-is}
 use Rattle.null_logic.specs.declared.operator.Operator.TheVariants as x
 use Rattle.bag_algebra.specs.declared.query.SubKind.TheVariants as sub
 use Rattle.perm_values.specs.declared.kind.Kind.TheVariants as kind
@@ -63,7 +63,7 @@ expressions::made-returns-in-NullOf t c =
 
 pub expressions::made-returns-in-Integer : goal.expressions::made-returns-in-Integer
 expressions::made-returns-in-Integer t c =
-    rw c.integer_value.ensures (integer-form c.args.here.now.catalog.now (surroundings c.args.here.now) c.args.here.now.standing.sublinks c.args.tree.now c.args.wanted c.in-Integer.number c.args.found.now c.in-Integer.is)
+    rw c.integer_read.ensures (integer-form c.args.here.now.catalog.now (surroundings c.args.here.now) c.args.here.now.standing.sublinks c.args.tree.now c.args.wanted c.in-Integer.number c.args.found.now c.in-Integer.is)
 
 pub expressions::made-returns-in-Text : goal.expressions::made-returns-in-Text
 expressions::made-returns-in-Text t c =
@@ -84,10 +84,10 @@ expressions::made-returns-in-Paren t c =
     of-ok (λ e. Makes c.args.here.now.standing.sublinks (means_at (part_of c.args.here.now.catalog.now c.in-Paren.part) (surroundings c.args.here.now)) c.args.wanted e c.args.found.now c.made.new.found) (λ e. Makes c.args.here.now.standing.sublinks (means_at (part_of c.args.here.now.catalog.now c.args.tree.now) (surroundings c.args.here.now)) c.args.wanted e c.args.found.now c.made.new.found) c.made.result
     (λ e makes. paren-form c.args.here.now.catalog.now (surroundings c.args.here.now) c.args.here.now.standing.sublinks c.args.tree.now c.in-Paren.part c.args.wanted e c.args.found.now c.made.new.found c.in-Paren.is makes) (rw c.get.ensures at c.made.ensures)
 
-pub expressions::made-returns-in_ok-part : goal.expressions::made-returns-in_ok-part
-expressions::made-returns-in_ok-part t c =
-    told c.args.here.now.standing.sublinks (means_at (part_of c.args.here.now.catalog.now c.args.tree.now) (surroundings c.args.here.now)) c.args.wanted (times x.Not c.in-Nots.count c.in_ok-part.part) c.args.found.now c.made-in-Nots.new.found c.times.result c.times.ensures
-    (nots-form c.args.here.now.catalog.now (surroundings c.args.here.now) c.args.here.now.standing.sublinks c.args.tree.now c.in-Nots.part c.in-Nots.count c.args.wanted c.in_ok-part.part c.args.found.now c.made-in-Nots.new.found c.in-Nots.is (rw c.get-in-Nots.ensures at c.in_ok-part.ensures))
+pub expressions::made-returns-in_ok-part-in-Nots : goal.expressions::made-returns-in_ok-part-in-Nots
+expressions::made-returns-in_ok-part-in-Nots t c =
+    told c.args.here.now.standing.sublinks (means_at (part_of c.args.here.now.catalog.now c.args.tree.now) (surroundings c.args.here.now)) c.args.wanted (times x.Not c.in-Nots.count c.in_ok-part-in-Nots.part) c.args.found.now c.made-in-Nots.new.found c.times.result c.times.ensures
+    (nots-form c.args.here.now.catalog.now (surroundings c.args.here.now) c.args.here.now.standing.sublinks c.args.tree.now c.in-Nots.part c.in-Nots.count c.args.wanted c.in_ok-part-in-Nots.part c.args.found.now c.made-in-Nots.new.found c.in-Nots.is (rw c.get-in-Nots.ensures at c.in_ok-part-in-Nots.ensures))
 
 pub expressions::made-returns-in_ok-part-in-Signs : goal.expressions::made-returns-in_ok-part-in-Signs
 expressions::made-returns-in_ok-part-in-Signs t c =
@@ -108,15 +108,15 @@ expressions::made-returns-in-Coalesce t c =
     (λ e makes. coalesce-form c.args.here.now.catalog.now (surroundings c.args.here.now) c.args.here.now.standing.sublinks c.args.tree.now c.in-Coalesce.list c.args.wanted e c.args.found.now c.operator_made-in-Coalesce.new.found c.in-Coalesce.is makes)
     (rw c.as_slice-in-Coalesce.ensures at c.operator_made-in-Coalesce.ensures)
 
-pub expressions::made-returns-in_ok-steps : goal.expressions::made-returns-in_ok-steps
-expressions::made-returns-in_ok-steps t c =
-    chain-form c.args.here.now.catalog.now (surroundings c.args.here.now) c.args.here.now.standing.sublinks c.args.tree.now c.in-Chain.first c.in-Chain.steps c.args.wanted c.chain_start.result c.in_ok-first.first c.in_ok-steps.steps c.args.found.now _ _ c.in-Chain.is
-    (rw c.as_slice-in-Chain.ensures at (c.chain_start.ensures c.args.here.now.catalog.now)) (rw c.get-in-Chain.ensures at c.in_ok-first.ensures) (rw c.as_slice-in-Chain-2.ensures at c.in_ok-steps.ensures)
+pub expressions::made-returns-in_ok-steps-in-Chain : goal.expressions::made-returns-in_ok-steps-in-Chain
+expressions::made-returns-in_ok-steps-in-Chain t c =
+    chain-form c.args.here.now.catalog.now (surroundings c.args.here.now) c.args.here.now.standing.sublinks c.args.tree.now c.in-Chain.first c.in-Chain.steps c.args.wanted c.chain_start.result c.in_ok-first-in-Chain.first c.in_ok-steps-in-Chain.steps c.args.found.now _ _ c.in-Chain.is
+    (rw c.as_slice-in-Chain.ensures at (c.chain_start.ensures c.args.here.now.catalog.now)) (rw c.get-in-Chain.ensures at c.in_ok-first-in-Chain.ensures) (rw c.as_slice-in-Chain-2.ensures at c.in_ok-steps-in-Chain.ensures)
 
-pub expressions::made-returns-in_ok-operand_made-2 : goal.expressions::made-returns-in_ok-operand_made-2
-expressions::made-returns-in_ok-operand_made-2 t c =
-    compared-form c.args.here.now.catalog.now (surroundings c.args.here.now) c.args.here.now.standing.sublinks c.args.tree.now c.in-Compared.first c.in-Compared.second c.in-Compared.op c.args.wanted c.in_ok-alike.alike _ _ c.args.found.now _ _ c.in-Compared.is
-    (rw (c.get-in-Compared.ensures, c.get-in-Compared-2.ensures) at c.in_ok-alike.ensures) (rw (c.get-in-Compared-3.ensures, c.new-parts.ensures) at c.in_ok-operand_made.ensures) (rw c.get-in-Compared-4.ensures at c.in_ok-operand_made-2.ensures)
+pub expressions::made-returns-in_ok-operand_made-in-Compared-2 : goal.expressions::made-returns-in_ok-operand_made-in-Compared-2
+expressions::made-returns-in_ok-operand_made-in-Compared-2 t c =
+    compared-form c.args.here.now.catalog.now (surroundings c.args.here.now) c.args.here.now.standing.sublinks c.args.tree.now c.in-Compared.first c.in-Compared.second c.in-Compared.op c.args.wanted c.in_ok-alike-in-Compared.alike _ _ c.args.found.now _ _ c.in-Compared.is
+    (rw (c.get-in-Compared.ensures, c.get-in-Compared-2.ensures) at c.in_ok-alike-in-Compared.ensures) (rw (c.get-in-Compared-3.ensures, c.new-parts.ensures) at c.in_ok-operand_made-in-Compared.ensures) (rw c.get-in-Compared-4.ensures at c.in_ok-operand_made-in-Compared-2.ensures)
 
 pub expressions::operand_made-returns : goal.expressions::operand_made-returns
 expressions::operand_made-returns t c =
@@ -144,16 +144,16 @@ expressions::steps_made-returns t c =
 
 pub expressions::arms_made-loop-arm-preserved : goal.expressions::arms_made-loop-arm-preserved
 expressions::arms_made-loop-arm-preserved t c =
-    subst (λ (arms : List ArmPart). MakesArms c.args.here.now.standing.sublinks c.args.alike (surroundings c.args.here.now) arms c.push.new.self c.args.found.now _)
+    subst (λ (arms : List ArmPart). MakesArms c.args.here.now.standing.sublinks c.args.alike (surroundings c.args.here.now) arms c.push.new.self c.args.found.now c.made-in-loop-arm.new.found)
     (sym (mapped (arm_of c.args.here.now.catalog.now) c.args.arms.now c.loop-arm.arm-index c.arm-item.result c.loop-arm-test.true c.arm-item.is ∙ ap (λ (a : ArmPart). map (arm_of c.args.here.now.catalog.now) (take c.loop-arm.arm-index c.args.arms.now) ++ a ∷ []) (arm-is c.args.here.now.catalog.now c.arm-item.result)))
-    (subst (λ (made : List Arm). MakesArms c.args.here.now.standing.sublinks c.args.alike (surroundings c.args.here.now) (map (arm_of c.args.here.now.catalog.now) (take c.loop-arm.arm-index c.args.arms.now) ++ (record { condition = part_of c.args.here.now.catalog.now c.arm-item.result.condition; value = part_of c.args.here.now.catalog.now c.arm-item.result.value }) ∷ []) made c.args.found.now _) (sym c.in_ok-push.ensures.ok)
-    (next-arm-made c.args.here.now.standing.sublinks c.args.alike (surroundings c.args.here.now) (map (arm_of c.args.here.now.catalog.now) (take c.loop-arm.arm-index c.args.arms.now)) (record { condition = part_of c.args.here.now.catalog.now c.arm-item.result.condition; value = part_of c.args.here.now.catalog.now c.arm-item.result.value }) c.loop-arm.made_arms c.in_ok-condition.condition c.in_ok-value.value c.args.found.now c.loop-arm.found _ _ c.loop-arm.invariant c.in_ok-condition.ensures c.in_ok-value.ensures))
+    (subst (λ (made : List Arm). MakesArms c.args.here.now.standing.sublinks c.args.alike (surroundings c.args.here.now) (map (arm_of c.args.here.now.catalog.now) (take c.loop-arm.arm-index c.args.arms.now) ++ (record { condition = part_of c.args.here.now.catalog.now c.arm-item.result.condition; value = part_of c.args.here.now.catalog.now c.arm-item.result.value }) ∷ []) made c.args.found.now c.made-in-loop-arm.new.found) (sym c.in_ok-push.ensures.ok)
+    (next-arm-made c.args.here.now.standing.sublinks c.args.alike (surroundings c.args.here.now) (map (arm_of c.args.here.now.catalog.now) (take c.loop-arm.arm-index c.args.arms.now)) (record { condition = part_of c.args.here.now.catalog.now c.arm-item.result.condition; value = part_of c.args.here.now.catalog.now c.arm-item.result.value }) c.loop-arm.made_arms c.in_ok-condition.condition c.in_ok-value.value c.args.found.now c.loop-arm.found c.made.new.found c.made-in-loop-arm.new.found c.loop-arm.invariant c.in_ok-condition.ensures c.in_ok-value.ensures))
 
 pub expressions::aggregated-returns : goal.expressions::aggregated-returns
 expressions::aggregated-returns t c =
     let unlinked : c.in_argument.result.sublinks ≡ false = ap (λ (s : Surroundings). s.sublinks) (c.in_argument.ensures (scopes_of c.args.here.now.scopes.now)) in
-    let makes = rw (c.ungrouped.ensures, c.in_argument.ensures (scopes_of c.args.here.now.scopes.now), unlinked, c.argument_wanted.ensures, c.nothing-own.ensures) at c.in_ok-part.ensures in
-    let kind = rw (c.ungrouped.ensures, c.in_argument.ensures (scopes_of c.args.here.now.scopes.now)) at c.in_ok-kind.ensures in
+    let makes = rw (c.ungrouped-scopes.ensures, c.in_argument.ensures (scopes_of c.args.here.now.scopes.now), unlinked, c.argument_wanted.ensures, c.nothing-own.ensures) at c.in_ok-part.ensures in
+    let kind = rw (c.ungrouped-scopes.ensures, c.in_argument.ensures (scopes_of c.args.here.now.scopes.now)) at c.in_ok-kind.ensures in
     of-ok (λ made. IsBuilt (aggregate_made (surroundings c.args.here.now) c.args.word c.in_ok-kind.kind (Some c.in_ok-part.part) (before_of c.args.found.now)) made c.args.found.now c.aggregate_made.new.found)
     (λ e. (at argument_at : ℕ) (wanted : Kind) → Makes c.args.here.now.standing.sublinks (aggregated (surroundings c.args.here.now) at c.args.word argument_at (means_at (part_of c.args.here.now.catalog.now c.args.argument.now) (in_argument (surroundings c.args.here.now)))) wanted e c.args.found.now c.aggregate_made.new.found) c.aggregate_made.result
     (λ e built at argument_at wanted. aggregated-made c.args.here.now.standing.sublinks (surroundings c.args.here.now) at argument_at c.args.word (means_at (part_of c.args.here.now.catalog.now c.args.argument.now) (in_argument (surroundings c.args.here.now))) wanted c.in_ok-part.part e _ c.args.found.now c.aggregate_made.new.found makes (rw kind at built))
@@ -191,12 +191,12 @@ expressions::made-returns-in_ok-operand_made-in-Between-3 t c =
     (rw (c.get-in-Between.ensures, c.get-in-Between-2.ensures, c.get-in-Between-3.ensures) at c.in_ok-alike-in-Between.ensures)
     (rw (c.get-in-Between-4.ensures, c.new-parts-in-Between.ensures) at c.in_ok-operand_made-in-Between.ensures) (rw c.get-in-Between-5.ensures at c.in_ok-operand_made-in-Between-2.ensures) (rw c.get-in-Between-6.ensures at c.in_ok-operand_made-in-Between-3.ensures))
 
-pub expressions::made-returns-in_ok-operands_made : goal.expressions::made-returns-in_ok-operands_made
-expressions::made-returns-in_ok-operands_made t c =
+pub expressions::made-returns-in_ok-operands_made-in-InList : goal.expressions::made-returns-in_ok-operands_made-in-InList
+expressions::made-returns-in_ok-operands_made-in-InList t c =
     told c.args.here.now.standing.sublinks (means_at (part_of c.args.here.now.catalog.now c.args.tree.now) (surroundings c.args.here.now)) c.args.wanted (negated_if c.in-InList.negated (Op x.InList c.operands_made.new.parts)) c.args.found.now c.operands_made.new.found c.negated_if-in-InList.result c.negated_if-in-InList.ensures
     (in-list-form c.args.here.now.catalog.now (surroundings c.args.here.now) c.args.here.now.standing.sublinks c.args.tree.now c.in-InList.part c.in-InList.list c.in-InList.negated c.args.wanted c.in_ok-alike-in-InList.alike _ _ c.args.found.now _ _ c.in-InList.is
     (rw (c.get-in-InList.ensures, c.as_slice-in-InList.ensures) at c.in_ok-alike-in-InList.ensures)
-    (rw (c.get-in-InList-2.ensures, c.new-parts-in-InList.ensures) at c.in_ok-operand_made-in-InList.ensures) (rw c.as_slice-in-InList-2.ensures at c.in_ok-operands_made.ensures))
+    (rw (c.get-in-InList-2.ensures, c.new-parts-in-InList.ensures) at c.in_ok-operand_made-in-InList.ensures) (rw c.as_slice-in-InList-2.ensures at c.in_ok-operands_made-in-InList.ensures))
 
 pub expressions::made-returns-in_ok-part-in-IsNull : goal.expressions::made-returns-in_ok-part-in-IsNull
 expressions::made-returns-in_ok-part-in-IsNull t c =
@@ -208,21 +208,21 @@ expressions::made-returns-in_ok-part-in-IsTruth t c =
     told c.args.here.now.standing.sublinks (means_at (part_of c.args.here.now.catalog.now c.args.tree.now) (surroundings c.args.here.now)) c.args.wanted (negated_if c.in-IsTruth.negated (IsTruth c.in-IsTruth.truth c.in_ok-part-in-IsTruth.part)) c.args.found.now c.made-in-IsTruth.new.found c.truth_test.result c.truth_test.ensures
     (truth-test-form c.args.here.now.catalog.now (surroundings c.args.here.now) c.args.here.now.standing.sublinks c.args.tree.now c.in-IsTruth.part c.in-IsTruth.negated c.in-IsTruth.truth c.args.wanted c.in_ok-part-in-IsTruth.part c.args.found.now _ c.in-IsTruth.is (rw c.get-in-IsTruth.ensures at c.in_ok-part-in-IsTruth.ensures))
 
-pub expressions::made-returns-in_ok-second : goal.expressions::made-returns-in_ok-second
-expressions::made-returns-in_ok-second t c =
-    told c.args.here.now.standing.sublinks (means_at (part_of c.args.here.now.catalog.now c.args.tree.now) (surroundings c.args.here.now)) c.args.wanted (negated_if (not c.in-IsDistinct.negated) (Same c.in_ok-first-in-IsDistinct.first c.in_ok-second.second)) c.args.found.now c.boxed_made-in-IsDistinct-2.new.found c.same_test.result c.same_test.ensures
-    (distinct-form c.args.here.now.catalog.now (surroundings c.args.here.now) c.args.here.now.standing.sublinks c.args.tree.now c.in-IsDistinct.first c.in-IsDistinct.second c.in-IsDistinct.negated c.args.wanted c.in_ok-alike-in-IsDistinct.alike c.in_ok-first-in-IsDistinct.first c.in_ok-second.second c.args.found.now _ _ c.in-IsDistinct.is
-    (rw (c.get-in-IsDistinct.ensures, c.get-in-IsDistinct-2.ensures) at c.in_ok-alike-in-IsDistinct.ensures) (rw c.get-in-IsDistinct-3.ensures at c.in_ok-first-in-IsDistinct.ensures) (rw c.get-in-IsDistinct-4.ensures at c.in_ok-second.ensures))
+pub expressions::made-returns-in_ok-second-in-IsDistinct : goal.expressions::made-returns-in_ok-second-in-IsDistinct
+expressions::made-returns-in_ok-second-in-IsDistinct t c =
+    told c.args.here.now.standing.sublinks (means_at (part_of c.args.here.now.catalog.now c.args.tree.now) (surroundings c.args.here.now)) c.args.wanted (negated_if (not c.in-IsDistinct.negated) (Same c.in_ok-first-in-IsDistinct.first c.in_ok-second-in-IsDistinct.second)) c.args.found.now c.boxed_made-in-IsDistinct-2.new.found c.same_test.result c.same_test.ensures
+    (distinct-form c.args.here.now.catalog.now (surroundings c.args.here.now) c.args.here.now.standing.sublinks c.args.tree.now c.in-IsDistinct.first c.in-IsDistinct.second c.in-IsDistinct.negated c.args.wanted c.in_ok-alike-in-IsDistinct.alike c.in_ok-first-in-IsDistinct.first c.in_ok-second-in-IsDistinct.second c.args.found.now _ _ c.in-IsDistinct.is
+    (rw (c.get-in-IsDistinct.ensures, c.get-in-IsDistinct-2.ensures) at c.in_ok-alike-in-IsDistinct.ensures) (rw c.get-in-IsDistinct-3.ensures at c.in_ok-first-in-IsDistinct.ensures) (rw c.get-in-IsDistinct-4.ensures at c.in_ok-second-in-IsDistinct.ensures))
 
 pub expressions::made-returns-in_ok-operand_made-in-NullIf-2 : goal.expressions::made-returns-in_ok-operand_made-in-NullIf-2
 expressions::made-returns-in_ok-operand_made-in-NullIf-2 t c =
     nullif-form c.args.here.now.catalog.now (surroundings c.args.here.now) c.args.here.now.standing.sublinks c.args.tree.now c.in-NullIf.first c.in-NullIf.second c.args.wanted c.in_ok-alike-in-NullIf.alike _ _ c.args.found.now _ _ c.in-NullIf.is
     (rw (c.get-in-NullIf.ensures, c.get-in-NullIf-2.ensures) at c.in_ok-alike-in-NullIf.ensures) (rw (c.get-in-NullIf-3.ensures, c.new-parts-in-NullIf.ensures) at c.in_ok-operand_made-in-NullIf.ensures) (rw c.get-in-NullIf-4.ensures at c.in_ok-operand_made-in-NullIf-2.ensures)
 
-pub expressions::made-returns-in_ok-otherwise : goal.expressions::made-returns-in_ok-otherwise
-expressions::made-returns-in_ok-otherwise t c =
-    case-form c.args.here.now.catalog.now (surroundings c.args.here.now) c.args.here.now.standing.sublinks c.args.tree.now c.in-Case.arms c.args.wanted c.in_ok-alike-in-None.alike c.in_ok-arms.arms c.args.found.now _ (rw c.in-None.is at c.in-Case.is)
-    (rw c.as_slice-in-None.ensures at c.in_ok-alike-in-None.ensures) (rw c.as_slice-in-None-2.ensures at c.in_ok-arms.ensures)
+pub expressions::made-returns-in_ok-otherwise-in-None : goal.expressions::made-returns-in_ok-otherwise-in-None
+expressions::made-returns-in_ok-otherwise-in-None t c =
+    case-form c.args.here.now.catalog.now (surroundings c.args.here.now) c.args.here.now.standing.sublinks c.args.tree.now c.in-Case.arms c.args.wanted c.in_ok-alike-in-None.alike c.in_ok-arms-in-None.arms c.args.found.now _ (rw c.in-None.is at c.in-Case.is)
+    (rw c.as_slice-in-None.ensures at c.in_ok-alike-in-None.ensures) (rw c.as_slice-in-None-2.ensures at c.in_ok-arms-in-None.ensures)
 
 pub expressions::made-returns-in_ok-otherwise-in-Some : goal.expressions::made-returns-in_ok-otherwise-in-Some
 expressions::made-returns-in_ok-otherwise-in-Some t c =
@@ -241,29 +241,29 @@ expressions::made-returns-in-Some-argument t c =
     (λ e makes. aggregate-form c.args.here.now.catalog.now (surroundings c.args.here.now) c.args.here.now.standing.sublinks c.args.tree.now c.in-Some-argument.argument c.in-Aggregate.function c.args.wanted e c.args.found.now c.aggregated.new.found (rw c.in-Some-argument.is at c.in-Aggregate.is) (λ at argument_at. makes at argument_at c.args.wanted))
     (rw c.get-in-Some-argument.ensures at c.aggregated.ensures)
 
-pub expressions::made-returns-then-not-sublinks : goal.expressions::made-returns-then-not-sublinks
-expressions::made-returns-then-not-sublinks t c =
-    rw c.null_at-in-InQuery.ensures (in-query-form c.args.here.now.catalog.now (surroundings c.args.here.now) c.args.here.now.standing.sublinks c.args.tree.now c.in-InQuery.part c.in-InQuery.query c.in-InQuery.negated c.args.wanted _ c.args.found.now c.args.found.now c.in-InQuery.is
-    (untested-made (surroundings c.args.here.now) c.args.tree.now.at (in_kind c.in-InQuery.negated (cond c.in-InQuery.negated NotEqual Equal)) (part_of c.args.here.now.catalog.now c.in-InQuery.part) (query_of c.args.here.now.catalog.now c.in-InQuery.query) c.args.wanted _ c.args.found.now c.if-not-sublinks.true))
+pub expressions::made-returns-then-not-here : goal.expressions::made-returns-then-not-here
+expressions::made-returns-then-not-here t c =
+    rw c.null_at-then-not-here.ensures (in-query-form c.args.here.now.catalog.now (surroundings c.args.here.now) c.args.here.now.standing.sublinks c.args.tree.now c.in-InQuery.part c.in-InQuery.query c.in-InQuery.negated c.args.wanted _ c.args.found.now c.args.found.now c.in-InQuery.is
+    (untested-made (surroundings c.args.here.now) c.args.tree.now.at (in_kind c.in-InQuery.negated (cond c.in-InQuery.negated NotEqual Equal)) (part_of c.args.here.now.catalog.now c.in-InQuery.part) (query_of c.args.here.now.catalog.now c.in-InQuery.query) c.args.wanted _ c.args.found.now c.if-not-here.true))
 
-pub expressions::made-returns-in_ok-tested : goal.expressions::made-returns-in_ok-tested
-expressions::made-returns-in_ok-tested t c =
-    of-ok (λ e. Links (in_kind c.in-InQuery.negated (cond c.in-InQuery.negated NotEqual Equal)) (Some c.in_ok-tested.tested) (query_means_at (query_of c.args.here.now.catalog.now c.in-InQuery.query) (around_of (surroundings c.args.here.now))) (c.in_ok-kind.kind ∷ []) e _ c.linked.new.found) (λ e. Makes c.args.here.now.standing.sublinks (means_at (part_of c.args.here.now.catalog.now c.args.tree.now) (surroundings c.args.here.now)) c.args.wanted e c.args.found.now c.linked.new.found) c.linked.result
+pub expressions::made-returns-in_ok-tested-in-InQuery : goal.expressions::made-returns-in_ok-tested-in-InQuery
+expressions::made-returns-in_ok-tested-in-InQuery t c =
+    of-ok (λ e. Links (in_kind c.in-InQuery.negated (cond c.in-InQuery.negated NotEqual Equal)) (Some c.in_ok-tested-in-InQuery.tested) (query_means_at (query_of c.args.here.now.catalog.now c.in-InQuery.query) (around_of (surroundings c.args.here.now))) (c.in_ok-kind-in-InQuery.kind ∷ []) e _ c.linked.new.found) (λ e. Makes c.args.here.now.standing.sublinks (means_at (part_of c.args.here.now.catalog.now c.args.tree.now) (surroundings c.args.here.now)) c.args.wanted e c.args.found.now c.linked.new.found) c.linked.result
     (λ e links. in-query-form c.args.here.now.catalog.now (surroundings c.args.here.now) c.args.here.now.standing.sublinks c.args.tree.now c.in-InQuery.part c.in-InQuery.query c.in-InQuery.negated c.args.wanted e c.args.found.now c.linked.new.found c.in-InQuery.is
-    (tested-made (surroundings c.args.here.now) c.args.tree.now.at (in_kind c.in-InQuery.negated (cond c.in-InQuery.negated NotEqual Equal)) (part_of c.args.here.now.catalog.now c.in-InQuery.part) (query_of c.args.here.now.catalog.now c.in-InQuery.query) c.in_ok-kind.kind c.args.wanted e c.in_ok-tested.tested c.args.found.now _ c.linked.new.found c.if-not-sublinks.false
-    (rw (c.get-in-InQuery.ensures, c.get-in-InQuery-2.ensures) at c.in_ok-kind.ensures) (rw c.get-in-InQuery-3.ensures at c.in_ok-tested.ensures) links))
+    (tested-made (surroundings c.args.here.now) c.args.tree.now.at (in_kind c.in-InQuery.negated (cond c.in-InQuery.negated NotEqual Equal)) (part_of c.args.here.now.catalog.now c.in-InQuery.part) (query_of c.args.here.now.catalog.now c.in-InQuery.query) c.in_ok-kind-in-InQuery.kind c.args.wanted e c.in_ok-tested-in-InQuery.tested c.args.found.now _ c.linked.new.found c.if-not-here.false
+    (rw (c.get-in-InQuery.ensures, c.get-in-InQuery-2.ensures) at c.in_ok-kind-in-InQuery.ensures) (rw c.get-in-InQuery-3.ensures at c.in_ok-tested-in-InQuery.ensures) links))
     (rw (c.in_list_kind-sub.ensures, c.get-in-InQuery-4.ensures) at c.linked.ensures)
 
-pub expressions::made-returns-then-not-sublinks-in-Quantified : goal.expressions::made-returns-then-not-sublinks-in-Quantified
-expressions::made-returns-then-not-sublinks-in-Quantified t c =
-    rw c.null_at-in-Quantified.ensures (quantified-form c.args.here.now.catalog.now (surroundings c.args.here.now) c.args.here.now.standing.sublinks c.args.tree.now c.in-Quantified.part c.in-Quantified.query c.in-Quantified.every c.in-Quantified.op c.args.wanted _ c.args.found.now c.args.found.now c.in-Quantified.is
-    (untested-made (surroundings c.args.here.now) c.args.tree.now.at (in_kind c.in-Quantified.every c.in-Quantified.op) (part_of c.args.here.now.catalog.now c.in-Quantified.part) (query_of c.args.here.now.catalog.now c.in-Quantified.query) c.args.wanted _ c.args.found.now c.if-not-sublinks-in-Quantified.true))
+pub expressions::made-returns-then-not-here-2 : goal.expressions::made-returns-then-not-here-2
+expressions::made-returns-then-not-here-2 t c =
+    rw c.null_at-then-not-here-2.ensures (quantified-form c.args.here.now.catalog.now (surroundings c.args.here.now) c.args.here.now.standing.sublinks c.args.tree.now c.in-Quantified.part c.in-Quantified.query c.in-Quantified.every c.in-Quantified.op c.args.wanted _ c.args.found.now c.args.found.now c.in-Quantified.is
+    (untested-made (surroundings c.args.here.now) c.args.tree.now.at (in_kind c.in-Quantified.every c.in-Quantified.op) (part_of c.args.here.now.catalog.now c.in-Quantified.part) (query_of c.args.here.now.catalog.now c.in-Quantified.query) c.args.wanted _ c.args.found.now c.if-not-here-2.true))
 
 pub expressions::made-returns-in_ok-tested-in-Quantified : goal.expressions::made-returns-in_ok-tested-in-Quantified
 expressions::made-returns-in_ok-tested-in-Quantified t c =
     of-ok (λ e. Links (in_kind c.in-Quantified.every c.in-Quantified.op) (Some c.in_ok-tested-in-Quantified.tested) (query_means_at (query_of c.args.here.now.catalog.now c.in-Quantified.query) (around_of (surroundings c.args.here.now))) (c.in_ok-kind-in-Quantified.kind ∷ []) e _ c.linked-in-Quantified.new.found) (λ e. Makes c.args.here.now.standing.sublinks (means_at (part_of c.args.here.now.catalog.now c.args.tree.now) (surroundings c.args.here.now)) c.args.wanted e c.args.found.now c.linked-in-Quantified.new.found) c.linked-in-Quantified.result
     (λ e links. quantified-form c.args.here.now.catalog.now (surroundings c.args.here.now) c.args.here.now.standing.sublinks c.args.tree.now c.in-Quantified.part c.in-Quantified.query c.in-Quantified.every c.in-Quantified.op c.args.wanted e c.args.found.now c.linked-in-Quantified.new.found c.in-Quantified.is
-    (tested-made (surroundings c.args.here.now) c.args.tree.now.at (in_kind c.in-Quantified.every c.in-Quantified.op) (part_of c.args.here.now.catalog.now c.in-Quantified.part) (query_of c.args.here.now.catalog.now c.in-Quantified.query) c.in_ok-kind-in-Quantified.kind c.args.wanted e c.in_ok-tested-in-Quantified.tested c.args.found.now _ c.linked-in-Quantified.new.found c.if-not-sublinks-in-Quantified.false
+    (tested-made (surroundings c.args.here.now) c.args.tree.now.at (in_kind c.in-Quantified.every c.in-Quantified.op) (part_of c.args.here.now.catalog.now c.in-Quantified.part) (query_of c.args.here.now.catalog.now c.in-Quantified.query) c.in_ok-kind-in-Quantified.kind c.args.wanted e c.in_ok-tested-in-Quantified.tested c.args.found.now _ c.linked-in-Quantified.new.found c.if-not-here-2.false
     (rw (c.get-in-Quantified.ensures, c.get-in-Quantified-2.ensures) at c.in_ok-kind-in-Quantified.ensures) (rw c.get-in-Quantified-3.ensures at c.in_ok-tested-in-Quantified.ensures) links))
     (rw (c.in_kind-sub.ensures, c.get-in-Quantified-4.ensures) at c.linked-in-Quantified.ensures)
 
@@ -283,20 +283,20 @@ queries::set_made-returns-in-Paren t c =
     of-ok (MakesQuery (query_means_at (query_of c.args.around.now.catalog.now c.in-Paren.query) (unprovable (standing_of c.args.around.now))) c.args.wanted.now) (MakesQuery ((set_of_tree c.args.around.now.catalog.now c.args.tree.now).means (standing_of c.args.around.now)) c.args.wanted.now) c.query_made.result
     (λ q makes. paren-is c.args.around.now.catalog.now (standing_of c.args.around.now) c.args.tree.now c.in-Paren.query c.args.wanted.now q c.in-Paren.is makes) (rw c.get-in-Paren.ensures at c.query_made.ensures)
 
-pub queries::set_made-returns-in_ok-whole : goal.queries::set_made-returns-in_ok-whole
-queries::set_made-returns-in_ok-whole t c =
+pub queries::set_made-returns-in_ok-whole-in-Chain : goal.queries::set_made-returns-in_ok-whole-in-Chain
+queries::set_made-returns-in_ok-whole-in-Chain t c =
     of-ok _ (MakesQuery ((set_of_tree c.args.around.now.catalog.now c.args.tree.now).means (standing_of c.args.around.now)) c.args.wanted.now) c.chained.result
-    (λ q makes. chain-made c.args.around.now.catalog.now (standing_of c.args.around.now) c.args.tree.now c.in-Chain.first c.in-Chain.steps c.args.wanted.now c.in_ok-kinds.kinds q c.in-Chain.is c.if-is_empty.false c.in_ok-kinds.ensures
-    (λ serves. makes ((set_of_tree c.args.around.now.catalog.now c.in-Chain.first).means (standing_of c.args.around.now)) (rw c.get-in-Chain.ensures at c.in_ok-whole.ensures) serves)) (rw c.as_slice.ensures at c.chained.ensures)
+    (λ q makes. chain-made c.args.around.now.catalog.now (standing_of c.args.around.now) c.args.tree.now c.in-Chain.first c.in-Chain.steps c.args.wanted.now c.in_ok-kinds-in-Chain.kinds q c.in-Chain.is c.if-is_empty.false c.in_ok-kinds-in-Chain.ensures
+    (λ serves. makes ((set_of_tree c.args.around.now.catalog.now c.in-Chain.first).means (standing_of c.args.around.now)) (rw c.get-before.ensures at c.in_ok-whole-in-Chain.ensures) serves)) (rw c.as_slice.ensures at c.chained.ensures)
 
 pub cores::core_made-returns-in-None : goal.cores::core_made-returns-in-None
 cores::core_made-returns-in-None t c =
-    core-none c.args.around.now.catalog.now (standing_of c.args.around.now) c.args.core.now c.core_trace.result c.args.wanted.now _ (c.core_trace.ensures (standing_of c.args.around.now) refl refl) (rw c.as_slice.ensures at c.in_ok-scope_or_none.ensures)
+    core-none c.args.around.now.catalog.now (standing_of c.args.around.now) c.args.core.now c.core_trace.result c.args.wanted.now _ (c.core_trace.ensures (standing_of c.args.around.now) refl refl) (rw (c.as_slice.ensures, c.in-None.is) at c.in_ok-scope_or_none.ensures)
 
 pub cores::core_made-returns-in-Some : goal.cores::core_made-returns-in-Some
 cores::core_made-returns-in-Some t c =
     of-ok _ (MakesQuery ((core_of c.args.around.now.catalog.now c.args.core.now).means (standing_of c.args.around.now)) c.args.wanted.now) c.over_items.result
-    (λ q makes. core-some c.args.around.now.catalog.now (standing_of c.args.around.now) c.args.core.now c.core_trace.result c.in-Some.own c.args.wanted.now q (c.core_trace.ensures (standing_of c.args.around.now) refl refl) (rw c.as_slice.ensures at c.in-Some.ensures) (makes (rw c.as_slice.ensures at c.in-Some.ensures))) c.over_items.ensures
+    (λ q makes. core-some c.args.around.now.catalog.now (standing_of c.args.around.now) c.args.core.now c.core_trace.result c.in-Some.own c.args.wanted.now q (c.core_trace.ensures (standing_of c.args.around.now) refl refl) (rw (c.as_slice.ensures, c.in-Some.is) at c.in_ok-scope_or_none.ensures) (makes (rw (c.as_slice.ensures, c.in-Some.is) at c.in_ok-scope_or_none.ensures))) c.over_items.ensures
 
 pub queries::chained-loop-step-preserved : goal.queries::chained-loop-step-preserved
 queries::chained-loop-step-preserved t c = λ meant of_first serves.
@@ -328,7 +328,7 @@ cores::clauses_made-returns t c =
     record {
       kept = λ whole. (c.in_ok-kept.ensures whole).condition;
       groups = c.in_ok-groups.ensures;
-      selected = c.in_ok-selected_made.ensures;
+      selected = c.in_ok-having.ensures;
       distinct = refl;
     }
 
@@ -386,14 +386,14 @@ cores::item_listed-returns-in-TableStar t c =
     (table-star-is here.catalog.now c.args.item.now c.in-TableStar.table has_from c.args.scope.now (surroundings here) c.in-TableStar.is) (makes here.standing.sublinks _ c.args.found.now))
     c.add_table_star.ensures
 
-pub cores::item_listed-returns-in_ok-push : goal.cores::item_listed-returns-in_ok-push
-cores::item_listed-returns-in_ok-push t c = λ has_from.
+pub cores::item_listed-returns-in_ok-push-in-Value : goal.cores::item_listed-returns-in_ok-push-in-Value
+cores::item_listed-returns-in_ok-push-in-Value t c = λ has_from.
     let here = c.args.here.now in
     let m = means_at (part_of here.catalog.now c.in-Value.expr) (surroundings here) in
-    rw c.in_ok-push.ensures.ok
+    rw c.in_ok-push-in-Value.ensures.ok
     (item-so here.catalog.now c.args.item.now here.standing.sublinks has_from c.args.scope.now (surroundings here) _ _ c.args.items.now _ c.args.found.now c.made.new.found
     (value-is here.catalog.now c.args.item.now c.in-Value.expr c.in-Value.name has_from c.args.scope.now (surroundings here) c.in-Value.is)
-    (value-listed here.standing.sublinks _ m _ c.in_ok-kind.kind c.in_ok-expr.expr c.args.items.now c.args.found.now c.made.new.found (rw c.len.ensures at c.in_ok-kind.ensures) c.in_ok-expr.ensures))
+    (value-listed here.standing.sublinks _ m _ c.in_ok-kind-in-Value.kind c.in_ok-expr-in-Value.expr c.args.items.now c.args.found.now c.made.new.found (rw c.len.ensures at c.in_ok-kind-in-Value.ensures) c.in_ok-expr-in-Value.ensures))
 
 pub sources::sources_made-loop-source-init : goal.sources::sources_made-loop-source-init
 sources::sources_made-loop-source-init t c = no-sources (scopes_of c.args.around.now.outer.now) c.args.around.now.trace c.args.scope.now
@@ -405,7 +405,7 @@ sources::sources_made-loop-source-preserved t c =
     let part = from_of around.catalog.now in
     let tree = c.source-item.result in
     rw c.in_ok-first.ensures
-    (subst (λ (parts : List FromPart). SourcesMade outer around.trace parts c.args.scope.now (Some c.in_ok-beside_from.value) _)
+    (subst (λ (parts : List FromPart). SourcesMade outer around.trace parts c.args.scope.now (Some c.in_ok-beside_from.field-0) _)
     (sym (mapped part c.args.sources.now c.loop-source.source-index tree c.loop-source-test.true c.source-item.is))
     (source-more outer around.trace (map part (take c.loop-source.source-index c.args.sources.now)) (part tree) c.args.scope.now c.loop-source.whole c.in_ok-next.next _ c.loop-source.first _
     c.loop-source.invariant c.in_ok-next.ensures (from-count around.catalog.now tree outer around.trace) c.in_ok-beside_from.ensures))
@@ -439,10 +439,10 @@ sources::on_items-returns t c =
     (same.makes whole).expr)
     c.made.ensures
 
-pub sources::on_made-returns-in_ok-own : goal.sources::on_made-returns-in_ok-own
-sources::on_made-returns-in_ok-own t c =
+pub sources::on_made-returns-in_ok-own-in-Some : goal.sources::on_made-returns-in_ok-own-in-Some
+sources::on_made-returns-in_ok-own-in-Some t c =
     of-ok _ _ c.on_items.result
-    (λ e makes items stands counted whole. rw c.in-Some.is (makes items (c.in_ok-own.ensures items stands counted) (rw c.in-Some.is at whole)))
+    (λ e makes items stands counted whole. rw c.in-Some.is (makes items (c.in_ok-own-in-Some.ensures items stands counted) (rw c.in-Some.is at whole)))
     c.on_items.ensures
 
 pub sources::item_made-returns-in-Named : goal.sources::item_made-returns-in-Named
@@ -451,12 +451,12 @@ sources::item_made-returns-in-Named t c =
     of-ok _ _ c.named_item.result
     (λ made is. item-named around.catalog.now (scopes_of around.outer.now) around.trace c.args.item.now c.in-Named.name made c.in-Named.is is) c.named_item.ensures
 
-pub sources::item_made-returns-in_ok-query : goal.sources::item_made-returns-in_ok-query
-sources::item_made-returns-in_ok-query t c =
+pub sources::item_made-returns-in_ok-query-in-Inner : goal.sources::item_made-returns-in_ok-query-in-Inner
+sources::item_made-returns-in_ok-query-in-Inner t c =
     let around = c.args.around.now in
     let m = query_means_at (query_of around.catalog.now c.in-Inner.query) (record { outer = scopes_of around.outer.now; trace = trace_under c.args.item.now.mark around.trace; provable = true }) in
-    let shown = rw (c.get.ensures, c.trace_under.ensures) at c.in_ok-shown.ensures in
-    let of_query = rw (c.get-2.ensures, c.trace_under.ensures) at c.in_ok-query.ensures in
+    let shown = rw (c.get-tree.ensures, c.trace_under.ensures) at c.in_ok-shown-in-Inner.ensures in
+    let of_query = rw (c.get-tree.ensures, c.trace_under.ensures) at c.in_ok-query-in-Inner.ensures in
     of-ok _ _ c.marked_query.result
     (λ made is. item-inner around.catalog.now (scopes_of around.outer.now) around.trace c.args.item.now c.in-Inner.query made c.in-Inner.is (λ whole. is m whole shown (of_query.makes whole))) c.marked_query.ensures
 
@@ -480,3 +480,13 @@ sources::source_made-returns t c = λ earlier whole stands.
     (ap (λ (steps : List JoinStep). join_all outer around.trace (first_item earlier first) (map (join_of around.catalog.now) steps)) (take_all c.loop-place.place (out-FromTree tree).joins all)
     ∙ sym (from-fields around.catalog.now tree outer around.trace earlier)) (c.loop-place.invariant earlier) in
     made.makes whole stands
+
+pub cores::condition_made-returns-in-Some : goal.cores::condition_made-returns-in-Some
+cores::condition_made-returns-in-Some t c = rw c.in-Some.is c.kept_made.ensures
+
+pub queries::set_made-returns-then-is_empty : goal.queries::set_made-returns-then-is_empty
+queries::set_made-returns-then-is_empty t c =
+    let held = c.args.around.now.catalog.now in
+    let around = standing_of c.args.around.now in
+    of-ok (MakesQuery ((set_of_tree held c.in-Chain.first).means around) c.args.wanted.now) (MakesQuery ((set_of_tree held c.args.tree.now).means around) c.args.wanted.now) c.set_made.result
+    (λ q makes. chain-of-one held around c.args.tree.now c.in-Chain.first c.in-Chain.steps c.args.wanted.now q c.in-Chain.is c.if-is_empty.true makes) (rw c.get-before.ensures at c.set_made.ensures)
