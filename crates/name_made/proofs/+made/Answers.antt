@@ -46,7 +46,7 @@ use Rattle.name_nodes.specs.Cored.{clauses_over}
 use Rattle.name_nodes.proofs.ItemLists.{value-listed}
 use Rattle.name_seen.specs.Named.{here_only}
 use Rattle.made_parts.specs.Cored.{MakesList, having_part, items_meant, select_parts, sources_meant}
-use Rattle.made_parts.specs.Sources.{JoinsMade, SourcesMade}
+use Rattle.made_parts.specs.Sources.{JoinsMade, SourcesMade, join_count}
 use Rattle.made_parts.proofs.Coring.{clauses-made, item-so, none-kept, some-kept, star-is, table-star-is, value-is}
 use Rattle.made_parts.proofs.Sourcing.{first-made, from-fields, item-inner, item-named, no-sources, source-more, sources-made}
 use Rattle.name_made.proofs.Chaining.{chain-step}
@@ -221,8 +221,9 @@ expressions::made-returns-in_ok-operand_made-in-NullIf-2 t c =
 
 pub expressions::made-returns-in_ok-otherwise-in-None : goal.expressions::made-returns-in_ok-otherwise-in-None
 expressions::made-returns-in_ok-otherwise-in-None t c =
-    case-form c.args.here.now.catalog.now (surroundings c.args.here.now) c.args.here.now.standing.sublinks c.args.tree.now c.in-Case.arms c.args.wanted c.in_ok-alike-in-None.alike c.in_ok-arms-in-None.arms c.args.found.now _ (rw c.in-None.is at c.in-Case.is)
-    (rw c.as_slice-in-None.ensures at c.in_ok-alike-in-None.ensures) (rw c.as_slice-in-None-2.ensures at c.in_ok-arms-in-None.ensures)
+    rw (c.in_ok-otherwise-in-None.ensures, c.null_at-in-None.ensures)
+    (case-form c.args.here.now.catalog.now (surroundings c.args.here.now) c.args.here.now.standing.sublinks c.args.tree.now c.in-Case.arms c.args.wanted c.in_ok-alike-in-None.alike c.in_ok-arms-in-None.arms c.args.found.now _ (rw c.in-None.is at c.in-Case.is)
+    (rw c.as_slice-in-None.ensures at c.in_ok-alike-in-None.ensures) (rw c.as_slice-in-None-2.ensures at c.in_ok-arms-in-None.ensures))
 
 pub expressions::made-returns-in_ok-otherwise-in-Some : goal.expressions::made-returns-in_ok-otherwise-in-Some
 expressions::made-returns-in_ok-otherwise-in-Some t c =
@@ -286,7 +287,7 @@ queries::set_made-returns-in-Paren t c =
 pub queries::set_made-returns-in_ok-whole-in-Chain : goal.queries::set_made-returns-in_ok-whole-in-Chain
 queries::set_made-returns-in_ok-whole-in-Chain t c =
     of-ok _ (MakesQuery ((set_of_tree c.args.around.now.catalog.now c.args.tree.now).means (standing_of c.args.around.now)) c.args.wanted.now) c.chained.result
-    (λ q makes. chain-made c.args.around.now.catalog.now (standing_of c.args.around.now) c.args.tree.now c.in-Chain.first c.in-Chain.steps c.args.wanted.now c.in_ok-kinds-in-Chain.kinds q c.in-Chain.is c.if-is_empty.false c.in_ok-kinds-in-Chain.ensures
+    (λ q makes. chain-made c.args.around.now.catalog.now (standing_of c.args.around.now) c.args.tree.now c.in-Chain.first c.in-Chain.steps c.args.wanted.now c.in_ok-kinds-in-Chain.kinds q c.in-Chain.is (λ none. let never : false ≡ true = sym c.if-is_empty.false ∙ c.is_empty.ensures.1 none in absurd (cc)) c.in_ok-kinds-in-Chain.ensures
     (λ serves. makes ((set_of_tree c.args.around.now.catalog.now c.in-Chain.first).means (standing_of c.args.around.now)) (rw c.get-before.ensures at c.in_ok-whole-in-Chain.ensures) serves)) (rw c.as_slice.ensures at c.chained.ensures)
 
 pub cores::core_made-returns-in-None : goal.cores::core_made-returns-in-None
@@ -393,7 +394,7 @@ cores::item_listed-returns-in_ok-push-in-Value t c = λ has_from.
     rw c.in_ok-push-in-Value.ensures.ok
     (item-so here.catalog.now c.args.item.now here.standing.sublinks has_from c.args.scope.now (surroundings here) _ _ c.args.items.now _ c.args.found.now c.made.new.found
     (value-is here.catalog.now c.args.item.now c.in-Value.expr c.in-Value.name has_from c.args.scope.now (surroundings here) c.in-Value.is)
-    (value-listed here.standing.sublinks _ m _ c.in_ok-kind-in-Value.kind c.in_ok-expr-in-Value.expr c.args.items.now c.args.found.now c.made.new.found (rw c.len.ensures at c.in_ok-kind-in-Value.ensures) c.in_ok-expr-in-Value.ensures))
+    (value-listed here.standing.sublinks _ m _ c.in_ok-kind-in-Value.kind c.in_ok-expr-in-Value.expr c.args.items.now c.args.found.now c.made.new.found (rw c.len.ensures.value at c.in_ok-kind-in-Value.ensures) c.in_ok-expr-in-Value.ensures))
 
 pub sources::sources_made-loop-source-init : goal.sources::sources_made-loop-source-init
 sources::sources_made-loop-source-init t c = no-sources (scopes_of c.args.around.now.outer.now) c.args.around.now.trace c.args.scope.now
@@ -407,7 +408,7 @@ sources::sources_made-loop-source-preserved t c =
     rw c.in_ok-first.ensures
     (subst (λ (parts : List FromPart). SourcesMade outer around.trace parts c.args.scope.now (Some c.in_ok-beside_from.field-0) _)
     (sym (mapped part c.args.sources.now c.loop-source.source-index tree c.loop-source-test.true c.source-item.is))
-    (source-more outer around.trace (map part (take c.loop-source.source-index c.args.sources.now)) (part tree) c.args.scope.now c.loop-source.whole c.in_ok-next.next _ c.loop-source.first _
+    (source-more outer around.trace (map part (take c.loop-source.source-index c.args.sources.now)) (part tree) c.args.scope.now c.loop-source.whole c.in_ok-next.next c.in_ok-beside_from.field-0 c.loop-source.first (join_count tree)
     c.loop-source.invariant c.in_ok-next.ensures (from-count around.catalog.now tree outer around.trace) c.in_ok-beside_from.ensures))
 
 pub sources::sources_made-returns : goal.sources::sources_made-returns
@@ -440,6 +441,7 @@ sources::on_items-returns t c =
     c.made.ensures
 
 pub sources::on_made-returns-in_ok-own-in-Some : goal.sources::on_made-returns-in_ok-own-in-Some
+unfolding means_at
 sources::on_made-returns-in_ok-own-in-Some t c =
     of-ok _ _ c.on_items.result
     (λ e makes items stands counted whole. rw c.in-Some.is (makes items (c.in_ok-own-in-Some.ensures items stands counted) (rw c.in-Some.is at whole)))
@@ -482,6 +484,7 @@ sources::source_made-returns t c = λ earlier whole stands.
     made.makes whole stands
 
 pub cores::condition_made-returns-in-Some : goal.cores::condition_made-returns-in-Some
+unfolding means_at
 cores::condition_made-returns-in-Some t c = rw c.in-Some.is c.kept_made.ensures
 
 pub queries::set_made-returns-then-is_empty : goal.queries::set_made-returns-then-is_empty
@@ -489,4 +492,4 @@ queries::set_made-returns-then-is_empty t c =
     let held = c.args.around.now.catalog.now in
     let around = standing_of c.args.around.now in
     of-ok (MakesQuery ((set_of_tree held c.in-Chain.first).means around) c.args.wanted.now) (MakesQuery ((set_of_tree held c.args.tree.now).means around) c.args.wanted.now) c.set_made.result
-    (λ q makes. chain-of-one held around c.args.tree.now c.in-Chain.first c.in-Chain.steps c.args.wanted.now q c.in-Chain.is c.if-is_empty.true makes) (rw c.get-before.ensures at c.set_made.ensures)
+    (λ q makes. chain-of-one held around c.args.tree.now c.in-Chain.first c.in-Chain.steps c.args.wanted.now q c.in-Chain.is (c.is_empty.ensures.0 c.if-is_empty.true) makes) (rw c.get-before.ensures at c.set_made.ensures)
