@@ -1,8 +1,8 @@
 use Rattle.std.proofs.Common.{subst}
 use Rattle.bag_algebra.specs.TableRows.{rows_in}
-use Rattle.step_tests.specs.Traced.{IsTraced}
-use Rattle.step_tests.proofs.Traces.{proving}
-use Rattle.step_tests.proofs.ready.is_traced.Goals as goal
+use Rattle.crate_tests.specs.Traced.{IsTraced}
+use Rattle.crate_tests.proofs.Traces.{proving}
+use Rattle.crate_tests.proofs.ready.is_traced.Goals as goal
 
 pub returns-in-Prov : goal.returns-in-Prov
 returns-in-Prov c h =

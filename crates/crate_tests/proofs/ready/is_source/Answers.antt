@@ -1,8 +1,8 @@
 use Rattle.std.proofs.Common.{sym, ◌∙◌, subst}
 use Rattle.bag_algebra.specs.TableRows.{rows_in}
-use Rattle.step_tests.specs.Traced.{IsNumbers}
-use Rattle.step_tests.proofs.Traces.{source}
-use Rattle.step_tests.proofs.ready.is_source.Goals as goal
+use Rattle.crate_tests.specs.Traced.{IsNumbers}
+use Rattle.crate_tests.proofs.Traces.{source}
+use Rattle.crate_tests.proofs.ready.is_source.Goals as goal
 
 pub returns-then-takes_first : goal.returns-then-takes_first
 returns-then-takes_first c h =

@@ -13,7 +13,7 @@ use Rattle.bag_algebra.specs.WellFormed.{PlacesIn, label_width}
 use Rattle.bag_algebra.specs.declared.query.Label.{Label}
 use Rattle.bag_algebra.specs.declared.query.Query.{Query}
 use Rattle.bag_algebra.specs.declared.query.Query.TheVariants.{Table, Base, Prov}
-use Rattle.step_tests.specs.Traced.{IsNumbers, IsTraced}
+use Rattle.crate_tests.specs.Traced.{IsNumbers, IsTraced}
 
 second_false : (a b : Bool) → b ≡ false → (a && b) ≡ false
 second_false true b e = e

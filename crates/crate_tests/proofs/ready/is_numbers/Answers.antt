@@ -1,7 +1,7 @@
 use Rattle.std.proofs.Common.{sym, ◌∙◌}
 use Rattle.bag_algebra.specs.TableRows.{rows_in}
-use Rattle.step_tests.proofs.Traces.{numbers}
-use Rattle.step_tests.proofs.ready.is_numbers.Goals as goal
+use Rattle.crate_tests.proofs.Traces.{numbers}
+use Rattle.crate_tests.proofs.ready.is_numbers.Goals as goal
 
 pub returns-then-are_numbers : goal.returns-then-are_numbers
 returns-then-are_numbers c h =

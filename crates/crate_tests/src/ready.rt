@@ -6,7 +6,7 @@ ghost use Rattle.bag_algebra.specs.TableRows.{rows_in};
 ghost use Rattle.bag_algebra.specs.WellFormed.{label_width};
 ghost use Rattle.perm_catalog.specs.Changes.{is_free};
 ghost use Rattle.statement_words.specs.Ready.{CanRun, IsReady};
-ghost use Rattle.step_tests.specs.Traced.{IsNumbers, IsTraced};
+ghost use Rattle.crate_tests.specs.Traced.{IsNumbers, IsTraced};
 
 use bag_algebra::{Answer, Label, Query, Tables};
 use name_words::Resolved;
