@@ -15,6 +15,11 @@ use Rattle.name_nodes.proofs.Chains.{chain-append, joined-made, serves-so-far}
 use Rattle.made_parts.proofs.Listing.{mapped}
 use Rattle.made_parts.proofs.Querying.{step-is}
 
+-- a chain made on what stands before it, where these kinds serve the whole
+abbrev pub ChainMade : Contents → Around → List SetStep → List Kind → Query → Query → Type 0
+ChainMade c around steps kinds first made = (meant : QueryMeant) → MakesQuery meant kinds first
+    → Serves (set_chain around meant (map (set_step_of c) steps)) kinds → made ≡ (set_chain around meant (map (set_step_of c) steps)).make kinds
+
 pub chain-step : (c : Contents) (around : Around) (meant : QueryMeant) (kinds : List Kind) (steps : List SetStep) (i : ℕ) (step : SetStep) (before operand after : Query)
     → i < length steps → step ≡ get_or steps i step
     → Serves (set_chain around meant (map (set_step_of c) steps)) kinds

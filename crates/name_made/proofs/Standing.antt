@@ -1,5 +1,5 @@
 -- What stands around the clauses of a core and the items of its FROM, made one after the other.
-use Rattle.std.specs.Prelude.{◌≡◌, ℕ, suc, ◌+◌, ◌<◌, List, [], ◌∷◌, ◌++◌, length, map, take, drop, Bool, Option, Some, None, option_map, Result, Ok, Err, OnOk}
+use Rattle.std.specs.Prelude.{◌≡◌, ℕ, suc, ◌+◌, ◌<◌, List, [], ◌∷◌, length, map, take, drop, Bool, Option, Some, None, option_map, Result, Ok, Err, OnOk}
 use Rattle.std.proofs.Common.{refl, ap, sym, subst, ◌∙◌, arith, get_or}
 use Rattle.std.proofs.lemmas.List.{append-nil, length-map, map-append}
 use Rattle.bag_algebra.specs.declared.expr.Expr.{Expr}
@@ -10,7 +10,7 @@ use Rattle.perm_values.specs.declared.kind.Kind.{Kind}
 use Rattle.sql_tree.specs.declared.query.SelectItem.{SelectItem}
 use Rattle.sql_tree.specs.declared.source.FromTree.{FromTree, out-FromTree}
 use Rattle.sql_tree.specs.declared.source.JoinStep.{JoinStep, out-JoinStep}
-use Rattle.name_words.specs.Froms.{FromMeant, FromPart, ItemMeant, JoinPart, both_known, first_item, join_all, join_item, join_kind, scope_items}
+use Rattle.name_words.specs.Froms.{FromMeant, ItemMeant, JoinPart, first_item, join_all, join_item, join_kind, scope_items}
 use Rattle.name_words.specs.Items.{SelectMeant, SelectPart}
 use Rattle.name_words.specs.Meanings.{Surroundings}
 use Rattle.name_words.specs.Scopes.{ScopeItem, scope_of}
@@ -21,7 +21,7 @@ use Rattle.bag_algebra.specs.declared.query.Query.TheVariants.{Join}
 use Rattle.name_nodes.specs.Listed.{MakesItems}
 use Rattle.name_nodes.specs.declared.within.Within.{Within}
 use Rattle.made_parts.specs.Cored.{items_meant}
-use Rattle.made_parts.specs.Sources.{IsScope, JoinsMade, MakesFrom, MakesJoin, MakesOn, MakesSource, StandsIn, join_count}
+use Rattle.made_parts.specs.Sources.{IsScope, JoinsMade, MakesJoin, MakesOn, MakesSource, StandsIn, join_count}
 use Rattle.made_parts.proofs.Coring.{next-listed}
 use Rattle.made_parts.proofs.Listing.{mapped}
 use Rattle.made_parts.proofs.Sourcing.{both-count, from-fields, join-fields, join-made, join-more, joins-append}

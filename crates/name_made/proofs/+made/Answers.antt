@@ -1,4 +1,4 @@
-use Rattle.std.specs.Prelude.{◌≡◌, ℕ, Bool, true, false, cond, not, List, [], ◌∷◌, ◌++◌, map, Some, None}
+use Rattle.std.specs.Prelude.{◌≡◌, ℕ, suc, ◌+◌, Bool, true, false, cond, not, List, [], ◌∷◌, ◌++◌, map, Some, None, IfOk}
 use Rattle.std.proofs.Common.{refl, ap, sym, subst, ◌∙◌, take}
 use Rattle.std.proofs.lemmas.List.{take_all, map-append}
 use Rattle.null_logic.specs.declared.compare.Compare.TheVariants.{Equal, NotEqual}
@@ -10,12 +10,11 @@ use Rattle.perm_values.specs.declared.kind.Kind.{Kind}
 use Rattle.name_words.specs.Expressions.{StepPart, ArmPart, in_kind, negated_if, times}
 use Rattle.name_words.specs.Meanings.{Surroundings, means_at, query_means_at}
 use Rattle.name_words.specs.Operands.{Operand, gives_of, need_of, node, operand, wanted_of}
-use Rattle.name_words.specs.Scopes.{ungrouped}
 use Rattle.name_words.specs.Sublinks.{around_of, aggregate_made, aggregated, exists_meant, if_standing, in_argument, in_tested, null_at, rows_counted, scalar_meant}
-use Rattle.name_words.specs.Trees.{arm_of, part_of, query_of, step_of, core_of, set_of_tree}
+use Rattle.name_words.specs.Trees.{arm_of, part_of, query_of, step_of, core_of, set_of_tree, from_item_of, from_of, join_of}
 use Rattle.name_words.specs.declared.need.Gives.TheVariants.{Common}
 use Rattle.name_words.specs.declared.need.Need.TheVariants.{Alike}
-use Rattle.name_seen.specs.Named.{scopes_of}
+use Rattle.name_seen.specs.Named.{scopes_of, here_only}
 use Rattle.name_seen.specs.Standing.{surroundings, around_of as standing_of}
 use Rattle.name_nodes.specs.Makes.{IsBuilt, Links, Makes, MakesArms, MakesMore, MakesSteps, before_of, MakesQuery}
 use Rattle.name_nodes.proofs.Arms.{next-arm-made, next-step-made, of-ok, operand-one}
@@ -25,31 +24,25 @@ use Rattle.name_nodes.proofs.Parts.{more-more}
 use Rattle.made_parts.proofs.Listing.{mapped}
 use Rattle.bag_algebra.specs.declared.query.Query.TheVariants.{Prov}
 use Rattle.name_words.specs.Queries.{limited, unprovable}
-use Rattle.made_parts.proofs.Coring.{core-none, core-some}
+use Rattle.made_parts.proofs.Coring.{core-none, core-some, clauses-made, item-so, some-kept, star-is, table-star-is, value-is}
 use Rattle.made_parts.proofs.Querying.{chain-made, chain-of-one, core-is, paren-is, query-is}
 use Rattle.null_logic.specs.declared.operator.Operator.TheVariants as x
-use Rattle.bag_algebra.specs.declared.query.SubKind.TheVariants as sub
 use Rattle.perm_values.specs.declared.kind.Kind.TheVariants as kind
 use Rattle.perm_values.specs.declared.value.Value.TheVariants as v
 use Rattle.name_words.specs.Cores.{group_scope, in_clause}
-use Rattle.name_words.specs.Froms.{first_item, in_on, join_all, trace_under}
-use Rattle.name_words.specs.Items.{SelectMeant}
-use Rattle.name_words.specs.Scopes.{scope_of}
-use Rattle.name_words.specs.Trees.{from_item_of, from_of, item_of, join_of, set_step_of}
+use Rattle.name_words.specs.Froms.{first_item, in_on, join_all, trace_under, FromMeant, FromPart}
 use Rattle.name_words.specs.declared.scope.Scope.{Scope}
 use Rattle.bag_algebra.specs.declared.query.Aggr.{Aggr}
 use Rattle.sql_tree.specs.declared.query.Core.{out-Core}
+use Rattle.sql_tree.specs.declared.query.SetStep.{SetStep}
 use Rattle.sql_tree.specs.declared.source.FromTree.{out-FromTree}
-use Rattle.sql_tree.specs.declared.source.JoinStep.{JoinStep, out-JoinStep}
-use Rattle.name_words.specs.Froms.{FromMeant, FromPart}
+use Rattle.sql_tree.specs.declared.source.JoinStep.{JoinStep}
 use Rattle.name_nodes.specs.Cored.{clauses_over}
 use Rattle.name_nodes.proofs.ItemLists.{value-listed}
-use Rattle.name_seen.specs.Named.{here_only}
-use Rattle.made_parts.specs.Cored.{MakesList, having_part, items_meant, select_parts, sources_meant}
+use Rattle.made_parts.specs.Cored.{MakesList, having_part, select_parts, sources_meant}
 use Rattle.made_parts.specs.Sources.{JoinsMade, SourcesMade, join_count}
-use Rattle.made_parts.proofs.Coring.{clauses-made, item-so, none-kept, some-kept, star-is, table-star-is, value-is}
 use Rattle.made_parts.proofs.Sourcing.{first-made, from-fields, item-inner, item-named, no-sources, source-more, sources-made}
-use Rattle.name_made.proofs.Chaining.{chain-step}
+use Rattle.name_made.proofs.Chaining.{ChainMade, chain-step}
 use Rattle.name_made.proofs.Standing.{from-count, items-more, of-on, own-stands, step-more, tree-join}
 use Rattle.name_made.proofs.+made.Goals as goal
 
@@ -286,9 +279,20 @@ queries::set_made-returns-in-Paren t c =
 
 pub queries::set_made-returns-in_ok-whole-in-Chain : goal.queries::set_made-returns-in_ok-whole-in-Chain
 queries::set_made-returns-in_ok-whole-in-Chain t c =
-    of-ok _ (MakesQuery ((set_of_tree c.args.around.now.catalog.now c.args.tree.now).means (standing_of c.args.around.now)) c.args.wanted.now) c.chained.result
-    (λ q makes. chain-made c.args.around.now.catalog.now (standing_of c.args.around.now) c.args.tree.now c.in-Chain.first c.in-Chain.steps c.args.wanted.now c.in_ok-kinds-in-Chain.kinds q c.in-Chain.is (λ none. let never : false ≡ true = sym c.if-is_empty.false ∙ c.is_empty.ensures.1 none in absurd (cc)) c.in_ok-kinds-in-Chain.ensures
-    (λ serves. makes ((set_of_tree c.args.around.now.catalog.now c.in-Chain.first).means (standing_of c.args.around.now)) (rw c.get-before.ensures at c.in_ok-whole-in-Chain.ensures) serves)) (rw c.as_slice.ensures at c.chained.ensures)
+    let held = c.args.around.now.catalog.now in
+    let around = standing_of c.args.around.now in
+    let first = c.in-Chain.first in
+    let steps = c.in-Chain.steps in
+    let kinds = c.in_ok-kinds-in-Chain.kinds in
+    let whole = c.in_ok-whole-in-Chain.whole in
+    let of_first : MakesQuery ((set_of_tree held first).means around) kinds whole =
+    subst (λ (ks : List Kind). MakesQuery ((set_of_tree held first).means around) ks whole) c.as_slice.ensures (rw c.get-before.ensures at c.in_ok-whole-in-Chain.ensures) in
+    let of_steps = subst (λ (taken : List SetStep). IfOk c.chained.result (ChainMade held around taken c.as_slice-in-Chain-2.result.now whole)) c.as_slice-in-Chain.ensures c.chained.ensures in
+    let of_kinds = subst (λ (ks : List Kind). IfOk c.chained.result (ChainMade held around steps ks whole)) c.as_slice-in-Chain-2.ensures of_steps in
+    of-ok (ChainMade held around steps kinds whole) (MakesQuery ((set_of_tree held c.args.tree.now).means around) c.args.wanted.now) c.chained.result
+    (λ q makes. chain-made held around c.args.tree.now first steps c.args.wanted.now kinds q c.in-Chain.is
+    (λ none. let never : false ≡ true = sym c.if-is_empty.false ∙ c.is_empty.ensures.1 none in absurd (cc)) c.in_ok-kinds-in-Chain.ensures
+    (makes ((set_of_tree held first).means around) of_first)) of_kinds
 
 pub cores::core_made-returns-in-None : goal.cores::core_made-returns-in-None
 cores::core_made-returns-in-None t c =
@@ -406,7 +410,7 @@ sources::sources_made-loop-source-preserved t c =
     let part = from_of around.catalog.now in
     let tree = c.source-item.result in
     rw c.in_ok-first.ensures
-    (subst (λ (parts : List FromPart). SourcesMade outer around.trace parts c.args.scope.now (Some c.in_ok-beside_from.field-0) _)
+    (subst (λ (parts : List FromPart). SourcesMade outer around.trace parts c.args.scope.now (Some c.in_ok-beside_from.field-0) (c.loop-source.first + suc (join_count tree)))
     (sym (mapped part c.args.sources.now c.loop-source.source-index tree c.loop-source-test.true c.source-item.is))
     (source-more outer around.trace (map part (take c.loop-source.source-index c.args.sources.now)) (part tree) c.args.scope.now c.loop-source.whole c.in_ok-next.next c.in_ok-beside_from.field-0 c.loop-source.first (join_count tree)
     c.loop-source.invariant c.in_ok-next.ensures (from-count around.catalog.now tree outer around.trace) c.in_ok-beside_from.ensures))
