@@ -23,21 +23,24 @@ use Rattle.name_seen.specs.declared.refusal.Refusal.{Refusal}
 use Rattle.name_seen.specs.declared.refusal.Refusal.TheVariants.{Break as Broken}
 use Rattle.query_facts.specs.Queried.{QueryWhole}
 use Rattle.query_facts.specs.declared.shown.QueryShown.{QueryShown}
-use Rattle.name_analysis.specs.Resolves.{IsWhole, ResolvesBody, stored_breaks}
+use Rattle.name_analysis.specs.Resolves.{IsWhole, ResolvesBody, body_breaks, stored_breaks}
 use Rattle.name_analysis.specs.declared.queries.Whole.{Whole}
 use Rattle.name_laws.proofs.Every.{back-none, front-none}
 use Rattle.name_analysis.proofs.Bodies.{limited_by, limits-behind}
 use Rattle.name_analysis.proofs.Refused.{Refuses, behind, known-columns, of-limits, of-names, resolves-not, stays}
 
 module _ (c : Contents) (tree : QueryTree) where
+  refused-as : (body : StatementBody) (refusal : Refusal) → Refuses (body_breaks c body) refusal → ResolvesBody c body (Err refusal)
+  refused-as body refusal e = resolves-not (body_breaks c body) (words.resolved_body c body) refusal e
+
   -- ---- SELECT and EXPLAIN
 
   pub select-seen : (refusal : Refusal) → Refuses (words.query_meant c tree).breaks refusal → ResolvesBody c (st.Select tree) (Err refusal)
-  select-seen refusal e = resolves-not _ _ refusal (of-names (words.query_meant c tree).breaks _ refusal e)
+  select-seen refusal e = refused-as (st.Select tree) refusal (of-names (words.query_meant c tree).breaks _ refusal e)
 
   pub select-limited : (refusal : Refusal) → (words.query_meant c tree).breaks ≡ [] → Refuses (words.query_limits tree.at (words.query_meant c tree)) refusal
       → ResolvesBody c (st.Select tree) (Err refusal)
-  select-limited refusal none e = resolves-not _ _ refusal (of-limits (words.query_meant c tree).breaks _ refusal none e)
+  select-limited refusal none e = refused-as (st.Select tree) refusal (of-limits (words.query_meant c tree).breaks _ refusal none e)
 
   pub select-made : (whole : Whole) (answer : Answer) → (words.query_meant c tree).breaks ≡ [] → IsWhole tree.at (words.query_meant c tree) whole → answer ≡ whole.answer
       → ResolvesBody c (st.Select tree) (Ok (r.Select answer))
@@ -47,11 +50,11 @@ module _ (c : Contents) (tree : QueryTree) where
   }
 
   pub explain-seen : (refusal : Refusal) → Refuses (words.query_meant c tree).breaks refusal → ResolvesBody c (st.Explain tree) (Err refusal)
-  explain-seen refusal e = resolves-not _ _ refusal (of-names (words.query_meant c tree).breaks _ refusal e)
+  explain-seen refusal e = refused-as (st.Explain tree) refusal (of-names (words.query_meant c tree).breaks _ refusal e)
 
   pub explain-limited : (refusal : Refusal) → (words.query_meant c tree).breaks ≡ [] → Refuses (words.query_limits tree.at (words.query_meant c tree)) refusal
       → ResolvesBody c (st.Explain tree) (Err refusal)
-  explain-limited refusal none e = resolves-not _ _ refusal (of-limits (words.query_meant c tree).breaks _ refusal none e)
+  explain-limited refusal none e = refused-as (st.Explain tree) refusal (of-limits (words.query_meant c tree).breaks _ refusal none e)
 
   pub explain-made : (whole : Whole) (answer : Answer) → (words.query_meant c tree).breaks ≡ [] → IsWhole tree.at (words.query_meant c tree) whole → answer ≡ whole.answer
       → ResolvesBody c (st.Explain tree) (Ok (r.Explain answer))
@@ -73,15 +76,15 @@ module _ (c : Contents) (tree : QueryTree) where
     -- ---- CREATE VIEW
 
     pub view-taken : (refusal : Refusal) → Refuses (words.taken c name) refusal → ResolvesBody c (st.CreateView name tree) (Err refusal)
-    view-taken refusal e = resolves-not _ _ refusal (of-names (words.taken c name ++ named_query) _ refusal (stays (words.taken c name) named_query refusal e))
+    view-taken refusal e = refused-as (st.CreateView name tree) refusal (of-names (words.taken c name ++ named_query) _ refusal (stays (words.taken c name) named_query refusal e))
 
     pub view-seen : (refusal : Refusal) → words.taken c name ≡ [] → Refuses (words.query_meant c tree).breaks refusal → ResolvesBody c (st.CreateView name tree) (Err refusal)
-    view-seen refusal free e = resolves-not _ _ refusal (of-names (words.taken c name ++ named_query) _ refusal
+    view-seen refusal free e = refused-as (st.CreateView name tree) refusal (of-names (words.taken c name ++ named_query) _ refusal
         (behind (words.taken c name) named_query refusal free (stays (words.query_meant c tree).breaks named_twice refusal e)))
 
     pub view-repeats : (refusal : Refusal) → words.taken c name ≡ [] → (words.query_meant c tree).breaks ≡ []
         → Refuses (broken_if (words.repeats (names_of (words.columns_of (words.query_meant c tree)))) 14 tree.at) refusal → ResolvesBody c (st.CreateView name tree) (Err refusal)
-    view-repeats refusal free none e = resolves-not _ _ refusal (of-names (words.taken c name ++ named_query) _ refusal
+    view-repeats refusal free none e = refused-as (st.CreateView name tree) refusal (of-names (words.taken c name ++ named_query) _ refusal
         (behind (words.taken c name) named_query refusal free (behind (words.query_meant c tree).breaks named_twice refusal none e)))
 
     named-none : words.taken c name ≡ [] → (words.query_meant c tree).breaks ≡ [] → named_twice ≡ [] → words.taken c name ++ named_query ≡ []
@@ -90,7 +93,7 @@ module _ (c : Contents) (tree : QueryTree) where
     pub view-limited : (refusal : Refusal) → words.taken c name ≡ [] → (words.query_meant c tree).breaks ≡ []
         → broken_if (words.repeats (names_of (words.columns_of (words.query_meant c tree)))) 14 tree.at ≡ []
         → Refuses (words.query_limits tree.at (words.query_meant c tree)) refusal → ResolvesBody c (st.CreateView name tree) (Err refusal)
-    view-limited refusal free none once e = resolves-not _ _ refusal (of-limits (words.taken c name ++ named_query) _ refusal (named-none free none once) e)
+    view-limited refusal free none once e = refused-as (st.CreateView name tree) refusal (of-limits (words.taken c name ++ named_query) _ refusal (named-none free none once) e)
 
     pub view-made : (whole : Whole) (entry : ViewEntry) (text : List ℕ) → words.taken c name ≡ [] → (words.query_meant c tree).breaks ≡ []
         → broken_if (words.repeats (names_of (words.columns_of (words.query_meant c tree)))) 14 tree.at ≡ []
@@ -106,23 +109,23 @@ module _ (c : Contents) (tree : QueryTree) where
     -- ---- CREATE TABLE AS
 
     pub stored-taken : (refusal : Refusal) → Refuses (words.taken c name) refusal → ResolvesBody c (st.CreateTableAs name tree) (Err refusal)
-    stored-taken refusal e = resolves-not _ _ refusal (of-names (words.taken c name ++ named_query ++ truths) _ refusal
+    stored-taken refusal e = refused-as (st.CreateTableAs name tree) refusal (of-names (words.taken c name ++ named_query ++ truths) _ refusal
         (stays (words.taken c name ++ named_query) truths refusal (stays (words.taken c name) named_query refusal e)))
 
     pub stored-seen : (refusal : Refusal) → words.taken c name ≡ [] → Refuses (words.query_meant c tree).breaks refusal
         → ResolvesBody c (st.CreateTableAs name tree) (Err refusal)
-    stored-seen refusal free e = resolves-not _ _ refusal (of-names (words.taken c name ++ named_query ++ truths) _ refusal
+    stored-seen refusal free e = refused-as (st.CreateTableAs name tree) refusal (of-names (words.taken c name ++ named_query ++ truths) _ refusal
         (stays (words.taken c name ++ named_query) truths refusal
         (behind (words.taken c name) named_query refusal free (stays (words.query_meant c tree).breaks named_twice refusal e))))
 
     known_names : words.taken c name ≡ [] → (words.query_meant c tree).breaks ≡ [] → words.taken c name ++ named_query ++ truths ≡ named_twice ++ truths
     known_names free none = λ i. free i ++ (none i ++ named_twice) ++ truths
 
-    first-stored : (twice truths limit more : List Break) (first : Break) → first_or (twice ++ truths ++ limit) (tt {0}) ≡ Err first
-        → first_or (limited_by (twice ++ truths) (limit ++ more)) (tt {0}) ≡ Err first
+    first-stored : (twice boolean limit more : List Break) (first : Break) → first_or (twice ++ boolean ++ limit) (tt {0}) ≡ Err first
+        → first_or (limited_by (twice ++ boolean) (limit ++ more)) (tt {0}) ≡ Err first
     first-stored [] [] limit more first e = first-stays limit more (tt {0}) (tt {0}) first e
     first-stored [] (b ∷ bs) limit more first e = e
-    first-stored (b ∷ bs) truths limit more first e = e
+    first-stored (b ∷ bs) boolean limit more first e = e
 
     pub stored-broken : (refusal : Refusal) (first : Break) (columns : List KnownColumn) → words.taken c name ≡ [] → (words.query_meant c tree).breaks ≡ []
         → words.columns_of (words.query_meant c tree) ≡ columns → refusal ≡ Broken first → first_or (stored_breaks name tree.at columns) (tt {0}) ≡ Err first
@@ -148,7 +151,7 @@ module _ (c : Contents) (tree : QueryTree) where
 
       pub stored-limited : (refusal : Refusal) → Refuses (words.query_limits tree.at (words.query_meant c tree)) refusal
           → ResolvesBody c (st.CreateTableAs name tree) (Err refusal)
-      stored-limited refusal e = resolves-not _ _ refusal (of-limits (words.taken c name ++ named_query ++ truths) _ refusal names-fit
+      stored-limited refusal e = refused-as (st.CreateTableAs name tree) refusal (of-limits (words.taken c name ++ named_query ++ truths) _ refusal names-fit
           (behind (words.table_limit name (length (words.columns_of (words.query_meant c tree)))) (words.query_limits tree.at (words.query_meant c tree)) refusal limit-fits e))
 
       pub stored-made : (whole : Whole) (text : List ℕ) → IsWhole tree.at (words.query_meant c tree) whole → text ≡ name.text

@@ -1,1 +1,2 @@
 pub mod Resolves
+pub mod Stands

@@ -1,5 +1,5 @@
 -- What holds of the query in what a regular statement resolves to: it can run on the catalog that it was looked up in.
-use Rattle.std.specs.Prelude.{◌≡◌, ⊤, ℕ, true, List, [], length, map, Option, Some, None, IfSome, Result, Ok, Err}
+use Rattle.std.specs.Prelude.{◌≡◌, ⊤, ℕ, true, List, [], length, map, Option, Some, None, IfSome}
 use Rattle.perm_values.specs.declared.kind.Kind.{Kind}
 use Rattle.bag_algebra.specs.Closed.{is_closed}
 use Rattle.bag_algebra.specs.Kinds.{kinds_of, width_of}
@@ -18,7 +18,6 @@ use Rattle.name_words.specs.Scopes.{KnownColumn}
 use Rattle.name_words.specs.Statements.{columns_of, query_meant}
 use Rattle.name_words.specs.declared.answer.Resolved.{Resolved}
 use Rattle.name_words.specs.declared.answer.Resolved.TheVariants as r
-use Rattle.name_seen.specs.declared.refusal.Refusal.{Refusal}
 
 -- a table of the catalog has this number, and columns of these kinds
 pub record IsHeldTable (c : Contents) (id : ℕ) (kinds : List Kind) : Type 0 where
@@ -59,7 +58,7 @@ shown_kinds c tree = map (λ (column : KnownColumn). column.kind) (columns_of (q
 abbrev pub StandsFor : Contents → QueryTree → Resolved → Type 0
 StandsFor c tree made = IfSome (answer_in made) (AnswerStands c (shown_kinds c tree))
 
--- a statement's query, where it has one
+-- what a statement resolved to has a query that stands, where the statement has a query
 abbrev pub BodyStands : Contents → StatementBody → Resolved → Type 0
 BodyStands c (st.CreateTable table columns) made = ⊤
 BodyStands c (st.CreateTableAs table query) made = StandsFor c query made

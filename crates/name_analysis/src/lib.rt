@@ -3,6 +3,7 @@
 
 mod analysis;
 mod answers;
+mod laws;
 mod limits;
 mod passes;
 mod queries;
@@ -10,3 +11,4 @@ mod rows;
 mod tables;
 
 pub use analysis::resolve;
+pub use laws::resolved_queries_stand;
