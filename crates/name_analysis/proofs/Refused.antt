@@ -64,7 +64,6 @@ of-limits names limits refusal none e = subst (λ (breaks : List Break). Refuses
 -- ---- a whole query where it stands alone
 
 module _ (c k : Contents) (tree : QueryTree) (place : Around) (is : place ≡ words.alone) (held : k ≡ c) where
-
   pub same_meant : query_means_at (query_of k tree) place ≡ words.query_meant c tree
   same_meant = λ i. query_means_at (query_of (held i) tree) (is i)
 

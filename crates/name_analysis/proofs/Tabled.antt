@@ -1,5 +1,5 @@
 -- Statements without a query: the first break of names, and then that of the limit.
-use Rattle.std.specs.Prelude.{◌≡◌, ℕ, Bool, true, false, cond, is_none, List, [], ◌∷◌, ◌++◌, flat_map, length, Option, Some, None, option_map, Result, Ok, Err}
+use Rattle.std.specs.Prelude.{◌≡◌, ℕ, Bool, true, false, cond, is_none, List, [], ◌∷◌, ◌++◌, flat_map, length, IsErrAnd, Option, Some, None, option_map, Result, Ok, Err}
 use Rattle.std.specs.Option.{option_map_or}
 use Rattle.std.proofs.Common.{refl, ap, sym, subst, ◌∙◌}
 use Rattle.bag_algebra.specs.declared.expr.Expr.{Expr}
@@ -28,6 +28,10 @@ use Rattle.name_seen.specs.declared.refusal.Refusal.TheVariants.{Break as Broken
 use Rattle.name_analysis.specs.Resolves.{ConditionSeen, IsCondition, Resolves, ResolvesBody, body_breaks}
 use Rattle.name_analysis.proofs.Bodies.{limited_by, limits-behind, names-first}
 use Rattle.name_analysis.proofs.Refused.{Refuses, resolves-not}
+
+pub err-is : (result : Result Unit Break) (first : Break) → IsErrAnd result (λ (other : Break). other ≡ first) → result ≡ Err first
+err-is (Ok x) first is = absurd is
+err-is (Err other) first is = ap Err is
 
 -- two rules of names and a limit behind them
 module _ (front back limit : List Break) where

@@ -1,6 +1,7 @@
 -- Values of INSERT and the condition of DELETE, made alone.
 use Rattle.std.specs.Prelude.{◌≡◌, ℕ, zero, suc, ◌+◌, ◌<◌, ◌≤◌, min, Bool, true, false, cond, nat_eq, List, [], ◌∷◌, ◌++◌, length, flat_map, Some}
-use Rattle.std.proofs.Common.{refl, ap, sym, subst, ◌∙◌, drop, get_or, append_assoc, append-nil, arith, cases_lt, inl, inr}
+use Rattle.std.proofs.Common.{refl, ap, sym, subst, ◌∙◌, drop, get_or, append_assoc, append-nil, arith, inl, inr}
+use Rattle.std.proofs.lemmas.Bool.{cases_lt}
 use Rattle.std.proofs.Math.ListN.{drop_of_length-le}
 use Rattle.bag_algebra.specs.declared.expr.Expr.{Expr}
 use Rattle.clauses_seen.proofs.Firsts.{dropped}

@@ -19,6 +19,7 @@ use Rattle.queries_inside.specs.Held.{inside_in}
 use Rattle.queries_inside.specs.declared.gathered.Gathered.{Gathered}
 use Rattle.query_facts.specs.Queried.{QueryWhole}
 use Rattle.query_facts.specs.declared.shown.QueryShown.{QueryShown}
+use Rattle.sql_tree.specs.declared.query.OrderTree.{OrderTree}
 use Rattle.sql_tree.specs.declared.query.QueryTree.{QueryTree}
 use Rattle.name_analysis.specs.Resolves.{IsWhole}
 use Rattle.name_analysis.specs.declared.queries.Whole.{Whole}
@@ -43,9 +44,9 @@ size_second at m found made first e narrow none makes large =
     first-behind (width_limit m.inside.queries) (size_limit at (m.make [])) (tt {0}) (sym (widths-are m found e) ∙ narrow)
     ∙ ap (λ (query : Query). first_or (size_limit at query) (tt {0})) (sym (makes.makes none)) ∙ large
 
-abbrev pub whole_with : Query → QueryShown → Gathered → QueryTree → Whole
-whole_with made shown found tree = record {
-  answer = record { query = made; names = names_of (settled_columns (columns_of shown.columns)); keys = map (key_of (columns_of shown.columns)) tree.order };
+abbrev pub whole_with : Query → QueryShown → Gathered → List OrderTree → Whole
+whole_with made shown found order = record {
+  answer = record { query = made; names = names_of (settled_columns (columns_of shown.columns)); keys = map (key_of (columns_of shown.columns)) order };
   places = shown.places;
   columns = stored_columns (settled_columns (columns_of shown.columns));
   names = found.names;
@@ -54,7 +55,7 @@ whole_with made shown found tree = record {
 pub whole_made : (c : Contents) (around : Around) (tree : QueryTree) (found : Gathered) (made : Query) (shown : QueryShown) (whole : Whole)
     → inside_in found ≡ (query_means_at (query_of c tree) around).inside → width_limit found.queries ≡ []
     → QueryWhole (query_means_at (query_of c tree) around) shown → MakesQuery (query_means_at (query_of c tree) around) [] made
-    → size_limit tree.at made ≡ [] → whole ≡ whole_with made shown found tree
+    → size_limit tree.at made ≡ [] → whole ≡ whole_with made shown found tree.order
     → IsWhole tree.at (query_means_at (query_of c tree) around) whole
 whole_made c around tree found made shown whole e narrow seen makes small is =
     let m = query_means_at (query_of c tree) around in
