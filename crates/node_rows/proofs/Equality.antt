@@ -10,10 +10,11 @@ use Rattle.bag_algebra.specs.Means.{sub_value, some_of, all_of, comparisons}
 use Rattle.bag_algebra.specs.Outcome.{Good}
 use Rattle.bag_algebra.specs.declared.query.SubKind.{SubKind}
 use Rattle.bag_algebra.specs.declared.query.SubKind.TheVariants.{Exists, Any, All, Scalar}
+use Rattle.join_keys.specs.Equated.{is_equality}
 use Rattle.join_keys.proofs.Among.{differs_from_all}
-use Rattle.node_rows.specs.Known.{is_equal, is_not_equal, tests_equality, turned}
+use Rattle.node_rows.specs.Known.{is_not_equal, tests_equality, turned}
 
-some_value : (c : Compare) (x : Value) (vs : Bag) (truth : Truth) → is_equal c ≡ true → truth ≡ some_of (comparisons Equal x vs) → sub_value (Any c) x vs ≡ Good (value_of truth)
+some_value : (c : Compare) (x : Value) (vs : Bag) (truth : Truth) → is_equality c ≡ true → truth ≡ some_of (comparisons Equal x vs) → sub_value (Any c) x vs ≡ Good (value_of truth)
 some_value Equal x vs truth h e = ap (λ t. Good (value_of t)) (sym e)
 some_value NotEqual x vs truth h e = absurd (true≢false (sym h))
 some_value Less x vs truth h e = absurd (true≢false (sym h))

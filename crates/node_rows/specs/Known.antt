@@ -21,19 +21,12 @@ use Rattle.bag_algebra.specs.declared.query.Sublink.{Sublink}
 use Rattle.expression_values.specs.Answers.{Refuses}
 use Rattle.expression_values.specs.declared.error.ExecError.{ExecError}
 use Rattle.join_keys.specs.Cells.{AreCells}
+use Rattle.join_keys.specs.Equated.{is_equality}
 use Rattle.join_keys.specs.Hashed.{on_pair, met_rows}
 use Rattle.node_rows.specs.Keyed.{AreKeyed}
 use Rattle.node_rows.specs.declared.known.Keyed.{Keyed}
 use Rattle.node_rows.specs.declared.known.Known.{Known}
 use Rattle.node_rows.specs.declared.known.Known.TheVariants as known
-
-abbrev pub is_equal : Compare → Bool
-is_equal Equal = true
-is_equal NotEqual = false
-is_equal Less = false
-is_equal LessEqual = false
-is_equal Greater = false
-is_equal GreaterEqual = false
 
 abbrev pub is_not_equal : Compare → Bool
 is_not_equal Equal = false
@@ -46,7 +39,7 @@ is_not_equal GreaterEqual = false
 -- IN and NOT IN
 abbrev pub tests_equality : SubKind → Bool
 tests_equality Exists = false
-tests_equality (Any c) = is_equal c
+tests_equality (Any c) = is_equality c
 tests_equality (All c) = is_not_equal c
 tests_equality Scalar = false
 
