@@ -3,29 +3,10 @@
 #![tactic(auto)]
 
 #[cfg(test)]
-mod catalogs;
-#[cfg(test)]
-mod copies;
+mod calls;
 #[cfg(test)]
 mod disk;
-#[cfg(test)]
-mod expressions;
-#[cfg(test)]
-mod hashing;
-#[cfg(test)]
-mod owners;
-#[cfg(test)]
-mod places;
-#[cfg(test)]
-mod queries;
-mod ready;
-#[cfg(test)]
-mod rewriting;
 #[cfg(test)]
 mod runs;
 #[cfg(test)]
 mod scripts;
-#[cfg(test)]
-mod steps;
-
-pub use ready::is_ready;
