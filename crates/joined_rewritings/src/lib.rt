@@ -3,4 +3,6 @@
 
 mod kept;
 
-pub use kept::{columns_from, exact_width, join_kept, same_as_first, sum};
+pub use kept::{
+    columns_from, differs_from_first, exact_width, join_kept, matched, same_as_first, sum,
+};

@@ -3,15 +3,14 @@ ghost use Rattle.std.specs.Prelude.{◌≡◌, ◌≤◌, IfOk};
 ghost use Rattle.bag_algebra.specs.Kinds.{width_of};
 ghost use Rattle.bag_algebra.specs.declared.query.JoinKind.TheVariants.{Inner, Left};
 ghost use Rattle.bag_algebra.specs.declared.query.Query.TheVariants.{Except};
-ghost use Rattle.joined_rewritings.specs.KeptColumns.{same_as_first, pairs_of, columns_kept};
+ghost use Rattle.joined_rewritings.specs.KeptColumns.{columns_kept, differs_from_first, pairs_of, same_as_first};
 ghost use Rattle.rewrite_sets.specs.ColumnsOf.{ColumnsOf};
-ghost use Rattle.rewrite_sets.specs.OtherRows.{differs_from_first, remaining};
+ghost use Rattle.rewrite_sets.specs.OtherRows.{remaining};
 
 use crate::columns::{Columns, columns_of};
-use bag_algebra::{Expr, JoinKind, Query};
-use joined_rewritings::{join_kept, same_as_first};
-use null_logic::Operator;
-use perm_values::{Boxed, Copyable, List, NoMemory};
+use bag_algebra::{JoinKind, Query};
+use joined_rewritings::{differs_from_first, join_kept, same_as_first};
+use perm_values::{Boxed, Copyable, NoMemory};
 use query_parts::joined;
 use std::alloc::Global;
 
@@ -90,15 +89,4 @@ pub(crate) fn beside_others(
         columns.kept,
         columns.left_out,
     )
-}
-
-fn differs_from_first(alloc: Global, count: usize, from: usize) -> Result<Expr, NoMemory>
-    ensures { IfOk result (λ test. test ≡ differs_from_first count from) }
-{
-    let mut parts = List::new(alloc);
-    parts.push(same_as_first(alloc, count, from)?)?;
-    Ok(Expr::Op {
-        op: Operator::Not,
-        parts,
-    })
 }

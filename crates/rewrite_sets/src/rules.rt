@@ -6,10 +6,10 @@ ghost use Rattle.bag_algebra.specs.declared.query.Query.TheVariants.{Except, Int
 ghost use Rattle.bag_algebra.specs.declared.query.Query.{Query as Node};
 
 use crate::columns::columns_of;
-use crate::nodes::{limited, matched};
+use crate::nodes::limited;
 use crate::others::{Counted, beside_others, remaining};
 use bag_algebra::Query;
-use joined_rewritings::exact_width;
+use joined_rewritings::{exact_width, matched};
 use perm_values::{Key, NoMemory};
 use std::alloc::Global;
 

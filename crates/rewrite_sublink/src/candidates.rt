@@ -17,6 +17,7 @@ use null_logic::Truth;
 use perm_values::{Boxed, Copyable, List, NoMemory};
 use query_parts::joined;
 use std::alloc::Global;
+use sublink_laws::deciding;
 
 /// The rows, and for each sublink in turn those rows of its cross base that are one of its contributions.
 pub(crate) fn with_contributions(
@@ -122,18 +123,6 @@ fn test_of(alloc: Global, standing: &Sublink, found: &Query) -> Result<Test, NoM
             let condition = decided(alloc, truth)?;
             Ok(Test { condition, subs })
         }
-    }
-}
-
-/// The value with which a sublink lets those rows alone contribute that compare so: a true ANY, a false ALL.
-fn deciding(kind: SubKind) -> Option<Truth>
-    ensures { result ≡ deciding kind }
-{
-    match kind {
-        SubKind::Exists => None,
-        SubKind::Any(_) => Some(Truth::True),
-        SubKind::All(_) => Some(Truth::False),
-        SubKind::Scalar => None,
     }
 }
 

@@ -8,10 +8,10 @@ use Rattle.bag_algebra.specs.declared.query.JoinKind.TheVariants.{Inner, Left}
 use Rattle.bag_algebra.specs.declared.query.Query.{Query}
 use Rattle.bag_algebra.specs.declared.query.Query.TheVariants.{Except}
 use Rattle.joined_rewritings.proofs.OpenSublinks.{closed-as_joined, closed-kept}
-use Rattle.joined_rewritings.specs.KeptColumns.{pairs_of, columns_kept}
+use Rattle.joined_rewritings.specs.KeptColumns.{columns_kept, differs_from_first, pairs_of}
 use Rattle.query_parts.proofs.NodeQueries.{of_made}
 use Rattle.rewrite_sets.proofs.ExceptRows.{except-made}
-use Rattle.rewrite_sets.specs.OtherRows.{differs_from_first, remaining}
+use Rattle.rewrite_sets.specs.OtherRows.{remaining}
 use Rattle.rewrite_sets.proofs.rules.except.Goals as goal
 
 pub beside_others-requires : goal.beside_others-requires
