@@ -17,7 +17,7 @@ use Rattle.sql_grammar.proofs.Fine.{apart, apart-law}
 use Rattle.sql_grammar.proofs.Listing.{all_of-done}
 use Rattle.sql_grammar.proofs.Steps.{reading_is}
 use Rattle.sql_grammar.proofs.TablesHold.{told}
-use Rattle.sql_parser.specs.Literals.{ends}
+use Rattle.sql_clauses.specs.Literals.{ends}
 use Rattle.sql_predicates.specs.Tails as tails
 use Rattle.sql_predicates.proofs.Comparing.{ranged_is}
 use Rattle.sql_operators.proofs.Connecting.{both_is, expr_is}

@@ -6,17 +6,15 @@ ghost use Rattle.sql_grammar.specs.Nests.{Nests};
 ghost use Rattle.sql_grammar.specs.Pieces.{sees_pair};
 ghost use Rattle.sql_grammar.specs.Symbols as n;
 ghost use Rattle.sql_grammar.specs.Tables.{begins};
-ghost use Rattle.sql_parser.specs.Literals.{ends};
+ghost use Rattle.sql_clauses.specs.Literals.{ends};
 
 use perm_values::Boxed;
-use sql_grammar::{Cursor, Fault, Nest, Sort, node};
+use sql_clauses::sees_literal_alone;
+use sql_grammar::{Cursor, Fault, Nest, node};
 use sql_operators::{Connectives, Sums};
 use sql_predicates::Predicates;
-use sql_primaries::{Grammar, LITERALS, literal};
+use sql_primaries::{Grammar, literal};
 use sql_tree::{ExprTree, QueryTree};
-
-/// What ends an expression in a list or in parentheses.
-const ENDS: [Sort; 2] = [Sort::Comma, Sort::Closing];
 
 /// A literal that stands alone, as the expression that it is.
 #[tactic(auto, using(crate::proofs::Literals::literal_alone))]
@@ -89,7 +87,7 @@ pub(crate) fn expression<
     ensures given { spec.Reads result (spec.reading n.Expr cursor.old) cursor.new }
     ensures fewer { IfOk result (λ _. length cursor.new < length cursor.old) }
 {
-    if cursor.sees_pair(&LITERALS, &ENDS) {
+    if sees_literal_alone(cursor) {
         literal_alone(cursor)
     } else {
         disjunction(nest, cursor)

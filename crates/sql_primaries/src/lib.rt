@@ -7,4 +7,4 @@ mod grammar;
 mod primary;
 
 pub use grammar::Grammar;
-pub use primary::{LITERALS, kind_of, literal};
+pub use primary::{kind_of, literal};

@@ -12,19 +12,11 @@ ghost use Rattle.sql_grammar.specs.declared.sort.Sort.TheVariants as s;
 use crate::calls::column_of;
 use crate::grammar::{Grammar, ended_by};
 use perm_values::{Boxed, Kind, List, NoMemory};
+use sql_clauses::LITERALS;
 use sql_grammar::{Cursor, Fault, Sort, node, repeated, same_sort, sort_of};
 use sql_lexer::Token;
 use sql_tree::{ArmTree, ExprBody, ExprTree, QueryTree};
 use std::alloc::Global;
-
-/// What a literal is.
-pub const LITERALS: [Sort; 5] = [
-    Sort::Digits,
-    Sort::Literal,
-    Sort::True,
-    Sort::False,
-    Sort::Null,
-];
 
 const CAST_KINDS: [Sort; 5] = [
     Sort::Boolean,

@@ -9,6 +9,7 @@ ghost use Rattle.sql_grammar.specs.Symbols as n;
 
 use crate::grammar::Grammar;
 use perm_values::{Boxed, List};
+use sql_clauses::join_kind;
 use sql_grammar::{Cursor, Fault, NAMES, Sort, listed, repeated, same_sort, sort_of};
 use sql_lexer::Token;
 use sql_tree::{
@@ -72,7 +73,7 @@ impl<
         ensures given { spec.Reads result (piece.joined_on cursor.old) cursor.new }
         ensures fewer { IfOk result (λ _. length cursor.new < length cursor.old) }
     {
-        let word = cursor.join_kind()?;
+        let word = join_kind(cursor)?;
         let item = self.from_item(cursor)?;
         cursor.past(Sort::On)?;
         let condition = self.nest.expression(cursor)?;

@@ -10,6 +10,7 @@ ghost use Rattle.sql_queries.specs.Selects as spelled;
 
 use crate::grammar::Grammar;
 use perm_values::{Boxed, Copyable, List, NoMemory};
+use sql_clauses::provenance;
 use sql_grammar::{Cursor, Fault, NAMES, Sort, listed};
 use sql_lexer::Token;
 use sql_tree::{ColRef, Core, ExprTree, FromTree, Name, QueryTree, SelectItem};
@@ -175,7 +176,7 @@ impl<
     {
         let at = cursor.place();
         cursor.past(Sort::Select)?;
-        let provenance = cursor.provenance()?;
+        let provenance = provenance(cursor)?;
         let distinct = cursor.has(Sort::Distinct)?;
         let items = self.items(cursor)?;
         let clauses = self.clauses(cursor)?;
