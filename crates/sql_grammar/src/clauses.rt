@@ -8,43 +8,13 @@ ghost use Rattle.sql_grammar.specs.Symbols as n;
 
 use crate::cursor::Cursor;
 use crate::fault::Fault;
-use crate::sort::{NAMES, Sort, same_sort, sort_of};
+use crate::sort::{NAMES, Sort};
 use perm_values::{List, NoMemory};
 use sql_lexer::Token;
-use sql_tree::{FromSource, JoinWord, Name, OrderTree, ScopeMark, SelectItem};
+use sql_tree::{FromSource, Name, OrderTree, ScopeMark, SelectItem};
 use std::alloc::Global;
 
-fn outer_of(token: &Token<'_>) -> JoinWord
-    ensures { result ≡ b.outer_of token.now }
-{
-    let sort = sort_of(token);
-    if same_sort(sort, Sort::Left) {
-        JoinWord::Left
-    } else if same_sort(sort, Sort::Right) {
-        JoinWord::Right
-    } else {
-        JoinWord::Full
-    }
-}
-
 impl<'a> Cursor<'a> {
-    #[tactic(auto, using(crate::proofs::Steps::reading_is))]
-    pub fn join_kind(&mut self) -> Result<JoinWord, Fault>
-        ensures given { spec.Reads result (spec.reading n.JoinKind self.old) self.new }
-        ensures fewer { IfOk result (λ _. length self.new < length self.old) }
-    {
-        if self.sees_any(&[Sort::Inner, Sort::Join]) {
-            self.option(Sort::Inner)?;
-            self.past(Sort::Join)?;
-            Ok(JoinWord::Inner)
-        } else {
-            let token = self.one(&[Sort::Left, Sort::Right, Sort::Full])?;
-            self.option(Sort::Outer)?;
-            self.past(Sort::Join)?;
-            Ok(outer_of(token))
-        }
-    }
-
     pub fn attributes(&mut self) -> Result<List<Name>, Fault>
         ensures given { spec.Reads result (piece.attributes self.old) self.new }
         ensures fewer { IfOk result (λ _. length self.new < length self.old) }
@@ -101,20 +71,6 @@ impl<'a> Cursor<'a> {
     {
         let found = self.option(sort)?;
         Ok(found)
-    }
-
-    /// The place of the word PROVENANCE, if it stands next.
-    pub fn provenance(&mut self) -> Result<Option<usize>, Fault>
-        ensures given { spec.Reads result (piece.provenance self.old) self.new }
-        ensures fewer { IfOk result (λ _. length self.new ≤ length self.old) }
-    {
-        if self.sees(Sort::Provenance) {
-            let at = self.place();
-            self.past(Sort::Provenance)?;
-            Ok(Some(at))
-        } else {
-            Ok(None)
-        }
     }
 
     pub fn table_star(&mut self) -> Result<SelectItem, Fault>
