@@ -1,7 +1,6 @@
-//! What a query answers: its rows, which the executor gives of what stands for it, in order, as text.
+//! A stand-in.
 #![tactic(auto)]
 
 mod answering;
-mod order;
 
 pub use answering::select;
