@@ -1,4 +1,5 @@
 pub mod Ends
+pub mod Resolving
 pub mod Run
 pub mod Scripts
 pub mod Statuses

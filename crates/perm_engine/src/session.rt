@@ -1,21 +1,17 @@
-ghost use Rattle.std.specs.Prelude.{◌≡◌, ◌⊎◌, [], Err, IfOk, IsTrue, true, false};
+ghost use Rattle.std.specs.Prelude.{◌≡◌, ◌⊎◌, Err, IsTrue, true, false};
 ghost use Rattle.perm_catalog.specs.Changes.{nothing_held};
 ghost use Rattle.perm_catalog.specs.Sound.{IsSound};
 ghost use Rattle.perm_io.specs.Counts.{next_count, CountsFault};
 ghost use Rattle.sql_tree.specs.Regular.{RegularStatement};
-ghost use Rattle.name_words.specs.Statements.{breaks, resolved};
-ghost use Rattle.name_seen.specs.Seen.{first_or};
-ghost use Rattle.name_words.specs.declared.answer.Break.{Break};
-ghost use Rattle.statement_laws.specs.Limited.{limits_of_statement};
-ghost use Rattle.statement_laws.specs.Sounder.{MakesSoundView};
 ghost use Rattle.statement_words.specs.Answers.{begins, can_be, has_failed, over, IsBacked, TakesTurn};
-ghost use Rattle.statement_words.specs.Asking.{asked, is_unbuilt};
+ghost use Rattle.statement_words.specs.Asking.{asked};
 ghost use Rattle.statement_words.specs.declared.refusal.StepRefusal.TheVariants.{NoMemory as OutOfMemory};
+ghost use Rattle.perm_engine.specs.Resolving.{Resolves, ResolvesBuilt};
 
 use name_analysis::resolve;
 use name_seen::Refusal;
 use name_words::{Break, Resolved};
-use perm_catalog::Catalog;
+use perm_catalog::{Catalog, catalogs_stay_sound};
 use perm_io::Files;
 use perm_values::Bytes;
 use resolved_steps::{is_unbuilt, step};
@@ -55,6 +51,7 @@ impl Session {
     pub fn new(alloc: Global) -> Session
         ensures { result ≡ nothing_held 1 }
     {
+        catalogs_stay_sound();
         Session::with(alloc, Catalog::new(alloc, 1))
     }
 
@@ -98,19 +95,36 @@ impl Session {
         ensures held { F.held files.new ≡ F.held files.old }
     {
         let at = statement.at;
-        if is_unbuilt(&statement) {
-            return Err(StepRefusal::Break(Break { code: 29, at }));
+        match self.resolved(statement) {
+            Ok(resolved) => step(self.alloc, &mut self.catalog, files, at, &resolved),
+            Err(refusal) => Err(refusal),
         }
-        let resolved = self.resolved(statement)?;
-        step(self.alloc, &mut self.catalog, files, at, &resolved)
     }
 
-    /// The statement with its names looked up, which can be carried out and keeps the catalog sound, or its first break.
+    /// The statement with its names looked up, which can be carried out and keeps the catalog sound; or why it can't stand:
+    /// it is of a form that isn't run, or breaks a rule of names and kinds.
     fn resolved(&self, statement: Statement) -> Result<Resolved, StepRefusal>
         requires { RegularStatement statement }
-        ensures whole { IfOk result (λ made. (breaks self.now statement ≡ []) × (made ≡ resolved self.now statement)) }
-        ensures first { (b : Break) → result ≡ Err (StepRefusal.Break b) → first_or (breaks self.now statement) (tt {0}) ≡ Err b }
+        ensures { Resolves self.now statement result }
     {
+        if is_unbuilt(&statement) {
+            Err(StepRefusal::Break(Break {
+                code: 29,
+                at: statement.at,
+            }))
+        } else {
+            self.looked_up(statement)
+        }
+    }
+
+    /// The same of a form that is run.
+    fn looked_up(&self, statement: Statement) -> Result<Resolved, StepRefusal>
+        requires { RegularStatement statement }
+        ensures { ResolvesBuilt self.now statement result }
+    {
+        whole_statements_are_ready();
+        whole_statements_add_soundly();
+        statements_keep_catalogs_sound();
         match resolve(self.alloc, &self.catalog, statement) {
             Ok(resolved) => Ok(resolved),
             Err(Refusal::Break(found)) => Err(StepRefusal::Break(found)),
