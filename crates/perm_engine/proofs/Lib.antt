@@ -2,6 +2,7 @@ pub mod Causes
 pub mod Completing
 pub mod Ending
 pub mod Firsts
+pub mod Lines
 pub mod Misspelling
 pub mod Reasons
 pub mod Running
