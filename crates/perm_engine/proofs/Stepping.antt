@@ -14,6 +14,7 @@ use Rattle.name_words.specs.declared.answer.Resolved.{Resolved}
 use Rattle.statement_laws.specs.Sounder.{StandsSound, KeepsSound}
 use Rattle.statement_words.specs.Answers.{Files, TakesTurn, IsTurn, IsBacked, begins, can_be, has_failed, file_limit}
 use Rattle.statement_words.specs.Asking.{Asked, Settled, Begins, all_breaks, asked, asks, is_unbuilt, unbuilt, unless_broken}
+use Rattle.statement_words.specs.Ready.{IsReady}
 use Rattle.statement_words.specs.Turns.{Turn, Stands, Refused, Broken}
 use Rattle.statement_words.specs.declared.refusal.StepRefusal.{StepRefusal}
 use Rattle.statement_words.specs.declared.refusal.StepRefusal.TheVariants as refusal
@@ -99,3 +100,10 @@ turn-sound turn old new (Err refused) sound keeps h = subst IsSound (sym h.1) so
 pub taken-sound : (Can : List ℕ → Found → Type 0) (a : Asked) (old new : Contents) (result : Result (List ℕ) StepRefusal) → IsSound old → KeepsSound a → TakesTurn Can a old new result → IsSound new
 taken-sound Can (Settled turn) old new result sound keeps h = turn-sound turn old new result sound keeps h
 taken-sound Can (Begins name after) old new result sound keeps (found, can, h) = turn-sound (after found) old new result sound (keeps found) h
+
+-- what name analysis makes of a statement that breaks nothing
+pub made-whole : (c d : Contents) (statement : Statement) (made : Resolved) → d ≡ c → breaks d statement ≡ [] → made ≡ resolved d statement → IsReady d (resolved d statement) →
+    KeepsSound (asks d statement.at (resolved d statement)) → IsMade (breaks c statement) c statement made
+made-whole c d statement made same whole is ready sound =
+    subst (λ e. IsMade (breaks e statement) e statement made) same
+    (record { whole = whole; is = is; ready = subst (IsReady d) (sym is) ready; sound = subst (λ m. KeepsSound (asks d statement.at m)) (sym is) sound })

@@ -4,9 +4,11 @@ ghost use Rattle.perm_catalog.specs.Sound.{IsSound};
 ghost use Rattle.perm_io.specs.Counts.{next_count, CountsFault};
 ghost use Rattle.sql_tree.specs.Regular.{RegularStatement};
 ghost use Rattle.statement_words.specs.Answers.{begins, can_be, has_failed, over, IsBacked, TakesTurn};
-ghost use Rattle.statement_words.specs.Asking.{asked};
+ghost use Rattle.statement_laws.specs.Sounder.{KeepsSound};
+ghost use Rattle.statement_words.specs.Asking.{asked, asks};
+ghost use Rattle.statement_words.specs.Ready.{IsReady};
 ghost use Rattle.statement_words.specs.declared.refusal.StepRefusal.TheVariants.{NoMemory as OutOfMemory};
-ghost use Rattle.perm_engine.specs.Resolving.{Resolves, ResolvesBuilt};
+ghost use Rattle.perm_engine.specs.Resolving.{IsCarriedOut, Resolves, ResolvesBuilt};
 
 use name_analysis::resolve;
 use name_seen::Refusal;
@@ -96,9 +98,24 @@ impl Session {
     {
         let at = statement.at;
         match self.resolved(statement) {
-            Ok(resolved) => step(self.alloc, &mut self.catalog, files, at, &resolved),
+            Ok(resolved) => self.carry_out(at, resolved, files),
             Err(refusal) => Err(refusal),
         }
+    }
+
+    /// Carries out a resolved statement at an offset.
+    fn carry_out<F: Files>(
+        &mut self,
+        at: usize,
+        resolved: Resolved,
+        files: &mut F,
+    ) -> Result<Bytes, StepRefusal>
+        requires ready { IsReady self.old resolved }
+        requires sound { KeepsSound (asks self.old at resolved) }
+        ensures { IsCarriedOut (asks self.old at resolved) self.old self.new result (over F.held F.faults F.begun F.absent F.taken files.old files.new)
+            (files.new ≡ files.old) }
+    {
+        step(self.alloc, &mut self.catalog, files, at, &resolved)
     }
 
     /// The statement with its names looked up, which can be carried out and keeps the catalog sound; or why it can't stand:
