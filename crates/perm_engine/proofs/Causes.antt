@@ -1,5 +1,5 @@
 -- Every turn that is refused has a refusal that names why.
-use Rattle.std.proofs.Common.{◌≡◌, ◌≢◌, ◌∙◌, ℕ, Bool, true, false, true≢false, cond, nat_eq, List, [], ◌∷◌, length, Option, Some, None, codes, refl, sym, ap}
+use Rattle.std.proofs.Common.{◌≡◌, ◌≢◌, ◌∙◌, ℕ, Bool, true, false, true≢false, cond, nat_eq, List, [], ◌∷◌, length, Option, Some, None, Result, Ok, Err, codes, refl, sym, ap}
 use Rattle.std.specs.List.{count_by}
 use Rattle.perm_values.specs.Numbers.{last_number}
 use Rattle.perm_values.specs.declared.kind.Kind.{Kind}
@@ -42,6 +42,16 @@ is_told refusal.NoMemory = false
 
 pub told≢ : (refused : StepRefusal) → is_told refused ≡ true → refused ≢ refusal.NoMemory
 told≢ refused h e = true≢false (sym h ∙ ap is_told e)
+
+-- the answer of a call that refuses so
+abbrev pub refuses_with : StepRefusal → Result (List ℕ) StepRefusal
+refuses_with refused = Err refused
+
+-- want of memory alone is answered as that
+pub told-answer : (refused : StepRefusal) → refused ≢ refusal.NoMemory → refuses_with refused ≡ refuses_with refusal.NoMemory → ⊥
+told-answer refused told e = told (same refused e) where
+  same : (refused : StepRefusal) → refuses_with refused ≡ refuses_with refusal.NoMemory → refused ≡ refusal.NoMemory
+  same refused e = cc
 
 -- a refusal names the cause
 abbrev pub HasName : Turn → Type 0

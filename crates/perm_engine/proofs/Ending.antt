@@ -20,7 +20,7 @@ use Rattle.perm_engine.specs.declared.status.Status.TheVariants as status
 use Rattle.perm_engine.specs.Ends.{Written, IsSaid, IsSilent, Ends, EndsSome, EndsStopped, Opens, joined, opened}
 use Rattle.perm_engine.specs.Run.{Ran, RunsFrom, text_of, ended, after_text, after_files, IsWhole}
 use Rattle.perm_engine.specs.Stops.{Stop, ToTheEnd, At, Backs, line_of}
-use Rattle.perm_engine.proofs.Causes.{is_told, told≢}
+use Rattle.perm_engine.proofs.Causes.{told≢, told-answer, refuses_with}
 use Rattle.perm_engine.proofs.Firsts.{stops-first, refused-turn}
 use Rattle.perm_engine.proofs.Widening.{CanBe-wider}
 use Rattle.perm_engine.proofs.Turns.{files_of, asks-stands, asks-ends, some_run, some_run-asking, begun-told, begun-short}
@@ -251,36 +251,31 @@ module _ (statements : List Statement) (start : Contents) (statement : Statement
       (record { files = count; within = omega (arith, few, some.2); whole = λ wrong. absurd wrong; counted = counted })
       (λ wrong. absurd wrong))
 
-  no_text : {X : Type 0} (refused : StepRefusal) → refused ≢ step.NoMemory → Err {A = X} refused ≡ Err step.NoMemory → ⊥
-  no_text refused told e = told (same_refusal e) where
-    same_refusal : {X : Type 0} → Err {A = X} refused ≡ Err step.NoMemory → refused ≡ step.NoMemory
-    same_refusal e = cc
-
   -- the next statement is refused, or memory is wanting for it
   pub HasRun-stopped : (refused : StepRefusal) (next : Contents) (end : Option (List ℕ)) (faults : ℕ) (unflushed : Bool) (s : Status) →
       now.next < last_number → TakesTurn (can_be files) (asked now statement) now next (Err refused) →
-      (IsTrue (begins (asked now statement)) → (files.begun_after ≡ next_count begun_now) ⊎ ((Err {A = List ℕ} refused ≡ Err step.NoMemory) × (files.begun_after ≡ begun_now))) →
+      (IsTrue (begins (asked now statement)) → (files.begun_after ≡ next_count begun_now) ⊎ ((refuses_with refused ≡ refuses_with step.NoMemory) × (files.begun_after ≡ begun_now))) →
       (begins (asked now statement) ≡ false → files.begun_after ≡ begun_now) → RestsOn refused files →
       EndsStopped now statement refused (written after end faults_after faults unflushed) s →
       EndsSome (can_be files) (RunsFrom (can_be files) start statements) (written before end faults_before faults unflushed) files s
   HasRun-stopped (step.Break b) next end faults unflushed s few turn opens still rests e =
       let told = told≢ (step.Break b) refl in
-      HasRun-refused (step.Break b) next end faults unflushed s told few turn (begun-told (asked now statement) begun_now files.begun_after _ opens still (no_text (step.Break b) told)) rests e
+      HasRun-refused (step.Break b) next end faults unflushed s told few turn (begun-told (asked now statement) begun_now files.begun_after _ opens still (told-answer (step.Break b) told)) rests e
   HasRun-stopped (step.Run fault at) next end faults unflushed s few turn opens still rests e =
       let told = told≢ (step.Run fault at) refl in
-      HasRun-refused (step.Run fault at) next end faults unflushed s told few turn (begun-told (asked now statement) begun_now files.begun_after _ opens still (no_text (step.Run fault at) told)) rests e
+      HasRun-refused (step.Run fault at) next end faults unflushed s told few turn (begun-told (asked now statement) begun_now files.begun_after _ opens still (told-answer (step.Run fault at) told)) rests e
   HasRun-stopped (step.Missing at) next end faults unflushed s few turn opens still rests e =
       let told = told≢ (step.Missing at) refl in
-      HasRun-refused (step.Missing at) next end faults unflushed s told few turn (begun-told (asked now statement) begun_now files.begun_after _ opens still (no_text (step.Missing at) told)) rests e
+      HasRun-refused (step.Missing at) next end faults unflushed s told few turn (begun-told (asked now statement) begun_now files.begun_after _ opens still (told-answer (step.Missing at) told)) rests e
   HasRun-stopped (step.TooLarge at) next end faults unflushed s few turn opens still rests e =
       let told = told≢ (step.TooLarge at) refl in
-      HasRun-refused (step.TooLarge at) next end faults unflushed s told few turn (begun-told (asked now statement) begun_now files.begun_after _ opens still (no_text (step.TooLarge at) told)) rests e
+      HasRun-refused (step.TooLarge at) next end faults unflushed s told few turn (begun-told (asked now statement) begun_now files.begun_after _ opens still (told-answer (step.TooLarge at) told)) rests e
   HasRun-stopped (step.Unfit rule) next end faults unflushed s few turn opens still rests e =
       let told = told≢ (step.Unfit rule) refl in
-      HasRun-refused (step.Unfit rule) next end faults unflushed s told few turn (begun-told (asked now statement) begun_now files.begun_after _ opens still (no_text (step.Unfit rule) told)) rests e
+      HasRun-refused (step.Unfit rule) next end faults unflushed s told few turn (begun-told (asked now statement) begun_now files.begun_after _ opens still (told-answer (step.Unfit rule) told)) rests e
   HasRun-stopped step.ReadFault next end faults unflushed s few turn opens still rests e =
       let told = told≢ step.ReadFault refl in
-      HasRun-refused step.ReadFault next end faults unflushed s told few turn (begun-told (asked now statement) begun_now files.begun_after _ opens still (no_text step.ReadFault told)) rests e
+      HasRun-refused step.ReadFault next end faults unflushed s told few turn (begun-told (asked now statement) begun_now files.begun_after _ opens still (told-answer step.ReadFault told)) rests e
   HasRun-stopped step.NoMemory next end faults unflushed s few turn opens still rests e =
       let count = begun-short (asked now statement) begun_now files.begun_after _ opens still in
       HasRun-short end faults count.0 unflushed s count.1 count.2 e

@@ -18,6 +18,7 @@ use Rattle.statement_words.specs.Ready.{IsReady}
 use Rattle.statement_words.specs.Turns.{Turn, Stands, Refused, Broken}
 use Rattle.statement_words.specs.declared.refusal.StepRefusal.{StepRefusal}
 use Rattle.statement_words.specs.declared.refusal.StepRefusal.TheVariants as refusal
+use Rattle.perm_engine.proofs.Causes.{refuses_with}
 use Rattle.perm_engine.specs.Resolving.{IsMade, Resolves, ResolvesBuilt, ResolvesBy}
 
 -- ---- resolving
@@ -36,11 +37,12 @@ pub asked-made : (c : Contents) (statement : Statement) (made : Resolved) → Is
 asked-made c statement made h =
     ap (λ bs. unless_broken bs (asks c statement.at (resolved c statement))) h.whole ∙ ap (asks c statement.at) (sym h.is)
 
+same_break : (first b : Break) → first_or (first ∷ []) (tt {0}) ≡ Err b → first ≡ b
+same_break first b e = cc
+
 broken-first : (all : List Break) (a : Asked) (b : Break) → first_or all (tt {0}) ≡ Err b → unless_broken all a ≡ Settled (Refused (Broken b))
 broken-first [] a b e = absurd cc
-broken-first (first ∷ more) a b e = ap (λ d. Settled (Refused (Broken d))) (same e) where
-  same : Err {A = Unit {0}} first ≡ Err b → first ≡ b
-  same e = cc
+broken-first (first ∷ more) a b e = ap (λ d. Settled (Refused (Broken d))) (same_break first b e)
 
 asked-broken : (c : Contents) (statement : Statement) (b : Break) → first_or (all_breaks c statement) (tt {0}) ≡ Err b → asked c statement ≡ Settled (Refused (Broken b))
 asked-broken c statement b e = broken-first (all_breaks c statement) (asks c statement.at (resolved c statement)) b e
@@ -82,7 +84,7 @@ module _ (c : Contents) (statement : Statement) (files : Files) where
 
   -- a file that wasn't begun was to be begun only where memory was wanting
   pub refused-unbegun : (refused : StepRefusal) → Resolves c statement (Err refused) → (begun : ℕ) → IsTrue (begins (asked c statement)) →
-      (begun ≡ next_count begun) ⊎ ((Err {A = List ℕ} refused ≡ Err refusal.NoMemory) × (begun ≡ begun))
+      (begun ≡ next_count begun) ⊎ ((refuses_with refused ≡ refuses_with refusal.NoMemory) × (begun ≡ begun))
   refused-unbegun (refusal.Break b) h begun some = absurd (true≢false (sym some ∙ ap begins (asked-broken c statement b h)))
   refused-unbegun (refusal.Run fault at) h begun some = absurd h
   refused-unbegun (refusal.Missing at) h begun some = absurd h
