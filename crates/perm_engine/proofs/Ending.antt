@@ -279,4 +279,3 @@ module _ (statements : List Statement) (start : Contents) (statement : Statement
   HasRun-stopped step.NoMemory next end faults unflushed s few turn opens still rests e =
       let count = begun-short (asked now statement) begun_now files.begun_after _ opens still in
       HasRun-short end faults count.0 unflushed s count.1 count.2 e
-

@@ -177,5 +177,5 @@ pub stops-late : (c : Contents) (statements : List Statement) (b : Break) → b.
 stops-late c [] b e stops = absurd stops
 stops-late c (statement ∷ statements) b e stops =
     let l = stops-asked c (asks c statement.at (resolved c statement)) (all_breaks c statement) statements b (all-unspent c statement) (thrifty-whole c statement) e stops
-        (λ after more. stops-late after statements b e more) in
+    (λ after more. stops-late after statements b e more) in
     omega (arith, l)

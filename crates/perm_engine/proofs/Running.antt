@@ -74,8 +74,8 @@ Runs-read words name files bytes bytes' held faults mid w s one begun can same_h
     let widen = CanBe-moved file_limit held files.held faults files.faults files.faults_after files.faults_after same_held same_faults refl in
     let runs = script-wider (can_be f) (can_be files) widen bytes' e.ran e.is in
     inl (
-      Runs-found words name files (Read bytes) e.ran w mid s one begun can (subst (λ b. RunsScript (can_be files) b e.ran) same runs) e.ends e.opens
-      (λ i. backs-wider (can_be f) (can_be files) widen e.ran.stop f files (script-of_script (can_be f) bytes' e.ran e.is) refl refl (e.backed i))
+    Runs-found words name files (Read bytes) e.ran w mid s one begun can (subst (λ b. RunsScript (can_be files) b e.ran) same runs) e.ends e.opens
+    (λ i. backs-wider (can_be f) (can_be files) widen e.ran.stop f files (script-of_script (can_be f) bytes' e.ran e.is) refl refl (e.backed i))
     )
 Runs-read words name files bytes bytes' held faults mid w s one begun can same_held same_faults same (inr (silent, none)) = inr (silent, none ∙ begun)
 

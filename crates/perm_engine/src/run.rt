@@ -14,6 +14,7 @@ use crate::status::Status;
 use crate::stopping::{finish, refuse, stop};
 use perm_io::{Files, ReadError, Sink, read_all, write_all};
 use perm_values::{Chars, List};
+use sql_parser::a_spelled_script_is_regular;
 use sql_tree::Statement;
 use std::alloc::Global;
 
@@ -57,6 +58,7 @@ fn run_script<F: Files, K: Sink>(alloc: Global, bytes: &[u8], files: &mut F, out
     ensures steady { IsSteady result → F.faults files.new ≡ F.faults files.old }
     ensures held { F.held files.new ≡ F.held files.old }
 {
+    a_spelled_script_is_regular();
     match script_of(alloc, bytes) {
         Ok(script) => run_statements(alloc, script.statements, files, out),
         Err(refusal) => refuse(refusal, out),
@@ -73,7 +75,7 @@ pub fn perm<F: Files, K: Sink>(alloc: Global, words: &[Chars], files: &mut F, ou
     // Where no file and no write failed, it is a whole run in which none failed, unless memory was wanting.
     ensures complete { (HasRisen (F.faults files.old) (F.faults files.new) → ⊥) → (HasRisen (K.faults out.old) (K.faults out.new) → ⊥)
         → Completes (Runs words.now (F.held files.old) ⊥) (over K.written K.faults K.unflushed out.old out.new)
-            (seen F.held F.faults F.begun F.absent F.taken files.old files.new) result }
+        (seen F.held F.faults F.begun F.absent F.taken files.old files.new) result }
 
     // When each status comes.
     ensures usage { result ≡ Status.Usage → is_one words.now ≡ false }
