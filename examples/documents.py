@@ -3,8 +3,8 @@
 
 An example is a block ```sql, the script, and the block behind it, which names no language: the answer. Text between the two
 that says `status N` tells the exit status; it is 0 otherwise. A block ```csv NAME is a file that later scripts of the
-document may copy, with CR LF as line ends where `crlf` stands behind its name. A block ```sql PATH is a part of that script,
-which is run whole from the top of the repository: the answer is the end of what it answers.
+document may copy. A block ```sql PATH is a part of that script, which is run whole from the top of the repository: the answer
+is the end of what it answers.
 """
 import os
 import pathlib
@@ -46,8 +46,7 @@ def check(program, document, folder):
     for block, behind in zip(blocks, blocks[1:] + [None]):
         words = block[1].split()
         if words[:1] == ["csv"]:
-            end = "\r\n" if words[2:] == ["crlf"] else "\n"
-            pathlib.Path(folder, words[1]).write_bytes(block[2].replace("\n", end).encode())
+            pathlib.Path(folder, words[1]).write_text(block[2])
         if words[:1] != ["sql"]:
             continue
         count += 1
