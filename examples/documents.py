@@ -3,8 +3,8 @@
 
 An example is a block ```sql, the script, and the block behind it, which names no language: the answer. Text between the two
 that says `status N` tells the exit status; it is 0 otherwise. A block ```csv NAME is a file that later scripts of the
-document may copy. A block ```sql PATH is a part of that script, which is run whole from the top of the repository: the answer
-is the end of what it answers.
+document may copy. A block ```sql PATH has lines of that script, in their order, which is run whole from the top of the
+repository: the answer is the end of what it answers.
 """
 import os
 import pathlib
@@ -25,8 +25,9 @@ def run(program, script, folder):
 def mistake(program, words, script, answer, status, folder):
     """Why the example is wrong; None where it is right."""
     if len(words) > 1:
-        if script not in (TOP / words[1]).read_text():
-            return f"it is no part of {words[1]}"
+        lines = iter((TOP / words[1]).read_text().splitlines())
+        if not all(line in lines for line in script.splitlines()):
+            return f"it isn't of lines of {words[1]}"
         ended, written = run(program, words[1], TOP)
         if not written.endswith(answer):
             return f"{words[1]} answers\n{written}"
