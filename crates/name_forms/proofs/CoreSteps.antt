@@ -1,5 +1,5 @@
 -- A core over what is made well formed: FROM first, and then its clauses.
-use Rattle.std.specs.Prelude.{◌≡◌, ℕ, Bool, true, false, cond, List, [], ◌∷◌, ◌++◌, Option, Some, None}
+use Rattle.std.specs.Prelude.{◌≡◌, ℕ, Bool, true, false, cond, List, [], ◌∷◌, Option}
 use Rattle.std.proofs.Common.{refl, ap, sym, ◌∙◌, subst, true≢false}
 use Rattle.std.specs.List.{AllByRecursion as Every}
 use Rattle.std.specs.Option.{option_map_or}
@@ -7,7 +7,7 @@ use Rattle.perm_values.specs.declared.kind.Kind.{Kind}
 use Rattle.bag_algebra.specs.Kinds.{kinds_of}
 use Rattle.bag_algebra.specs.WellFormed.{WellFormed}
 use Rattle.sql_tree.specs.declared.name.ColRef.{ColRef}
-use Rattle.name_words.specs.Cores.{core_over, core_unlooked, core_seen, core_trace, word_breaks, clause_breaks, core_clauses, in_clause, group_scope}
+use Rattle.name_words.specs.Cores.{core_over, core_unlooked, core_seen, core_trace, word_breaks}
 use Rattle.name_words.specs.Froms.{FromMeant}
 use Rattle.name_words.specs.Items.{SelectPart}
 use Rattle.name_words.specs.Meanings.{Part, Around, QueryMeant, is_whole}
@@ -15,7 +15,7 @@ use Rattle.name_words.specs.Scopes.{ScopeItem, scope_of}
 use Rattle.name_words.specs.declared.answer.Break.{Break}
 use Rattle.name_forms.specs.Standing.{HoldsScope, RowsHold}
 use Rattle.name_forms.proofs.Arms.{GoodOptional}
-use Rattle.name_forms.proofs.Cores.{CoreStands, formed-clauses}
+use Rattle.name_forms.proofs.Cores.{formed-clauses}
 use Rattle.name_forms.proofs.Froms.{FormedFrom, GoodFrom, scope-holds}
 use Rattle.name_forms.proofs.GoodMeant.{back-none}
 use Rattle.name_forms.proofs.Items.{GoodItem}
@@ -23,7 +23,7 @@ use Rattle.name_forms.proofs.Items.{GoodItem}
 abbrev pub FormedQuery : Around → QueryMeant → Type 0
 FormedQuery around m = m.breaks ≡ [] → (rows : List (List Kind)) → RowsHold around.outer rows → (wanted : List Kind) → WellFormed rows (m.make wanted)
 
-whole-none : (breaks : List Break) → is_whole breaks ≡ true → breaks ≡ []
+pub whole-none : (breaks : List Break) → is_whole breaks ≡ true → breaks ≡ []
 whole-none [] e = refl
 whole-none (b ∷ bs) e = absurd (true≢false (sym e))
 

@@ -4,6 +4,8 @@ mod Bodies
 mod Columns
 mod CoreSteps
 mod Cores
+mod Filled
+mod FilledTrees
 mod FormedParts
 mod Forms
 mod Froms

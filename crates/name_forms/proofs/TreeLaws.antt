@@ -1,13 +1,14 @@
 -- The laws of what every regular tree is made to.
-use Rattle.std.specs.Prelude.{◌≡◌, true, List, [], length}
+use Rattle.std.specs.Prelude.{◌≡◌, ◌<◌, true, List, [], length}
 use Rattle.std.proofs.Common.{refl, ap, sym, ◌∙◌, subst}
 use Rattle.perm_catalog.specs.Contents.{Contents}
 use Rattle.perm_catalog.specs.Sound.{IsSound}
 use Rattle.perm_values.specs.declared.kind.Kind.{Kind}
 use Rattle.bag_algebra.specs.Closed.{is_closed}
+use Rattle.bag_algebra.specs.Kinds.{width_of}
 use Rattle.bag_algebra.specs.WellFormed.{WellFormed}
 use Rattle.query_measures.proofs.Closing.{query_within}
-use Rattle.sql_tree.specs.Regular.{RegularExpr, RegularQuery}
+use Rattle.sql_tree.specs.Regular.{IsFilled, RegularExpr, RegularQuery}
 use Rattle.sql_tree.specs.declared.expression.ExprTree.{ExprTree}
 use Rattle.sql_tree.specs.declared.query.QueryTree.{QueryTree}
 use Rattle.name_words.specs.Meanings.{Surroundings, Before, Around, means_at, query_means_at, settled}
@@ -15,6 +16,8 @@ use Rattle.name_words.specs.Trees.{part_of, query_of}
 use Rattle.name_laws.proofs.Trees.{query-known}
 use Rattle.name_forms.specs.Formed.{IsFormedExpr, IsAnswer}
 use Rattle.name_forms.specs.Standing.{RowsHold}
+use Rattle.name_forms.proofs.Filled.{Shown, filled-length}
+use Rattle.name_forms.proofs.FilledTrees.{filled-query}
 use Rattle.name_forms.proofs.Queries.{length-settle}
 use Rattle.name_forms.proofs.Trees.{good-expr, good-query}
 
@@ -51,3 +54,12 @@ query-answer c tree around sound regular whole =
       keys = λ wanted. good.keys whole wanted;
       places = good.places whole;
     }
+
+pub query-wide : (c : Contents) (tree : QueryTree) (around : Around) → IsSound c → RegularQuery tree
+    → (query_means_at (query_of c tree) around).breaks ≡ [] → (wanted : List Kind)
+    → 0 < width_of ((query_means_at (query_of c tree) around).make wanted)
+unfolding query_means_at
+query-wide c tree around sound regular whole wanted =
+    let answer : IsAnswer (query_means_at (query_of c tree) around) = query-answer c tree around sound regular whole in
+    let filled : IsFilled answer.columns = subst Shown answer.known (filled-query c sound regular around) in
+    subst (λ width. 0 < width) (answer.named wanted) (filled-length answer.columns filled)

@@ -1,63 +1,54 @@
 -- Every regular tree is made well formed: each of its forms is, where its parts are.
-use Rattle.std.specs.Prelude.{◌≡◌, ⊤, ℕ, zero, suc, ◌<◌, Bool, true, false, List, [], ◌∷◌, ◌++◌, map, length, is_some, slice_index_or, Contains, Option, Some, None}
-use Rattle.std.proofs.Common.{refl, ap, sym, ◌∙◌, subst, true≢false, arith}
+use Rattle.std.specs.Prelude.{◌≡◌, ℕ, suc, false, List, [], ◌∷◌, map, Contains, Option, Some, None}
+use Rattle.std.proofs.Common.{refl, sym, subst, arith}
 use Rattle.std.specs.List.{AllByRecursion as Every}
-use Rattle.null_logic.specs.declared.operator.Operator.{Operator}
 use Rattle.perm_catalog.specs.Contents.{Contents}
 use Rattle.perm_catalog.specs.Sound.{IsSound}
-use Rattle.perm_values.specs.declared.kind.Kind.{Kind}
-use Rattle.sql_tree.specs.Regular.{IsFilled, IsSeveral, RegularExpr, RegularBodyLayer, RegularStep, RegularArm, RegularQuery, RegularSetLayer, RegularSetStep, RegularCore, RegularItemLayer, RegularFrom, RegularJoin, RegularFromItem, RegularSourceLayer, BodyLayer, SetLayer, ItemLayer, SourceLayer, regular_expr, regular_null, regular_null_of, regular_integer, regular_text, regular_truth, regular_column, regular_paren, regular_nots, regular_signs, regular_logic, regular_chain, regular_compared, regular_like, regular_between, regular_in_list, regular_in_query, regular_quantified, regular_is_null, regular_is_truth, regular_is_distinct, regular_case, regular_coalesce, regular_null_if, regular_aggregate, regular_exists, regular_scalar, regular_step, regular_arm, regular_query, regular_set_core, regular_set_paren, regular_set_chain, regular_set_step, regular_core, regular_star, regular_table_star, regular_value, regular_from, regular_join_step, regular_from_item, regular_named, regular_inner}
+use Rattle.sql_tree.specs.Regular.{IsSeveral, RegularExpr, RegularBodyLayer, RegularStep, RegularArm, RegularQuery, RegularSetLayer, RegularSetStep, RegularCore, RegularItemLayer, RegularFrom, RegularJoin, RegularFromItem, RegularSourceLayer, BodyLayer, SetLayer, ItemLayer, SourceLayer, regular_expr, regular_null, regular_null_of, regular_integer, regular_text, regular_truth, regular_column, regular_paren, regular_nots, regular_signs, regular_logic, regular_chain, regular_compared, regular_like, regular_between, regular_in_list, regular_in_query, regular_quantified, regular_is_null, regular_is_truth, regular_is_distinct, regular_case, regular_coalesce, regular_null_if, regular_aggregate, regular_exists, regular_scalar, regular_step, regular_arm, regular_query, regular_set_core, regular_set_paren, regular_set_chain, regular_set_step, regular_core, regular_star, regular_table_star, regular_value, regular_from, regular_join_step, regular_from_item, regular_named, regular_inner}
 use Rattle.sql_tree.specs.declared.expression.ArmTree.{ArmTree}
 use Rattle.sql_tree.specs.declared.expression.ExprBody.{ExprBody, out-ExprBody}
-use Rattle.sql_tree.specs.declared.expression.ExprBody.TheOpen.{ExprBody-F, SelectItem-F, SetTree-F, FromSource-F, Core-F, FromTree-F, JoinStep-F}
+use Rattle.sql_tree.specs.declared.expression.ExprBody.TheOpen.{SelectItem-F}
 use Rattle.sql_tree.specs.declared.expression.ExprStep.{ExprStep}
 use Rattle.sql_tree.specs.declared.expression.ExprTree.{ExprTree}
 use Rattle.sql_tree.specs.declared.name.Name.{Name}
 use Rattle.sql_tree.specs.declared.query.Core.{Core, out-Core}
 use Rattle.sql_tree.specs.declared.query.QueryTree.{QueryTree}
-use Rattle.sql_tree.specs.declared.query.SelectItem.{SelectItem, out-SelectItem}
 use Rattle.sql_tree.specs.declared.query.SetStep.{SetStep}
-use Rattle.sql_tree.specs.declared.query.SetTree.{SetTree, out-SetTree}
 use Rattle.sql_tree.specs.declared.source.FromItem.{FromItem}
-use Rattle.sql_tree.specs.declared.source.FromSource.{FromSource, out-FromSource}
 use Rattle.sql_tree.specs.declared.source.FromTree.{FromTree, out-FromTree}
 use Rattle.sql_tree.specs.declared.source.JoinStep.{JoinStep, out-JoinStep}
 use Rattle.name_words.proofs.Equations.{SelectItemFrame}
-use Rattle.name_words.specs.Cores.{BodyPart, core_step, core_trace, has_some}
-use Rattle.name_words.specs.Expressions.{Body, ArmPart, StepPart, body_step, expr_step, arm_step, step_step}
-use Rattle.name_words.specs.Froms.{SourcePart, from_all, first_item, source_step, from_item_step, from_step, join_step, scope_name, label_of, read_of, FromPart, FromItemPart, JoinPart}
-use Rattle.name_words.specs.Items.{SelectPart, item_step, title}
-use Rattle.name_words.specs.Meanings.{Surroundings, Part, Around, QueryMeant, QueryPart, query_means_at}
-use Rattle.name_words.specs.Queries.{SetStepPart, set_step, set_step_step, query_step, unprovable}
+use Rattle.name_words.specs.Cores.{BodyPart, core_trace, has_some}
+use Rattle.name_words.specs.Expressions.{Body}
+use Rattle.name_words.specs.Froms.{from_all, first_item, source_step, scope_name, label_of, read_of}
+use Rattle.name_words.specs.Items.{item_step, title}
+use Rattle.name_words.specs.Meanings.{Surroundings, Part, Around, QueryPart, query_means_at}
+use Rattle.name_words.specs.Queries.{SetStepPart, set_step, unprovable}
 use Rattle.name_words.specs.Trees.{body_of, item_of, set_of_tree, source_of, arm_of, step_of, part_of, core_of, query_of, set_step_of, from_item_of, from_of, join_of}
 use Rattle.name_laws.proofs.Trees.{query-known, core-known}
 use Rattle.name_forms.proofs.Arms.{GoodStep, GoodArm, GoodOptional}
 use Rattle.name_forms.proofs.Bodies.{GoodQueryPart, FormParts, formed-body, plain-body}
 use Rattle.name_forms.proofs.CoreSteps.{FormedQuery, formed-core_seen}
+use Rattle.name_forms.proofs.Filled.{filled-map}
 use Rattle.name_forms.proofs.Froms.{GoodSource, GoodFromItem, GoodFromPart, GoodJoin, good-read_of, good-item_meant, good-first, good-join_all, good-from_all}
 use Rattle.name_forms.proofs.GoodMeant.{GoodMeant, GoodPart, IsPlain}
 use Rattle.name_forms.proofs.Items.{GoodItem, good-star, plain-star, good-table_star, plain-table_star, good-value, plain-value}
-use Rattle.name_forms.proofs.Opened.{Layer_core, Layer_from, Layer_join, shown_body, shown_item, shown_set, shown_source, shown_core, shown_from, shown_join, opened_body, opened_item, opened_set, opened_source, opened_core, opened_from, opened_join, opened_expr, opened_arm, opened_step, opened_query, opened_set_step, opened_from_item}
+use Rattle.name_forms.proofs.Opened.{Layer_core, Layer_join, shown_body, shown_item, shown_set, shown_source, shown_core, shown_join, opened_body, opened_item, opened_set, opened_source, opened_core, opened_from, opened_join, opened_expr, opened_arm, opened_step, opened_query, opened_set_step, opened_from_item}
 use Rattle.name_forms.proofs.Queries.{GoodBody, GoodBodyMeant, GoodQueryMeant, good-chain, good-query_seen}
-use Rattle.name_forms.proofs.Sublinks.{GoodQuery}
 
 -- ---- lists
 
 -- what holds of the meaning of each holds of the meanings of all
-all-meant : {X Y : Type 0} (P : Y → Type 0) (means : X → Y) (xs : List X) → ((x : X) → Contains xs x → P (means x)) → Every P (map means xs)
+pub all-meant : {X Y : Type 0} (P : Y → Type 0) (means : X → Y) (xs : List X) → ((x : X) → Contains xs x → P (means x)) → Every P (map means xs)
 all-meant P means [] h = tt
 all-meant P means (x ∷ xs) h = (
   h x (0, omega arith, refl),
   all-meant P means xs (λ y there. h y (suc there.0, (let l = there.1 in omega (arith, l)), there.2)),
 )
 
-filled-meant : {X Y : Type 0} (means : X → Y) (xs : List X) → IsFilled xs → IsFilled (map means xs)
-filled-meant means [] h = h
-filled-meant means (x ∷ xs) h = tt
-
 several-meant : {X Y : Type 0} (means : X → Y) (xs : List X) → IsSeveral xs → IsSeveral (map means xs)
 several-meant means [] h = h
-several-meant means (x ∷ xs) h = filled-meant means xs h
+several-meant means (x ∷ xs) h = filled-map means xs h
 
 -- ---- steps that need no recursion
 
@@ -154,7 +145,7 @@ module _ (c : Contents) (sound : IsSound c) where
     good-layer (regular_chain level {steps = steps} regular filled each) = (
       level,
       good-expr regular,
-      filled-meant (step_of c) steps filled,
+      filled-map (step_of c) steps filled,
       all-meant (GoodStep level) (step_of c) steps (λ step in_steps. good-step (each step in_steps)),
     )
     good-layer (regular_compared first second) = (good-expr first, good-expr second)
@@ -162,7 +153,7 @@ module _ (c : Contents) (sound : IsSound c) where
     good-layer (regular_between part low high) = (good-expr part, good-expr low, good-expr high)
     good-layer (regular_in_list {list = list} part filled each) = (
       good-expr part,
-      filled-meant (part_of c) list filled,
+      filled-map (part_of c) list filled,
       all-meant GoodPart (part_of c) list (λ other in_list. good-expr (each other in_list)),
     )
     good-layer (regular_in_query {query = query} part q) = (good-expr part, good-of_query query (λ around. good-query q around))
@@ -171,17 +162,17 @@ module _ (c : Contents) (sound : IsSound c) where
     good-layer (regular_is_truth part) = good-expr part
     good-layer (regular_is_distinct first second) = (good-expr first, good-expr second)
     good-layer (regular_case {arms = arms} {otherwise = None} filled each other) = (
-      filled-meant (arm_of c) arms filled,
+      filled-map (arm_of c) arms filled,
       all-meant GoodArm (arm_of c) arms (λ arm in_arms. good-arm (each arm in_arms)),
       tt,
     )
     good-layer (regular_case {arms = arms} {otherwise = Some part} filled each other) = (
-      filled-meant (arm_of c) arms filled,
+      filled-map (arm_of c) arms filled,
       all-meant GoodArm (arm_of c) arms (λ arm in_arms. good-arm (each arm in_arms)),
       good-expr (other part refl),
     )
     good-layer (regular_coalesce {list = list} filled each) = (
-      filled-meant (part_of c) list filled,
+      filled-map (part_of c) list filled,
       all-meant GoodPart (part_of c) list (λ part in_list. good-expr (each part in_list)),
     )
     good-layer (regular_null_if first second) = (good-expr first, good-expr second)
@@ -237,7 +228,7 @@ module _ (c : Contents) (sound : IsSound c) where
     }
     good-item (regular_value {expr = expr} {name = name} regular) = value-item name (part_of c expr) (good-expr regular)
 
-    good-from : {tree : FromTree} → RegularFrom tree → GoodFromPart (from_of c tree)
+    pub good-from : {tree : FromTree} → RegularFrom tree → GoodFromPart (from_of c tree)
     good-from (regular_from {tree = tree} first joins) =
         let layer = out-FromTree tree in
         let item : GoodFromItem (from_item_of c layer.first) = good-from_item first in

@@ -1,6 +1,7 @@
 //! Each law is the contract of a function that does nothing.
-ghost use Rattle.std.specs.Prelude.{◌≡◌, true, List, []};
+ghost use Rattle.std.specs.Prelude.{◌≡◌, ◌<◌, true, List, []};
 ghost use Rattle.bag_algebra.specs.Closed.{is_closed};
+ghost use Rattle.bag_algebra.specs.Kinds.{width_of};
 ghost use Rattle.bag_algebra.specs.WellFormed.{WellFormed};
 ghost use Rattle.name_forms.specs.Formed.{IsFormedExpr, IsAnswer};
 ghost use Rattle.name_forms.specs.Standing.{RowsHold};
@@ -41,4 +42,11 @@ pub fn outermost_queries_are_closed()
 pub fn queries_are_answers()
     ensures { (c : Contents) (tree : QueryTree) (around : Around) → IsSound c → RegularQuery tree
         → (query_means_at (query_of c tree) around).breaks ≡ [] → IsAnswer (query_means_at (query_of c tree) around) }
+{}
+
+/// It has at least one column.
+pub fn queries_have_a_column()
+    ensures { (c : Contents) (tree : QueryTree) (around : Around) → IsSound c → RegularQuery tree
+        → (query_means_at (query_of c tree) around).breaks ≡ [] → (wanted : List Kind)
+        → 0 < width_of ((query_means_at (query_of c tree) around).make wanted) }
 {}

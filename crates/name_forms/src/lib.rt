@@ -1,9 +1,9 @@
-//! Laws of what a statement means: what names make is well formed, and at the outermost closed.
+//! Laws of what a statement means: what names make is well formed, at the outermost closed, and has a column.
 #![tactic(auto)]
 
 mod laws;
 
 pub use laws::{
     expressions_are_well_formed, outermost_queries_are_closed, queries_are_answers,
-    queries_are_well_formed,
+    queries_are_well_formed, queries_have_a_column,
 };

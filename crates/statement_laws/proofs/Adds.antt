@@ -1,5 +1,5 @@
 -- What a statement adds that breaks no rule: columns of a table, and values of the kinds of their columns.
-use Rattle.std.proofs.Common.{◌≡◌, ◌≢◌, ◌<◌, ◌∙◌, ℕ, suc, Bool, true, false, cond, not, ◌||◌, nat_eq, List, [], ◌∷◌, ◌++◌, map, length, Option, Some, None, IfSome, refl, sym, ap, subst, arith}
+use Rattle.std.proofs.Common.{◌≡◌, ◌≢◌, ◌∙◌, ℕ, suc, Bool, true, false, cond, not, ◌||◌, nat_eq, List, [], ◌∷◌, length, Option, Some, None, IfSome, refl, sym, ap, subst, arith}
 use Rattle.std.proofs.lemmas.Bool.Decides.{nat_tests}
 use Rattle.std.proofs.lemmas.List.Elements.{All-head, All-tail, All-map, All-weaker, All-contains_itself}
 use Rattle.std.specs.Cmp.Lexicographic.{pointwise, nat_list_eq_equiv}
@@ -8,7 +8,6 @@ use Rattle.std.specs.Option.{option_map_or}
 use Rattle.perm_values.specs.declared.kind.Kind.{Kind}
 use Rattle.perm_values.specs.declared.kind.Kind.TheVariants as kind
 use Rattle.bag_algebra.specs.BuiltForms.{subs_kinds}
-use Rattle.bag_algebra.specs.Kinds.{width_of}
 use Rattle.bag_algebra.specs.WellFormed.{HasKind}
 use Rattle.bag_algebra.specs.declared.query.Aggr.{Aggr}
 use Rattle.bag_algebra.specs.declared.query.Sublink.{Sublink}
@@ -37,10 +36,10 @@ use Rattle.name_laws.proofs.Every.{front-none, back-none}
 use Rattle.name_laws.proofs.Trees.{query-in_scope}
 use Rattle.name_forms.specs.Formed.{IsAnswer, IsFormedExpr}
 use Rattle.name_forms.specs.Standing.{StandAt, AggregatesStand}
-use Rattle.name_forms.proofs.TreeLaws.{expr-formed, query-answer, query-closed}
+use Rattle.name_forms.proofs.TreeLaws.{expr-formed, query-answer, query-closed, query-wide}
 use Rattle.name_tables.proofs.Named.{view-reads}
 use Rattle.statement_laws.proofs.Ready.{names-whole, unbroken, not-false}
-use Rattle.statement_laws.specs.Sounder.{AddsSoundly, HaveKinds, ViewHasColumn, RowsHaveKinds}
+use Rattle.statement_laws.specs.Sounder.{AddsSoundly, HaveKinds, RowsHaveKinds}
 
 all-of : {X : Type 0} (P : X → Type 0) (xs : List X) → Each P xs → All P xs
 all-of P xs each = All-weaker (Contains xs) P (λ x among. each x among) xs (All-contains_itself xs)
@@ -176,16 +175,15 @@ module _ (c : Contents) (sound : IsSound c) where
   copy-adds None = tt
   copy-adds (Some entry) = refl
 
-  view-sound : (tree : QueryTree) → RegularQuery tree → (query_meant c tree).breaks ≡ [] → 0 < width_of (view_entry (query_meant c tree)).answer.query
-      → IsSoundView c (view_entry (query_meant c tree))
-  view-sound tree regular whole some =
+  view-sound : (tree : QueryTree) → RegularQuery tree → (query_meant c tree).breaks ≡ [] → IsSoundView c (view_entry (query_meant c tree))
+  view-sound tree regular whole =
       let m : QueryMeant = query_meant c tree in
       let a : IsAnswer m = query-answer c tree alone sound regular whole in
       record {
         answer = record {
           closed = (query-closed c tree alone sound regular whole refl []).0;
           scoped = (query-in_scope c tree alone sound whole []).scoped;
-          some = some;
+          some = query-wide c tree alone sound regular whole [];
           named = ap (λ (o : Option (List OutColumn)). length (names_of (option_map_or settled_columns o []))) a.known ∙ length-names a.columns ∙ a.named [];
           keys = a.keys [];
         };
@@ -193,24 +191,23 @@ module _ (c : Contents) (sound : IsSound c) where
         reads = view-reads c sound tree;
       }
 
-  body-adds : (body : StatementBody) → RegularStatementBody body → name_breaks c body ≡ [] → ViewHasColumn c body
-      → AddsSoundly c (resolved_body c body)
-  body-adds (st.CreateTable table columns) regular whole view =
+  body-adds : (body : StatementBody) → RegularStatementBody body → name_breaks c body ≡ [] → AddsSoundly c (resolved_body c body)
+  body-adds (st.CreateTable table columns) regular whole =
       table-columns columns regular.0 regular.1 (back-none (taken c table) (repeated_columns [] columns) whole)
-  body-adds (st.CreateTableAs table query) regular whole view = tt
-  body-adds (st.CreateView name query) regular whole view =
+  body-adds (st.CreateTableAs table query) regular whole = tt
+  body-adds (st.CreateView name query) regular whole =
       let more : List Break = named_query_breaks query.at (query_meant c query) in
       view-sound query regular
-      (front-none (query_meant c query).breaks (broken_if (repeats (names_of (columns_of (query_meant c query)))) 14 query.at) (back-none (taken c name) more whole)) view
-  body-adds (st.Copy table file header mark) regular whole view = copy-adds (table_named c table.text)
-  body-adds (st.Insert table rows) regular whole view = insert-adds table rows (all-of RegularRow rows regular.1) whole
-  body-adds (st.Delete table condition) regular whole view = tt
-  body-adds (st.DropTable table) regular whole view = tt
-  body-adds (st.DropView name) regular whole view = tt
-  body-adds (st.Select query) regular whole view = tt
-  body-adds (st.Explain query) regular whole view = tt
-  body-adds (st.ShowFresh table) regular whole view = tt
+      (front-none (query_meant c query).breaks (broken_if (repeats (names_of (columns_of (query_meant c query)))) 14 query.at) (back-none (taken c name) more whole))
+  body-adds (st.Copy table file header mark) regular whole = copy-adds (table_named c table.text)
+  body-adds (st.Insert table rows) regular whole = insert-adds table rows (all-of RegularRow rows regular.1) whole
+  body-adds (st.Delete table condition) regular whole = tt
+  body-adds (st.DropTable table) regular whole = tt
+  body-adds (st.DropView name) regular whole = tt
+  body-adds (st.Select query) regular whole = tt
+  body-adds (st.Explain query) regular whole = tt
+  body-adds (st.ShowFresh table) regular whole = tt
 
 pub whole-adds : (c : Contents) (statement : Statement) → IsSound c → RegularStatement statement
-    → breaks c statement ≡ [] → ViewHasColumn c statement.body → AddsSoundly c (resolved c statement)
-whole-adds c statement sound regular whole view = body-adds c sound statement.body regular (names-whole c statement whole) view
+    → breaks c statement ≡ [] → AddsSoundly c (resolved c statement)
+whole-adds c statement sound regular whole = body-adds c sound statement.body regular (names-whole c statement whole)

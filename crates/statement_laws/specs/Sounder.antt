@@ -1,7 +1,6 @@
 -- When what a resolved statement adds to a catalog is sound, and that a statement keeps a catalog sound.
-use Rattle.std.specs.Prelude.{◌≡◌, ◌<◌, ⊤, List, [], ◌∷◌, IfSome}
+use Rattle.std.specs.Prelude.{◌≡◌, ⊤, List, [], ◌∷◌, IfSome}
 use Rattle.perm_values.specs.declared.kind.Kind.{Kind}
-use Rattle.bag_algebra.specs.Kinds.{width_of}
 use Rattle.bag_algebra.specs.WellFormed.{HasKind}
 use Rattle.bag_algebra.specs.declared.expr.Expr.{Expr}
 use Rattle.perm_catalog.specs.Changes.{table_named}
@@ -10,9 +9,6 @@ use Rattle.perm_catalog.specs.Contents.{Contents}
 use Rattle.perm_catalog.specs.Sound.{IsSound, IsSoundView}
 use Rattle.perm_catalog.specs.declared.entries.TableEntry.{TableEntry}
 use Rattle.perm_io.specs.Found.{Found}
-use Rattle.sql_tree.specs.declared.statement.StatementBody.{StatementBody}
-use Rattle.sql_tree.specs.declared.statement.StatementBody.TheVariants as st
-use Rattle.name_words.specs.Statements.{query_meant, view_entry}
 use Rattle.name_words.specs.declared.answer.Resolved.{Resolved}
 use Rattle.name_words.specs.declared.answer.Resolved.TheVariants as r
 use Rattle.statement_words.specs.Asking.{Asked, Settled, Begins}
@@ -52,17 +48,3 @@ StandsSound (Refused cause) = ⊤
 abbrev pub KeepsSound : Asked → Type 0
 KeepsSound (Settled turn) = StandsSound turn
 KeepsSound (Begins name after) = (found : Found) → StandsSound (after found)
-
--- a view that a statement makes has a column
-abbrev pub ViewHasColumn : Contents → StatementBody → Type 0
-ViewHasColumn c (st.CreateTable table columns) = ⊤
-ViewHasColumn c (st.CreateTableAs table query) = ⊤
-ViewHasColumn c (st.CreateView view query) = 0 < width_of (view_entry (query_meant c query)).answer.query
-ViewHasColumn c (st.Copy table file header mark) = ⊤
-ViewHasColumn c (st.Insert table rows) = ⊤
-ViewHasColumn c (st.Delete table condition) = ⊤
-ViewHasColumn c (st.DropTable table) = ⊤
-ViewHasColumn c (st.DropView view) = ⊤
-ViewHasColumn c (st.Select query) = ⊤
-ViewHasColumn c (st.Explain query) = ⊤
-ViewHasColumn c (st.ShowFresh table) = ⊤

@@ -30,6 +30,18 @@ pub order_of_groups :
     ≡ broken 11 26 ∷ broken 11 36 ∷ broken 11 7 ∷ broken 11 52 ∷ broken 11 59 ∷ []
 order_of_groups = simp (tree_equations, name_breaks) (rw token-given refl)
 
+-- each is of another kind than a condition's: SELECT 1 FROM r WHERE a HAVING 1
+pub kinds_of_conditions :
+    name_breaks contents (st.Select (query 0 (core (record (select 0 (item (number 7 1) ∷ []) (from (table 14 (codes "r")) [] ∷ [])) { condition = Some (column 22 (codes "a")); having = Some (number 31 1) }))))
+    ≡ broken 20 22 ∷ broken 20 31 ∷ []
+kinds_of_conditions = simp (tree_equations, name_breaks) (rw token-given refl)
+
+-- of its own core alone, and in one item alone: SELECT 1 FROM r WHERE EXISTS (SELECT 1 FROM s, s x GROUP BY a, c)
+pub groups_of_own_core :
+    name_breaks contents (st.Select (query 0 (core (record (select 0 (item (number 7 1) ∷ []) (from (table 14 (codes "r")) [] ∷ [])) { condition = Some (expr 22 (e.Exists (query 30 (core (record (select 30 (item (number 37 1) ∷ []) (from (table 44 (codes "s")) [] ∷ from (reads 47 (source.Named (name 47 (codes "s"))) (Some (name 49 (codes "x"))) mark.Plain) [] ∷ [])) { groups = reference 60 (codes "a") ∷ reference 63 (codes "c") ∷ [] }))))) }))))
+    ≡ broken 11 60 ∷ broken 12 63 ∷ []
+groups_of_own_core = simp (tree_equations, name_breaks) (rw token-given refl)
+
 -- behind a FROM that breaks nothing is looked at: SELECT zz FROM r, nosuch WHERE yy = 1
 pub from_alone :
     name_breaks contents (st.Select (query 0 (core (record (select 0 (item (column 7 (codes "zz")) ∷ []) (from (table 15 (codes "r")) [] ∷ from (table 18 (codes "nosuch")) [] ∷ [])) { condition = Some (expr 31 (e.Compared Equal (column 31 (codes "yy")) (number 36 1))) }))))
@@ -95,6 +107,12 @@ pub stars :
     name_breaks contents (st.Select (query 0 (core (select 0 (i.Star 7 ∷ i.TableStar (name 10 (codes "r")) ∷ []) []))))
     ≡ broken 11 7 ∷ broken 11 10 ∷ []
 stars = simp (tree_equations, name_breaks) (rw token-given refl)
+
+-- the item is none of its own core: SELECT 1 FROM r WHERE EXISTS (SELECT r.* FROM s)
+pub star_of_outer :
+    name_breaks contents (st.Select (query 0 (core (record (select 0 (item (number 7 1) ∷ []) (from (table 14 (codes "r")) [] ∷ [])) { condition = Some (expr 22 (e.Exists (query 30 (core (select 30 (i.TableStar (name 37 (codes "r")) ∷ []) (from (table 46 (codes "s")) [] ∷ [])))))) }))))
+    ≡ broken 11 37 ∷ []
+star_of_outer = simp (tree_equations, name_breaks) (rw token-given refl)
 
 -- it stands for a column that is not grouped: SELECT *, r.* FROM r GROUP BY a
 pub star_of_groups :

@@ -1,6 +1,8 @@
 -- Worked examples of the limits on columns and on size, which come last.
-use Rattle.std.specs.Prelude.{◌≡◌, ℕ, cond, List, [], ◌∷◌, Some, codes}
+use Rattle.std.specs.Prelude.{◌≡◌, ℕ, cond, List, [], ◌∷◌, map, Some, codes}
 use Rattle.std.proofs.Common.{refl}
+use Rattle.std.specs.List.{range_with_len}
+use Rattle.perm_values.specs.declared.kind.Kind.TheVariants as kind
 use Rattle.bag_algebra.specs.declared.query.Query.TheBlock.{shape-the_row-Query-0, hidden-the_row-Query-0, shape-the_row-Sublink-1, hidden-the_row-Sublink-1}
 use Rattle.sql_tree.specs.declared.query.QueryTree.{QueryTree}
 use Rattle.name_words.specs.Meanings.{QueryMeant, broken, is_whole}
@@ -8,7 +10,7 @@ use Rattle.name_words.specs.declared.answer.Break.{Break}
 use Rattle.name_words.specs.Statements.{breaks, query_limits, query_meant}
 use Rattle.name_words.proofs.Equations.{tree_equations, token-given}
 use Rattle.worked_names.specs.NamedCatalog.{contents}
-use Rattle.worked_names.specs.NamedTrees.{name, expr, column, number, reads, table, from, item, select, core, query, statement}
+use Rattle.worked_names.specs.NamedTrees.{name, expr, column, number, reads, table, from, item, select, core, query, defined, statement}
 use Rattle.sql_tree.specs.declared.expression.ExprBody.TheVariants as e
 use Rattle.sql_tree.specs.declared.query.SelectItem.TheVariants as i
 use Rattle.sql_tree.specs.declared.source.FromSource.TheVariants as source
@@ -56,3 +58,9 @@ pub high_enough :
     ≡ []
 unfolding shape-the_row-Query-0 hidden-the_row-Query-0 shape-the_row-Sublink-1 hidden-the_row-Sublink-1 package.denote.Hole.Carrier.hidden
 high_enough = rw of-select (simp tree_equations (rw token-given refl))
+
+-- 257 columns, at the name of the table: CREATE TABLE q (.. INTEGER, .. INTEGER, ..)
+pub columns_of_table :
+    breaks contents (statement (st.CreateTable (name 13 (codes "q")) (map (λ number. defined (name 16 (number ∷ [])) kind.Integer) (range_with_len 0 257))))
+    ≡ broken 26 13 ∷ []
+columns_of_table = refl

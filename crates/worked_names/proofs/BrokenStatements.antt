@@ -109,11 +109,23 @@ pub left_operand_of_misplaced :
     ≡ broken 11 26 ∷ broken 24 26 ∷ []
 left_operand_of_misplaced = simp (tree_equations, name_breaks) (rw token-given refl)
 
+-- no sublink stands left of one, and is not looked at there: SELECT (SELECT nosuch) IN (SELECT zz FROM r) FROM r
+pub sublink_as_left_operand :
+    name_breaks contents (st.Select (query 0 (core (select 0 (item (expr 7 (e.InQuery false (expr 7 (e.Scalar (query 8 (core (select 8 (item (column 15 (codes "nosuch")) ∷ []) []))))) (query 27 (core (select 27 (item (column 34 (codes "zz")) ∷ []) (from (table 42 (codes "r")) [] ∷ [])))))) ∷ []) (from (table 50 (codes "r")) [] ∷ [])))))
+    ≡ broken 24 7 ∷ broken 11 34 ∷ []
+sublink_as_left_operand = simp (tree_equations, name_breaks) (rw token-given refl)
+
 -- at the query: two names agree, and one is of truth values: CREATE TABLE q AS SELECT a, a, a = 1 FROM r
 pub stored_columns :
     name_breaks contents (st.CreateTableAs (name 13 (codes "q")) (query 18 (core (select 18 (item (column 25 (codes "a")) ∷ item (column 28 (codes "a")) ∷ item (expr 31 (e.Compared Equal (column 31 (codes "a")) (number 35 1))) ∷ []) (from (table 42 (codes "r")) [] ∷ [])))))
     ≡ broken 14 18 ∷ broken 20 18 ∷ []
 stored_columns = simp (tree_equations, name_breaks) (rw token-given refl)
+
+-- the name of a table, and two names that agree: CREATE VIEW r AS SELECT a, a FROM r
+pub viewed_columns :
+    name_breaks contents (st.CreateView (name 12 (codes "r")) (query 17 (core (select 17 (item (column 24 (codes "a")) ∷ item (column 27 (codes "a")) ∷ []) (from (table 34 (codes "r")) [] ∷ [])))))
+    ≡ broken 13 12 ∷ broken 14 17 ∷ []
+viewed_columns = simp (tree_equations, name_breaks) (rw token-given refl)
 
 -- at the inner query: not one column, another kind: SELECT a IN (SELECT a, b FROM r), b = ANY (SELECT c FROM s) FROM r
 pub columns_of_sublinks :
