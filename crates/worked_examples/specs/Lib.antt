@@ -1,6 +1,6 @@
 pub mod Catalogs
-pub mod CopyTexts
 pub mod Counts
+pub mod DataLines
 pub mod FileRows
 pub mod Forms
 pub mod GroupRows
