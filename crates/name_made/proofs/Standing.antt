@@ -1,0 +1,110 @@
+-- What stands around the clauses of a core and the items of its FROM, made one after the other.
+use Rattle.std.specs.Prelude.{◌≡◌, ℕ, suc, ◌+◌, ◌<◌, List, [], ◌∷◌, length, map, take, drop, Bool, Option, Some, None, option_map, Result, Ok, Err, OnOk}
+use Rattle.std.proofs.Common.{refl, ap, sym, subst, ◌∙◌, arith, get_or}
+use Rattle.std.proofs.lemmas.List.{append-nil, length-map, map-append}
+use Rattle.bag_algebra.specs.declared.expr.Expr.{Expr}
+use Rattle.bag_algebra.specs.declared.expr.Item.{Item}
+use Rattle.bag_algebra.specs.declared.query.Query.{Query}
+use Rattle.perm_catalog.specs.Contents.{Contents}
+use Rattle.perm_values.specs.declared.kind.Kind.{Kind}
+use Rattle.sql_tree.specs.declared.query.SelectItem.{SelectItem}
+use Rattle.sql_tree.specs.declared.source.FromTree.{FromTree, out-FromTree}
+use Rattle.sql_tree.specs.declared.source.JoinStep.{JoinStep, out-JoinStep}
+use Rattle.name_words.specs.Froms.{FromMeant, ItemMeant, JoinPart, first_item, join_all, join_item, join_kind, scope_items}
+use Rattle.name_words.specs.Items.{SelectMeant, SelectPart}
+use Rattle.name_words.specs.Meanings.{Surroundings}
+use Rattle.name_words.specs.Scopes.{ScopeItem, scope_of}
+use Rattle.name_words.specs.Trees.{from_item_of, from_of, item_of, join_of, part_of}
+use Rattle.name_words.specs.declared.scope.Scope.{Scope}
+use Rattle.name_words.specs.declared.trace.Trace.{Trace}
+use Rattle.bag_algebra.specs.declared.query.Query.TheVariants.{Join}
+use Rattle.name_nodes.specs.Listed.{MakesItems}
+use Rattle.name_nodes.specs.declared.within.Within.{Within}
+use Rattle.made_parts.specs.Cored.{items_meant}
+use Rattle.made_parts.specs.Sources.{IsScope, JoinsMade, MakesJoin, MakesOn, MakesSource, StandsIn, join_count}
+use Rattle.made_parts.proofs.Coring.{next-listed}
+use Rattle.made_parts.proofs.Listing.{mapped}
+use Rattle.made_parts.proofs.Sourcing.{both-count, from-fields, join-fields, join-made, join-more, joins-append}
+
+pub of-on : {X E : Type 0} (P Q : Type 0) (result : Result X E) → (P → Q) → OnOk result P → OnOk result Q
+of-on P Q (Ok x) f p = f p
+of-on P Q (Err e) f p = p
+
+-- all items of FROM stand in the core's own scope
+pub own-stands : (m : FromMeant) (own scope : Scope) (groups : Option (List ℕ)) → IsScope m own → scope ≡ record own { groups = groups } → StandsIn m.items 0 scope
+own-stands m own scope groups s is =
+    record {
+      before = [];
+      own = s.items;
+      after = [];
+      known = s.known;
+      scope_is = ap (λ (t : Scope). record t { groups = None }) is ∙ ap (λ (t : Scope). record t { groups = None }) s.scope_is
+          ∙ ap scope_of (sym (append-nil s.items));
+      at = refl;
+    }
+
+-- ---- the list
+
+pub items-more : (c : Contents) (may_link has_from : Bool) (scope : Scope) (here : Surroundings) (items : List SelectItem) (i : ℕ) (item : SelectItem) (wanted : List Kind) (q r : List Item)
+    (old before after : Within) → i < length items → item ≡ get_or items i item
+    → MakesItems may_link (items_meant has_from scope here (map (item_of c) (take i items))) wanted [] q old before
+    → MakesItems may_link (items_meant has_from scope here (item_of c item ∷ [])) (drop (length q) wanted) q r before after
+    → MakesItems may_link (items_meant has_from scope here (map (item_of c) (take (i + 1) items))) wanted [] r old after
+items-more c may_link has_from scope here items i item wanted q r old before after within is first second =
+    let meant = λ (part : SelectPart). part.means has_from scope here in
+    subst (λ (ms : List SelectMeant). MakesItems may_link ms wanted [] r old after)
+    (sym (ap (map meant) (mapped (item_of c) items i item within is) ∙ map-append meant (map (item_of c) (take i items)) (item_of c item ∷ [])))
+    (next-listed may_link (items_meant has_from scope here (map (item_of c) (take i items))) (items_meant has_from scope here (item_of c item ∷ [])) wanted q r old before after first second)
+
+-- ---- how many items a `from` has
+
+one-known : (m : ItemMeant) (items : List ScopeItem) → scope_items m ≡ Some items → length items ≡ 1
+one-known m items known = of-columns m.columns known where
+  of-columns : (columns : Option (List _)) → option_map (λ columns. record { name = m.name; columns = columns } ∷ []) columns ≡ Some items → length items ≡ 1
+  of-columns None e = absurd (cc e)
+  of-columns (Some columns) e = let same : items ≡ record { name = m.name; columns = columns } ∷ [] = cc e in ap length same
+
+joins-count : (outer : List Scope) (trace : Trace) (left : FromMeant) (steps : List JoinPart) (n : ℕ)
+    → ((items : List ScopeItem) → left.items ≡ Some items → length items ≡ n)
+    → (items : List ScopeItem) → (join_all outer trace left steps).items ≡ Some items → length items ≡ n + length steps
+joins-count outer trace left [] n counts items known = let same = counts items known in omega (arith, same)
+joins-count outer trace left (step ∷ steps) n counts items known =
+    let m = step.item.means outer trace left.names in
+    let all = joins-count outer trace (join_item outer trace left step m) steps (n + 1) (both-count left.items (scope_items m) n 1 counts (one-known m)) items known in
+    omega (arith, all)
+
+pub from-count : (c : Contents) (tree : FromTree) (outer : List Scope) (trace : Trace) (earlier : List (List ℕ)) (items : List ScopeItem)
+    → ((from_of c tree).means outer trace earlier).items ≡ Some items → length items ≡ suc (join_count tree)
+from-count c tree outer trace earlier items known =
+    let first = first_item earlier ((from_item_of c (out-FromTree tree).first).means outer trace earlier) in
+    let steps = map (join_of c) (out-FromTree tree).joins in
+    let all = joins-count outer trace first steps 1 (one-known ((from_item_of c (out-FromTree tree).first).means outer trace earlier)) items
+    (ap (λ (m : FromMeant). m.items) (sym (from-fields c tree outer trace earlier)) ∙ known) in
+    let size = length-map (out-FromTree tree).joins (join_of c) in
+    omega (arith, all, size)
+
+-- ---- joins
+
+pub step-more : (c : Contents) (outer : List Scope) (trace : Trace) (left : FromMeant) (joins : List JoinStep) (i : ℕ) (step : JoinStep) (first : ℕ) (scope : Scope) (before after : Query)
+    → i < length joins → step ≡ get_or joins i step
+    → JoinsMade (join_all outer trace left (map (join_of c) (take i joins))) first scope before i
+    → MakesJoin outer trace (join_of c step) first (i + 2) scope before after
+    → JoinsMade (join_all outer trace left (map (join_of c) (take (i + 1) joins))) first scope after (i + 1)
+step-more c outer trace left joins i step first scope before after within is so_far makes =
+    let next : suc i ≡ i + 1 = omega arith in
+    subst (λ (n : ℕ). JoinsMade (join_all outer trace left (map (join_of c) (take (i + 1) joins))) first scope after n) next
+    (subst (λ (m : FromMeant). JoinsMade m first scope after (suc i))
+    (sym (ap (join_all outer trace left) (mapped (join_of c) joins i step within is) ∙ joins-append outer trace left (map (join_of c) (take i joins)) (join_of c step)))
+    (join-more outer trace (join_all outer trace left (map (join_of c) (take i joins))) (join_of c step) first i scope before after so_far makes))
+
+pub tree-join : (c : Contents) (outer : List Scope) (trace : Trace) (tree : JoinStep) (first count : ℕ) (scope : Scope) (before right after : Query) (condition : Expr)
+    → MakesOn outer trace (option_map (part_of c) (out-JoinStep tree).condition) first count scope condition
+    → ((earlier : List (List ℕ)) → MakesSource ((from_item_of c (out-JoinStep tree).item).means outer trace earlier) right)
+    → after ≡ Join (join_kind (out-JoinStep tree).word) before right condition [] → MakesJoin outer trace (join_of c tree) first count scope before after
+tree-join c outer trace tree first count scope before right after condition on item is =
+    subst (λ (step : JoinPart). MakesJoin outer trace step first count scope before after) (sym (join-fields c tree))
+    (join-made outer trace (record {
+      word = (out-JoinStep tree).word;
+      item = from_item_of c (out-JoinStep tree).item;
+      condition = option_map (part_of c) (out-JoinStep tree).condition;
+    }) first count scope before right after condition on item is)

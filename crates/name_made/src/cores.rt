@@ -1,0 +1,223 @@
+//! Cores, with their clauses.
+ghost use Rattle.std.specs.Prelude.{◌≡◌, Bool, not, drop, length, ◌∷◌, [], List as Items, IfOk, OnOk, map, option_map};
+ghost use Rattle.perm_catalog.specs.Sound.{IsSound};
+ghost use Rattle.name_words.specs.Cores.{in_clause, optional_meant};
+ghost use Rattle.name_words.specs.Meanings.{means_at};
+ghost use Rattle.name_words.specs.Scopes.{ScopeItem, scope_of};
+ghost use Rattle.name_words.specs.Trees.{core_of, item_of, part_of};
+ghost use Rattle.name_nodes.specs.Listed.{MakesItems};
+ghost use Rattle.name_nodes.specs.Makes.{MakesQuery};
+ghost use Rattle.name_words.specs.declared.answer.Break.{Break as Broken};
+ghost use Rattle.name_seen.specs.Named.{here_only, scopes_of};
+ghost use Rattle.name_seen.specs.Standing.{around_of as standing_of, surroundings};
+ghost use Rattle.made_parts.specs.Cored.{Keeps, MakesClauses, MakesList, MakesSelected, core_over_items, having_part, items_meant, select_parts, sources_meant};
+ghost use Rattle.made_parts.specs.Sources.{IsScope};
+
+use crate::expressions::made;
+use crate::sources::sources_made;
+use bag_algebra::{Aggr, Item, Query};
+use clauses_seen::grouped;
+use cores_seen::in_clause;
+use made_parts::{
+    Kept, add_star, add_table_star, behind_aggregates, condition_found, core_trace, groups_made,
+    groups_of, item_kind, listed_with, scope_or_none,
+};
+use name_nodes::{Clauses, Condition, Listed, Within, core_query};
+use name_seen::{Around, Here, inside};
+use name_words::Scope;
+use perm_values::{Kind, List, NoMemory};
+use sql_tree::{Core, ExprTree, SelectItem};
+
+/// The core where it stands; one whose FROM breaks is of no account.
+#[cycle(made)]
+pub(crate) fn core_made(core: &Core, wanted: &[Kind], around: &Around) -> Result<Query, NoMemory>
+    requires { IsSound around.now.catalog.now }
+    ensures { IfOk result (λ query. MakesQuery
+        ((core_of around.now.catalog.now core.now).means (standing_of around.now)) wanted.now query) }
+{
+    let inner = Around {
+        alloc: around.alloc,
+        catalog: &*around.catalog,
+        outer: &*around.outer,
+        trace: core_trace(around.trace, around.provable, core.provenance),
+        provable: around.provable,
+    };
+    match scope_or_none(core.sources.as_slice(), &inner)? {
+        None => Ok(Query::Single),
+        Some(own) => over_items(core, wanted, &inner, own),
+    }
+}
+
+/// The core over all items of its FROM, which are in scope.
+#[cycle(made)]
+fn over_items(core: &Core, wanted: &[Kind], around: &Around, own: Scope) -> Result<Query, NoMemory>
+    requires { IsSound around.now.catalog.now }
+    ensures { IfOk result (λ query. IsScope (sources_meant around.now.catalog.now (standing_of around.now) core.now) own → (breaks : Items Broken) (items : Items ScopeItem)
+        → own ≡ scope_of items → MakesQuery (core_over_items around.now.catalog.now (standing_of around.now) core.now breaks items) wanted.now query) }
+{
+    let groups = groups_made(around.alloc, &own, core)?;
+    let scope = grouped(own, groups);
+    let clauses = clauses_made(core, wanted, around, &scope)?;
+    let input = sources_made(core.sources.as_slice(), around, &scope)?;
+    core_query(around.alloc, input, clauses)
+}
+
+/// What a core does with the rows of its FROM.
+#[cycle(made)]
+fn clauses_made(
+    core: &Core,
+    wanted: &[Kind],
+    around: &Around,
+    scope: &Scope,
+) -> Result<Clauses, NoMemory>
+    requires { IsSound around.now.catalog.now }
+    ensures { IfOk result (MakesClauses around.now.catalog.now (standing_of around.now) core.now scope.now wanted.now) }
+{
+    let groups = groups_of(around.alloc, scope)?;
+    let kept = condition_made(&core.condition, false, around, scope)?;
+    let Kept { condition, .. } = kept;
+    let (having, list) = selected_made(core, wanted, around, scope)?;
+    Ok(Clauses {
+        condition,
+        groups,
+        having,
+        list,
+        distinct: core.distinct,
+    })
+}
+
+/// HAVING, and the list behind its aggregates.
+#[cycle(made)]
+fn selected_made(
+    core: &Core,
+    wanted: &[Kind],
+    around: &Around,
+    scope: &Scope,
+) -> Result<(Option<Condition>, Listed), NoMemory>
+    requires { IsSound around.now.catalog.now }
+    ensures { IfOk result (λ made. MakesSelected (standing_of around.now) scope.now (having_part around.now.catalog.now core.now)
+        (select_parts around.now.catalog.now core.now) wanted.now made.0 made.1) }
+{
+    let kept = condition_made(&core.having, true, around, scope)?;
+    let Kept {
+        condition,
+        aggregates,
+    } = kept;
+    let list = list_made(core.items.as_slice(), wanted, aggregates, around, scope)?;
+    Ok((condition, list))
+}
+
+/// The condition of WHERE or of HAVING, if there is one.
+#[cycle(made)]
+fn condition_made(
+    condition: &Option<ExprTree>,
+    in_groups: bool,
+    around: &Around,
+    scope: &Scope,
+) -> Result<Kept, NoMemory>
+    requires { IsSound around.now.catalog.now }
+    ensures { IfOk result (Keeps (optional_meant (in_clause (here_only (not in_groups) scope.now) (scopes_of around.now.outer.now) around.now.trace in_groups)
+        (option_map (part_of around.now.catalog.now) condition.now))) }
+{
+    match condition {
+        None => Ok(Kept {
+            condition: None,
+            aggregates: List::new(around.alloc),
+        }),
+        Some(tree) => kept_made(tree, in_groups, around, scope),
+    }
+}
+
+/// A condition of WHERE or of HAVING.
+#[cycle(made)]
+fn kept_made(
+    tree: &ExprTree,
+    in_groups: bool,
+    around: &Around,
+    scope: &Scope,
+) -> Result<Kept, NoMemory>
+    requires { IsSound around.now.catalog.now }
+    ensures { IfOk result (Keeps (Some (means_at (part_of around.now.catalog.now tree.now)
+        (in_clause (here_only (not in_groups) scope.now) (scopes_of around.now.outer.now) around.now.trace in_groups)))) }
+{
+    let scopes = inside(scope, !in_groups, &*around.outer)?;
+    let here = Here {
+        alloc: around.alloc,
+        catalog: &*around.catalog,
+        scopes: &scopes,
+        standing: in_clause(around.trace, in_groups),
+    };
+    let mut found = Within::nothing(around.alloc);
+    let expr = made(tree, Kind::Boolean, &here, &mut found)?;
+    Ok(condition_found(expr, found))
+}
+
+/// The list, behind the aggregates of HAVING.
+#[cycle(made)]
+fn list_made(
+    items: &[SelectItem],
+    wanted: &[Kind],
+    aggregates: List<Aggr>,
+    around: &Around,
+    scope: &Scope,
+) -> Result<Listed, NoMemory>
+    requires { IsSound around.now.catalog.now }
+    ensures { IfOk result (MakesList (standing_of around.now) scope.now (map (item_of around.now.catalog.now) items.now) wanted.now aggregates) }
+{
+    let scopes = inside(scope, false, &*around.outer)?;
+    let here = Here {
+        alloc: around.alloc,
+        catalog: &*around.catalog,
+        scopes: &scopes,
+        standing: in_clause(around.trace, true),
+    };
+    let mut found = behind_aggregates(around.alloc, aggregates);
+    let made_items = items_made(items, wanted, scope, &here, &mut found)?;
+    Ok(listed_with(made_items, found))
+}
+
+/// The columns of the list.
+#[cycle(made)]
+fn items_made(
+    items: &[SelectItem],
+    wanted: &[Kind],
+    scope: &Scope,
+    here: &Here,
+    found: &mut Within,
+) -> Result<List<Item>, NoMemory>
+    requires { IsSound here.now.catalog.now }
+    ensures { IfOk result (λ made. (has_from : Bool) → MakesItems here.now.standing.sublinks
+        (items_meant has_from scope.now (surroundings here.now) (map (item_of here.now.catalog.now) items.now)) wanted.now [] made found.old found.new) }
+{
+    let mut made_items = List::new(here.alloc);
+    for item in items {
+        item_listed(item, wanted, scope, here, &mut made_items, found)?;
+    }
+    Ok(made_items)
+}
+
+/// The columns of one item of the list, behind those so far.
+#[cycle(made)]
+fn item_listed(
+    item: &SelectItem,
+    wanted: &[Kind],
+    scope: &Scope,
+    here: &Here,
+    items: &mut List<Item>,
+    found: &mut Within,
+) -> Result<(), NoMemory>
+    requires { IsSound here.now.catalog.now }
+    ensures { OnOk result ((has_from : Bool) → MakesItems here.now.standing.sublinks
+        (items_meant has_from scope.now (surroundings here.now) (item_of here.now.catalog.now item.now ∷ [])) (drop (length items.old) wanted.now) items.old items.new found.old found.new) }
+{
+    match item {
+        SelectItem::Star { .. } => add_star(scope, items),
+        SelectItem::TableStar { table } => add_table_star(scope, table, items),
+        SelectItem::Value { expr, .. } => {
+            let kind = item_kind(expr, wanted, items.len(), here)?;
+            let expr = made(expr, kind, here, found)?;
+            items.push(Item { expr, kind })?;
+            Ok(())
+        }
+    }
+}

@@ -1,0 +1,474 @@
+//! Expressions, made where they stand at the kinds that are wanted of them.
+ghost use Rattle.std.specs.Prelude.{◌≡◌, ℕ, false, ◌∷◌, [], IfOk, OnOk, map};
+ghost use Rattle.bag_algebra.specs.declared.expr.Expr.TheVariants.{Lit as Number, Op as Operated};
+ghost use Rattle.perm_catalog.specs.Sound.{IsSound};
+ghost use Rattle.perm_values.specs.declared.kind.Kind.{Kind as Sort};
+ghost use Rattle.perm_values.specs.declared.kind.Kind.TheVariants.{Boolean as Truths, Integer as Counts};
+ghost use Rattle.perm_values.specs.declared.value.Value.TheVariants.{Integer as Whole};
+ghost use Rattle.name_words.specs.Meanings.{means_at, query_means_at};
+ghost use Rattle.name_words.specs.Operands.{node, operand};
+ghost use Rattle.name_words.specs.Sublinks.{aggregated, around_of, exists_meant, if_standing, in_argument, in_tested, scalar_meant};
+ghost use Rattle.name_words.specs.Trees.{arm_of, part_of, query_of, step_of};
+ghost use Rattle.name_nodes.specs.Makes.{Links, Makes, MakesArms, MakesMore, MakesSteps};
+ghost use Rattle.name_seen.specs.Standing.{surroundings};
+
+use crate::queries::query_made;
+use bag_algebra::{Arm, ChainStep, Expr, SubKind};
+use expression_seen::{in_argument, in_tested, trace_below};
+use made_parts::{
+    alike_behind, alike_of_all, alike_of_arms, alike_of_case, alike_of_three, alike_of_two,
+    group_count, kind_or_any, scalar_kind, tested_kind,
+};
+use name_nodes::{
+    Within, aggregate_made, argument_wanted, chain_start, column_made, count_made, in_kind,
+    in_list_kind, integer_value, negated_if, null_at, null_test, same_test, sublink_made,
+    text_value, times, truth_test, truth_value, wanted_of,
+};
+use name_seen::{Around, Here, gives_of, look_up, need_of, ungrouped};
+use name_words::{Gives, Need};
+use null_logic::Operator;
+use perm_values::{Boxed, Kind, List, NoMemory};
+use sql_tree::{AggWord, ArmTree, ExprBody, ExprStep, ExprTree, QueryTree};
+
+/// The expression where it stands, at the kind that is wanted of it if it may be of any. What it adds to the sublinks and
+/// aggregates of its clause comes behind those found so far. It fails only for want of memory.
+#[cycle(made)]
+pub fn made(
+    tree: &ExprTree,
+    wanted: Kind,
+    here: &Here,
+    found: &mut Within,
+) -> Result<Expr, NoMemory>
+    requires { IsSound here.now.catalog.now }
+    ensures { IfOk result (λ e. Makes here.now.standing.sublinks
+        (means_at (part_of here.now.catalog.now tree.now) (surroundings here.now)) wanted e found.old found.new) }
+{
+    let alloc = here.alloc;
+    match &tree.body {
+        ExprBody::Null => Ok(null_at(wanted)),
+        ExprBody::NullOf(kind) => Ok(null_at(*kind)),
+        ExprBody::Integer(number) => Ok(integer_read(number)),
+        ExprBody::Text(text) => text_value(alloc, text),
+        ExprBody::Truth(truth) => Ok(truth_value(*truth)),
+        ExprBody::Column(reference) => {
+            let meant = look_up(&*here.scopes, reference);
+            Ok(column_made(meant, wanted))
+        }
+        ExprBody::Paren(part) => made(part.get(), wanted, here, found),
+        ExprBody::Nots { count, part } => {
+            let part = made(part.get(), Kind::Boolean, here, found)?;
+            times(alloc, Operator::Not, *count, part)
+        }
+        ExprBody::Signs { count, part } => {
+            let part = made(part.get(), Kind::Integer, here, found)?;
+            times(alloc, Operator::Negate, *count, part)
+        }
+        ExprBody::Logic { op, parts } => {
+            let need = need_of(*op, false);
+            let gives = gives_of(*op, false);
+            operator_made(parts.as_slice(), *op, need, gives, wanted, here, found)
+        }
+        ExprBody::Chain { first, steps } => {
+            let first = boxed_made(first.get(), chain_start(steps.as_slice()), here, found)?;
+            let steps = steps_made(steps.as_slice(), here, found)?;
+            Ok(Expr::Chain { first, steps })
+        }
+        ExprBody::Compared { op, first, second } => {
+            let op = Operator::Compare(*op);
+            let need = Need::Alike;
+            let gives = Gives::Always(Kind::Boolean);
+            let alike = alike_of_two(need, gives, first.get(), second.get(), wanted, here)?;
+            let mut parts = List::new(alloc);
+            operand_made(first.get(), need, alike, here, &mut parts, found)?;
+            operand_made(second.get(), need, alike, here, &mut parts, found)?;
+            Ok(Expr::Op { op, parts })
+        }
+        ExprBody::Like {
+            negated,
+            text,
+            pattern,
+        } => {
+            let need = Need::OfKind(Kind::Text);
+            let mut parts = List::new(alloc);
+            operand_made(text.get(), need, Kind::Text, here, &mut parts, found)?;
+            operand_made(pattern.get(), need, Kind::Text, here, &mut parts, found)?;
+            negated_if(
+                alloc,
+                *negated,
+                Expr::Op {
+                    op: Operator::Like,
+                    parts,
+                },
+            )
+        }
+        ExprBody::Between {
+            negated,
+            part,
+            low,
+            high,
+        } => {
+            let alike = alike_of_three(part.get(), low.get(), high.get(), here)?;
+            let mut parts = List::new(alloc);
+            operand_made(part.get(), Need::Alike, alike, here, &mut parts, found)?;
+            operand_made(low.get(), Need::Alike, alike, here, &mut parts, found)?;
+            operand_made(high.get(), Need::Alike, alike, here, &mut parts, found)?;
+            negated_if(
+                alloc,
+                *negated,
+                Expr::Op {
+                    op: Operator::Between,
+                    parts,
+                },
+            )
+        }
+        ExprBody::InList {
+            negated,
+            part,
+            list,
+        } => {
+            let alike = alike_behind(part.get(), list.as_slice(), here)?;
+            let mut parts = List::new(alloc);
+            operand_made(part.get(), Need::Alike, alike, here, &mut parts, found)?;
+            operands_made(list.as_slice(), Need::Alike, alike, here, &mut parts, found)?;
+            negated_if(
+                alloc,
+                *negated,
+                Expr::Op {
+                    op: Operator::InList,
+                    parts,
+                },
+            )
+        }
+        ExprBody::IsNull { negated, part } => {
+            let part = made(part.get(), Kind::Text, here, found)?;
+            null_test(alloc, *negated, part)
+        }
+        ExprBody::IsTruth {
+            negated,
+            truth,
+            part,
+        } => {
+            let part = made(part.get(), Kind::Boolean, here, found)?;
+            truth_test(alloc, *negated, *truth, part)
+        }
+        ExprBody::IsDistinct {
+            negated,
+            first,
+            second,
+        } => {
+            let alike = alike_of_two(
+                Need::Alike,
+                Gives::Always(Kind::Boolean),
+                first.get(),
+                second.get(),
+                wanted,
+                here,
+            )?;
+            let first = boxed_made(first.get(), alike, here, found)?;
+            let second = boxed_made(second.get(), alike, here, found)?;
+            same_test(alloc, !*negated, first, second)
+        }
+        ExprBody::Case { arms, otherwise } => match otherwise {
+            None => {
+                let alike = alike_of_arms(arms.as_slice(), wanted, here)?;
+                let arms = arms_made(arms.as_slice(), alike, here, found)?;
+                let otherwise = Boxed::new(alloc, null_at(alike))?;
+                Ok(Expr::Case { arms, otherwise })
+            }
+            Some(part) => {
+                let alike = alike_of_case(arms.as_slice(), part.get(), wanted, here)?;
+                let arms = arms_made(arms.as_slice(), alike, here, found)?;
+                let otherwise = boxed_made(part.get(), alike, here, found)?;
+                Ok(Expr::Case { arms, otherwise })
+            }
+        },
+        ExprBody::Coalesce(list) => operator_made(
+            list.as_slice(),
+            Operator::Coalesce,
+            Need::Alike,
+            Gives::Common,
+            wanted,
+            here,
+            found,
+        ),
+        ExprBody::NullIf { first, second } => {
+            let alike = alike_of_two(
+                Need::Alike,
+                Gives::Common,
+                first.get(),
+                second.get(),
+                wanted,
+                here,
+            )?;
+            let mut parts = List::new(alloc);
+            operand_made(first.get(), Need::Alike, alike, here, &mut parts, found)?;
+            operand_made(second.get(), Need::Alike, alike, here, &mut parts, found)?;
+            Ok(Expr::Op {
+                op: Operator::NullIf,
+                parts,
+            })
+        }
+        ExprBody::Aggregate { function, argument } => match argument {
+            None => count_made(group_count(&*here.scopes), *function, found),
+            Some(argument) => aggregated(argument.get(), *function, here, found),
+        },
+        ExprBody::Exists(query) => exists_made(query.get(), here, found),
+        ExprBody::Scalar(query) => scalar_made(query.get(), wanted, here, found),
+        ExprBody::InQuery {
+            negated,
+            part,
+            query,
+        } => {
+            if !here.standing.sublinks {
+                return Ok(null_at(Kind::Boolean));
+            }
+            let kind = tested_kind(part.get(), query.get(), here)?;
+            let tested = tested_made(part.get(), kind, here, found)?;
+            let sub = in_list_kind(*negated);
+            linked(query.get(), sub, Some(tested), &[kind], here, found)
+        }
+        ExprBody::Quantified {
+            every,
+            op,
+            part,
+            query,
+        } => {
+            if !here.standing.sublinks {
+                return Ok(null_at(Kind::Boolean));
+            }
+            let kind = tested_kind(part.get(), query.get(), here)?;
+            let tested = tested_made(part.get(), kind, here, found)?;
+            let sub = in_kind(*every, *op);
+            linked(query.get(), sub, Some(tested), &[kind], here, found)
+        }
+    }
+}
+
+fn integer_read(number: &i64) -> Expr
+    ensures { result ≡ Number (Whole number.now) Counts }
+{
+    integer_value(*number)
+}
+
+/// The expression in a box.
+#[cycle(made)]
+fn boxed_made(
+    tree: &ExprTree,
+    wanted: Kind,
+    here: &Here,
+    found: &mut Within,
+) -> Result<Boxed<Expr>, NoMemory>
+    requires { IsSound here.now.catalog.now }
+    ensures { IfOk result (λ e. Makes here.now.standing.sublinks
+        (means_at (part_of here.now.catalog.now tree.now) (surroundings here.now)) wanted e found.old found.new) }
+{
+    let part = made(tree, wanted, here, found)?;
+    Boxed::new(here.alloc, part)
+}
+
+/// One more operand of a node, behind those that are made.
+#[cycle(made)]
+fn operand_made(
+    tree: &ExprTree,
+    need: Need,
+    alike: Kind,
+    here: &Here,
+    parts: &mut List<Expr>,
+    found: &mut Within,
+) -> Result<(), NoMemory>
+    requires { IsSound here.now.catalog.now }
+    ensures { OnOk result (MakesMore here.now.standing.sublinks alike
+        (operand (surroundings here.now) need (part_of here.now.catalog.now tree.now) ∷ []) parts.old parts.new found.old found.new) }
+{
+    let part = made(tree, wanted_of(alike, need), here, found)?;
+    parts.push(part)?;
+    Ok(())
+}
+
+/// Operands of one need, behind those that are made.
+#[cycle(made)]
+fn operands_made(
+    trees: &[ExprTree],
+    need: Need,
+    alike: Kind,
+    here: &Here,
+    parts: &mut List<Expr>,
+    found: &mut Within,
+) -> Result<(), NoMemory>
+    requires { IsSound here.now.catalog.now }
+    ensures { OnOk result (MakesMore here.now.standing.sublinks alike
+        (map (operand (surroundings here.now) need) (map (part_of here.now.catalog.now) trees.now)) parts.old parts.new found.old found.new) }
+{
+    for tree in trees {
+        operand_made(tree, need, alike, here, parts, found)?;
+    }
+    Ok(())
+}
+
+/// The operator on operands of one need.
+#[cycle(made)]
+fn operator_made(
+    trees: &[ExprTree],
+    op: Operator,
+    need: Need,
+    gives: Gives,
+    wanted: Kind,
+    here: &Here,
+    found: &mut Within,
+) -> Result<Expr, NoMemory>
+    requires { IsSound here.now.catalog.now }
+    ensures { IfOk result (λ e. Makes here.now.standing.sublinks
+        (node gives (Operated op) (map (operand (surroundings here.now) need) (map (part_of here.now.catalog.now) trees.now))) wanted e found.old found.new) }
+{
+    let alike = alike_of_all(need, gives, trees, wanted, here)?;
+    let mut parts = List::new(here.alloc);
+    operands_made(trees, need, alike, here, &mut parts, found)?;
+    Ok(Expr::Op { op, parts })
+}
+
+/// The steps of a chain.
+#[cycle(made)]
+fn steps_made(
+    steps: &[ExprStep],
+    here: &Here,
+    found: &mut Within,
+) -> Result<List<ChainStep>, NoMemory>
+    requires { IsSound here.now.catalog.now }
+    ensures { IfOk result (λ made. (alike : Sort) → MakesSteps here.now.standing.sublinks alike (surroundings here.now)
+        (map (step_of here.now.catalog.now) steps.now) made found.old found.new) }
+{
+    let mut made_steps = List::new(here.alloc);
+    for step in steps {
+        let op = step.op;
+        let part = made(&step.part, Kind::Integer, here, found)?;
+        made_steps.push(ChainStep { op, part })?;
+    }
+    Ok(made_steps)
+}
+
+/// The arms of a CASE, whose values take this kind if they may be of any.
+#[cycle(made)]
+fn arms_made(
+    arms: &[ArmTree],
+    alike: Kind,
+    here: &Here,
+    found: &mut Within,
+) -> Result<List<Arm>, NoMemory>
+    requires { IsSound here.now.catalog.now }
+    ensures { IfOk result (λ made. MakesArms here.now.standing.sublinks alike (surroundings here.now)
+        (map (arm_of here.now.catalog.now) arms.now) made found.old found.new) }
+{
+    let mut made_arms = List::new(here.alloc);
+    for arm in arms {
+        let condition = made(&arm.condition, Kind::Boolean, here, found)?;
+        let value = made(&arm.value, alike, here, found)?;
+        made_arms.push(Arm { condition, value })?;
+    }
+    Ok(made_arms)
+}
+
+/// An aggregate of an argument.
+#[cycle(made)]
+fn aggregated(
+    argument: &ExprTree,
+    word: AggWord,
+    here: &Here,
+    found: &mut Within,
+) -> Result<Expr, NoMemory>
+    requires { IsSound here.now.catalog.now }
+    ensures { IfOk result (λ e. (at argument_at : ℕ) (wanted : Sort) → Makes here.now.standing.sublinks
+        (aggregated (surroundings here.now) at word argument_at
+        (means_at (part_of here.now.catalog.now argument.now) (in_argument (surroundings here.now)))) wanted e found.old found.new) }
+{
+    let scopes = ungrouped(&*here.scopes);
+    let inner = Here {
+        alloc: here.alloc,
+        catalog: &*here.catalog,
+        scopes: &scopes,
+        standing: in_argument(here.standing),
+    };
+    let kind = kind_or_any(argument, &inner)?;
+    let mut own = Within::nothing(here.alloc);
+    let part = made(argument, argument_wanted(word), &inner, &mut own)?;
+    aggregate_made(group_count(&*here.scopes), word, kind, Some(part), found)
+}
+
+/// Whether a query has a row.
+#[cycle(made)]
+fn exists_made(query: &QueryTree, here: &Here, found: &mut Within) -> Result<Expr, NoMemory>
+    requires { IsSound here.now.catalog.now }
+    ensures { IfOk result (λ e. (at query_at : ℕ) (wanted : Sort) → Makes here.now.standing.sublinks
+        (if_standing (surroundings here.now) at (Some Truths) (exists_meant (surroundings here.now) query_at
+        (query_means_at (query_of here.now.catalog.now query.now) (around_of (surroundings here.now))))) wanted e found.old found.new) }
+{
+    if !here.standing.sublinks {
+        return Ok(null_at(Kind::Boolean));
+    }
+    linked(query, SubKind::Exists, None, &[], here, found)
+}
+
+/// The value of a query's one column.
+#[cycle(made)]
+fn scalar_made(
+    query: &QueryTree,
+    wanted: Kind,
+    here: &Here,
+    found: &mut Within,
+) -> Result<Expr, NoMemory>
+    requires { IsSound here.now.catalog.now }
+    ensures { IfOk result (λ e. (at query_at : ℕ) → Makes here.now.standing.sublinks
+        (if_standing (surroundings here.now) at None (scalar_meant (surroundings here.now) query_at
+        (query_means_at (query_of here.now.catalog.now query.now) (around_of (surroundings here.now))))) wanted e found.old found.new) }
+{
+    if !here.standing.sublinks {
+        return Ok(null_at(wanted));
+    }
+    let kind = scalar_kind(query, wanted, here)?;
+    linked(query, SubKind::Scalar, None, &[kind], here, found)
+}
+
+/// A sublink with its query, made at these kinds.
+#[cycle(made)]
+fn linked(
+    query: &QueryTree,
+    kind: SubKind,
+    tested: Option<Expr>,
+    wanted: &[Kind],
+    here: &Here,
+    found: &mut Within,
+) -> Result<Expr, NoMemory>
+    requires { IsSound here.now.catalog.now }
+    ensures { IfOk result (λ e. Links kind tested
+        (query_means_at (query_of here.now.catalog.now query.now) (around_of (surroundings here.now))) wanted.now e found.old found.new) }
+{
+    let around = Around {
+        alloc: here.alloc,
+        catalog: &*here.catalog,
+        outer: &*here.scopes,
+        trace: trace_below(here.standing.trace),
+        provable: false,
+    };
+    let query = query_made(query, wanted, &around)?;
+    sublink_made(kind, tested, query, found)
+}
+
+/// The left operand of a sublink, in which no sublink stands.
+#[cycle(made)]
+fn tested_made(
+    tree: &ExprTree,
+    wanted: Kind,
+    here: &Here,
+    found: &mut Within,
+) -> Result<Expr, NoMemory>
+    requires { IsSound here.now.catalog.now }
+    ensures { IfOk result (λ e. Makes false
+        (means_at (part_of here.now.catalog.now tree.now) (in_tested (surroundings here.now))) wanted e found.old found.new) }
+{
+    let inner = Here {
+        alloc: here.alloc,
+        catalog: &*here.catalog,
+        scopes: &*here.scopes,
+        standing: in_tested(here.standing),
+    };
+    made(tree, wanted, &inner, found)
+}

@@ -1,0 +1,98 @@
+//! Queries and set operations, made at the kinds that are wanted of their columns.
+ghost use Rattle.std.specs.Prelude.{◌≡◌, IfOk, map};
+ghost use Rattle.perm_catalog.specs.Sound.{IsSound};
+ghost use Rattle.name_words.specs.Meanings.{QueryMeant as Meaning, query_means_at};
+ghost use Rattle.name_words.specs.Queries.{set_chain};
+ghost use Rattle.name_words.specs.Trees.{query_of, set_of_tree, set_step_of};
+ghost use Rattle.name_nodes.specs.Chained.{Serves};
+ghost use Rattle.name_nodes.specs.Makes.{MakesQuery};
+ghost use Rattle.name_seen.specs.Standing.{around_of as standing_of};
+
+use crate::cores::core_made;
+use bag_algebra::Query;
+use cores_seen::is_proving;
+use made_parts::{chain_kinds, limit_keys, trace_inside};
+use name_nodes::{finished, set_joined};
+use name_seen::Around;
+use perm_values::{Kind, NoMemory};
+use sql_tree::{QueryTree, SetStep, SetTree};
+
+/// The query where it stands, with its columns of any kind at the kinds that are wanted of them. It fails only for want of
+/// memory.
+#[cycle(made)]
+pub fn query_made(tree: &QueryTree, wanted: &[Kind], around: &Around) -> Result<Query, NoMemory>
+    requires { IsSound around.now.catalog.now }
+    ensures { IfOk result (λ query. MakesQuery
+        (query_means_at (query_of around.now.catalog.now tree.now) (standing_of around.now)) wanted.now query) }
+{
+    let proving = is_proving(&tree.body, around);
+    let inner = Around {
+        alloc: around.alloc,
+        catalog: &*around.catalog,
+        outer: &*around.outer,
+        trace: trace_inside(around.trace, proving),
+        provable: around.provable,
+    };
+    let keys = limit_keys(tree, &inner)?;
+    let body = set_made(&tree.body, wanted, &inner)?;
+    finished(around.alloc, body, keys, tree.limit, proving)
+}
+
+/// The tree of set operations where it stands.
+#[cycle(made)]
+fn set_made(tree: &SetTree, wanted: &[Kind], around: &Around) -> Result<Query, NoMemory>
+    requires { IsSound around.now.catalog.now }
+    ensures { IfOk result (λ query. MakesQuery
+        ((set_of_tree around.now.catalog.now tree.now).means (standing_of around.now)) wanted.now query) }
+{
+    match tree {
+        SetTree::Core(core) => core_made(core.get(), wanted, around),
+        SetTree::Paren(query) => {
+            let inner = Around {
+                alloc: around.alloc,
+                catalog: &*around.catalog,
+                outer: &*around.outer,
+                trace: around.trace,
+                provable: false,
+            };
+            query_made(query.get(), wanted, &inner)
+        }
+        SetTree::Chain { first, steps } => {
+            let before = first.get();
+            if steps.is_empty() {
+                return set_made(before, wanted, around);
+            }
+            let kinds = chain_kinds(tree, wanted, around)?;
+            let whole = set_made(before, kinds.as_slice(), around)?;
+            chained(steps.as_slice(), whole, kinds.as_slice(), around)
+        }
+    }
+}
+
+/// Set operations on what stands before them, their operands made at the kinds of the whole.
+#[cycle(made)]
+fn chained(
+    steps: &[SetStep],
+    first: Query,
+    kinds: &[Kind],
+    around: &Around,
+) -> Result<Query, NoMemory>
+    requires { IsSound around.now.catalog.now }
+    ensures { IfOk result (λ query. (meant : Meaning) → MakesQuery meant kinds.now first
+        → Serves (set_chain (standing_of around.now) meant (map (set_step_of around.now.catalog.now) steps.now)) kinds.now
+        → query ≡ (set_chain (standing_of around.now) meant (map (set_step_of around.now.catalog.now) steps.now)).make kinds.now) }
+{
+    let inner = Around {
+        alloc: around.alloc,
+        catalog: &*around.catalog,
+        outer: &*around.outer,
+        trace: around.trace,
+        provable: false,
+    };
+    let mut whole = first;
+    for step in steps {
+        let operand = set_made(&step.operand, kinds, &inner)?;
+        whole = set_joined(around.alloc, step.word, step.all, whole, operand)?;
+    }
+    Ok(whole)
+}
