@@ -1,0 +1,114 @@
+-- What a regular query that breaks nothing is made to can run: the laws of names are used here alone.
+use Rattle.std.specs.Prelude.{◌≡◌, suc, cond, List, [], ◌∷◌, ◌++◌, length, map, Option, Some}
+use Rattle.std.specs.Option.{option_map_or}
+use Rattle.std.proofs.Common.{refl, ap, sym, ◌∙◌}
+use Rattle.std.proofs.lemmas.List.Elements.{All-contains}
+use Rattle.bag_algebra.proofs.TablesRead.{each_table-from_told}
+use Rattle.perm_values.specs.declared.kind.Kind.{Kind}
+use Rattle.perm_values.specs.declared.kind.Kind.TheVariants as kind
+use Rattle.bag_algebra.specs.TablesRead.{EachTable, TableRead, tables_read}
+use Rattle.bag_algebra.specs.declared.query.Query.{Query}
+use Rattle.perm_catalog.specs.Contents.{Contents}
+use Rattle.perm_catalog.specs.Sound.{IsHeldRead, IsSound}
+use Rattle.perm_catalog.specs.declared.entries.ViewEntry.{ViewEntry}
+use Rattle.sql_tree.specs.Regular.{RegularQuery, RegularStatement, RegularStatementBody}
+use Rattle.sql_tree.specs.declared.query.QueryTree.{QueryTree}
+use Rattle.sql_tree.specs.declared.statement.Statement.{Statement}
+use Rattle.sql_tree.specs.declared.statement.StatementBody.{StatementBody}
+use Rattle.sql_tree.specs.declared.statement.StatementBody.TheVariants as st
+use Rattle.name_words.specs.Cores.{settle}
+use Rattle.name_words.specs.Froms.{names_of, settled_columns}
+use Rattle.name_words.specs.Meanings.{OutColumn, QueryMeant, broken_if, is_whole, settled}
+use Rattle.name_words.specs.Scopes.{KnownColumn}
+use Rattle.name_words.specs.Statements as words
+use Rattle.name_words.specs.declared.answer.Break.{Break}
+use Rattle.name_laws.proofs.Every.{back-none, front-none}
+use Rattle.name_laws.proofs.Trees.{query-in_scope, query-known}
+use Rattle.name_forms.specs.Formed.{IsAnswer}
+use Rattle.name_forms.proofs.TreeLaws.{query-answer, query-closed}
+use Rattle.name_tables.proofs.Named.{view-reads}
+use Rattle.name_analysis.specs.Stands.{AnswerStands, BodyStands, IsHeldTable, shown_kinds}
+
+abbrev known_kinds : List KnownColumn → List Kind
+known_kinds columns = map (λ (column : KnownColumn). column.kind) columns
+
+kinds-settled : (columns : List OutColumn) → settle columns [] ≡ known_kinds (settled_columns columns)
+kinds-settled [] = refl
+kinds-settled (column ∷ columns) = ap (λ (kinds : List Kind). settled column.kind kind.Text ∷ kinds) (kinds-settled columns)
+
+names-many : (columns : List OutColumn) → length (names_of (settled_columns columns)) ≡ length columns
+names-many [] = refl
+names-many (column ∷ columns) = ap suc (names-many columns)
+
+-- the definition's columns, where they are known
+shown : (m : QueryMeant) (columns : List OutColumn) → m.columns ≡ Some columns → words.columns_of m ≡ settled_columns columns
+shown m columns known = ap (λ (held : Option (List OutColumn)). option_map_or settled_columns held []) known
+
+-- the rules of names are looked at first
+names-whole : (names limits : List Break) → cond (is_whole names) limits names ≡ [] → names ≡ []
+names-whole [] limits e = refl
+names-whole (first ∷ more) limits e = e
+
+module _ (c : Contents) (sound : IsSound c) where
+  -- ---- the tables
+
+  view-held : (view : ViewEntry) (read : TableRead) → IsHeldRead c view read → IsHeldTable c read.id read.kinds
+  view-held view read held = record { name = held.name; table = held.table; named = held.named; id_is = held.id; kinds_are = held.kinds }
+
+  tables-held : (tree : QueryTree) → EachTable (IsHeldTable c) ((words.query_meant c tree).make [])
+  tables-held tree =
+      let view : ViewEntry = words.view_entry (words.query_meant c tree) in
+      let query : Query = (words.query_meant c tree).make [] in
+      each_table-from_told (IsHeldTable c) query
+      (λ read among. view-held view read (All-contains (IsHeldRead c view) (tables_read query) read (view-reads c sound tree) among))
+
+  -- ---- queries
+
+  answer-stands : (tree : QueryTree) → RegularQuery tree → (words.query_meant c tree).breaks ≡ []
+      → AnswerStands c (shown_kinds c tree) (words.answer_of (words.query_meant c tree))
+  answer-stands tree regular whole =
+      let m : QueryMeant = words.query_meant c tree in
+      let closed = query-closed c tree words.alone sound regular whole refl [] in
+      let known = query-known c tree words.alone sound whole in
+      let answer : IsAnswer m = query-answer c tree words.alone sound regular whole in
+      record {
+        formed = closed.0;
+        closed = closed.1;
+        scoped = (query-in_scope c tree words.alone sound whole []).scoped;
+        kinds_are = known.kinds [] ∙ kinds-settled known.columns ∙ ap known_kinds (sym (shown m known.columns known.known));
+        named = ap (λ (columns : List KnownColumn). length (names_of columns)) (shown m answer.columns answer.known)
+            ∙ names-many answer.columns ∙ answer.named [];
+        keys = answer.keys [];
+        tables = tables-held tree;
+      }
+
+  -- ---- statements
+
+  module _ (tree : QueryTree) where
+    abbrev named_twice : List Break
+    named_twice = broken_if (words.repeats (names_of (words.columns_of (words.query_meant c tree)))) 14 tree.at
+
+    query-whole : (front : List Break) → front ++ words.named_query_breaks tree.at (words.query_meant c tree) ≡ [] → (words.query_meant c tree).breaks ≡ []
+    query-whole front e =
+        front-none (words.query_meant c tree).breaks named_twice (back-none front (words.named_query_breaks tree.at (words.query_meant c tree)) e)
+
+  body-stands : (body : StatementBody) → RegularStatementBody body → words.name_breaks c body ≡ [] → BodyStands c body (words.resolved_body c body)
+  body-stands (st.CreateTable table columns) regular whole = tt
+  body-stands (st.CreateTableAs table query) regular whole =
+      answer-stands query regular (query-whole query (words.taken c table)
+      (front-none (words.taken c table ++ words.named_query_breaks query.at (words.query_meant c query))
+      (broken_if (words.has_boolean (words.columns_of (words.query_meant c query))) 20 query.at) whole))
+  body-stands (st.CreateView view query) regular whole = answer-stands query regular (query-whole query (words.taken c view) whole)
+  body-stands (st.Copy table file header mark) regular whole = tt
+  body-stands (st.Insert table rows) regular whole = tt
+  body-stands (st.Delete table condition) regular whole = tt
+  body-stands (st.DropTable table) regular whole = tt
+  body-stands (st.DropView view) regular whole = tt
+  body-stands (st.Select query) regular whole = answer-stands query regular whole
+  body-stands (st.Explain query) regular whole = answer-stands query regular whole
+  body-stands (st.ShowFresh table) regular whole = tt
+
+pub statement-stands : (c : Contents) (statement : Statement) → IsSound c → RegularStatement statement → words.breaks c statement ≡ []
+    → BodyStands c statement.body (words.resolved c statement)
+statement-stands c statement sound regular whole =
+    body-stands c sound statement.body regular (names-whole (words.name_breaks c statement.body) (words.limit_breaks c statement.body) whole)
