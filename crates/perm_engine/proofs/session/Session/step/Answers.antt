@@ -39,7 +39,7 @@ returns g c =
     let after = c.carried_out-told.new.files in
     let files = over g.F.Files.held g.F.Files.faults g.F.Files.begun g.F.Files.absent g.F.Files.taken f after in
     let h = asked-carried c.self.inside.catalog c.carried_out-told.new.catalog c.args.statement c.in_ok-resolved.resolved c.carried_out-told.result files (after ≡ f)
-            c.in_ok-resolved.ensures c.carried_out-told.ensures in
+    c.in_ok-resolved.ensures c.carried_out-told.ensures in
     rw (← c.self.view_is) (record {
       turn = h.turn;
       sound = h.sound;
