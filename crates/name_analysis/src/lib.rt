@@ -5,7 +5,6 @@ mod analysis;
 mod answers;
 mod laws;
 mod limits;
-mod passes;
 mod queries;
 mod rows;
 mod tables;

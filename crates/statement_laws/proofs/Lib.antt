@@ -2,3 +2,4 @@ pub mod Adds
 pub mod Left
 pub mod Ready
 pub mod Sounder
+pub mod Unspent

@@ -1,9 +1,10 @@
 //! Each law is the contract of a function that does nothing.
-ghost use Rattle.std.specs.Prelude.{◌≡◌, ℕ, Bool, List, [], Option};
+ghost use Rattle.std.specs.Prelude.{◌≡◌, ◌≢◌, ℕ, Bool, List, [], Option, Contains};
 ghost use Rattle.bag_algebra.specs.Bags.{Bag};
 ghost use Rattle.bag_algebra.specs.Outcome.{Good, each};
 ghost use Rattle.bag_algebra.specs.declared.expr.Expr.{Expr};
 ghost use Rattle.name_words.specs.Statements.{breaks, resolved};
+ghost use Rattle.name_words.specs.declared.answer.Break.{Break};
 ghost use Rattle.name_words.specs.declared.answer.Resolved.{Resolved};
 ghost use Rattle.perm_catalog.specs.Contents.{Contents};
 ghost use Rattle.perm_catalog.specs.Sound.{IsSound};
@@ -40,4 +41,9 @@ pub fn statements_keep_catalogs_sound()
 pub fn whole_statements_add_soundly()
     ensures { (c : Contents) (statement : Statement) → IsSound c → RegularStatement statement
         → breaks c statement ≡ [] → AddsSoundly c (resolved c statement) }
+{}
+
+/// No rule of names and kinds is the want of a number to draw.
+pub fn no_rule_wants_a_number()
+    ensures { (c : Contents) (statement : Statement) (b : Break) → Contains (breaks c statement) b → b.code ≢ 17 }
 {}
