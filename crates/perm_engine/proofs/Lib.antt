@@ -3,6 +3,7 @@ pub mod Completing
 pub mod Ending
 pub mod Firsts
 pub mod Lines
+pub mod Looping
 pub mod Misspelling
 pub mod Reasons
 pub mod Running

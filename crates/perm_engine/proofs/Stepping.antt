@@ -19,7 +19,7 @@ use Rattle.statement_words.specs.Turns.{Turn, Stands, Refused, Broken}
 use Rattle.statement_words.specs.declared.refusal.StepRefusal.{StepRefusal}
 use Rattle.statement_words.specs.declared.refusal.StepRefusal.TheVariants as refusal
 use Rattle.perm_engine.proofs.Causes.{refuses_with}
-use Rattle.perm_engine.specs.Resolving.{IsMade, Resolves, ResolvesBuilt, ResolvesBy}
+use Rattle.perm_engine.specs.Resolving.{IsCarriedOut, IsMade, Resolves, ResolvesBuilt, ResolvesBy}
 
 -- ---- resolving
 
@@ -104,8 +104,13 @@ taken-sound Can (Settled turn) old new result sound keeps h = turn-sound turn ol
 taken-sound Can (Begins name after) old new result sound keeps (found, can, h) = turn-sound (after found) old new result sound (keeps found) h
 
 -- what name analysis makes of a statement that breaks nothing
-pub made-whole : (c d : Contents) (statement : Statement) (made : Resolved) → d ≡ c → breaks d statement ≡ [] → made ≡ resolved d statement → IsReady d (resolved d statement) →
-    KeepsSound (asks d statement.at (resolved d statement)) → IsMade (breaks c statement) c statement made
-made-whole c d statement made same whole is ready sound =
-    subst (λ e. IsMade (breaks e statement) e statement made) same
-    (record { whole = whole; is = is; ready = subst (IsReady d) (sym is) ready; sound = subst (λ m. KeepsSound (asks d statement.at m)) (sym is) sound })
+pub made-whole : (c : Contents) (statement : Statement) (made : Resolved) → breaks c statement ≡ [] → made ≡ resolved c statement → IsReady c (resolved c statement) →
+    KeepsSound (asks c statement.at (resolved c statement)) → IsMade (breaks c statement) c statement made
+made-whole c statement made whole is ready sound =
+    record { whole = whole; is = is; ready = subst (IsReady c) (sym is) ready; sound = subst (λ m. KeepsSound (asks c statement.at m)) (sym is) sound }
+
+-- what was asked for has become of the statement
+pub asked-carried : (c new : Contents) (statement : Statement) (made : Resolved) (result : Result (List ℕ) StepRefusal) (files : Files) (Untouched : Type 0) →
+    IsMade (all_breaks c statement) c statement made → IsCarriedOut (asks c statement.at made) c new result files Untouched → IsCarriedOut (asked c statement) c new result files Untouched
+asked-carried c new statement made result files Untouched m h =
+    subst (λ a. IsCarriedOut a c new result files Untouched) (sym (asked-made c statement made m)) h

@@ -33,6 +33,7 @@ fn run_statements<F: Files, K: Sink>(
         (RunsFrom (can_be (seen F.held F.faults F.begun F.absent F.taken files.old files.new)) (nothing_held 1) statements)
         (over K.written K.faults K.unflushed out.old out.new) (seen F.held F.faults F.begun F.absent F.taken files.old files.new) result }
     ensures status { IsOfScript result }
+    ensures read_fault { result ≡ Status.ReadFault → HasRisen (F.faults files.old) (F.faults files.new) }
     ensures steady { IsSteady result → F.faults files.new ≡ F.faults files.old }
     ensures held { F.held files.new ≡ F.held files.old }
 {
@@ -55,6 +56,7 @@ fn run_script<F: Files, K: Sink>(alloc: Global, bytes: &[u8], files: &mut F, out
         (RunsScript (can_be (seen F.held F.faults F.begun F.absent F.taken files.old files.new)) bytes.now)
         (over K.written K.faults K.unflushed out.old out.new) (seen F.held F.faults F.begun F.absent F.taken files.old files.new) result }
     ensures status { IsOfScript result }
+    ensures read_fault { result ≡ Status.ReadFault → HasRisen (F.faults files.old) (F.faults files.new) }
     ensures steady { IsSteady result → F.faults files.new ≡ F.faults files.old }
     ensures held { F.held files.new ≡ F.held files.old }
 {

@@ -97,55 +97,69 @@ impl Session {
         ensures held { F.held files.new ≡ F.held files.old }
     {
         let at = statement.at;
-        match self.resolved(statement) {
-            Ok(resolved) => self.carry_out(at, resolved, files),
-            Err(refusal) => Err(refusal),
-        }
-    }
-
-    /// Carries out a resolved statement at an offset.
-    fn carry_out<F: Files>(
-        &mut self,
-        at: usize,
-        resolved: Resolved,
-        files: &mut F,
-    ) -> Result<Bytes, StepRefusal>
-        requires ready { IsReady self.old resolved }
-        requires sound { KeepsSound (asks self.old at resolved) }
-        ensures { IsCarriedOut (asks self.old at resolved) self.old self.new result (over F.held F.faults F.begun F.absent F.taken files.old files.new)
-            (files.new ≡ files.old) }
-    {
-        step(self.alloc, &mut self.catalog, files, at, &resolved)
-    }
-
-    /// The statement with its names looked up, which can be carried out and keeps the catalog sound; or why it can't stand:
-    /// it is of a form that isn't run, or breaks a rule of names and kinds.
-    fn resolved(&self, statement: Statement) -> Result<Resolved, StepRefusal>
-        requires { RegularStatement statement }
-        ensures { Resolves self.now statement result }
-    {
-        if is_unbuilt(&statement) {
-            Err(StepRefusal::Break(Break {
-                code: 29,
-                at: statement.at,
-            }))
-        } else {
-            self.looked_up(statement)
-        }
-    }
-
-    /// The same of a form that is run.
-    fn looked_up(&self, statement: Statement) -> Result<Resolved, StepRefusal>
-        requires { RegularStatement statement }
-        ensures { ResolvesBuilt self.now statement result }
-    {
-        whole_statements_are_ready();
-        whole_statements_add_soundly();
-        statements_keep_catalogs_sound();
-        match resolve(self.alloc, &self.catalog, statement) {
-            Ok(resolved) => Ok(resolved),
-            Err(Refusal::Break(found)) => Err(StepRefusal::Break(found)),
-            Err(Refusal::NoMemory) => Err(StepRefusal::NoMemory),
-        }
+        let resolved = resolved_statement(self.alloc, &self.catalog, statement)?;
+        let told = carried_out(self.alloc, &mut self.catalog, files, at, &resolved);
+        let_go(resolved);
+        told
     }
 }
+
+/// The statement with its names looked up, which can be carried out and keeps the catalog sound; or why it can't stand: it
+/// is of a form that isn't run, or breaks a rule of names and kinds.
+fn resolved_statement(
+    alloc: Global,
+    catalog: &Catalog,
+    statement: Statement,
+) -> Result<Resolved, StepRefusal>
+    requires sound { IsSound catalog.now }
+    requires regular { RegularStatement statement }
+    ensures { Resolves catalog.now statement result }
+{
+    let at = statement.at;
+    if is_unbuilt(&statement) {
+        let_go(statement);
+        Err(StepRefusal::Break(Break { code: 29, at }))
+    } else {
+        looked_up(alloc, catalog, statement)
+    }
+}
+
+/// The same of a form that is run.
+fn looked_up(
+    alloc: Global,
+    catalog: &Catalog,
+    statement: Statement,
+) -> Result<Resolved, StepRefusal>
+    requires sound { IsSound catalog.now }
+    requires regular { RegularStatement statement }
+    ensures { ResolvesBuilt catalog.now statement result }
+{
+    whole_statements_are_ready();
+    whole_statements_add_soundly();
+    statements_keep_catalogs_sound();
+    match resolve(alloc, catalog, statement) {
+        Ok(resolved) => Ok(resolved),
+        Err(Refusal::Break(found)) => Err(StepRefusal::Break(found)),
+        Err(Refusal::NoMemory) => Err(StepRefusal::NoMemory),
+    }
+}
+
+/// Carries out a resolved statement at an offset over a sound catalog, which stays sound.
+fn carried_out<F: Files>(
+    alloc: Global,
+    catalog: &mut Catalog,
+    files: &mut F,
+    at: usize,
+    resolved: &Resolved,
+) -> Result<Bytes, StepRefusal>
+    requires before { IsSound catalog.old }
+    requires ready { IsReady catalog.old resolved.now }
+    requires sound { KeepsSound (asks catalog.old at resolved.now) }
+    ensures { IsCarriedOut (asks catalog.old at resolved.now) catalog.old catalog.new result (over F.held F.faults F.begun F.absent F.taken files.old files.new)
+        (files.new ≡ files.old) }
+{
+    step(alloc, catalog, files, at, resolved)
+}
+
+/// Drops a value of many variants. A caller that dropped it by itself would have a way through its code for each of them.
+fn let_go<T: Drop>(_value: T) {}

@@ -1,0 +1,13 @@
+use Rattle.name_words.specs.Statements.{resolved}
+use Rattle.perm_engine.proofs.Stepping.{made-whole}
+use Rattle.perm_engine.proofs.session.looked_up.Goals as goal
+
+pub returns-in-Ok : goal.returns-in-Ok
+returns-in-Ok c =
+    let held = c.args.catalog.now in
+    let statement = c.args.statement in
+    let sound = c.requires.sound in
+    let whole = c.in-Ok.ensures.whole in
+    let ready = c.whole_statements_are_ready.ensures held statement sound c.requires.regular whole in
+    made-whole held statement c.in-Ok.resolved whole c.in-Ok.ensures.is ready
+    (c.statements_keep_catalogs_sound.ensures held sound statement.at (resolved held statement) ready (c.whole_statements_add_soundly.ensures held statement sound c.requires.regular whole))
