@@ -1,0 +1,20 @@
+use Rattle.std.specs.Prelude.{List, [], ◌∷◌}
+use Rattle.std.proofs.Common.{ap, ◌∙◌}
+use Rattle.name_seen.specs.Named.{scopes_of}
+use Rattle.name_seen.specs.Standing.{standing_in}
+use Rattle.name_words.specs.Froms.{table_columns}
+use Rattle.name_words.specs.Scopes.{scope_of}
+use Rattle.name_words.specs.Statements.{bare}
+use Rattle.name_words.specs.declared.scope.Scope.{Scope}
+use Rattle.perm_catalog.specs.declared.column.Column.{Column}
+use Rattle.name_analysis.proofs.Values.{condition-alone}
+use Rattle.name_analysis.proofs.tables.condition_made.Goals as goal
+
+pub returns : goal.returns
+returns c =
+    condition-alone c.args.catalog.now c.args.table.now c.args.tree.now c.args.entry.now (standing_in (scopes_of c.in_ok-scopes.scopes) c.alone.result) _ _ _ _
+    c.in_ok-condition.ensures c.nothing-found.ensures
+    (ap (λ (scopes : List Scope). standing_in scopes c.alone.result) c.in_ok-scopes.ensures ∙ c.alone.ensures (c.in_ok-scope.scope ∷ [])
+    ∙ ap (λ (scope : Scope). bare (scope ∷ [])) (c.in_ok-scope.ensures
+    ∙ ap (λ (columns : List Column). scope_of (record { name = c.args.table.now.text; columns = table_columns columns } ∷ [])) c.as_slice.ensures))
+    c.requires.whole

@@ -1,0 +1,74 @@
+-- What holds of the query in what a regular statement resolves to: it can run on the catalog that it was looked up in.
+use Rattle.std.specs.Prelude.{◌≡◌, ⊤, ℕ, true, List, [], length, map, Option, Some, None, IfSome, Result, Ok, Err}
+use Rattle.perm_values.specs.declared.kind.Kind.{Kind}
+use Rattle.bag_algebra.specs.Closed.{is_closed}
+use Rattle.bag_algebra.specs.Kinds.{kinds_of, width_of}
+use Rattle.bag_algebra.specs.Scoped.{is_scoped}
+use Rattle.bag_algebra.specs.TablesRead.{EachTable}
+use Rattle.bag_algebra.specs.WellFormed.{KeysIn, WellFormed}
+use Rattle.bag_algebra.specs.declared.query.Answer.{Answer}
+use Rattle.perm_catalog.specs.Changes.{table_named}
+use Rattle.perm_catalog.specs.Columns.{column_kinds}
+use Rattle.perm_catalog.specs.Contents.{Contents}
+use Rattle.perm_catalog.specs.declared.entries.TableEntry.{TableEntry}
+use Rattle.sql_tree.specs.declared.query.QueryTree.{QueryTree}
+use Rattle.sql_tree.specs.declared.statement.StatementBody.{StatementBody}
+use Rattle.sql_tree.specs.declared.statement.StatementBody.TheVariants as st
+use Rattle.name_words.specs.Scopes.{KnownColumn}
+use Rattle.name_words.specs.Statements.{columns_of, query_meant}
+use Rattle.name_words.specs.declared.answer.Resolved.{Resolved}
+use Rattle.name_words.specs.declared.answer.Resolved.TheVariants as r
+use Rattle.name_seen.specs.declared.refusal.Refusal.{Refusal}
+
+-- a table of the catalog has this number, and columns of these kinds
+pub record IsHeldTable (c : Contents) (id : ℕ) (kinds : List Kind) : Type 0 where
+  pub name : List ℕ
+  pub table : TableEntry
+  pub named : table_named c name ≡ Some table
+  pub id_is : table.id ≡ id
+  pub kinds_are : column_kinds table.columns ≡ kinds
+
+-- well formed under no outer rows, closed and scoped; columns of these kinds, a name for each, keys among them; each table
+-- is the catalog's, with its kinds
+pub record AnswerStands (c : Contents) (kinds : List Kind) (answer : Answer) : Type 0 where
+  pub formed : WellFormed [] answer.query
+  pub closed : is_closed answer.query ≡ true
+  pub scoped : is_scoped answer.query ≡ true
+  pub kinds_are : kinds_of answer.query ≡ kinds
+  pub named : length answer.names ≡ width_of answer.query
+  pub keys : KeysIn (width_of answer.query) answer.keys
+  pub tables : EachTable (IsHeldTable c) answer.query
+
+abbrev pub answer_in : Resolved → Option Answer
+answer_in (r.CreateTable name columns) = None
+answer_in (r.CreateTableAs name columns answer places) = Some answer
+answer_in (r.CreateView name entry) = Some entry.answer
+answer_in (r.Copy name kinds file mark header) = None
+answer_in (r.Insert name rows) = None
+answer_in (r.Delete name condition) = None
+answer_in (r.DropTable name) = None
+answer_in (r.DropView name) = None
+answer_in (r.Select answer) = Some answer
+answer_in (r.Explain answer) = Some answer
+answer_in (r.ShowFresh name) = None
+
+-- the kinds of the columns that the query shows
+abbrev pub shown_kinds : Contents → QueryTree → List Kind
+shown_kinds c tree = map (λ (column : KnownColumn). column.kind) (columns_of (query_meant c tree))
+
+abbrev pub StandsFor : Contents → QueryTree → Resolved → Type 0
+StandsFor c tree made = IfSome (answer_in made) (AnswerStands c (shown_kinds c tree))
+
+-- a statement's query, where it has one
+abbrev pub BodyStands : Contents → StatementBody → Resolved → Type 0
+BodyStands c (st.CreateTable table columns) made = ⊤
+BodyStands c (st.CreateTableAs table query) made = StandsFor c query made
+BodyStands c (st.CreateView view query) made = StandsFor c query made
+BodyStands c (st.Copy table file header mark) made = ⊤
+BodyStands c (st.Insert table rows) made = ⊤
+BodyStands c (st.Delete table condition) made = ⊤
+BodyStands c (st.DropTable table) made = ⊤
+BodyStands c (st.DropView view) made = ⊤
+BodyStands c (st.Select query) made = StandsFor c query made
+BodyStands c (st.Explain query) made = StandsFor c query made
+BodyStands c (st.ShowFresh table) made = ⊤

@@ -1,0 +1,24 @@
+//! The limits that are looked at where names and kinds break no rule.
+ghost use Rattle.std.specs.Prelude.{◌≡◌};
+ghost use Rattle.name_seen.specs.Seen.{first_or};
+ghost use Rattle.name_words.specs.Statements.{size_limit};
+
+use bag_algebra::Query;
+use name_words::Break;
+use query_measures::{height, size};
+
+/// The greatest height of a query.
+const GREATEST_HEIGHT: u64 = 256;
+
+/// The most operators of a query.
+const MOST_OPERATORS: u64 = 65_536;
+
+/// That the query, whose tree stands at this offset, is too high or has too many operators.
+pub(crate) fn size_break(at: usize, query: &Query) -> Result<(), Break>
+    ensures { result ≡ first_or (size_limit at query.now) tt }
+{
+    if height(query) > GREATEST_HEIGHT || size(query) > MOST_OPERATORS {
+        return Err(Break { code: 27, at });
+    }
+    Ok(())
+}

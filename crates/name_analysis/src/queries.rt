@@ -1,0 +1,245 @@
+//! Statements over a query.
+ghost use Rattle.std.specs.Prelude.{◌≡◌, [], IfOk, map};
+ghost use Rattle.clauses_seen.specs.Columns.{columns_of};
+ghost use Rattle.name_seen.specs.Named.{scopes_of};
+ghost use Rattle.name_seen.specs.Seen.{first_or};
+ghost use Rattle.name_words.specs.Froms.{names_of, settled_columns};
+ghost use Rattle.name_words.specs.Queries.{key_of};
+ghost use Rattle.name_words.specs.Statements.{stored_columns};
+ghost use Rattle.queries_inside.specs.Held.{inside_in};
+ghost use Rattle.name_seen.specs.Standing.{around_of};
+ghost use Rattle.name_words.specs.Meanings.{query_means_at};
+ghost use Rattle.name_words.specs.Statements as words;
+ghost use Rattle.name_words.specs.Trees.{query_of};
+ghost use Rattle.perm_catalog.specs.Sound.{IsSound};
+ghost use Rattle.query_facts.specs.Queried.{QueryWhole};
+ghost use Rattle.sql_tree.specs.declared.statement.StatementBody.TheVariants as asked;
+ghost use Rattle.name_analysis.specs.Resolves.{ResolvesBody, WholeSeen, stored_breaks};
+
+use crate::answers::{names_of, stored_columns};
+use crate::limits::size_break;
+use crate::passes::{keys_of, query_made};
+use crate::tables::text_of;
+use bag_algebra::{Answer, Query};
+use clauses_seen::ShownColumn;
+use name_seen::{Around, Refusal, Scopes};
+use name_words::{Break, Resolved, Trace};
+use perm_catalog::{Catalog, Column, ViewEntry};
+use perm_values::{Chars, List, NoMemory};
+use queries_inside::{Gathered, all_noted, first_wide, query_inside};
+use query_facts::QueryShown;
+use query_seen::query_seen;
+use sql_tree::{Name, OrderTree, QueryTree};
+use statements_seen::{boolean_break, repeats_break, table_limit, taken};
+use std::alloc::Global;
+
+/// A query that breaks nothing: its answer, the places of its provenance columns where it asks for provenance, its columns
+/// as a table has them, and the names of tables and views in it.
+pub(crate) struct Whole {
+    pub answer: Answer,
+    pub places: Option<List<usize>>,
+    pub columns: List<Column>,
+    pub names: List<Chars>,
+}
+
+pub(crate) fn select(
+    alloc: Global,
+    catalog: &Catalog,
+    query: &QueryTree,
+) -> Result<Resolved, Refusal>
+    requires { IsSound catalog.now }
+    ensures { ResolvesBody catalog.now (asked.Select query.now) result }
+{
+    let outermost = Scopes::Outermost;
+    let around = around_alone(alloc, catalog, &outermost);
+    let shown = query_seen(query, &around)?;
+    let whole = whole_of(query, &around, shown)?;
+    Ok(Resolved::Select {
+        answer: answer_of(whole),
+    })
+}
+
+pub(crate) fn explain(
+    alloc: Global,
+    catalog: &Catalog,
+    query: &QueryTree,
+) -> Result<Resolved, Refusal>
+    requires { IsSound catalog.now }
+    ensures { ResolvesBody catalog.now (asked.Explain query.now) result }
+{
+    let outermost = Scopes::Outermost;
+    let around = around_alone(alloc, catalog, &outermost);
+    let shown = query_seen(query, &around)?;
+    let whole = whole_of(query, &around, shown)?;
+    Ok(Resolved::Explain {
+        answer: answer_of(whole),
+    })
+}
+
+pub(crate) fn create_view(
+    alloc: Global,
+    catalog: &Catalog,
+    view: Name,
+    query: &QueryTree,
+) -> Result<Resolved, Refusal>
+    requires { IsSound catalog.now }
+    ensures { ResolvesBody catalog.now (asked.CreateView view query.now) result }
+{
+    taken(catalog, &view)?;
+    let outermost = Scopes::Outermost;
+    let around = around_alone(alloc, catalog, &outermost);
+    let shown = query_seen(query, &around)?;
+    repeats_break(query.at, shown.columns.as_slice())?;
+    let whole = whole_of(query, &around, shown)?;
+    let entry = entry_of(alloc, whole)?;
+    Ok(Resolved::CreateView {
+        name: text_of(view),
+        entry,
+    })
+}
+
+pub(crate) fn create_table_as(
+    alloc: Global,
+    catalog: &Catalog,
+    table: Name,
+    query: &QueryTree,
+) -> Result<Resolved, Refusal>
+    requires { IsSound catalog.now }
+    ensures { ResolvesBody catalog.now (asked.CreateTableAs table query.now) result }
+{
+    taken(catalog, &table)?;
+    let outermost = Scopes::Outermost;
+    let around = around_alone(alloc, catalog, &outermost);
+    let shown = query_seen(query, &around)?;
+    stored_break(&table, query.at, shown.columns.as_slice())?;
+    let whole = whole_of(query, &around, shown)?;
+    let Whole {
+        answer,
+        places,
+        columns,
+        names: _names,
+    } = whole;
+    Ok(Resolved::CreateTableAs {
+        name: text_of(table),
+        columns,
+        answer,
+        places,
+    })
+}
+
+/// That the columns of a query at this offset are none of a table of this name.
+fn stored_break(table: &Name, at: usize, columns: &[ShownColumn]) -> Result<(), Break>
+    ensures { result ≡ first_or (stored_breaks table.now at (settled_columns (columns_of columns.now))) tt }
+{
+    repeats_break(at, columns)?;
+    boolean_break(at, columns)?;
+    table_limit(table, columns.len())
+}
+
+fn answer_of(whole: Whole) -> Answer
+    ensures { result ≡ whole.answer }
+{
+    let Whole {
+        answer,
+        places: _places,
+        columns: _columns,
+        names: _names,
+    } = whole;
+    answer
+}
+
+fn entry_of(alloc: Global, whole: Whole) -> Result<ViewEntry, NoMemory>
+    ensures { IfOk result (λ entry. entry ≡ record { answer = whole.answer; places = whole.places; names_used = words.all_noted whole.names }) }
+{
+    let Whole {
+        answer,
+        places,
+        columns: _columns,
+        names,
+    } = whole;
+    let names_used = all_noted(alloc, names.as_slice())?;
+    Ok(ViewEntry {
+        answer,
+        places,
+        names_used,
+    })
+}
+
+/// Where a whole query stands.
+fn around_alone<'a>(alloc: Global, catalog: &'a Catalog, outermost: &'a Scopes<'a>) -> Around<'a>
+    ensures place { scopes_of outermost.now ≡ [] → around_of result ≡ words.alone }
+    ensures catalog { result.catalog.now ≡ catalog.now }
+{
+    Around {
+        alloc,
+        catalog,
+        outer: outermost,
+        trace: Trace::Untraced,
+        provable: true,
+    }
+}
+
+/// A query that was seen to break nothing, made, or the first limit that it passes.
+#[tactic(auto, using(crate::proofs::Wholes::wide_first, crate::proofs::Wholes::size_second, crate::proofs::Wholes::whole_made))]
+fn whole_of(query: &QueryTree, around: &Around, shown: QueryShown) -> Result<Whole, Refusal>
+    requires sound { IsSound around.now.catalog.now }
+    requires seen { QueryWhole (query_means_at (query_of around.now.catalog.now query.now) (around_of around.now)) shown }
+    ensures { WholeSeen query.now.at (query_means_at (query_of around.now.catalog.now query.now) (around_of around.now)) result }
+{
+    let gathered = gathered_in(query, around)?;
+    first_wide(gathered.queries.as_slice())?;
+    let made = query_made(query, &[], around)?;
+    size_break(query.at, &made)?;
+    let order = query.order.as_slice();
+    Ok(with_shown(around.alloc, order, made, shown, gathered)?)
+}
+
+/// What stands inside the query.
+fn gathered_in(query: &QueryTree, around: &Around) -> Result<Gathered, NoMemory>
+    requires sound { IsSound around.now.catalog.now }
+    requires whole { (query_means_at (query_of around.now.catalog.now query.now) (around_of around.now)).breaks ≡ [] }
+    ensures { IfOk result (λ found. inside_in found ≡ (query_means_at (query_of around.now.catalog.now query.now) (around_of around.now)).inside) }
+{
+    let mut found = Gathered::nothing(around.alloc);
+    query_inside(query, around, &mut found)?;
+    Ok(found)
+}
+
+/// The made query with what else was found of it.
+fn with_shown(
+    alloc: Global,
+    order: &[OrderTree],
+    made: Query,
+    shown: QueryShown,
+    gathered: Gathered,
+) -> Result<Whole, NoMemory>
+    ensures { IfOk result (λ whole. whole ≡ record {
+      answer = record { query = made; names = names_of (settled_columns (columns_of shown.columns)); keys = map (key_of (columns_of shown.columns)) order.now };
+      places = shown.places;
+      columns = stored_columns (settled_columns (columns_of shown.columns));
+      names = gathered.names;
+    }) }
+{
+    let columns = stored_columns(alloc, shown.columns.as_slice())?;
+    let names = names_of(alloc, shown.columns.as_slice())?;
+    let keys = keys_of(alloc, shown.columns.as_slice(), order)?;
+    let QueryShown {
+        columns: _shown,
+        places,
+        facts: _facts,
+    } = shown;
+    let Gathered {
+        queries: _queries,
+        names: used,
+    } = gathered;
+    Ok(Whole {
+        answer: Answer {
+            query: made,
+            names,
+            keys,
+        },
+        places,
+        columns,
+        names: used,
+    })
+}
