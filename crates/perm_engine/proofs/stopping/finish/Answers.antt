@@ -1,7 +1,7 @@
 use Rattle.std.proofs.Common.{◌∙◌, length, ap, sym, arith, refl, inr}
 use Rattle.std.proofs.lemmas.List.{take_all}
 use Rattle.std.specs.Io.KnownBytes.{append_known}
-use Rattle.perm_engine.proofs.run.finish.Goals as goal
+use Rattle.perm_engine.proofs.stopping.finish.Goals as goal
 
 pub returns-in-Err-flush : goal.returns-in-Err-flush
 returns-in-Err-flush g c = record {
