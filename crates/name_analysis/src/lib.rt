@@ -4,7 +4,6 @@
 mod analysis;
 mod answers;
 mod limits;
-mod passes;
 mod queries;
 mod rows;
 mod tables;

@@ -18,7 +18,8 @@ ghost use Rattle.name_analysis.specs.Resolves.{ResolvesBody, WholeSeen, stored_b
 
 use crate::answers::{names_of, stored_columns};
 use crate::limits::size_break;
-use crate::passes::{keys_of, query_made};
+use made_parts::keys_of;
+use name_made::query_made;
 use crate::tables::text_of;
 use bag_algebra::{Answer, Query};
 use clauses_seen::ShownColumn;

@@ -9,7 +9,7 @@ ghost use Rattle.perm_catalog.specs.Sound.{IsSound};
 ghost use Rattle.sql_tree.specs.declared.statement.StatementBody.TheVariants as asked;
 ghost use Rattle.name_analysis.specs.Resolves.{ResolvesBody};
 
-use crate::passes::made;
+use name_made::made;
 use crate::tables::text_of;
 use bag_algebra::Expr;
 use name_nodes::Within;

@@ -8,7 +8,7 @@ ghost use Rattle.name_seen.specs.Seen.{first_or};
 ghost use Rattle.perm_catalog.specs.Changes.{table_named};
 ghost use Rattle.name_analysis.specs.Resolves.{ConditionSeen, ResolvesBody, body_breaks};
 
-use crate::passes::made;
+use name_made::made;
 use bag_algebra::Expr;
 use name_nodes::Within;
 use name_seen::{Here, Refusal, Scopes, inside};
