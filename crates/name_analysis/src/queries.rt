@@ -18,11 +18,11 @@ ghost use Rattle.name_analysis.specs.Resolves.{ResolvesBody, WholeSeen, stored_b
 
 use crate::answers::{names_of, stored_columns};
 use crate::limits::size_break;
-use made_parts::keys_of;
-use name_made::query_made;
 use crate::tables::text_of;
 use bag_algebra::{Answer, Query};
 use clauses_seen::ShownColumn;
+use made_parts::keys_of;
+use name_made::query_made;
 use name_seen::{Around, Refusal, Scopes};
 use name_words::{Break, Resolved, Trace};
 use perm_catalog::{Catalog, Column, ViewEntry};

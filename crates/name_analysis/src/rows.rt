@@ -9,9 +9,9 @@ ghost use Rattle.perm_catalog.specs.Sound.{IsSound};
 ghost use Rattle.sql_tree.specs.declared.statement.StatementBody.TheVariants as asked;
 ghost use Rattle.name_analysis.specs.Resolves.{ResolvesBody};
 
-use name_made::made;
 use crate::tables::text_of;
 use bag_algebra::Expr;
+use name_made::made;
 use name_nodes::Within;
 use name_seen::{Here, Refusal, Scopes};
 use name_words::{Break, Resolved};

@@ -8,8 +8,8 @@ ghost use Rattle.name_seen.specs.Seen.{first_or};
 ghost use Rattle.perm_catalog.specs.Changes.{table_named};
 ghost use Rattle.name_analysis.specs.Resolves.{ConditionSeen, ResolvesBody, body_breaks};
 
-use name_made::made;
 use bag_algebra::Expr;
+use name_made::made;
 use name_nodes::Within;
 use name_seen::{Here, Refusal, Scopes, inside};
 use name_words::{Break, Resolved};
