@@ -76,16 +76,16 @@ const SCRIPTS: [(&[u8], &str, Status); 11] = [
         "error E05 at 23\n",
         Status::Syntax,
     ),
-    (b"SELECT a FROM t", "error E10 at 0\n", Status::Refused),
+    (b"SELECT a FROM t", "error E10 at 14\n", Status::Refused),
     (
         b"CREATE TABLE r (a INTEGER, b TEXT); DROP VIEW r;",
-        "CREATE TABLE\nerror E29 at 36\n",
+        "CREATE TABLE\nerror E10 at 46\n",
         Status::Refused,
     ),
-    (b"; SELECT (a) FROM t", "error E29 at 2\n", Status::Refused),
+    (b"; SHOW FRESH t", "error E29 at 2\n", Status::Refused),
     (
         b"CREATE TABLE t (a TEXT); INSERT INTO t VALUES (1)",
-        "CREATE TABLE\nerror E10 at 0\n",
+        "CREATE TABLE\nerror E20 at 47\n",
         Status::Refused,
     ),
 ];
@@ -189,7 +189,7 @@ const COPIES: [(&[u8], &[u8], &[u64], &str, Status); 9] = [
         b"COPY t FROM 'd'",
         b"",
         &[],
-        "error E10 at 0\n",
+        "error E10 at 5\n",
         Status::Refused,
     ),
     (
