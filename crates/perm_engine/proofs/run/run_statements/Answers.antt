@@ -22,9 +22,9 @@ use Rattle.perm_engine.proofs.run.run_statements.Goals as goal
 pub loop-statement-init : goal.loop-statement-init
 loop-statement-init g c =
     let items = into_iter_items c.into_iter-statement-iterator.result in
-    let whole : c.args.statements ≡ items = sym (c.into_iter-statement-iterator.ensures.into_iter_gives.0 ∙ c.into_vec.ensures) in
+    let whole : c.args.statements ≡ items = sym (c.into_iter-statement-iterator.ensures.into_iter_gives.0 ∙ c.into_vec-statement-items.ensures) in
     let fresh : nothing_held 1 ≡ c.new-session.result = sym c.new-session.ensures in
-    let vec = c.into_vec.result in
+    let vec = c.into_vec-statement-items.result in
     let files = c.args.files.now in
     let out = c.args.out.now in record {
       has_run = subst (λ (p : List Statement × Contents). HasRun (g.F.Files.held files) (g.F.Files.faults files) c.args.statements (nothing_held 1) p.0 p.1 (g.K.Sink.written out) (g.K.Sink.written out)
@@ -34,7 +34,7 @@ loop-statement-init g c =
       held = refl;
       regular = subst (Each RegularStatement) whole c.requires;
       drawn = omega (arith, ap (λ (held : Contents). held.next) c.new-session.ensures, ap length whole);
-      few = omega (arith, vec.ok.0, vec.ok.1, vec.small, ap length c.into_vec.ensures);
+      few = omega (arith, vec.ok.0, vec.ok.1, vec.small, ap length c.into_vec-statement-items.ensures);
     }
 
 pub step-requires : goal.step-requires
