@@ -1,1 +1,2 @@
 pub mod KeptColumns
+pub mod UnionSides

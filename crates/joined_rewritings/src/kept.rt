@@ -2,9 +2,12 @@
 ghost use Rattle.std.specs.Prelude.{◌≡◌, ◌+◌, ◌-◌, ◌≤◌, ◌++◌, IfOk};
 ghost use Rattle.std.specs.List.{range_with_len};
 ghost use Rattle.bag_algebra.specs.Kinds.{width_of};
-ghost use Rattle.joined_rewritings.specs.KeptColumns.{kept_places, same_as_first, pairs_of, columns_kept};
+ghost use Rattle.bag_algebra.specs.declared.query.JoinKind.TheVariants.{Inner};
+ghost use Rattle.joined_rewritings.specs.KeptColumns.{columns_kept, differs_from_first, kept_places, pairs_of, same_as_first};
 
+use crate::letting_go::let_go;
 use bag_algebra::{Expr, JoinKind, Query};
+use null_logic::Operator;
 use perm_values::{List, NoMemory};
 use query_measures::width;
 use query_parts::{joined, regroup, same_columns};
@@ -67,7 +70,10 @@ pub fn join_kept(
     ensures { IfOk result (λ p. p ≡ columns_kept (pairs_of kind left right condition) kept left_out) }
 {
     let pairs = joined(alloc, kind, left, right, condition)?;
-    let order = kept_order(alloc, &pairs, kept, left_out)?;
+    let Ok(order) = kept_order(alloc, &pairs, kept, left_out) else {
+        let_go(pairs);
+        return Err(NoMemory);
+    };
     regroup(alloc, pairs, order.as_slice())
 }
 
@@ -84,4 +90,43 @@ fn kept_order(
     let mut order = columns_from(alloc, 0, kept)?;
     order.append(columns_from(alloc, behind, all.saturating_sub(behind))?)?;
     Ok(order)
+}
+
+/// Whether one of so many of the first columns isn't the same as its fellow from a place on. It fails only for want of memory.
+pub fn differs_from_first(alloc: Global, count: usize, from: usize) -> Result<Expr, NoMemory>
+    ensures { IfOk result (λ test. test ≡ differs_from_first count from) }
+{
+    let mut parts = List::new(alloc);
+    parts.push(same_as_first(alloc, count, from)?)?;
+    Ok(Expr::Op {
+        op: Operator::Not,
+        parts,
+    })
+}
+
+/// Each row of the left query beside the rows of the right one that begin with the same columns, without these. It fails only
+/// for want of memory.
+pub fn matched(
+    alloc: Global,
+    left: Query,
+    right: Query,
+    columns: usize,
+    kept: usize,
+) -> Result<Query, NoMemory>
+    requires { kept ≤ width_of left }
+    ensures { IfOk result (λ p. p ≡ columns_kept (pairs_of Inner left right (same_as_first columns kept)) kept columns) }
+{
+    let Ok(same) = same_as_first(alloc, columns, kept) else {
+        let_go(left);
+        let_go(right);
+        return Err(NoMemory);
+    };
+    join_kept(alloc, inwards(), left, right, same, kept, columns)
+}
+
+/// A row that stands on one side alone isn't kept.
+fn inwards() -> JoinKind
+    ensures { result ≡ Inner }
+{
+    JoinKind::Inner
 }

@@ -1,6 +1,13 @@
-//! Joins of a rewriting with other rows on columns that are the same, and without the columns that stand there twice.
+//! Joins of a rewriting with other rows on columns that are the same, and without the columns that stand there twice; and where
+//! NULLs stand in the rows of a union.
 #![tactic(auto)]
 
 mod kept;
+mod letting_go;
+mod unions;
 
-pub use kept::{columns_from, exact_width, join_kept, same_as_first, sum};
+pub use kept::{
+    columns_from, differs_from_first, exact_width, join_kept, matched, same_as_first, sum,
+};
+pub use letting_go::let_go;
+pub use unions::{UnionSide, before_nulls};

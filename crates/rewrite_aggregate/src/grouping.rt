@@ -10,7 +10,7 @@ ghost use Rattle.joined_rewritings.specs.KeptColumns.{pairs_of, columns_kept};
 ghost use Rattle.rewrite_aggregate.specs.SameGroups.{same_groups};
 
 use bag_algebra::{Aggr, Expr, JoinKind, Query};
-use joined_rewritings::{columns_from, exact_width, join_kept, sum};
+use joined_rewritings::{columns_from, exact_width, join_kept, let_go, sum};
 use perm_values::{Boxed, Copyable, List, NoMemory};
 use query_parts::same_columns;
 use std::alloc::Global;
@@ -29,11 +29,15 @@ pub fn aggregate(
     ensures closed { IsTrue (no_open_sublink input.now) → IsTrue (no_open_sublink rewriting) →
         IfOk result (λ p. IsTrue (no_open_sublink p)) }
 {
+    let Ok(plain) = plain_grouping(alloc, input, groups, aggregates) else {
+        let_go(rewriting);
+        return Err(NoMemory);
+    };
     let Plain {
         rows,
         kept,
         columns,
-    } = plain_grouping(alloc, input, groups, aggregates)?;
+    } = plain;
     beside_class(alloc, rows, rewriting, groups, kept, columns)
 }
 
@@ -76,7 +80,11 @@ fn beside_class(
     requires { kept ≤ width_of plain }
     ensures { IfOk result (λ p. p ≡ columns_kept (pairs_of Left plain rewriting (same_groups groups.now kept)) kept columns) }
 {
-    let same = same_groups(alloc, groups, kept)?;
+    let Ok(same) = same_groups(alloc, groups, kept) else {
+        let_go(plain);
+        let_go(rewriting);
+        return Err(NoMemory);
+    };
     join_kept(alloc, outwards(), plain, rewriting, same, kept, columns)
 }
 

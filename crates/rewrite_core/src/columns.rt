@@ -10,6 +10,7 @@ ghost use Rattle.bag_algebra.specs.declared.query.Query.{Query as Whole, end_of-
 
 use bag_algebra::{Item, Query};
 use contribution::kinds;
+use joined_rewritings::let_go;
 use perm_values::{List, NoMemory};
 use query_parts::{column_items, projection};
 use std::alloc::Global;
@@ -39,7 +40,10 @@ fn arranged(alloc: Global, query: Query, order: &[usize]) -> Result<Query, NoMem
     ensures made { IfOk result (λ p. p ≡ ProjectOf query (column_items (kinds_of query) order.now) [] end_of-Sublink) }
     ensures closed { IfOk result (λ p. no_open_sublink p ≡ no_open_sublink query) }
 {
-    let items = columns_at(alloc, &query, order)?;
+    let Ok(items) = columns_at(alloc, &query, order) else {
+        let_go(query);
+        return Err(NoMemory);
+    };
     projection(alloc, query, items)
 }
 
@@ -49,7 +53,11 @@ pub(crate) fn laid(alloc: Global, query: Query, order: &[usize]) -> Result<Query
         IsRewrite q (ProjectOf query (column_items (kinds_of query) order.now) [] end_of-Sublink) → IsRewrite q p) }
     ensures closed { IfOk result (λ p. no_open_sublink p ≡ no_open_sublink query) }
 {
-    if is_all_columns(alloc, &query, order)? {
+    let Ok(all) = is_all_columns(alloc, &query, order) else {
+        let_go(query);
+        return Err(NoMemory);
+    };
+    if all {
         return Ok(query);
     }
     arranged(alloc, query, order)

@@ -10,6 +10,7 @@ ghost use Rattle.rewrite_core.specs.JoinColumns.{own_places, added_places, IsPai
 
 use crate::columns::{add_places, column_count, laid};
 use bag_algebra::{Expr, JoinKind, Query};
+use joined_rewritings::let_go;
 use perm_values::{List, NoMemory};
 use query_parts::{joined, moved};
 use std::alloc::Global;
@@ -32,7 +33,11 @@ pub fn join(
     ensures closed { IsTrue (no_open_sublink left_rewriting) → IsTrue (no_open_sublink right_rewriting) →
         IfOk result (λ p. IsTrue (no_open_sublink p)) }
 {
-    let order = all_columns(alloc, left, &left_rewriting, right, &right_rewriting)?;
+    let Ok(order) = all_columns(alloc, left, &left_rewriting, right, &right_rewriting) else {
+        let_go(left_rewriting);
+        let_go(right_rewriting);
+        return Err(NoMemory);
+    };
     laid_out(
         alloc,
         kind,
@@ -86,7 +91,11 @@ fn paired(
     ensures made { IfOk result (λ p. IsPaired kind left.now left_rewriting right.now right_rewriting condition.now p) }
     ensures closed { IfOk result (λ p. no_open_sublink p ≡ (no_open_sublink left_rewriting && no_open_sublink right_rewriting)) }
 {
-    let condition = over_rewritings(alloc, left, &left_rewriting, right, condition)?;
+    let Ok(condition) = over_rewritings(alloc, left, &left_rewriting, right, condition) else {
+        let_go(left_rewriting);
+        let_go(right_rewriting);
+        return Err(NoMemory);
+    };
     joined(alloc, kind, left_rewriting, right_rewriting, condition)
 }
 

@@ -7,6 +7,7 @@ ghost use Rattle.rewrite_core.specs.ProvenanceColumns.{provenance_items};
 
 use crate::columns::{add_places, column_count, columns_at};
 use bag_algebra::{Expr, Item, Query};
+use joined_rewritings::let_go;
 use perm_values::{Copyable, List, NoMemory};
 use query_parts::{filtered, projection};
 use std::alloc::Global;
@@ -35,7 +36,10 @@ pub fn filter(
     ensures rewrites { IfOk result (λ p. IsRewrite (Filter input.now condition.now []) p) }
     ensures closed { IsTrue (no_open_sublink rewriting) → IfOk result (λ p. IsTrue (no_open_sublink p)) }
 {
-    let condition = condition.copy(alloc)?;
+    let Ok(condition) = condition.copy(alloc) else {
+        let_go(rewriting);
+        return Err(NoMemory);
+    };
     filtered(alloc, rewriting, condition)
 }
 
@@ -52,7 +56,10 @@ pub fn project(
     ensures rewrites { IfOk result (λ p. IsRewrite (Project input.now items.now []) p) }
     ensures closed { IsTrue (no_open_sublink rewriting) → IfOk result (λ p. IsTrue (no_open_sublink p)) }
 {
-    let items = with_provenance(alloc, input, &rewriting, items)?;
+    let Ok(items) = with_provenance(alloc, input, &rewriting, items) else {
+        let_go(rewriting);
+        return Err(NoMemory);
+    };
     projection(alloc, rewriting, items)
 }
 

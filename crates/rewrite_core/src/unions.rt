@@ -8,11 +8,13 @@ ghost use Rattle.bag_algebra.specs.Patterns.{ProjectOf, UnionOf};
 ghost use Rattle.bag_algebra.specs.Rewriting.{IsRewrite};
 ghost use Rattle.bag_algebra.specs.declared.query.Query.TheVariants.{Union};
 ghost use Rattle.bag_algebra.specs.declared.query.Query.{end_of-Sublink};
+ghost use Rattle.joined_rewritings.specs.UnionSides.{before_nulls};
 ghost use Rattle.rewrite_core.specs.UnionColumns.{items_behind, padded_behind, provenance_kinds};
 
 use crate::columns::{add_places, column_count, columns_at};
 use bag_algebra::{Item, Query};
 use contribution::kinds;
+use joined_rewritings::{UnionSide, before_nulls, let_go};
 use perm_values::{Boxed, Kind, List, NoMemory};
 use query_parts::{kind_or_text, null_items, projection};
 use std::alloc::Global;
@@ -34,7 +36,11 @@ pub fn union_of(
     ensures closed { IsTrue (no_open_sublink left_rewriting) → IsTrue (no_open_sublink right_rewriting) →
         IfOk result (λ p. IsTrue (no_open_sublink p)) }
 {
-    let right_added = added_kinds(alloc, right, &right_rewriting)?;
+    let Ok(right_added) = added_kinds(alloc, right, &right_rewriting) else {
+        let_go(left_rewriting);
+        let_go(right_rewriting);
+        return Err(NoMemory);
+    };
     both_padded(
         alloc,
         left,
@@ -58,8 +64,15 @@ fn both_padded(
         (padded_behind right_rewriting (width_of right.now) (provenance_kinds left.now left_rewriting))) }
     ensures closed { IfOk result (λ p. no_open_sublink p ≡ (no_open_sublink left_rewriting && no_open_sublink right_rewriting)) }
 {
-    let left_added = added_kinds(alloc, left, &left_rewriting)?;
-    let left_side = left_padded(alloc, left_rewriting, right_added)?;
+    let Ok(left_added) = added_kinds(alloc, left, &left_rewriting) else {
+        let_go(left_rewriting);
+        let_go(right_rewriting);
+        return Err(NoMemory);
+    };
+    let Ok(left_side) = padded(alloc, UnionSide::Left, left, left_rewriting, right_added) else {
+        let_go(right_rewriting);
+        return Err(NoMemory);
+    };
     beside(
         alloc,
         left_side,
@@ -80,31 +93,43 @@ fn beside(
     ensures made { IfOk result (λ p. p ≡ UnionOf true left_side (padded_behind right_rewriting (width_of right.now) left_added.now)) }
     ensures closed { IfOk result (λ p. no_open_sublink p ≡ (no_open_sublink left_side && no_open_sublink right_rewriting)) }
 {
-    let right_side = right_padded(alloc, right, right_rewriting, left_added)?;
+    let Ok(right_side) = padded(alloc, UnionSide::Right, right, right_rewriting, left_added) else {
+        let_go(left_side);
+        return Err(NoMemory);
+    };
     union_all(alloc, left_side, right_side)
 }
 
-/// The rewriting with NULLs of the added kinds behind all its columns.
-fn left_padded(alloc: Global, rewriting: Query, added: &[Kind]) -> Result<Query, NoMemory>
-    ensures made { IfOk result (λ p. p ≡ padded_behind rewriting (width_of rewriting) added.now) }
-    ensures closed { IfOk result (λ p. no_open_sublink p ≡ no_open_sublink rewriting) }
-{
-    let first = column_count(alloc, &rewriting)?;
-    padded_at(alloc, rewriting, first, added)
-}
-
-/// The rewriting with NULLs of the added kinds behind the query's columns.
-fn right_padded(
+/// The side's rewriting with NULLs of the added kinds.
+fn padded(
     alloc: Global,
+    side: UnionSide,
     query: &Query,
     rewriting: Query,
     added: &[Kind],
 ) -> Result<Query, NoMemory>
-    ensures made { IfOk result (λ p. p ≡ padded_behind rewriting (width_of query.now) added.now) }
+    ensures made { IfOk result (λ p. p ≡ padded_behind rewriting (before_nulls side (width_of query.now) (width_of rewriting)) added.now) }
     ensures closed { IfOk result (λ p. no_open_sublink p ≡ no_open_sublink rewriting) }
 {
-    let first = column_count(alloc, query)?;
+    let Ok(first) = null_place(alloc, side, query, &rewriting) else {
+        let_go(rewriting);
+        return Err(NoMemory);
+    };
     padded_at(alloc, rewriting, first, added)
+}
+
+/// How many columns of the side's rewriting stand before the NULLs.
+fn null_place(
+    alloc: Global,
+    side: UnionSide,
+    query: &Query,
+    rewriting: &Query,
+) -> Result<usize, NoMemory>
+    ensures { IfOk result (λ first. first ≡ before_nulls side (width_of query.now) (width_of rewriting.now)) }
+{
+    let own = column_count(alloc, query)?;
+    let all = column_count(alloc, rewriting)?;
+    Ok(before_nulls(side, own, all))
 }
 
 /// The query with NULLs of the added kinds behind its first columns; with no kinds, the query as it is.
@@ -122,7 +147,10 @@ fn widened(alloc: Global, query: Query, first: usize, added: &[Kind]) -> Result<
     ensures made { IfOk result (λ p. p ≡ ProjectOf query (items_behind query first added.now) [] end_of-Sublink) }
     ensures closed { IfOk result (λ p. no_open_sublink p ≡ no_open_sublink query) }
 {
-    let items = padded_columns(alloc, &query, first, added)?;
+    let Ok(items) = padded_columns(alloc, &query, first, added) else {
+        let_go(query);
+        return Err(NoMemory);
+    };
     projection(alloc, query, items)
 }
 
@@ -180,7 +208,10 @@ fn union_all(alloc: Global, left: Query, right: Query) -> Result<Query, NoMemory
     ensures made { IfOk result (λ p. p ≡ UnionOf true left right) }
     ensures closed { IfOk result (λ p. no_open_sublink p ≡ (no_open_sublink left && no_open_sublink right)) }
 {
-    let left = Boxed::new(alloc, left)?;
+    let Ok(left) = Boxed::new(alloc, left) else {
+        let_go(right);
+        return Err(NoMemory);
+    };
     let right = Boxed::new(alloc, right)?;
     Ok(Query::Union {
         all: true,

@@ -34,7 +34,7 @@ use Rattle.joined_rewritings.proofs.JoinedOutcomes.{Related, Combines, Joins, jo
 use Rattle.joined_rewritings.proofs.JoinedRows.{Spread, beside_list, beside-from_spread, JoinedList, of_met, of_alone, joined_good, joined-spread}
 use Rattle.joined_rewritings.proofs.KeptRewriting.{Side, rewriting-related, rewriting-side, kept-rewrites}
 use Rattle.joined_rewritings.proofs.KeptRows.{row-width, list-width, blank-width, nulls-of_rewriting, length-nulls, kept-row, kept-kinds, same-value, same-formed}
-use Rattle.joined_rewritings.specs.KeptColumns.{kept_places, same_as_first, pairs_of, columns_kept}
+use Rattle.joined_rewritings.specs.KeptColumns.{columns_kept, differs_from_first, kept_places, pairs_of, same_as_first}
 use Rattle.query_congruence.proofs.Inputs.{across, except-inputs}
 use Rattle.query_parts.proofs.NodeQueries.{meaning-pairs, formed-pairs, plain-pairs}
 use Rattle.query_parts.proofs.PartForms.{no_parts-have, more_parts-have}
@@ -43,7 +43,7 @@ use Rattle.witness_laws.proofs.NodeLists.{except-lists}
 use Rattle.witness_laws.specs.ListsOfNodes.{ExceptList, of_other, of_no_other}
 use Rattle.witness_laws.specs.SublinkLists.{InAnswer}
 use Rattle.rewrite_sets.proofs.Matched.{Matching, matched-spread}
-use Rattle.rewrite_sets.specs.OtherRows.{differs_from_first, remaining}
+use Rattle.rewrite_sets.specs.OtherRows.{remaining}
 use Rattle.bag_algebra.specs.BuiltForms.{number_of_parts-built}
 
 -- ---- faults

@@ -3,15 +3,14 @@ ghost use Rattle.std.specs.Prelude.{◌≡◌, ◌≤◌, IfOk};
 ghost use Rattle.bag_algebra.specs.Kinds.{width_of};
 ghost use Rattle.bag_algebra.specs.declared.query.JoinKind.TheVariants.{Inner, Left};
 ghost use Rattle.bag_algebra.specs.declared.query.Query.TheVariants.{Except};
-ghost use Rattle.joined_rewritings.specs.KeptColumns.{same_as_first, pairs_of, columns_kept};
+ghost use Rattle.joined_rewritings.specs.KeptColumns.{columns_kept, differs_from_first, pairs_of, same_as_first};
 ghost use Rattle.rewrite_sets.specs.ColumnsOf.{ColumnsOf};
-ghost use Rattle.rewrite_sets.specs.OtherRows.{differs_from_first, remaining};
+ghost use Rattle.rewrite_sets.specs.OtherRows.{remaining};
 
 use crate::columns::{Columns, columns_of};
-use bag_algebra::{Expr, JoinKind, Query};
-use joined_rewritings::{join_kept, same_as_first};
-use null_logic::Operator;
-use perm_values::{Boxed, Copyable, List, NoMemory};
+use bag_algebra::{JoinKind, Query};
+use joined_rewritings::{differs_from_first, join_kept, let_go, same_as_first};
+use perm_values::{Boxed, Copyable, NoMemory};
 use query_parts::joined;
 use std::alloc::Global;
 
@@ -32,7 +31,11 @@ pub(crate) fn remaining(
     ensures rows { IfOk result (λ rest. rest.rows ≡ remaining (Except all left.now right.now) rewriting rest.columns.own rest.columns.kept) }
     ensures columns { IfOk result (λ rest. ColumnsOf rest.columns left.now rewriting) }
 {
-    let Counted { rows, columns } = difference(alloc, all, left, &rewriting, right)?;
+    let Ok(plain) = difference(alloc, all, left, &rewriting, right) else {
+        let_go(rewriting);
+        return Err(NoMemory);
+    };
+    let Counted { rows, columns } = plain;
     Ok(Counted {
         rows: same_rows(alloc, rewriting, rows, columns)?,
         columns,
@@ -66,7 +69,11 @@ fn same_rows(
 ) -> Result<Query, NoMemory>
     ensures { IfOk result (λ p. p ≡ pairs_of Inner rewriting plain (same_as_first columns.own columns.kept)) }
 {
-    let same = same_as_first(alloc, columns.own, columns.kept)?;
+    let Ok(same) = same_as_first(alloc, columns.own, columns.kept) else {
+        let_go(rewriting);
+        let_go(plain);
+        return Err(NoMemory);
+    };
     joined(alloc, JoinKind::Inner, rewriting, plain, same)
 }
 
@@ -80,7 +87,11 @@ pub(crate) fn beside_others(
     requires { columns.kept ≤ width_of rest }
     ensures { IfOk result (λ p. p ≡ columns_kept (pairs_of Left rest right (differs_from_first columns.own columns.right)) columns.kept columns.left_out) }
 {
-    let others = differs_from_first(alloc, columns.own, columns.right)?;
+    let Ok(others) = differs_from_first(alloc, columns.own, columns.right) else {
+        let_go(rest);
+        let_go(right);
+        return Err(NoMemory);
+    };
     join_kept(
         alloc,
         JoinKind::Left,
@@ -90,15 +101,4 @@ pub(crate) fn beside_others(
         columns.kept,
         columns.left_out,
     )
-}
-
-fn differs_from_first(alloc: Global, count: usize, from: usize) -> Result<Expr, NoMemory>
-    ensures { IfOk result (λ test. test ≡ differs_from_first count from) }
-{
-    let mut parts = List::new(alloc);
-    parts.push(same_as_first(alloc, count, from)?)?;
-    Ok(Expr::Op {
-        op: Operator::Not,
-        parts,
-    })
 }

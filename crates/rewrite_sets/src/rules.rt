@@ -6,10 +6,10 @@ ghost use Rattle.bag_algebra.specs.declared.query.Query.TheVariants.{Except, Int
 ghost use Rattle.bag_algebra.specs.declared.query.Query.{Query as Node};
 
 use crate::columns::columns_of;
-use crate::nodes::{limited, matched};
+use crate::nodes::limited;
 use crate::others::{Counted, beside_others, remaining};
 use bag_algebra::Query;
-use joined_rewritings::exact_width;
+use joined_rewritings::{exact_width, let_go, matched};
 use perm_values::{Key, NoMemory};
 use std::alloc::Global;
 
@@ -27,8 +27,14 @@ pub fn limit(
     ensures closed { IsTrue (no_open_sublink input.now) → IsTrue (no_open_sublink rewriting) →
         IfOk result (λ p. IsTrue (no_open_sublink p)) }
 {
-    let columns = exact_width(input)?;
-    let plain = limited(alloc, input, keys, count)?;
+    let Ok(columns) = exact_width(input) else {
+        let_go(rewriting);
+        return Err(NoMemory);
+    };
+    let Ok(plain) = limited(alloc, input, keys, count) else {
+        let_go(rewriting);
+        return Err(NoMemory);
+    };
     matched(alloc, plain, rewriting, columns, columns)
 }
 
@@ -48,7 +54,11 @@ pub fn intersect(
     ensures closed { IsTrue (no_open_sublink left_rewriting) → IsTrue (no_open_sublink right_rewriting) →
         IfOk result (λ p. IsTrue (no_open_sublink p)) }
 {
-    let columns = columns_of(left, &left_rewriting)?;
+    let Ok(columns) = columns_of(left, &left_rewriting) else {
+        let_go(left_rewriting);
+        let_go(right_rewriting);
+        return Err(NoMemory);
+    };
     matched(
         alloc,
         left_rewriting,
@@ -75,6 +85,10 @@ pub fn except(
         IsTrue (no_open_sublink right.now) → IsTrue (no_open_sublink right_rewriting) →
         IfOk result (λ p. IsTrue (no_open_sublink p)) }
 {
-    let Counted { rows, columns } = remaining(alloc, all, left, left_rewriting, right)?;
+    let Ok(rest) = remaining(alloc, all, left, left_rewriting, right) else {
+        let_go(right_rewriting);
+        return Err(NoMemory);
+    };
+    let Counted { rows, columns } = rest;
     beside_others(alloc, rows, right_rewriting, columns)
 }

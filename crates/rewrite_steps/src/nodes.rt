@@ -2,7 +2,9 @@
 ghost use Rattle.std.specs.Prelude.{◌≡◌, IfOk};
 ghost use Rattle.bag_algebra.specs.declared.query.Query.TheVariants.{Table, Filter, Project, Join, Union, Intersect, Except, Distinct, Aggregate, Limit};
 
+use crate::together::boxes;
 use bag_algebra::{Aggr, Expr, Item, JoinKind, Query, Sublink};
+use joined_rewritings::let_go;
 use perm_values::{Boxed, Copyable, Key, Kind, List, NoMemory};
 use std::alloc::Global;
 
@@ -54,8 +56,7 @@ pub(crate) fn join_over(
 ) -> Result<Query, NoMemory>
     ensures { IfOk result (λ p. p ≡ Join kind left right condition.now subs) }
 {
-    let left = Boxed::new(alloc, left)?;
-    let right = Boxed::new(alloc, right)?;
+    let (left, right) = boxes(alloc, left, right)?;
     let condition = condition.copy(alloc)?;
     Ok(Query::Join {
         kind,
@@ -74,8 +75,7 @@ pub(crate) fn union_over(
 ) -> Result<Query, NoMemory>
     ensures { IfOk result (λ p. p ≡ Union all left right) }
 {
-    let left = Boxed::new(alloc, left)?;
-    let right = Boxed::new(alloc, right)?;
+    let (left, right) = boxes(alloc, left, right)?;
     Ok(Query::Union { all, left, right })
 }
 
@@ -87,8 +87,7 @@ pub(crate) fn intersect_over(
 ) -> Result<Query, NoMemory>
     ensures { IfOk result (λ p. p ≡ Intersect all left right) }
 {
-    let left = Boxed::new(alloc, left)?;
-    let right = Boxed::new(alloc, right)?;
+    let (left, right) = boxes(alloc, left, right)?;
     Ok(Query::Intersect { all, left, right })
 }
 
@@ -100,8 +99,7 @@ pub(crate) fn except_over(
 ) -> Result<Query, NoMemory>
     ensures { IfOk result (λ p. p ≡ Except all left right) }
 {
-    let left = Boxed::new(alloc, left)?;
-    let right = Boxed::new(alloc, right)?;
+    let (left, right) = boxes(alloc, left, right)?;
     Ok(Query::Except { all, left, right })
 }
 
@@ -149,7 +147,10 @@ pub(crate) fn sublink_over(alloc: Global, sub: &Sublink, query: Query) -> Result
     ensures tested_kept { IfOk result (λ other. other.tested ≡ sub.now.tested) }
     ensures over { IfOk result (λ other. other.query ≡ query) }
 {
-    let tested = tested_copy(alloc, &sub.tested)?;
+    let Ok(tested) = tested_copy(alloc, &sub.tested) else {
+        let_go(query);
+        return Err(NoMemory);
+    };
     Ok(Sublink {
         kind: sub.kind,
         tested,

@@ -8,7 +8,9 @@ ghost use Rattle.query_congruence.specs.Standing.{SubsStand};
 ghost use Rattle.query_measures.specs.BuiltScopes.{all_over_tables};
 ghost use Rattle.sublink_laws.specs.SubRewritings.{SubsRewritten};
 
+use crate::together::{both, four, three};
 use bag_algebra::{Aggr, Expr, Item, JoinKind, Query, Sublink};
+use joined_rewritings::let_go;
 use perm_values::{Key, List, NoMemory};
 use rewrite_aggregate::aggregate;
 use rewrite_core::{base, distinct, filter, join, project, union_of};
@@ -45,12 +47,10 @@ pub fn filter_rule(
     requires subs_rewritten { IfOk rewritings (λ rs. SubsRewritten subs.now rs) }
     ensures { IfOk result (λ p. IsRewrite (Filter input.now condition.now subs.now) p) }
 {
-    let rewriting = rewriting?;
+    let (rewriting, plain, rewritings) = three(rewriting, plain, rewritings)?;
     if subs.is_empty() {
         return filter(alloc, input, rewriting, condition);
     }
-    let plain = plain?;
-    let rewritings = rewritings?;
     filter_with(
         alloc,
         input,
@@ -79,12 +79,10 @@ pub fn project_rule(
     requires subs_rewritten { IfOk rewritings (λ rs. SubsRewritten subs.now rs) }
     ensures { IfOk result (λ p. IsRewrite (Project input.now items.now subs.now) p) }
 {
-    let rewriting = rewriting?;
+    let (rewriting, plain, rewritings) = three(rewriting, plain, rewritings)?;
     if subs.is_empty() {
         return project(alloc, input, rewriting, items);
     }
-    let plain = plain?;
-    let rewritings = rewritings?;
     project_with(
         alloc,
         input,
@@ -110,8 +108,7 @@ pub fn join_rule(
     requires right { IfOk rights (λ r. IsRewrite right.now r) }
     ensures { IfOk result (λ p. IsRewrite (Join kind left.now right.now condition.now []) p) }
 {
-    let lefts = lefts?;
-    let rights = rights?;
+    let (lefts, rights) = both(lefts, rights)?;
     join(alloc, kind, left, lefts, right, rights, condition)
 }
 
@@ -128,8 +125,7 @@ pub fn union_rule(
     requires right { IfOk rights (λ r. IsRewrite right.now r) }
     ensures { IfOk result (λ p. IsRewrite (Union all left.now right.now) p) }
 {
-    let lefts = lefts?;
-    let rights = rights?;
+    let (lefts, rights) = both(lefts, rights)?;
     union_of(alloc, all, left, lefts, right, rights)
 }
 
@@ -145,8 +141,7 @@ pub fn intersect_rule(
     ensures { IfOk lefts (λ r. IsRewrite left.now r) → IfOk rights (λ r. IsRewrite right.now r) →
         IfOk result (λ p. IsRewrite (Intersect all left.now right.now) p) }
 {
-    let lefts = lefts?;
-    let rights = rights?;
+    let (lefts, rights) = both(lefts, rights)?;
     intersect(alloc, all, left, lefts, right, rights)
 }
 
@@ -163,11 +158,11 @@ pub fn except_rule(
     ensures { (q r : Node) → IfOk left (λ b. Stands q b) → IfOk lefts (λ p. IsRewrite q p) →
         IfOk right (λ d. Stands r d) → IfOk rights (λ p. IsRewrite r p) → IfOk result (λ p. IsRewrite (Except all q r) p) }
 {
-    let left = left?;
-    let lefts = lefts?;
-    let right = right?;
-    let rights = rights?;
-    except(alloc, all, &left, lefts, &right, rights)
+    let (left, lefts, right, rights) = four(left, lefts, right, rights)?;
+    let made = except(alloc, all, &left, lefts, &right, rights);
+    let_go(left);
+    let_go(right);
+    made
 }
 
 /// A rewriting of a DISTINCT, which is one of its input. It fails where that failed.
@@ -191,22 +186,10 @@ pub fn aggregate_rule(
     ensures { (q : Node) → IfOk plain (λ b. Stands q b) → IfOk rewriting (λ r. IsRewrite q r) →
         IfOk result (λ p. IsRewrite (Aggregate q groups.now aggregates.now) p) }
 {
-    let plain = plain?;
-    aggregate_beside(alloc, &plain, rewriting, groups, aggregates)
-}
-
-fn aggregate_beside(
-    alloc: Global,
-    plain: &Query,
-    rewriting: Result<Query, NoMemory>,
-    groups: &[usize],
-    aggregates: &[Aggr],
-) -> Result<Query, NoMemory>
-    ensures { (q : Node) → Stands q plain.now → IfOk rewriting (λ r. IsRewrite q r) →
-        IfOk result (λ p. IsRewrite (Aggregate q groups.now aggregates.now) p) }
-{
-    let rewriting = rewriting?;
-    aggregate(alloc, plain, rewriting, groups, aggregates)
+    let (plain, rewriting) = both(plain, rewriting)?;
+    let made = aggregate(alloc, &plain, rewriting, groups, aggregates);
+    let_go(plain);
+    made
 }
 
 /// A rewriting of a LIMIT, of what stands for its input and of a rewriting of it. It fails where one of these failed, and for want of
@@ -221,20 +204,8 @@ pub fn limit_rule(
     ensures { (q : Node) → IfOk plain (λ b. Stands q b) → IfOk rewriting (λ r. IsRewrite q r) →
         IfOk result (λ p. IsRewrite (Limit q keys.now count) p) }
 {
-    let plain = plain?;
-    limit_beside(alloc, &plain, rewriting, keys, count)
-}
-
-fn limit_beside(
-    alloc: Global,
-    plain: &Query,
-    rewriting: Result<Query, NoMemory>,
-    keys: &[Key],
-    count: u64,
-) -> Result<Query, NoMemory>
-    ensures { (q : Node) → Stands q plain.now → IfOk rewriting (λ r. IsRewrite q r) →
-        IfOk result (λ p. IsRewrite (Limit q keys.now count) p) }
-{
-    let rewriting = rewriting?;
-    limit(alloc, plain, rewriting, keys, count)
+    let (plain, rewriting) = both(plain, rewriting)?;
+    let made = limit(alloc, &plain, rewriting, keys, count);
+    let_go(plain);
+    made
 }

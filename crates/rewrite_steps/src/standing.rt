@@ -11,6 +11,7 @@ use crate::nodes::{
     aggregate_over, distinct_over, except_over, filter_over, intersect_over, join_over, limit_over,
     project_over, union_over,
 };
+use crate::together::{both, three};
 use bag_algebra::{Aggr, Expr, Item, JoinKind, Query, Sublink};
 use perm_values::{Key, List, NoMemory};
 use std::alloc::Global;
@@ -25,8 +26,7 @@ pub fn filter_standing(
     ensures { (q : Node) (originals : Items Tested) → IfOk input (λ b. Stands q b) → IfOk subs (λ others. SubsStand originals others) →
         IfOk result (λ p. Stands (Filter q condition.now originals) p) }
 {
-    let input = input?;
-    let subs = subs?;
+    let (input, subs) = both(input, subs)?;
     filter_over(alloc, input, condition, subs)
 }
 
@@ -40,8 +40,7 @@ pub fn project_standing(
     ensures { (q : Node) (originals : Items Tested) → IfOk input (λ b. Stands q b) → IfOk subs (λ others. SubsStand originals others) →
         IfOk result (λ p. Stands (Project q items.now originals) p) }
 {
-    let input = input?;
-    let subs = subs?;
+    let (input, subs) = both(input, subs)?;
     project_over(alloc, input, items, subs)
 }
 
@@ -57,37 +56,7 @@ pub fn join_standing(
     ensures { (q r : Node) (originals : Items Tested) → IfOk left (λ b. Stands q b) → IfOk right (λ d. Stands r d) →
         IfOk subs (λ others. SubsStand originals others) → IfOk result (λ p. Stands (Join kind q r condition.now originals) p) }
 {
-    let left = left?;
-    join_to(alloc, kind, left, right, condition, subs)
-}
-
-fn join_to(
-    alloc: Global,
-    kind: JoinKind,
-    left: Query,
-    right: Result<Query, NoMemory>,
-    condition: &Expr,
-    subs: Result<List<Sublink>, NoMemory>,
-) -> Result<Query, NoMemory>
-    ensures { (q r : Node) (originals : Items Tested) → Stands q left → IfOk right (λ d. Stands r d) →
-        IfOk subs (λ others. SubsStand originals others) → IfOk result (λ p. Stands (Join kind q r condition.now originals) p) }
-{
-    let right = right?;
-    join_beside(alloc, kind, left, right, condition, subs)
-}
-
-fn join_beside(
-    alloc: Global,
-    kind: JoinKind,
-    left: Query,
-    right: Query,
-    condition: &Expr,
-    subs: Result<List<Sublink>, NoMemory>,
-) -> Result<Query, NoMemory>
-    ensures { (q r : Node) (originals : Items Tested) → Stands q left → Stands r right →
-        IfOk subs (λ others. SubsStand originals others) → IfOk result (λ p. Stands (Join kind q r condition.now originals) p) }
-{
-    let subs = subs?;
+    let (left, right, subs) = three(left, right, subs)?;
     join_over(alloc, kind, left, right, condition, subs)
 }
 
@@ -101,8 +70,7 @@ pub fn union_standing(
     ensures { (q r : Node) → IfOk left (λ b. Stands q b) → IfOk right (λ d. Stands r d) →
         IfOk result (λ p. Stands (Union all q r) p) }
 {
-    let left = left?;
-    let right = right?;
+    let (left, right) = both(left, right)?;
     union_over(alloc, all, left, right)
 }
 
@@ -116,8 +84,7 @@ pub fn intersect_standing(
     ensures { (q r : Node) → IfOk left (λ b. Stands q b) → IfOk right (λ d. Stands r d) →
         IfOk result (λ p. Stands (Intersect all q r) p) }
 {
-    let left = left?;
-    let right = right?;
+    let (left, right) = both(left, right)?;
     intersect_over(alloc, all, left, right)
 }
 
@@ -131,8 +98,7 @@ pub fn except_standing(
     ensures { (q r : Node) → IfOk left (λ b. Stands q b) → IfOk right (λ d. Stands r d) →
         IfOk result (λ p. Stands (Except all q r) p) }
 {
-    let left = left?;
-    let right = right?;
+    let (left, right) = both(left, right)?;
     except_over(alloc, all, left, right)
 }
 

@@ -12,11 +12,12 @@ ghost use Rattle.sublink_laws.specs.Candidates.{all_contributed, contributed, de
 use crate::matching::{Columns, always, first_column, matching};
 use bag_algebra::{Arm, Expr, JoinKind, Query, SubKind, Sublink};
 use contribution::cross_base;
-use joined_rewritings::exact_width;
+use joined_rewritings::{exact_width, let_go};
 use null_logic::Truth;
 use perm_values::{Boxed, Copyable, List, NoMemory};
 use query_parts::joined;
 use std::alloc::Global;
+use sublink_laws::deciding;
 
 /// The rows, and for each sublink in turn those rows of its cross base that are one of its contributions.
 pub(crate) fn with_contributions(
@@ -49,8 +50,13 @@ fn with_contribution(
     ensures { IfOk result (λ p. p ≡ contributed rows (cross_base_of sub.now.query) standing.now rewriting.now) }
 {
     let Candidates { pairs, columns } = beside_candidates(alloc, rows, sub, standing)?;
-    let found = matching(alloc, rewriting, columns)?;
-    tested(alloc, pairs, standing, &found)
+    let Ok(found) = matching(alloc, rewriting, columns) else {
+        let_go(pairs);
+        return Err(NoMemory);
+    };
+    let whole = tested(alloc, pairs, standing, &found);
+    let_go(found);
+    whole
 }
 
 /// Rows beside the candidates of a sublink, and where these stand.
@@ -71,8 +77,15 @@ fn beside_candidates(
     ensures from { IfOk result (λ made. made.columns.from ≡ width_of rows) }
     ensures own { IfOk result (λ made. made.columns.own ≡ width_of standing.now.query) }
 {
-    let base = cross_base(alloc, &sub.query)?;
-    let columns = candidate_columns(&rows, &base, standing)?;
+    let Ok(base) = cross_base(alloc, &sub.query) else {
+        let_go(rows);
+        return Err(NoMemory);
+    };
+    let Ok(columns) = candidate_columns(&rows, &base, standing) else {
+        let_go(rows);
+        let_go(base);
+        return Err(NoMemory);
+    };
     let pairs = joined(alloc, JoinKind::Inner, rows, base, always())?;
     Ok(Candidates { pairs, columns })
 }
@@ -113,27 +126,16 @@ fn test_of(alloc: Global, standing: &Sublink, found: &Query) -> Result<Test, NoM
     ensures subs { IfOk result (λ test. test.subs ≡ test_subs (deciding standing.now.kind) standing.now found.now) }
 {
     match deciding(standing.kind) {
-        None => Ok(Test {
-            condition: Expr::Sub { number: 0 },
-            subs: existing(alloc, found)?,
-        }),
+        None => {
+            let subs = existing(alloc, found)?;
+            let condition = Expr::Sub { number: 0 };
+            Ok(Test { condition, subs })
+        }
         Some(truth) => {
             let subs = with_decision(alloc, standing, found)?;
             let condition = decided(alloc, truth)?;
             Ok(Test { condition, subs })
         }
-    }
-}
-
-/// The value with which a sublink lets those rows alone contribute that compare so: a true ANY, a false ALL.
-fn deciding(kind: SubKind) -> Option<Truth>
-    ensures { result ≡ deciding kind }
-{
-    match kind {
-        SubKind::Exists => None,
-        SubKind::Any(_) => Some(Truth::True),
-        SubKind::All(_) => Some(Truth::False),
-        SubKind::Scalar => None,
     }
 }
 
@@ -194,7 +196,10 @@ fn sub_over(alloc: Global, standing: &Sublink, found: &Query) -> Result<Sublink,
     ensures { IfOk result (λ sub. sub ≡ sub_over standing.now found.now) }
 {
     let tested = copied(alloc, &standing.tested)?;
-    let query = first_column(alloc, found)?;
+    let Ok(query) = first_column(alloc, found) else {
+        let_go(tested);
+        return Err(NoMemory);
+    };
     Ok(Sublink {
         kind: standing.kind,
         tested,
@@ -225,7 +230,10 @@ fn deciding_arm(alloc: Global, truth: Truth) -> Result<Arm, NoMemory>
     ensures { IfOk result (λ arm. arm ≡ deciding_arm truth) }
 {
     let condition = has_truth(alloc, truth, 1)?;
-    let value = has_truth(alloc, truth, 2)?;
+    let Ok(value) = has_truth(alloc, truth, 2) else {
+        let_go(condition);
+        return Err(NoMemory);
+    };
     Ok(Arm { condition, value })
 }
 

@@ -2,18 +2,18 @@
 ghost use Rattle.std.specs.Prelude.{◌≡◌, [], IfOk, length};
 ghost use Rattle.bag_algebra.specs.ColumnItems.{column_items};
 ghost use Rattle.bag_algebra.specs.Kinds.{kinds_of};
-ghost use Rattle.bag_algebra.specs.declared.query.JoinKind.TheVariants.{Left};
 ghost use Rattle.contribution.specs.CrossBase.{always};
 ghost use Rattle.query_parts.specs.Conjunctions.{all_hold};
 ghost use Rattle.sublink_laws.specs.Candidates.{first_column, matching, or_nulls, outer_test, outer_tests, same_as_outer};
 
-use bag_algebra::{Expr, JoinKind, Query};
+use bag_algebra::{Expr, Query};
 use contribution::kinds;
-use joined_rewritings::columns_from;
+use joined_rewritings::{columns_from, let_go};
 use null_logic::Operator;
 use perm_values::{Boxed, Copyable, Kind, List, NoMemory, Value};
 use query_parts::{column_items, filtered, joined, projection};
 use std::alloc::Global;
+use sublink_laws::{candidate_column, outwards};
 
 /// Where a candidate stands: as many columns, from a place on in the outer row, and from another place on in the rows of the
 /// rewriting.
@@ -33,7 +33,10 @@ pub(crate) fn matching(
     ensures { IfOk result (λ p. p ≡ matching columns.count columns.from columns.own rewriting.now) }
 {
     let rows = or_nulls(alloc, rewriting)?;
-    let same = same_as_outer(alloc, columns)?;
+    let Ok(same) = same_as_outer(alloc, columns) else {
+        let_go(rows);
+        return Err(NoMemory);
+    };
     filtered(alloc, rows, same)
 }
 
@@ -42,13 +45,6 @@ fn or_nulls(alloc: Global, rewriting: &Query) -> Result<Query, NoMemory>
 {
     let rows = rewriting.copy(alloc)?;
     joined(alloc, outwards(), Query::Single, rows, always())
-}
-
-/// Where there is no row, a row of NULLs stands.
-fn outwards() -> JoinKind
-    ensures { result ≡ Left }
-{
-    JoinKind::Left
 }
 
 pub(crate) fn always() -> Expr
@@ -84,13 +80,7 @@ fn outer_tests(alloc: Global, outers: &[usize], owns: &[usize]) -> Result<List<E
 fn outer_test(alloc: Global, outer: usize, own: usize) -> Result<Expr, NoMemory>
     ensures { IfOk result (λ test. test ≡ outer_test outer own) }
 {
-    let first = Boxed::new(
-        alloc,
-        Expr::Col {
-            level: 1,
-            place: outer,
-        },
-    )?;
+    let first = Boxed::new(alloc, candidate_column(outer))?;
     let second = Boxed::new(
         alloc,
         Expr::Col {

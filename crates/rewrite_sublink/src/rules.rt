@@ -13,7 +13,7 @@ ghost use Rattle.sublink_laws.specs.SubRewritings.{SubsRewritten};
 use crate::candidates::with_contributions;
 use bag_algebra::{Expr, Item, Query, Sublink};
 use contribution::kinds;
-use joined_rewritings::{columns_from, exact_width, sum};
+use joined_rewritings::{columns_from, exact_width, let_go, sum};
 use perm_values::{Boxed, Copyable, List, NoMemory};
 use query_parts::{column_items, projection};
 use std::alloc::Global;
@@ -85,8 +85,14 @@ fn items_with(
         answer_columns (all_contributed (Project rewriting (beside_row rewriting items.now) standing.now) subs.now standing.now rewritings.now)
         (width_of input.now) (width_of rewriting) (length items.now)) }
 {
-    let own = exact_width(input)?;
-    let row = exact_width(&rewriting)?;
+    let Ok(own) = exact_width(input) else {
+        let_go(rewriting);
+        return Err(NoMemory);
+    };
+    let Ok(row) = exact_width(&rewriting) else {
+        let_go(rewriting);
+        return Err(NoMemory);
+    };
     let rows = own_items(alloc, rewriting, items, standing)?;
     let whole = with_contributions(alloc, rows, subs, standing, rewritings)?;
     answer_columns(alloc, whole, own, row, items.len())
@@ -102,8 +108,8 @@ fn own_rows(
     ensures { IfOk result (λ p. p ≡ Filter rewriting condition.now standing.now) }
 {
     let input = Boxed::new(alloc, rewriting)?;
-    let condition = condition.copy(alloc)?;
     let subs = copied(alloc, standing)?;
+    let condition = condition.copy(alloc)?;
     Ok(Query::Filter {
         input,
         condition,
@@ -120,7 +126,10 @@ fn own_items(
 ) -> Result<Query, NoMemory>
     ensures { IfOk result (λ p. p ≡ Project rewriting (beside_row rewriting items.now) standing.now) }
 {
-    let items = beside_row(alloc, &rewriting, items)?;
+    let Ok(items) = beside_row(alloc, &rewriting, items) else {
+        let_go(rewriting);
+        return Err(NoMemory);
+    };
     let input = Boxed::new(alloc, rewriting)?;
     let subs = copied(alloc, standing)?;
     Ok(Query::Project { input, items, subs })
@@ -156,7 +165,10 @@ fn answer_columns(
 ) -> Result<Query, NoMemory>
     ensures { IfOk result (λ p. p ≡ answer_columns query own row made) }
 {
-    let items = answer_items(alloc, &query, own, row, made)?;
+    let Ok(items) = answer_items(alloc, &query, own, row, made) else {
+        let_go(query);
+        return Err(NoMemory);
+    };
     projection(alloc, query, items)
 }
 

@@ -24,11 +24,11 @@ width-Aggregate input groups aggregates =
 
 pub beside_class-requires : goal.beside_class-requires
 beside_class-requires c =
-    omega (arith, c.in_ok-rows.ensures.kept, ap (λ q. width_of q) c.in_ok-rows.ensures.rows, width-Aggregate c.args.input.now c.args.groups.now c.args.aggregates.now)
+    omega (arith, c.in-Ok.ensures.kept, ap (λ q. width_of q) c.in-Ok.ensures.rows, width-Aggregate c.args.input.now c.args.groups.now c.args.aggregates.now)
 
 pub returns-clause-rewrites : goal.returns-clause-rewrites
 returns-clause-rewrites c =
-    let given = c.in_ok-rows.ensures in
+    let given = c.in-Ok.ensures in
     let kept = width-Aggregate c.args.input.now c.args.groups.now c.args.aggregates.now ∙ sym given.kept in
     of_made (λ p. (q : Query) → Stands q c.args.input.now → IsRewrite q c.args.rewriting → IsRewrite (Aggregate q c.args.groups.now c.args.aggregates.now) p) c.beside_class.result _ c.beside_class.ensures
     (λ q s r.
@@ -38,5 +38,5 @@ returns-clause-rewrites c =
 
 pub returns-clause-closed : goal.returns-clause-closed
 returns-clause-closed c = λ i r.
-    closed-kept Left _ c.args.rewriting _ (ap no_open_sublink c.in_ok-rows.ensures.rows ∙ no_open_sublink-Aggregate c.args.input.now c.args.groups.now c.args.aggregates.now ∙ i) r
+    closed-kept Left _ c.args.rewriting _ (ap no_open_sublink c.in-Ok.ensures.rows ∙ no_open_sublink-Aggregate c.args.input.now c.args.groups.now c.args.aggregates.now ∙ i) r
     _ _ c.beside_class.result c.beside_class.ensures

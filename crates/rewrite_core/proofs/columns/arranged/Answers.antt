@@ -5,4 +5,4 @@ use Rattle.rewrite_core.proofs.columns.arranged.Goals as goal
 
 pub returns-clause-made : goal.returns-clause-made
 returns-clause-made c =
-    subst (λ items. IfOk c.projection.result (λ p. p ≡ ProjectOf c.args.query items [] end_of-Sublink)) c.in_ok-items.ensures c.projection.ensures.made
+    subst (λ items. IfOk c.projection.result (λ p. p ≡ ProjectOf c.args.query items [] end_of-Sublink)) c.in-Ok.ensures c.projection.ensures.made

@@ -7,8 +7,8 @@ use Rattle.bag_algebra.specs.declared.query.Query.{Query, end_of-Sublink}
 use Rattle.rewrite_core.proofs.Unprojected.{rewrite-unprojected}
 use Rattle.rewrite_core.proofs.columns.laid.Goals as goal
 
-pub returns-then-branch-clause-rewrites : goal.returns-then-branch-clause-rewrites
-returns-then-branch-clause-rewrites c = λ q given.
+pub returns-then-all-clause-rewrites : goal.returns-then-all-clause-rewrites
+returns-then-all-clause-rewrites c = λ q given.
     rewrite-unprojected q c.args.query
     (subst (λ order. IsRewrite q (ProjectOf c.args.query (column_items (kinds_of c.args.query) order) [] end_of-Sublink))
-    (c.in_ok-is_all_columns.ensures c.if-branch.true) given)
+    (c.in-Ok.ensures c.if-all.true) given)

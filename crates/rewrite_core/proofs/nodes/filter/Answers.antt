@@ -11,7 +11,7 @@ use Rattle.rewrite_core.proofs.nodes.filter.Goals as goal
 pub returns-clause-rewrites : goal.returns-clause-rewrites
 returns-clause-rewrites c =
     of_made (λ p. IsRewrite (Filter c.args.input.now c.args.condition.now []) p) c.filtered.result _
-    (subst (λ e. IfOk c.filtered.result (λ p. p ≡ FilterOf c.args.rewriting e [] end_of-Sublink)) c.in_ok-condition.ensures c.filtered.ensures.made)
+    (subst (λ e. IfOk c.filtered.result (λ p. p ≡ FilterOf c.args.rewriting e [] end_of-Sublink)) c.in-Ok.ensures c.filtered.ensures.made)
     (rewrite-Filter c.args.input.now c.args.rewriting c.args.condition.now c.requires)
 
 pub returns-clause-closed : goal.returns-clause-closed

@@ -11,7 +11,7 @@ use Rattle.rewrite_core.proofs.nodes.project.Goals as goal
 pub returns-clause-rewrites : goal.returns-clause-rewrites
 returns-clause-rewrites c =
     of_made (λ p. IsRewrite (Project c.args.input.now c.args.items.now []) p) c.projection.result _
-    (subst (λ items. IfOk c.projection.result (λ p. p ≡ ProjectOf c.args.rewriting items [] end_of-Sublink)) c.in_ok-items.ensures c.projection.ensures.made)
+    (subst (λ items. IfOk c.projection.result (λ p. p ≡ ProjectOf c.args.rewriting items [] end_of-Sublink)) c.in-Ok.ensures c.projection.ensures.made)
     (rewrite-Project c.args.input.now c.args.rewriting c.args.items.now c.requires)
 
 pub returns-clause-closed : goal.returns-clause-closed

@@ -22,7 +22,7 @@ rewrite-laid input places order (Err error) e laid = tt
 
 pub returns-clause-rewrites : goal.returns-clause-rewrites
 returns-clause-rewrites c =
-    rewrite-laid c.args.input c.args.places.now _ c.laid.result (c.as_slice.ensures ∙ c.in_ok-order.ensures) c.laid.ensures.rewrites
+    rewrite-laid c.args.input c.args.places.now _ c.laid.result (c.as_slice.ensures ∙ c.in-Ok.ensures) c.laid.ensures.rewrites
 
 pub returns-clause-closed : goal.returns-clause-closed
 returns-clause-closed c = closed-made c.laid.result c.args.input c.laid.ensures.closed

@@ -5,9 +5,9 @@ use Rattle.rewrite_core.proofs.unions.beside.Goals as goal
 
 pub returns-clause-made : goal.returns-clause-made
 returns-clause-made c =
-    subst (λ side. IfOk c.union_all.result (λ p. p ≡ UnionOf true c.args.left_side side)) c.in_ok-right_side.ensures.made c.union_all.ensures.made
+    subst (λ side. IfOk c.union_all.result (λ p. p ≡ UnionOf true c.args.left_side side)) c.in-Ok.ensures.made c.union_all.ensures.made
 
 pub returns-clause-closed : goal.returns-clause-closed
 returns-clause-closed c =
-    subst (λ closed. IfOk c.union_all.result (λ p. no_open_sublink p ≡ (no_open_sublink c.args.left_side && closed))) c.in_ok-right_side.ensures.closed
+    subst (λ closed. IfOk c.union_all.result (λ p. no_open_sublink p ≡ (no_open_sublink c.args.left_side && closed))) c.in-Ok.ensures.closed
     c.union_all.ensures.closed

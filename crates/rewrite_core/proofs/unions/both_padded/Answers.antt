@@ -8,9 +8,9 @@ use Rattle.rewrite_core.proofs.unions.both_padded.Goals as goal
 pub returns-clause-made : goal.returns-clause-made
 returns-clause-made c =
     subst₂ (λ side added. IfOk c.beside.result (λ p. p ≡ UnionOf true side (padded_behind c.args.right_rewriting (width_of c.args.right.now) added)))
-    c.in_ok-left_side.ensures.made (c.as_slice.ensures ∙ c.in_ok-left_added.ensures) c.beside.ensures.made
+    c.in-Ok-padded.ensures.made (c.as_slice.ensures ∙ c.in-Ok.ensures) c.beside.ensures.made
 
 pub returns-clause-closed : goal.returns-clause-closed
 returns-clause-closed c =
-    subst (λ closed. IfOk c.beside.result (λ p. no_open_sublink p ≡ (closed && no_open_sublink c.args.right_rewriting))) c.in_ok-left_side.ensures.closed
+    subst (λ closed. IfOk c.beside.result (λ p. no_open_sublink p ≡ (closed && no_open_sublink c.args.right_rewriting))) c.in-Ok-padded.ensures.closed
     c.beside.ensures.closed

@@ -5,7 +5,7 @@ use Rattle.bag_algebra.specs.declared.query.Query.TheVariants.{Union}
 use Rattle.rewrite_core.proofs.unions.union_all.Goals as goal
 
 pub returns-clause-made : goal.returns-clause-made
-returns-clause-made c = (λ i. Union true (c.in_ok-left.ensures i) (c.in_ok-right.ensures i)) ∙ Union-is true c.args.left c.args.right
+returns-clause-made c = (λ i. Union true (c.in-Ok.ensures i) (c.in_ok-right.ensures i)) ∙ Union-is true c.args.left c.args.right
 
 pub returns-clause-closed : goal.returns-clause-closed
 returns-clause-closed c =

@@ -14,7 +14,7 @@ returns-clause-rewrites c =
     of_made (λ p. IsRewrite (Union c.args.all c.args.left.now c.args.right.now) p) c.both_padded.result _
     (subst (λ added. IfOk c.both_padded.result (λ p. p ≡ UnionOf true (padded_behind c.args.left_rewriting (width_of c.args.left_rewriting) added)
     (padded_behind c.args.right_rewriting (width_of c.args.right.now) (provenance_kinds c.args.left.now c.args.left_rewriting))))
-    (c.as_slice.ensures ∙ c.in_ok-right_added.ensures) c.both_padded.ensures.made)
+    (c.as_slice.ensures ∙ c.in-Ok.ensures) c.both_padded.ensures.made)
     (rewrite-Union c.args.all c.args.left.now c.args.left_rewriting c.args.right.now c.args.right_rewriting c.requires.left c.requires.right)
 
 pub returns-clause-closed : goal.returns-clause-closed

@@ -9,7 +9,7 @@ use Rattle.rewrite_sets.proofs.IntersectRows.{intersect-made}
 use Rattle.rewrite_sets.proofs.rules.intersect.Goals as goal
 
 pub matched-requires : goal.matched-requires
-matched-requires c = omega (arith, c.in_ok-columns.ensures.kept)
+matched-requires c = omega (arith, c.in-Ok.ensures.kept)
 
 pub returns-clause-rewrites : goal.returns-clause-rewrites
 returns-clause-rewrites c =
@@ -18,7 +18,7 @@ returns-clause-rewrites c =
     (λ l r.
     subst₂ (λ n k. IsRewrite (Intersect c.args.all c.args.left.now c.args.right.now)
     (columns_kept (pairs_of Inner c.args.left_rewriting c.args.right_rewriting (same_as_first n k)) k n))
-    (sym c.in_ok-columns.ensures.own) (sym c.in_ok-columns.ensures.kept)
+    (sym c.in-Ok.ensures.own) (sym c.in-Ok.ensures.kept)
     (intersect-made c.args.all c.args.left.now c.args.right.now c.args.left_rewriting c.args.right_rewriting l r))
 
 pub returns-clause-closed : goal.returns-clause-closed

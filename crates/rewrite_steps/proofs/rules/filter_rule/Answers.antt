@@ -9,7 +9,7 @@ use Rattle.rewrite_steps.proofs.rules.filter_rule.Goals as goal
 
 pub filter-requires : goal.filter-requires
 filter-requires c =
-    opened (λ r. IsRewrite c.args.input.now r) c.args.rewriting _ c.in_ok-rewriting.was c.requires.rewritten
+    opened (λ r. IsRewrite c.args.input.now r) c.args.rewriting _ c.in_ok-rewriting.ensures.first_was c.requires.rewritten
 
 pub returns-then-is_empty : goal.returns-then-is_empty
 returns-then-is_empty c =
@@ -18,15 +18,15 @@ returns-then-is_empty c =
 
 pub filter_with-requires-clause-input : goal.filter_with-requires-clause-input
 filter_with-requires-clause-input c =
-    opened (λ r. IsRewrite c.args.input.now r) c.args.rewriting _ c.in_ok-rewriting.was c.requires.rewritten
+    opened (λ r. IsRewrite c.args.input.now r) c.args.rewriting _ c.in_ok-rewriting.ensures.first_was c.requires.rewritten
 
 pub filter_with-requires-clause-standing : goal.filter_with-requires-clause-standing
 filter_with-requires-clause-standing c =
-    rw c.as_slice.ensures (opened (λ others. SubsStand c.args.subs.now others) c.args.plain _ c.in_ok-plain.was c.requires.subs_stand)
+    rw c.as_slice.ensures (opened (λ others. SubsStand c.args.subs.now others) c.args.plain _ c.in_ok-rewriting.ensures.second_was c.requires.subs_stand)
 
 pub filter_with-requires-clause-rewritten : goal.filter_with-requires-clause-rewritten
 filter_with-requires-clause-rewritten c =
-    opened (λ rs. SubsRewritten c.args.subs.now rs) c.args.rewritings _ c.in_ok-rewritings.was c.requires.subs_rewritten
+    opened (λ rs. SubsRewritten c.args.subs.now rs) c.args.rewritings _ c.in_ok-rewriting.ensures.third_was c.requires.subs_rewritten
 
 pub returns : goal.returns
 returns c =

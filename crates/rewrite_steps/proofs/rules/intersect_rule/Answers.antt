@@ -6,4 +6,4 @@ use Rattle.rewrite_steps.proofs.rules.intersect_rule.Goals as goal
 pub returns : goal.returns
 returns c h k =
     where_made _ (λ p. IsRewrite (Intersect c.args.all c.args.left.now c.args.right.now) p) c.intersect.result
-    (λ p f. f (opened (λ r. IsRewrite c.args.left.now r) c.args.lefts _ c.in_ok-lefts.was h) (opened (λ r. IsRewrite c.args.right.now r) c.args.rights _ c.in_ok-rights.was k)) c.intersect.ensures.rewrites
+    (λ p f. f (opened (λ r. IsRewrite c.args.left.now r) c.args.lefts _ c.in_ok-lefts.ensures.first_was h) (opened (λ r. IsRewrite c.args.right.now r) c.args.rights _ c.in_ok-lefts.ensures.second_was k)) c.intersect.ensures.rewrites

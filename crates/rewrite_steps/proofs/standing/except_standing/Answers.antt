@@ -7,4 +7,4 @@ use Rattle.rewrite_steps.proofs.standing.except_standing.Goals as goal
 
 pub returns : goal.returns
 returns c q r h i =
-    of_made (λ p. Stands (Except c.args.all q r) p) c.except_over.result _ c.except_over.ensures (stands-Except q _ (opened (λ b. Stands q b) c.args.left _ c.in_ok-left.was h) r _ (opened (λ b. Stands r b) c.args.right _ c.in_ok-right.was i) c.args.all)
+    of_made (λ p. Stands (Except c.args.all q r) p) c.except_over.result _ c.except_over.ensures (stands-Except q _ (opened (λ b. Stands q b) c.args.left _ c.in_ok-left.ensures.first_was h) r _ (opened (λ b. Stands r b) c.args.right _ c.in_ok-left.ensures.second_was i) c.args.all)

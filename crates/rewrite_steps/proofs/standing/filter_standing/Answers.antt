@@ -8,4 +8,4 @@ use Rattle.rewrite_steps.proofs.standing.filter_standing.Goals as goal
 
 pub returns : goal.returns
 returns c q originals h k =
-    of_made (λ p. Stands (Filter q c.args.condition.now originals) p) c.filter_over.result _ c.filter_over.ensures (stands-Filter q _ (opened (λ b. Stands q b) c.args.input _ c.in_ok-input.was h) c.args.condition.now originals _ (opened (λ others. SubsStand originals others) c.args.subs _ c.in_ok-subs.was k))
+    of_made (λ p. Stands (Filter q c.args.condition.now originals) p) c.filter_over.result _ c.filter_over.ensures (stands-Filter q _ (opened (λ b. Stands q b) c.args.input _ c.in_ok-input.ensures.first_was h) c.args.condition.now originals _ (opened (λ others. SubsStand originals others) c.args.subs _ c.in_ok-input.ensures.second_was k))

@@ -8,4 +8,4 @@ use Rattle.rewrite_steps.proofs.standing.project_standing.Goals as goal
 
 pub returns : goal.returns
 returns c q originals h k =
-    of_made (λ p. Stands (Project q c.args.items.now originals) p) c.project_over.result _ c.project_over.ensures (stands-Project q _ (opened (λ b. Stands q b) c.args.input _ c.in_ok-input.was h) c.args.items.now originals _ (opened (λ others. SubsStand originals others) c.args.subs _ c.in_ok-subs.was k))
+    of_made (λ p. Stands (Project q c.args.items.now originals) p) c.project_over.result _ c.project_over.ensures (stands-Project q _ (opened (λ b. Stands q b) c.args.input _ c.in_ok-input.ensures.first_was h) c.args.items.now originals _ (opened (λ others. SubsStand originals others) c.args.subs _ c.in_ok-input.ensures.second_was k))

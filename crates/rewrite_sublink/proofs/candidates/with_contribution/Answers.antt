@@ -6,6 +6,6 @@ use Rattle.sublink_laws.specs.Candidates.{matching, tested}
 pub returns : goal.returns
 returns c =
     let made = c.in_ok-pairs.ensures in
-    subst (λ (p : Query). IfOk c.tested.result (λ q. q ≡ p))
-    (λ i. tested (made.pairs i) c.args.standing.now ((c.in_ok-found.ensures ∙ (λ j. matching (made.count j) (made.from j) (made.own j) c.args.rewriting.now)) i))
-    c.tested.ensures
+    subst (λ (p : Query). IfOk c.tested-whole.result (λ q. q ≡ p))
+    (λ i. tested (made.pairs i) c.args.standing.now ((c.in-Ok.ensures ∙ (λ j. matching (made.count j) (made.from j) (made.own j) c.args.rewriting.now)) i))
+    c.tested-whole.ensures

@@ -6,4 +6,4 @@ use Rattle.rewrite_sublink.proofs.rules.answer_columns.Goals as goal
 pub returns : goal.returns
 returns c =
     subst (λ (p : Query). IfOk c.projection.result (λ q. q ≡ p))
-    (λ i. ProjectOf c.args.query (c.in_ok-items.ensures i) [] end_of-Sublink) c.projection.ensures.made
+    (λ i. ProjectOf c.args.query (c.in-Ok.ensures i) [] end_of-Sublink) c.projection.ensures.made
