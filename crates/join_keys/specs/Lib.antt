@@ -1,4 +1,5 @@
 pub mod Agreeing
+pub mod Cells
 pub mod Equated
 pub mod Hashed
 pub mod Joins

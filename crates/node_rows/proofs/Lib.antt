@@ -1,3 +1,4 @@
+pub mod Equality
 pub mod Flags
 pub mod Joining
 pub mod Seeing

@@ -1,3 +1,4 @@
+pub mod Filters
 pub mod Joining
 pub mod Knowing
 pub mod OuterRows
