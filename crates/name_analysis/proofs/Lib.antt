@@ -1,5 +1,6 @@
 pub mod Bodies
 pub mod Keys
+pub mod Owned
 pub mod Queried
 pub mod Refused
 pub mod Standing

@@ -75,9 +75,6 @@ module _ (c : Contents) (tree : QueryTree) where
 
     -- ---- CREATE VIEW
 
-    pub view-taken : (refusal : Refusal) → Refuses (words.taken c name) refusal → ResolvesBody c (st.CreateView name tree) (Err refusal)
-    view-taken refusal e = refused-as (st.CreateView name tree) refusal (of-names (words.taken c name ++ named_query) _ refusal (stays (words.taken c name) named_query refusal e))
-
     pub view-seen : (refusal : Refusal) → words.taken c name ≡ [] → Refuses (words.query_meant c tree).breaks refusal → ResolvesBody c (st.CreateView name tree) (Err refusal)
     view-seen refusal free e = refused-as (st.CreateView name tree) refusal (of-names (words.taken c name ++ named_query) _ refusal
         (behind (words.taken c name) named_query refusal free (stays (words.query_meant c tree).breaks named_twice refusal e)))
@@ -107,10 +104,6 @@ module _ (c : Contents) (tree : QueryTree) where
     }
 
     -- ---- CREATE TABLE AS
-
-    pub stored-taken : (refusal : Refusal) → Refuses (words.taken c name) refusal → ResolvesBody c (st.CreateTableAs name tree) (Err refusal)
-    stored-taken refusal e = refused-as (st.CreateTableAs name tree) refusal (of-names (words.taken c name ++ named_query ++ truths) _ refusal
-        (stays (words.taken c name ++ named_query) truths refusal (stays (words.taken c name) named_query refusal e)))
 
     pub stored-seen : (refusal : Refusal) → words.taken c name ≡ [] → Refuses (words.query_meant c tree).breaks refusal
         → ResolvesBody c (st.CreateTableAs name tree) (Err refusal)

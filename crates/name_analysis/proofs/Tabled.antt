@@ -48,6 +48,14 @@ module _ (front back limit : List Break) where
   behind-names fine good = sym (ap (λ (breaks : List Break). first_or breaks (tt {0})) (limits-behind (front ++ back) limit
       (both-none front back (none-broken front (tt {0}) (tt {0}) (sym fine)) (none-broken back (tt {0}) (tt {0}) (sym good)))))
 
+-- a rule and one behind it
+module _ (front back : List Break) where
+  pub first-of-two : (first : Break) → Err first ≡ first_or front (tt {0}) → Err first ≡ first_or (front ++ back) (tt {0})
+  first-of-two first e = sym (first-stays front back (tt {0}) (tt {0}) first (sym e))
+
+  pub behind-one : Ok (tt {0}) ≡ first_or front (tt {0}) → first_or back (tt {0}) ≡ first_or (front ++ back) (tt {0})
+  behind-one fine = sym (first-behind front back (tt {0}) (none-broken front (tt {0}) (tt {0}) (sym fine)))
+
 -- ---- statements without a limit
 
 without-limit : (names : List Break) → limited_by names [] ≡ names
@@ -67,57 +75,23 @@ resolved-by names wanted made none same = record { whole = without-limit names �
 
 -- ---- CREATE TABLE
 
-pub create-broken : (c : Contents) (table : Name) (columns : List ColumnDef) (first : Break) → Err first ≡ first_or (body_breaks c (st.CreateTable table columns)) (tt {0})
-    → ResolvesBody c (st.CreateTable table columns) (Err (Broken first))
-create-broken c table columns first e = sym e
-
-pub create-made : (c : Contents) (table : Name) (columns : List ColumnDef) (text : List ℕ) (defined : List Column)
-    → Ok (tt {0}) ≡ first_or (body_breaks c (st.CreateTable table columns)) (tt {0})
+pub create-made : (c : Contents) (table : Name) (columns : List ColumnDef) (text : List ℕ) (defined : List Column) → body_breaks c (st.CreateTable table columns) ≡ []
     → defined ≡ words.defined_columns columns → text ≡ table.text → ResolvesBody c (st.CreateTable table columns) (Ok (r.CreateTable text defined))
-create-made c table columns text defined fine same called = record {
-  whole = none-broken (body_breaks c (st.CreateTable table columns)) (tt {0}) (tt {0}) (sym fine);
-  is = λ i. r.CreateTable (called i) (same i);
-}
+create-made c table columns text defined none same called = record { whole = none; is = λ i. r.CreateTable (called i) (same i) }
 
 -- ---- DROP TABLE, DROP VIEW, SHOW FRESH
 
 module _ (c : Contents) (name : Name) where
-  pub drop-unknown : (first : Break) → Err first ≡ first_or (words.unknown_table c name) (tt {0}) → ResolvesBody c (st.DropTable name) (Err (Broken first))
-  drop-unknown first e = sym (first-of-names (words.unknown_table c name) (words.used c name) [] first e)
+  pub drop-made : (text : List ℕ) → words.unknown_table c name ++ words.used c name ≡ [] → text ≡ name.text → ResolvesBody c (st.DropTable name) (Ok (r.DropTable text))
+  drop-made text none called =
+      resolved-by (words.unknown_table c name ++ words.used c name) (r.DropTable name.text) (r.DropTable text) none (ap r.DropTable called)
 
-  pub drop-used : (first : Break) → Ok (tt {0}) ≡ first_or (words.unknown_table c name) (tt {0}) → Err first ≡ first_or (words.used c name) (tt {0})
-      → ResolvesBody c (st.DropTable name) (Err (Broken first))
-  drop-used first fine e = sym (second-of-names (words.unknown_table c name) (words.used c name) [] first fine e)
+  pub drop-made_view : (text : List ℕ) → words.unknown_view c name ++ words.used c name ≡ [] → text ≡ name.text → ResolvesBody c (st.DropView name) (Ok (r.DropView text))
+  drop-made_view text none called =
+      resolved-by (words.unknown_view c name ++ words.used c name) (r.DropView name.text) (r.DropView text) none (ap r.DropView called)
 
-  pub drop-made : (text : List ℕ) → Ok (tt {0}) ≡ first_or (words.unknown_table c name) (tt {0}) → Ok (tt {0}) ≡ first_or (words.used c name) (tt {0})
-      → text ≡ name.text → ResolvesBody c (st.DropTable name) (Ok (r.DropTable text))
-  drop-made text fine free called =
-      resolved-by (words.unknown_table c name ++ words.used c name) (r.DropTable name.text) (r.DropTable text)
-      (both-none (words.unknown_table c name) (words.used c name) (none-broken (words.unknown_table c name) (tt {0}) (tt {0}) (sym fine))
-      (none-broken (words.used c name) (tt {0}) (tt {0}) (sym free))) (ap r.DropTable called)
-
-  pub drop-unknown_view : (first : Break) → Err first ≡ first_or (words.unknown_view c name) (tt {0}) → ResolvesBody c (st.DropView name) (Err (Broken first))
-  drop-unknown_view first e = sym (first-of-names (words.unknown_view c name) (words.used c name) [] first e)
-
-  pub drop-used_view : (first : Break) → Ok (tt {0}) ≡ first_or (words.unknown_view c name) (tt {0}) → Err first ≡ first_or (words.used c name) (tt {0})
-      → ResolvesBody c (st.DropView name) (Err (Broken first))
-  drop-used_view first fine e = sym (second-of-names (words.unknown_view c name) (words.used c name) [] first fine e)
-
-  pub drop-made_view : (text : List ℕ) → Ok (tt {0}) ≡ first_or (words.unknown_view c name) (tt {0}) → Ok (tt {0}) ≡ first_or (words.used c name) (tt {0})
-      → text ≡ name.text → ResolvesBody c (st.DropView name) (Ok (r.DropView text))
-  drop-made_view text fine free called =
-      resolved-by (words.unknown_view c name ++ words.used c name) (r.DropView name.text) (r.DropView text)
-      (both-none (words.unknown_view c name) (words.used c name) (none-broken (words.unknown_view c name) (tt {0}) (tt {0}) (sym fine))
-      (none-broken (words.used c name) (tt {0}) (tt {0}) (sym free))) (ap r.DropView called)
-
-  pub fresh-unknown : (first : Break) → Err first ≡ first_or (words.unknown_table c name) (tt {0}) → ResolvesBody c (st.ShowFresh name) (Err (Broken first))
-  fresh-unknown first e = refused-by (words.unknown_table c name) (r.ShowFresh name.text) (Broken first) (sym e)
-
-  pub fresh-made : (text : List ℕ) → Ok (tt {0}) ≡ first_or (words.unknown_table c name) (tt {0}) → text ≡ name.text
-      → ResolvesBody c (st.ShowFresh name) (Ok (r.ShowFresh text))
-  fresh-made text fine called =
-      resolved-by (words.unknown_table c name) (r.ShowFresh name.text) (r.ShowFresh text) (none-broken (words.unknown_table c name) (tt {0}) (tt {0}) (sym fine))
-      (ap r.ShowFresh called)
+  pub fresh-made : (text : List ℕ) → words.unknown_table c name ≡ [] → text ≡ name.text → ResolvesBody c (st.ShowFresh name) (Ok (r.ShowFresh text))
+  fresh-made text none called = resolved-by (words.unknown_table c name) (r.ShowFresh name.text) (r.ShowFresh text) none (ap r.ShowFresh called)
 
 -- ---- on a table: COPY, INSERT and DELETE
 

@@ -1,12 +1,14 @@
 //! The statement resolved.
-ghost use Rattle.std.specs.Prelude.{◌≡◌};
+ghost use Rattle.std.specs.Prelude.{◌≡◌, []};
 ghost use Rattle.name_words.specs.Statements.{breaks, resolved};
 ghost use Rattle.perm_catalog.specs.Sound.{IsSound};
+ghost use Rattle.name_analysis.specs.Own.{TellsFirst, own_breaks};
 ghost use Rattle.name_analysis.specs.Resolves.{Resolves};
 
+use crate::own::own_break;
 use crate::queries::{create_table_as, create_view, explain, select};
 use crate::rows::insert;
-use crate::tables::{copy, create_table, delete, drop_table, drop_view, show_fresh};
+use crate::tables::{copy, create_table, delete, text_of};
 use name_seen::Refusal;
 use name_words::Resolved;
 use perm_catalog::Catalog;
@@ -14,16 +16,34 @@ use sql_tree::{Statement, StatementBody};
 use std::alloc::Global;
 
 /// The statement with its names looked up and its kinds settled, exactly where it breaks no rule of names and kinds and
-/// keeps within the limits; otherwise the first break. `NoMemory` comes only for want of memory.
+/// keeps within the limits; otherwise the first break. `NoMemory` comes only for want of memory, and never where the
+/// statement breaks a rule by its own names, those of what it makes, changes or drops.
 pub fn resolve(alloc: Global, catalog: &Catalog, statement: Statement) -> Result<Resolved, Refusal>
     requires { IsSound catalog.now }
+    ensures resolves { Resolves (breaks catalog.now statement) (resolved catalog.now statement) result }
+    ensures due { TellsFirst (own_breaks catalog.now statement.body) result }
+{
+    match own_break(catalog, &statement.body) {
+        Ok(()) => behind_names(alloc, catalog, statement),
+        Err(first) => {
+            let_go(statement);
+            Err(Refusal::Break(first))
+        }
+    }
+}
+
+/// Drops a value of many variants. A caller that dropped it by itself would have a way through its code for each of them.
+fn let_go<T: Drop>(_value: T) {}
+
+/// The same of a statement whose own names break nothing.
+fn behind_names(alloc: Global, catalog: &Catalog, statement: Statement) -> Result<Resolved, Refusal>
+    requires sound { IsSound catalog.now }
+    requires own { own_breaks catalog.now statement.body ≡ [] }
     ensures { Resolves (breaks catalog.now statement) (resolved catalog.now statement) result }
 {
     let Statement { body, at: _at } = statement;
     match body {
-        StatementBody::CreateTable { table, columns } => create_table(
-            alloc, catalog, table, columns,
-        ),
+        StatementBody::CreateTable { table, columns } => create_table(alloc, table, columns),
         StatementBody::CreateTableAs { table, query } => {
             create_table_as(alloc, catalog, table, &query)
         }
@@ -36,10 +56,16 @@ pub fn resolve(alloc: Global, catalog: &Catalog, statement: Statement) -> Result
         } => copy(alloc, catalog, table, file, header, mark),
         StatementBody::Insert { table, rows } => insert(alloc, catalog, table, rows),
         StatementBody::Delete { table, condition } => delete(alloc, catalog, table, &condition),
-        StatementBody::DropTable { table } => drop_table(catalog, table),
-        StatementBody::DropView { view } => drop_view(catalog, view),
+        StatementBody::DropTable { table } => Ok(Resolved::DropTable {
+            name: text_of(table),
+        }),
+        StatementBody::DropView { view } => Ok(Resolved::DropView {
+            name: text_of(view),
+        }),
         StatementBody::Select { query } => select(alloc, catalog, &query),
         StatementBody::Explain { query } => explain(alloc, catalog, &query),
-        StatementBody::ShowFresh { table } => show_fresh(catalog, table),
+        StatementBody::ShowFresh { table } => Ok(Resolved::ShowFresh {
+            name: text_of(table),
+        }),
     }
 }

@@ -5,6 +5,7 @@ mod analysis;
 mod answers;
 mod laws;
 mod limits;
+mod own;
 mod queries;
 mod rows;
 mod tables;

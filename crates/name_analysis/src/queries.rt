@@ -31,7 +31,7 @@ use queries_inside::{Gathered, all_noted, first_wide, query_inside};
 use query_facts::QueryShown;
 use query_seen::query_seen;
 use sql_tree::{Name, OrderTree, QueryTree};
-use statements_seen::{boolean_break, repeats_break, table_limit, taken};
+use statements_seen::{boolean_break, repeats_break, table_limit};
 use std::alloc::Global;
 
 /// A query that breaks nothing: its answer, the places of its provenance columns where it asks for provenance, its columns
@@ -83,10 +83,10 @@ pub(crate) fn create_view(
     view: Name,
     query: &QueryTree,
 ) -> Result<Resolved, Refusal>
-    requires { IsSound catalog.now }
+    requires sound { IsSound catalog.now }
+    requires free { words.taken catalog.now view ≡ [] }
     ensures { ResolvesBody catalog.now (asked.CreateView view query.now) result }
 {
-    taken(catalog, &view)?;
     let outermost = Scopes::Outermost;
     let around = around_alone(alloc, catalog, &outermost);
     let shown = query_seen(query, &around)?;
@@ -105,10 +105,10 @@ pub(crate) fn create_table_as(
     table: Name,
     query: &QueryTree,
 ) -> Result<Resolved, Refusal>
-    requires { IsSound catalog.now }
+    requires sound { IsSound catalog.now }
+    requires free { words.taken catalog.now table ≡ [] }
     ensures { ResolvesBody catalog.now (asked.CreateTableAs table query.now) result }
 {
-    taken(catalog, &table)?;
     let outermost = Scopes::Outermost;
     let around = around_alone(alloc, catalog, &outermost);
     let shown = query_seen(query, &around)?;

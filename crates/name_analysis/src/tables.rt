@@ -2,9 +2,9 @@
 ghost use Rattle.std.specs.Prelude.{◌≡◌, [], IfOk, Some};
 ghost use Rattle.name_words.specs.Statements as words;
 ghost use Rattle.perm_catalog.specs.Columns.{column_kinds};
+ghost use Rattle.perm_catalog.specs.Contents.{Contents};
 ghost use Rattle.perm_catalog.specs.Sound.{IsSound};
 ghost use Rattle.sql_tree.specs.declared.statement.StatementBody.TheVariants as asked;
-ghost use Rattle.name_seen.specs.Seen.{first_or};
 ghost use Rattle.perm_catalog.specs.Changes.{table_named};
 ghost use Rattle.name_analysis.specs.Resolves.{ConditionSeen, ResolvesBody, body_breaks};
 
@@ -16,34 +16,21 @@ use name_words::{Break, Resolved};
 use perm_catalog::{Catalog, Column, TableEntry};
 use perm_values::{Chars, Kind, List, NoMemory};
 use sql_tree::{ColumnDef, ExprTree, Name};
-use statements_seen::{
-    alone, delete_break, repeated_columns, table_limit, table_scope, taken, unknown_table,
-    unknown_view, used,
-};
+use statements_seen::{alone, delete_break, table_scope};
 use std::alloc::Global;
 
 pub(crate) fn create_table(
     alloc: Global,
-    catalog: &Catalog,
     table: Name,
     columns: List<ColumnDef>,
 ) -> Result<Resolved, Refusal>
-    ensures { ResolvesBody catalog.now (asked.CreateTable table columns) result }
+    ensures { (c : Contents) → body_breaks c (asked.CreateTable table columns) ≡ [] → ResolvesBody c (asked.CreateTable table columns) result }
 {
-    table_break(catalog, &table, columns.as_slice())?;
     let columns = defined_columns(alloc, columns)?;
     Ok(Resolved::CreateTable {
         name: text_of(table),
         columns,
     })
-}
-
-fn table_break(catalog: &Catalog, table: &Name, columns: &[ColumnDef]) -> Result<(), Break>
-    ensures { result ≡ first_or (body_breaks catalog.now (asked.CreateTable table.now columns.now)) tt }
-{
-    taken(catalog, table)?;
-    repeated_columns(columns)?;
-    table_limit(table, columns.len())
 }
 
 pub(crate) fn text_of(name: Name) -> Chars
@@ -176,33 +163,4 @@ fn condition_made(
     };
     let condition = made(tree, Kind::Boolean, &here, &mut found)?;
     Ok(condition)
-}
-
-pub(crate) fn drop_table(catalog: &Catalog, table: Name) -> Result<Resolved, Refusal>
-    ensures { ResolvesBody catalog.now (asked.DropTable table) result }
-{
-    unknown_table(catalog, &table)?;
-    used(catalog, &table)?;
-    Ok(Resolved::DropTable {
-        name: text_of(table),
-    })
-}
-
-pub(crate) fn drop_view(catalog: &Catalog, view: Name) -> Result<Resolved, Refusal>
-    ensures { ResolvesBody catalog.now (asked.DropView view) result }
-{
-    unknown_view(catalog, &view)?;
-    used(catalog, &view)?;
-    Ok(Resolved::DropView {
-        name: text_of(view),
-    })
-}
-
-pub(crate) fn show_fresh(catalog: &Catalog, table: Name) -> Result<Resolved, Refusal>
-    ensures { ResolvesBody catalog.now (asked.ShowFresh table) result }
-{
-    unknown_table(catalog, &table)?;
-    Ok(Resolved::ShowFresh {
-        name: text_of(table),
-    })
 }

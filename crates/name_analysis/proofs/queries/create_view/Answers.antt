@@ -8,22 +8,17 @@ use Rattle.name_words.specs.Meanings.{broken_if}
 use Rattle.name_words.specs.Statements as words
 use Rattle.sql_tree.specs.declared.statement.StatementBody.TheVariants as st
 use Rattle.name_analysis.specs.Resolves.{ResolvesBody}
-use Rattle.name_analysis.proofs.Queried.{view-limited, view-made, view-repeats, view-seen, view-taken}
+use Rattle.name_analysis.proofs.Queried.{view-limited, view-made, view-repeats, view-seen}
 use Rattle.name_analysis.proofs.Refused.{is-whole, limits-refused, query-refused, query-whole, repeats-told, same-refused}
 use Rattle.name_analysis.proofs.queries.create_view.Goals as goal
-
-pub returns-in_err-taken : goal.returns-in_err-taken
-returns-in_err-taken c =
-    same-refused (ResolvesBody c.args.catalog.now (st.CreateView c.args.view c.args.query.now)) c.from_residual.result (Broken c.in_err-taken.field-0.0) c.from_residual.ensures.1
-    (view-taken c.args.catalog.now c.args.query.now c.args.view (Broken c.in_err-taken.field-0.0) (sym c.in_err-taken.ensures))
 
 pub returns-in_err-shown : goal.returns-in_err-shown
 returns-in_err-shown c =
     let held = c.args.catalog.now in
     let tree = c.args.query.now in
     let place = c.around_alone-around in
-    same-refused (ResolvesBody held (st.CreateView c.args.view tree)) c.from_residual-in_err-shown.result c.in_err-shown.field-0.0 c.from_residual-in_err-shown.ensures.1
-    (view-seen held tree c.args.view c.in_err-shown.field-0.0 (none-broken (words.taken held c.args.view) (tt {0}) (tt {0}) (sym c.in_ok-taken.ensures))
+    same-refused (ResolvesBody held (st.CreateView c.args.view tree)) c.from_residual.result c.in_err-shown.field-0.0 c.from_residual.ensures.1
+    (view-seen held tree c.args.view c.in_err-shown.field-0.0 c.requires.free
     (query-refused held place.result.catalog.now tree (around_of place.result) (place.ensures.place refl) place.ensures.catalog c.in_err-shown.field-0.0 c.in_err-shown.ensures))
 
 pub returns-in_err-repeats_break : goal.returns-in_err-repeats_break
@@ -33,7 +28,7 @@ returns-in_err-repeats_break c =
     let place = c.around_alone-around in
     let seen = query-whole held place.result.catalog.now tree (around_of place.result) (place.ensures.place refl) place.ensures.catalog c.in_ok-shown.shown c.in_ok-shown.ensures in
     same-refused (ResolvesBody held (st.CreateView c.args.view tree)) c.from_residual-in_err-repeats_break.result (Broken c.in_err-repeats_break.field-0.0) c.from_residual-in_err-repeats_break.ensures.1
-    (view-repeats held tree c.args.view (Broken c.in_err-repeats_break.field-0.0) (none-broken (words.taken held c.args.view) (tt {0}) (tt {0}) (sym c.in_ok-taken.ensures)) seen.whole
+    (view-repeats held tree c.args.view (Broken c.in_err-repeats_break.field-0.0) c.requires.free seen.whole
     (repeats-told (words.query_meant held tree) c.in_ok-shown.shown c.as_slice.result.now tree.at (Err c.in_err-repeats_break.field-0.0) seen c.as_slice.ensures c.in_err-repeats_break.ensures))
 
 pub returns-in_err-whole : goal.returns-in_err-whole
@@ -43,7 +38,7 @@ returns-in_err-whole c =
     let place = c.around_alone-around in
     let seen = query-whole held place.result.catalog.now tree (around_of place.result) (place.ensures.place refl) place.ensures.catalog c.in_ok-shown.shown c.in_ok-shown.ensures in
     same-refused (ResolvesBody held (st.CreateView c.args.view tree)) c.from_residual-in_err-whole.result c.in_err-whole.field-0.0 c.from_residual-in_err-whole.ensures.1
-    (view-limited held tree c.args.view c.in_err-whole.field-0.0 (none-broken (words.taken held c.args.view) (tt {0}) (tt {0}) (sym c.in_ok-taken.ensures)) seen.whole
+    (view-limited held tree c.args.view c.in_err-whole.field-0.0 c.requires.free seen.whole
     (none-broken (broken_if (words.repeats (names_of (words.columns_of (words.query_meant held tree)))) 14 tree.at) (tt {0}) (tt {0})
     (repeats-told (words.query_meant held tree) c.in_ok-shown.shown c.as_slice.result.now tree.at (Ok (tt {0})) seen c.as_slice.ensures c.in_ok-repeats_break.ensures))
     (limits-refused held place.result.catalog.now tree (around_of place.result) (place.ensures.place refl) place.ensures.catalog c.in_err-whole.field-0.0 c.in_err-whole.ensures))
@@ -55,7 +50,7 @@ returns c =
     let place = c.around_alone-around in
     let seen = query-whole held place.result.catalog.now tree (around_of place.result) (place.ensures.place refl) place.ensures.catalog c.in_ok-shown.shown c.in_ok-shown.ensures in
     view-made held tree c.args.view c.in_ok-whole.whole c.in_ok-entry.entry c.text_of.result
-    (none-broken (words.taken held c.args.view) (tt {0}) (tt {0}) (sym c.in_ok-taken.ensures)) seen.whole
+    c.requires.free seen.whole
     (none-broken (broken_if (words.repeats (names_of (words.columns_of (words.query_meant held tree)))) 14 tree.at) (tt {0}) (tt {0})
     (repeats-told (words.query_meant held tree) c.in_ok-shown.shown c.as_slice.result.now tree.at (Ok (tt {0})) seen c.as_slice.ensures c.in_ok-repeats_break.ensures))
     (is-whole held place.result.catalog.now tree (around_of place.result) (place.ensures.place refl) place.ensures.catalog c.in_ok-whole.whole c.in_ok-whole.ensures)

@@ -2,7 +2,7 @@ use Rattle.std.specs.Prelude.{[], length}
 use Rattle.std.proofs.Common.{sym, ◌∙◌}
 use Rattle.name_words.specs.Statements as words
 use Rattle.name_analysis.proofs.Tabled.{behind-names, err-is, first-of-names, second-of-names}
-use Rattle.name_analysis.proofs.tables.table_break.Goals as goal
+use Rattle.name_analysis.proofs.own.table_break.Goals as goal
 
 pub returns-in_err-taken : goal.returns-in_err-taken
 returns-in_err-taken c =
