@@ -1,8 +1,7 @@
 -- The answers of queries as statements, worked out.
-use Rattle.std.proofs.Common.{◌≡◌, ℕ, true, false, List, [], ◌∷◌, Some, None, codes, refl}
+use Rattle.std.proofs.Common.{◌≡◌, true, false, [], ◌∷◌, None, codes}
 use Rattle.std.specs.Fmt.{digits}
 use Rattle.null_logic.specs.declared.arith.Arith.TheVariants.{Divide}
-use Rattle.perm_values.specs.declared.key.Key.{Key}
 use Rattle.perm_values.specs.declared.kind.Kind.TheVariants as kind
 use Rattle.perm_values.specs.declared.value.Value.TheVariants.{Null}
 use Rattle.bag_algebra.specs.Patterns.{OpOf, ProvOf, AggregateOf}
@@ -13,7 +12,7 @@ use Rattle.bag_algebra.specs.declared.expr.Expr.{more_of-Expr, end_of-Expr}
 use Rattle.name_words.specs.declared.answer.Resolved.TheVariants as r
 use Rattle.statement_words.specs.Asking.{Settled, asks}
 use Rattle.statement_words.specs.Turns.{Stands}
-use Rattle.worked_statements.specs.HeldRows.{answering, column, holding, item, number, reckoned, select, selected, source_r, source_s, whole, with_v, word}
+use Rattle.worked_statements.specs.HeldRows.{answering, column, holding, item, number, reckoned, select, selected, source_r, source_s, whole, word}
 
 abbrev select_a : Query
 select_a = select (item kind.Integer (column 0) ∷ []) source_r

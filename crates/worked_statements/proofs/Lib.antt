@@ -1,3 +1,4 @@
 pub mod Answered
+pub mod Provenance
 pub mod Refused
 pub mod Written

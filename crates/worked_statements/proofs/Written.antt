@@ -1,5 +1,5 @@
 -- Statements that change the catalog, worked out.
-use Rattle.std.proofs.Common.{◌≡◌, true, false, [], ◌∷◌, Some, None, codes, refl}
+use Rattle.std.proofs.Common.{◌≡◌, true, [], ◌∷◌, Some, None, codes, refl}
 use Rattle.std.specs.Fmt.{digits}
 use Rattle.std.specs.FinMap as map
 use Rattle.csv.specs.Machine.{next_record}

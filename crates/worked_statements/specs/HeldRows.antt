@@ -26,7 +26,6 @@ use Rattle.bag_algebra.specs.declared.query.Label.TheVariants.{Relation}
 use Rattle.bag_algebra.specs.declared.query.Query.{Query, end_of-Sublink}
 use Rattle.bag_algebra.specs.declared.query.Query.TheVariants.{Table}
 use Rattle.perm_catalog.specs.Contents.{Contents}
-use Rattle.perm_catalog.specs.declared.entries.TableEntry.{TableEntry}
 use Rattle.perm_catalog.specs.declared.entries.ViewEntry.{ViewEntry}
 use Rattle.name_words.specs.declared.answer.Resolved.TheVariants as r
 use Rattle.statement_words.specs.Asking.{Settled, asks}
