@@ -3,21 +3,9 @@
 #![tactic(auto)]
 
 #[cfg(test)]
-mod catalogs;
-#[cfg(test)]
-mod copies;
+mod calls;
 #[cfg(test)]
 mod disk;
-#[cfg(test)]
-mod expressions;
-#[cfg(test)]
-mod owners;
-#[cfg(test)]
-mod places;
-#[cfg(test)]
-mod queries;
-#[cfg(test)]
-mod rewriting;
 #[cfg(test)]
 mod runs;
 #[cfg(test)]

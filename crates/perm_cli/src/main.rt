@@ -1,6 +1,11 @@
 //! The program `perm`: the words of its command line, the system's files and the standard output, handed to the engine.
 #![tactic(auto)]
 
+ghost use Rattle.std.specs.Prelude.{◌≡◌};
+ghost use Rattle.std.specs.Process.{exit_status};
+ghost use Rattle.perm_engine.specs.Statuses.{number_of};
+ghost use Rattle.perm_cli.specs.declared.WordsError.TheVariants.{NoMemory as OutOfMemory};
+
 use perm_engine::{Status, perm};
 use perm_io::{DiskFiles, StdSink};
 use perm_values::{Chars, List, NoMemory};
@@ -27,13 +32,18 @@ impl From<io::Error> for WordsError {
 }
 
 impl From<NoMemory> for WordsError {
+    ghost from_gives = { λ _ made. made ≡ OutOfMemory };
+
     fn from(_error: NoMemory) -> WordsError {
         WordsError::NoMemory
     }
 }
 
 impl WordsError {
-    fn status(self) -> Status {
+    fn status(self) -> Status
+        ensures text { self ≡ WordsError.NotText → result ≡ Status.Usage }
+        ensures memory { self ≡ WordsError.NoMemory → result ≡ Status.NoMemory }
+    {
         match self {
             WordsError::NotText => Status::Usage,
             WordsError::NoMemory => Status::NoMemory,
@@ -52,6 +62,13 @@ fn main(rt: HostRuntime) -> ExitCode {
         ),
         Err(error) => error.status(),
     };
+    exit_code(status)
+}
+
+/// The exit status of the program.
+fn exit_code(status: Status) -> ExitCode
+    ensures { exit_status result ≡ number_of status }
+{
     ExitCode::from(status.number())
 }
 

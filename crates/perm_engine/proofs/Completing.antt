@@ -1,74 +1,46 @@
 -- Where nothing failed, what stands in the output is the whole of a run in which no file failed, unless memory was wanting.
-use Rattle.std.proofs.Common.{◌≡◌, ◌∙◌, ◌⊎◌, ℕ, List, [], ◌∷◌, Option, Ok, Err, refl, ap, inl, inr}
-use Rattle.perm_catalog.specs.Changes.{nothing_held}
-use Rattle.perm_catalog.specs.Contents.{Contents}
+use Rattle.std.proofs.Common.{◌≡◌, ◌≢◌, ◌∙◌, ◌⊎◌, ℕ, false, List, [], ◌∷◌, Option, refl, ap, inl, inr, subst, sym}
 use Rattle.perm_io.specs.Counts.{HasRisen}
-use Rattle.perm_io.specs.Found.{Found, Read, Missing, TooLong, Failed, CanBe}
+use Rattle.perm_io.specs.Found.{Found, CanBe}
 use Rattle.perm_io.specs.declared.named_file.NamedFile.{NamedFile}
-use Rattle.sql_tree.specs.declared.statement.Statement.{Statement}
-use Rattle.statement_steps.specs.Copying.{file_limit}
-use Rattle.perm_engine.specs.Asking.{Outcome, Asked, Settled, Begins, asked}
+use Rattle.statement_words.specs.Answers.{Files, file_limit}
 use Rattle.perm_engine.specs.Ends.{Written, Ends, EndsOne, Opens, Completes, opened}
-use Rattle.perm_engine.specs.Run.{Ran, GoesOn, Asks, RunsFrom, RunsScript, RunsFile, Runs, IsSteady, script_limit}
+use Rattle.perm_engine.specs.Run.{Ran, Runs, IsSteady, IsWhole}
+use Rattle.perm_engine.specs.Stops.{script_limit}
 use Rattle.perm_engine.specs.declared.status.Status.{Status}
 use Rattle.perm_engine.specs.declared.status.Status.TheVariants as status
+use Rattle.perm_engine.proofs.Widening.{CanBe-wider, file-wider}
 
-module _ (held : Option (List NamedFile)) (fault : Type 0) (none : fault → ⊥) where
-  calm : (limit : ℕ) (name : List ℕ) (found : Found) → CanBe limit held fault name found → CanBe limit held ⊥ name found
-  calm limit name (Read bytes) can = can
-  calm limit name Missing can = can
-  calm limit name TooLong can = can
-  calm limit name Failed can = none can
+unfailed : (words : List (List ℕ)) (held : Option (List NamedFile)) (fault : Type 0) → (fault → ⊥) → (ran : Ran) → Runs words held fault ran → Runs words held ⊥ ran
+unfailed [] held fault none ran h = h
+unfailed (name ∷ []) held fault none ran (found, rest, can, next, is) = (
+  found,
+  rest,
+  CanBe-wider script_limit held fault ⊥ none name found can,
+  file-wider (CanBe file_limit held fault) (CanBe file_limit held ⊥) (CanBe-wider file_limit held fault ⊥ none) found rest next,
+  is,
+)
+unfailed (name ∷ other ∷ words) held fault none ran h = h
 
-  goes : (outcome : Outcome) (P Q : Contents → Ran → Type 0) → ((after : Contents) (ran : Ran) → P after ran → Q after ran) → (ran : Ran) → GoesOn outcome P ran → GoesOn outcome Q ran
-  goes (Err r) P Q on ran h = h
-  goes (Ok stepped) P Q on ran (rest, next, is) = (rest, on stepped.contents rest next, is)
-
-  asks : (a : Asked) (P Q : Contents → Ran → Type 0) → ((after : Contents) (ran : Ran) → P after ran → Q after ran) → (ran : Ran) →
-      Asks (CanBe file_limit held fault) a P ran → Asks (CanBe file_limit held ⊥) a Q ran
-  asks (Settled outcome) P Q on ran h = goes outcome P Q on ran h
-  asks (Begins name after) P Q on ran (found, rest, can, next, is) = (found, rest, calm file_limit name found can, goes (after found) P Q on rest next, is)
-
-  runs-from : (c : Contents) (statements : List Statement) (ran : Ran) → RunsFrom (CanBe file_limit held fault) c statements ran → RunsFrom (CanBe file_limit held ⊥) c statements ran
-  runs-from c [] ran h = h
-  runs-from c (statement ∷ statements) ran h =
-      asks (asked c statement) (λ after rest. RunsFrom (CanBe file_limit held fault) after statements rest) (λ after rest. RunsFrom (CanBe file_limit held ⊥) after statements rest)
-      (λ after rest next. runs-from after statements rest next) ran h
-
-  runs-script : (bytes : List ℕ) (ran : Ran) → RunsScript (CanBe file_limit held fault) bytes ran → RunsScript (CanBe file_limit held ⊥) bytes ran
-  runs-script bytes ran (inl (script, is, runs)) = inl (script, is, runs-from (nothing_held 1) script.statements ran runs)
-  runs-script bytes ran (inr wrong) = inr wrong
-
-  runs-file : (found : Found) (ran : Ran) → RunsFile (CanBe file_limit held fault) found ran → RunsFile (CanBe file_limit held ⊥) found ran
-  runs-file (Read bytes) ran h = runs-script bytes ran h
-  runs-file Missing ran h = h
-  runs-file TooLong ran h = h
-  runs-file Failed ran h = h
-
-  unfailed : (words : List (List ℕ)) (ran : Ran) → Runs words held fault ran → Runs words held ⊥ ran
-  unfailed [] ran h = h
-  unfailed (name ∷ []) ran (found, rest, can, next, is) = (found, rest, calm script_limit name found can, runs-file found rest next, is)
-  unfailed (name ∷ other ∷ words) ran h = h
-
-module _ (words : List (List ℕ)) (held : Option (List NamedFile)) (fault : Type 0) (w : Written) (before after : ℕ) where
-  whole : (s : Status) (ran : Ran) → Runs words held ⊥ ran → Ends ran w s → Opens ran before after s → (HasRisen w.faults_before w.faults_after → ⊥) →
-      Completes (Runs words held ⊥) w before after s
-  whole status.Done ran is e o calm = inr (ran, is, e, o.counted ∙ ap (λ n. opened n before) (o.whole tt))
-  whole status.Usage ran is e o calm = inr (ran, is, e, o.counted ∙ ap (λ n. opened n before) (o.whole tt))
-  whole status.Syntax ran is e o calm = inr (ran, is, e, o.counted ∙ ap (λ n. opened n before) (o.whole tt))
-  whole status.Refused ran is e o calm = inr (ran, is, e, o.counted ∙ ap (λ n. opened n before) (o.whole tt))
-  whole status.RunFault ran is e o calm = inr (ran, is, e, o.counted ∙ ap (λ n. opened n before) (o.whole tt))
-  whole status.BadData ran is e o calm = inr (ran, is, e, o.counted ∙ ap (λ n. opened n before) (o.whole tt))
-  whole status.ReadFault ran is e o calm = inr (ran, is, e, o.counted ∙ ap (λ n. opened n before) (o.whole tt))
+module _ (words : List (List ℕ)) (held : Option (List NamedFile)) (fault : Type 0) (w : Written) (files : Files) where
+  whole : (s : Status) (ran : Ran) → Runs words held ⊥ ran → Ends ran w s → Opens ran files.begun files.begun_after s → (HasRisen w.faults_before w.faults_after → ⊥) →
+      Completes (Runs words held ⊥) w files s
+  whole status.Done ran is e o calm = inr (ran, is, e, o.counted ∙ ap (λ n. opened n files.begun) (o.whole tt))
+  whole status.Usage ran is e o calm = inr (ran, is, e, o.counted ∙ ap (λ n. opened n files.begun) (o.whole tt))
+  whole status.Syntax ran is e o calm = inr (ran, is, e, o.counted ∙ ap (λ n. opened n files.begun) (o.whole tt))
+  whole status.Refused ran is e o calm = inr (ran, is, e, o.counted ∙ ap (λ n. opened n files.begun) (o.whole tt))
+  whole status.RunFault ran is e o calm = inr (ran, is, e, o.counted ∙ ap (λ n. opened n files.begun) (o.whole tt))
+  whole status.BadData ran is e o calm = inr (ran, is, e, o.counted ∙ ap (λ n. opened n files.begun) (o.whole tt))
+  whole status.ReadFault ran is e o calm = inr (ran, is, e, o.counted ∙ ap (λ n. opened n files.begun) (o.whole tt))
   whole status.WriteFault ran is e o calm = absurd (calm e.risen)
   whole status.NoMemory ran is e o calm = inl refl
 
-  pub completes : (s : Status) → EndsOne 1 (Runs words held fault) w before after s → (fault → ⊥) → (HasRisen w.faults_before w.faults_after → ⊥) →
-      Completes (Runs words held ⊥) w before after s
-  completes s (inl (ran, is, e, o)) none calm = whole s ran (unfailed held fault none words ran is) e o calm
-  completes s (inr (silent, counted)) none calm = inl silent.said
+  pub completes : (Can : List ℕ → Found → Type 0) (s : Status) → EndsOne 1 Can (Runs words held fault) w files s → (fault → ⊥) → (HasRisen w.faults_before w.faults_after → ⊥) →
+      Completes (Runs words held ⊥) w files s
+  completes Can s (inl e) none calm = whole s e.ran (unfailed words held fault none e.ran e.is) e.ends e.opens calm
+  completes Can s (inr (silent, counted)) none calm = inl silent.said
 
--- ---- the output's count of faults
+-- ---- the output's count of faults, and its flush
 
 still : (w : Written) (s : Status) (ran : Ran) → Ends ran w s → IsSteady s → w.faults_after ≡ w.faults_before
 still w status.Done ran e h = e.steady
@@ -81,6 +53,28 @@ still w status.ReadFault ran e h = absurd h
 still w status.WriteFault ran e h = absurd h
 still w status.NoMemory ran e h = e.steady
 
-pub steadied : (files : ℕ) (IsRun : Ran → Type 0) (w : Written) (before after : ℕ) (s : Status) → EndsOne files IsRun w before after s → IsSteady s → w.faults_after ≡ w.faults_before
-steadied files IsRun w before after s (inl (ran, is, e, o)) h = still w s ran e h
-steadied files IsRun w before after s (inr (silent, counted)) h = silent.steady
+flushed : (w : Written) (s : Status) (ran : Ran) → Ends ran w s → IsWhole s → w.unflushed ≡ false
+flushed w status.Done ran e h = e.flushed
+flushed w status.Usage ran e h = e.flushed
+flushed w status.Syntax ran e h = e.flushed
+flushed w status.Refused ran e h = e.flushed
+flushed w status.RunFault ran e h = e.flushed
+flushed w status.BadData ran e h = e.flushed
+flushed w status.ReadFault ran e h = e.flushed
+flushed w status.WriteFault ran e h = absurd h
+flushed w status.NoMemory ran e h = absurd h
+
+module _ (files_before : ℕ) (Can : List ℕ → Found → Type 0) (IsRun : Ran → Type 0) (w : Written) (files : Files) where
+  pub steadied : (s : Status) → EndsOne files_before Can IsRun w files s → IsSteady s → w.faults_after ≡ w.faults_before
+  steadied s (inl e) h = still w s e.ran e.ends h
+  steadied s (inr (silent, counted)) h = silent.steady
+
+  pub whole-flushed : (s : Status) → EndsOne files_before Can IsRun w files s → IsWhole s → w.unflushed ≡ false
+  whole-flushed s (inl e) h = flushed w s e.ran e.ends h
+  whole-flushed s (inr (silent, counted)) h = absurd (subst IsWhole silent.said h)
+
+  pub write_fault : (s : Status) → EndsOne files_before Can IsRun w files s → s ≡ status.WriteFault → HasRisen w.faults_before w.faults_after
+  write_fault s (inl e) cut = let h : Ends e.ran w status.WriteFault = subst (Ends e.ran w) cut e.ends in h.risen
+  write_fault s (inr (silent, counted)) cut = absurd (other (sym cut ∙ silent.said)) where
+    other : status.WriteFault ≡ status.NoMemory → ⊥
+    other e = cc

@@ -1,8 +1,12 @@
+pub mod Causes
 pub mod Completing
-pub mod CopyAnswers
-pub mod Damaged
 pub mod Ending
+pub mod Firsts
+pub mod Lines
+pub mod Looping
 pub mod Misspelling
-pub mod Numbers
+pub mod Reasons
 pub mod Running
+pub mod Stepping
 pub mod Turns
+pub mod Widening

@@ -8,7 +8,7 @@ use Rattle.sql_parser.specs.Nesting as nesting
 use Rattle.sql_parser.specs.Spells.{Spells, IsUnexpected}
 use Rattle.sql_tree.specs.declared.statement.Script.{Script}
 use Rattle.perm_engine.specs.Scripts.{IsReading, IsScriptOf, IsMisspelled, no_tokens, not_utf8, bad_character, unterminated, number_range, unexpected, too_deep}
-use Rattle.statement_steps.specs.declared.refusal.Break.{Break}
+use Rattle.name_words.specs.declared.answer.Break.{Break}
 
 pub IsReading-no_tokens : (bytes : List ℕ) (error : LexError) → MayRefuse bytes error → IsReading bytes (Err (no_tokens error))
 IsReading-no_tokens bytes (NotUtf8 at) h = not_utf8 h

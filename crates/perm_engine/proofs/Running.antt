@@ -1,20 +1,21 @@
 -- Which run a command line and its script's file stand for.
-use Rattle.std.proofs.Common.{◌≡◌, ◌∙◌, ◌⊎◌, ℕ, ◌+◌, false, List, [], ◌∷◌, length, Option, Err, get_or, refl, sym, ap, inl, inr, subst, arith}
+use Rattle.std.proofs.Common.{◌≡◌, ◌∙◌, ◌⊎◌, ℕ, ◌+◌, false, List, [], ◌∷◌, length, Option, Ok, Err, get_or, refl, sym, ap, inl, inr, subst, arith}
 use Rattle.perm_io.specs.Counts.{HasRisen, next_count}
+use Rattle.perm_io.specs.Found.{Found, Read, CanBe}
 use Rattle.perm_io.specs.declared.named_file.NamedFile.{NamedFile}
 use Rattle.perm_catalog.specs.Changes.{nothing_held}
 use Rattle.sql_tree.specs.declared.statement.Script.{Script}
-use Rattle.statement_steps.specs.Copying.{file_limit}
-use Rattle.perm_engine.specs.Ends.{Written, EndsOne, EndsSome, EndsRefused, Opens, opened}
-use Rattle.perm_io.specs.Found.{Found, CanBe}
-use Rattle.perm_engine.specs.Lines.{error_line}
-use Rattle.perm_engine.specs.Run.{Runs, RunsFrom, RunsScript, RunsFile, is_one, usage, IsOfScript, line_alone, after_files, script_limit}
+use Rattle.name_seen.specs.declared.refusal.Refusal.{Refusal}
+use Rattle.name_seen.specs.declared.refusal.Refusal.TheVariants.{Break, NoMemory}
+use Rattle.statement_words.specs.Answers.{Files, can_be, file_limit}
+use Rattle.perm_engine.specs.Ends.{Written, Ends, EndsOne, EndsSome, EndsRefused, Opens, opened}
+use Rattle.perm_engine.specs.Run.{Ran, Runs, RunsFrom, RunsScript, RunsFile, ended, is_one, IsOfScript, IsWhole, after_files}
 use Rattle.perm_engine.specs.Scripts.{IsReading, IsScriptOf}
-use Rattle.statement_steps.specs.declared.refusal.CommandRefusal.{CommandRefusal}
-use Rattle.statement_steps.specs.declared.refusal.CommandRefusal.TheVariants.{Break, NoMemory}
+use Rattle.perm_engine.specs.Stops.{Stop, Misused, NoScript, Backs, script_limit}
 use Rattle.perm_engine.specs.declared.status.Status.{Status}
 use Rattle.perm_engine.specs.declared.status.Status.TheVariants as status
 use Rattle.perm_engine.proofs.Ending.{Ends-files, opened-more}
+use Rattle.perm_engine.proofs.Widening.{CanBe-moved, script-wider, backs-wider, script-of_script}
 
 -- a status that stands for a script, or a failed output
 pub of_script : (s t : Status) → IsOfScript t → (s ≡ t) ⊎ (s ≡ status.WriteFault) → IsOfScript s
@@ -22,7 +23,7 @@ of_script s t h (inl same) = subst IsOfScript (sym same) h
 of_script s t h (inr cut) = subst IsOfScript (sym cut) tt
 
 -- no word, or two and more, stand for the line of usage
-pub Runs-misused : (words : List (List ℕ)) (held : Option (List NamedFile)) (fault : Type 0) → is_one words ≡ false → Runs words held fault usage
+pub Runs-misused : (words : List (List ℕ)) (held : Option (List NamedFile)) (fault : Type 0) → is_one words ≡ false → Runs words held fault (ended Misused)
 Runs-misused [] held fault h = refl
 Runs-misused (name ∷ []) held fault h = absurd cc
 Runs-misused (name ∷ other ∷ words) held fault h = refl
@@ -39,44 +40,60 @@ one_word [] name one h = absurd (omega (arith, one))
 one_word (first ∷ []) name one h = ap (λ n. n ∷ []) (sym h)
 one_word (first ∷ other ∷ words) name one h = absurd (omega (arith, one))
 
--- what the script's file was found to be decides the run
-pub Runs-found : (words : List (List ℕ)) (name : List ℕ) (held : Option (List NamedFile)) (fault : Type 0) (found : Found) (w : Written) (before mid after : ℕ) (s : Status) →
-    words ≡ name ∷ [] → mid ≡ next_count before → CanBe script_limit held fault name found → EndsOne 0 (RunsFile (CanBe file_limit held fault) found) w mid after s → EndsOne 1 (Runs words held fault) w before after s
-Runs-found words name held fault found w before mid after s one begun can (inl (ran, runs, ends, o)) =
-    inl (
-      after_files 1 ran,
-      subst (λ ws. Runs ws held fault (after_files 1 ran)) (sym one) (found, ran, can, runs, refl),
-      Ends-files 1 ran w s ends,
-      record {
-        files = o.files + 1;
-        within = omega (arith, o.within);
-        whole = λ i. ap (λ n. n + 1) (o.whole i);
-        counted = o.counted ∙ ap (opened o.files) begun ∙ sym (opened-more 1 o.files before);
-      },
-    )
-Runs-found words name held fault found w before mid after s one begun can (inr (silent, none)) = inr (silent, none ∙ begun)
-
 -- a run that begins no file
-pub Opens-none : (line : List ℕ) (given : Status) (count : ℕ) (s : Status) → Opens (line_alone line given) count count s
-Opens-none line given count s = record { files = 0; within = omega arith; whole = λ _. refl; counted = refl }
+pub Opens-none : (stop : Stop) (count : ℕ) (s : Status) → Opens (ended stop) count count s
+Opens-none stop count s = record { files = 0; within = omega arith; whole = λ _. refl; counted = refl }
+
+-- what the script's file was found to be decides the run
+pub Runs-found : (words : List (List ℕ)) (name : List ℕ) (files : Files) (found : Found) (ran : Ran) (w : Written) (mid : ℕ) (s : Status) →
+    words ≡ name ∷ [] → mid ≡ next_count files.begun → CanBe script_limit files.held (HasRisen files.faults files.faults_after) name found → RunsFile (can_be files) found ran →
+    Ends ran w s → Opens ran mid files.begun_after s → (IsWhole s → Backs (can_be files) ran.stop files) →
+    EndsSome (can_be files) (Runs words files.held (HasRisen files.faults files.faults_after)) w files s
+Runs-found words name files found ran w mid s one begun can runs e o backed = record {
+  ran = after_files 1 ran;
+  is = subst (λ ws. Runs ws files.held (HasRisen files.faults files.faults_after) (after_files 1 ran)) (sym one) (found, ran, can, runs, refl);
+  ends = Ends-files 1 ran w s e;
+  opens = record {
+    files = o.files + 1;
+    within = omega (arith, o.within);
+    whole = λ i. ap (λ n. n + 1) (o.whole i);
+    counted = o.counted ∙ ap (opened o.files) begun ∙ sym (opened-more 1 o.files files.begun);
+  };
+  backed = backed;
+}
+
+-- the script was read, over files that didn't fail until then
+pub Runs-read : (words : List (List ℕ)) (name : List ℕ) (files : Files) (bytes bytes' : List ℕ) (held : Option (List NamedFile)) (faults mid : ℕ) (w : Written) (s : Status) →
+    words ≡ name ∷ [] → mid ≡ next_count files.begun → CanBe script_limit files.held (HasRisen files.faults files.faults_after) name (Read bytes) →
+    held ≡ files.held → faults ≡ files.faults → bytes' ≡ bytes →
+    EndsOne 0 (can_be (record files { held = held; faults = faults; begun = mid })) (RunsScript (can_be (record files { held = held; faults = faults; begun = mid })) bytes') w
+    (record files { held = held; faults = faults; begun = mid }) s →
+    EndsOne 1 (can_be files) (Runs words files.held (HasRisen files.faults files.faults_after)) w files s
+Runs-read words name files bytes bytes' held faults mid w s one begun can same_held same_faults same (inl e) =
+    let f : Files = record files { held = held; faults = faults; begun = mid } in
+    let widen = CanBe-moved file_limit held files.held faults files.faults files.faults_after files.faults_after same_held same_faults refl in
+    let runs = script-wider (can_be f) (can_be files) widen bytes' e.ran e.is in
+    inl (
+    Runs-found words name files (Read bytes) e.ran w mid s one begun can (subst (λ b. RunsScript (can_be files) b e.ran) same runs) e.ends e.opens
+    (λ i. backs-wider (can_be f) (can_be files) widen e.ran.stop f files (script-of_script (can_be f) bytes' e.ran e.is) refl refl (e.backed i))
+    )
+Runs-read words name files bytes bytes' held faults mid w s one begun can same_held same_faults same (inr (silent, none)) = inr (silent, none ∙ begun)
 
 -- the runs of the statements are runs of the script
-pub EndsOne-script : (Can : List ℕ → Found → Type 0) (bytes : List ℕ) (script : Script) (w : Written) (before after : ℕ) (s : Status) → IsScriptOf bytes script →
-    EndsSome (RunsFrom Can (nothing_held 1) script.statements) w before after s → EndsOne 0 (RunsScript Can bytes) w before after s
-EndsOne-script Can bytes script w before after s h (ran, runs, ends, o) = inl (ran, inl (script, h, runs), ends, o)
+pub EndsOne-script : (Can : List ℕ → Found → Type 0) (bytes : List ℕ) (script : Script) (w : Written) (files : Files) (s : Status) → IsScriptOf bytes script →
+    EndsSome Can (RunsFrom Can (nothing_held 1) script.statements) w files s → EndsOne 0 Can (RunsScript Can bytes) w files s
+EndsOne-script Can bytes script w files s h e =
+    inl (record { ran = e.ran; is = inl (script, h, e.is); ends = e.ends; opens = e.opens; backed = e.backed })
 
 -- bytes that are no script, and the line that says so
-pub EndsOne-refused : (Can : List ℕ → Found → Type 0) (bytes : List ℕ) (refusal : CommandRefusal) (w : Written) (count : ℕ) (s : Status) → IsReading bytes (Err refusal) → EndsRefused refusal w s → EndsOne 0 (RunsScript Can bytes) w count count s
-EndsOne-refused Can bytes (Break b) w count s misspelled e = inl (line_alone (error_line b) status.Syntax, inr (b, misspelled, refl), e, Opens-none (error_line b) status.Syntax count s)
-EndsOne-refused Can bytes NoMemory w count s misspelled e = inr (e, refl)
-
--- a run that was to end with one status doesn't end with others but a failed output
-pub other_end : (s given wrong : Status) → (given ≡ wrong → ⊥) → (status.WriteFault ≡ wrong → ⊥) → (s ≡ given) ⊎ (s ≡ status.WriteFault) → s ≡ wrong → ⊥
-other_end s given wrong other cut (inl same) e = other (sym same ∙ e)
-other_end s given wrong other cut (inr failed) e = cut (sym failed ∙ e)
-
--- the same files, counts and bytes under other names
-pub EndsOne-moved : (held held' : Option (List NamedFile)) (faults faults' new : ℕ) (bytes bytes' : List ℕ) (w : Written) (before after : ℕ) (s : Status) → held ≡ held' → faults ≡ faults' → bytes ≡ bytes' →
-    EndsOne 0 (RunsScript (CanBe file_limit held (HasRisen faults new)) bytes) w before after s → EndsOne 0 (RunsScript (CanBe file_limit held' (HasRisen faults' new)) bytes') w before after s
-EndsOne-moved held held' faults faults' new bytes bytes' w before after s e f g h =
-    subst (λ (p : Option (List NamedFile) × ℕ × List ℕ). EndsOne 0 (RunsScript (CanBe file_limit p.0 (HasRisen p.1 new)) p.2) w before after s) (λ i. (e i, f i, g i)) h
+pub EndsOne-refused : (Can : List ℕ → Found → Type 0) (bytes : List ℕ) (refusal : Refusal) (w : Written) (files : Files) (s : Status) → files.begun_after ≡ files.begun →
+    IsReading bytes (Err refusal) → EndsRefused refusal w s → EndsOne 0 Can (RunsScript Can bytes) w files s
+EndsOne-refused Can bytes (Break b) w files s none misspelled e =
+    inl (record {
+      ran = ended (NoScript b);
+      is = inr (b, misspelled, refl);
+      ends = e;
+      opens = record { files = 0; within = omega arith; whole = λ _. refl; counted = none };
+      backed = λ _. tt;
+    })
+EndsOne-refused Can bytes NoMemory w files s none misspelled e = inr (e, none)

@@ -1,19 +1,20 @@
--- How a run ends: what stands in the output then, beside the status.
-use Rattle.std.specs.Prelude.{◌≡◌, ◌≢◌, ◌⊎◌, ℕ, zero, suc, ◌≤◌, ◌<◌, Bool, false, List, ◌++◌, length, take, Option, IsTrue}
+-- How a run ends: what stands in the output then, beside the status, and what its end rests on.
+use Rattle.std.specs.Prelude.{◌≡◌, ◌⊎◌, ℕ, zero, suc, ◌≤◌, ◌<◌, Bool, true, false, List, ◌++◌, length, take, Option, IsTrue}
 use Rattle.std.specs.Io.KnownBytes.{append_known}
 use Rattle.std.specs.List.{flat_map}
+use Rattle.perm_catalog.specs.Contents.{Contents}
 use Rattle.perm_io.specs.Counts.{HasRisen, next_count}
-use Rattle.perm_engine.specs.Run.{Ran, text_of, line_alone, refusal_line, script_limit, IsWhole}
-use Rattle.csv_tables.specs.declared.data_error.DataError.{DataError}
-use Rattle.csv_tables.specs.declared.data_error.DataError.TheVariants as broken
-use Rattle.error_lines.specs.Lines.{data_line}
-use Rattle.perm_engine.specs.Lines.{error_line}
-use Rattle.statement_steps.specs.Copying.{file_limit}
-use Rattle.statement_steps.specs.declared.refusal.Break.{Break}
-use Rattle.statement_steps.specs.declared.refusal.CommandRefusal.{CommandRefusal}
-use Rattle.statement_steps.specs.declared.refusal.CommandRefusal.TheVariants.{Break as Broken, NoMemory}
-use Rattle.perm_engine.specs.declared.step_refusal.StepRefusal.{StepRefusal}
-use Rattle.perm_engine.specs.declared.step_refusal.StepRefusal.TheVariants as step
+use Rattle.perm_io.specs.Found.{Found}
+use Rattle.sql_tree.specs.declared.statement.Statement.{Statement}
+use Rattle.name_seen.specs.declared.refusal.Refusal.{Refusal}
+use Rattle.name_seen.specs.declared.refusal.Refusal.TheVariants.{Break as Broken, NoMemory}
+use Rattle.name_words.specs.declared.answer.Break.{Break}
+use Rattle.null_logic.specs.declared.run_fault.RunFault.{RunFault}
+use Rattle.statement_words.specs.Answers.{Files}
+use Rattle.statement_words.specs.declared.refusal.StepRefusal.{StepRefusal}
+use Rattle.statement_words.specs.declared.refusal.StepRefusal.TheVariants as step
+use Rattle.perm_engine.specs.Run.{Ran, text_of, ended, IsWhole}
+use Rattle.perm_engine.specs.Stops.{Stop, NoScript, At, Backs, IsStopped, script_limit, status_of}
 use Rattle.perm_engine.specs.declared.status.Status.{Status}
 use Rattle.perm_engine.specs.declared.status.Status.TheVariants as status
 
@@ -41,7 +42,7 @@ joined texts = flat_map (λ text. text) texts
 
 -- the run's status, and its whole text, flushed
 pub record IsSaid (ran : Ran) (w : Written) (s : Status) : Type 0 where
-  pub said : ran.status ≡ s
+  pub said : status_of ran.stop ≡ s
   pub text : w.after ≡ append_known w.before (text_of ran)
   pub flushed : w.unflushed ≡ false
   pub steady : w.faults_after ≡ w.faults_before
@@ -90,47 +91,72 @@ pub record IsSilent (w : Written) (s : Status) : Type 0 where
   pub steady : w.faults_after ≡ w.faults_before
 
 -- the line of a script's refusal ends the run, where memory suffices
-abbrev pub EndsRefused : CommandRefusal → Written → Status → Type 0
-EndsRefused (Broken b) w s = Ends (line_alone (error_line b) status.Syntax) w s
+abbrev pub EndsRefused : Refusal → Written → Status → Type 0
+EndsRefused (Broken b) w s = Ends (ended (NoScript b)) w s
 EndsRefused NoMemory w s = IsSilent w s
 
 -- the line of a statement's refusal ends the run, where memory suffices
-abbrev pub EndsStopped : StepRefusal → Written → Status → Type 0
-EndsStopped (step.Break b) w s = Ends (line_alone (error_line b) status.Refused) w s
-EndsStopped (step.Missing at) w s = Ends (line_alone (refusal_line (step.Missing at)) status.BadData) w s
-EndsStopped (step.TooLarge at) w s = Ends (line_alone (refusal_line (step.TooLarge at)) status.BadData) w s
-EndsStopped (step.Unfit rule) w s = Ends (line_alone (refusal_line (step.Unfit rule)) status.BadData) w s
-EndsStopped step.ReadFault w s = Ends (line_alone (refusal_line step.ReadFault) status.ReadFault) w s
-EndsStopped step.NoMemory w s = IsSilent w s
+abbrev pub EndsStopped : Contents → Statement → StepRefusal → Written → Status → Type 0
+EndsStopped c statement (step.Break b) w s = Ends (ended (At c statement (step.Break b))) w s
+EndsStopped c statement (step.Run fault at) w s = Ends (ended (At c statement (step.Run fault at))) w s
+EndsStopped c statement (step.Missing at) w s = Ends (ended (At c statement (step.Missing at))) w s
+EndsStopped c statement (step.TooLarge at) w s = Ends (ended (At c statement (step.TooLarge at))) w s
+EndsStopped c statement (step.Unfit rule) w s = Ends (ended (At c statement (step.Unfit rule))) w s
+EndsStopped c statement step.ReadFault w s = Ends (ended (At c statement step.ReadFault)) w s
+EndsStopped c statement step.NoMemory w s = IsSilent w s
 
--- one of the runs ends with this status, over a count of files begun before and after
-abbrev pub EndsSome : (Ran → Type 0) → Written → ℕ → ℕ → Status → Type 0
-EndsSome IsRun w before after s = (ran : Ran) × IsRun ran × Ends ran w s × Opens ran before after s
+-- what was found of files can be so, and one of the runs ends with this status; a whole one rests on its cause
+pub record EndsSome (Can : List ℕ → Found → Type 0) (IsRun : Ran → Type 0) (w : Written) (files : Files) (s : Status) : Type 0 where
+  pub ran : Ran
+  pub is : IsRun ran
+  pub ends : Ends ran w s
+  pub opens : Opens ran files.begun files.begun_after s
+  pub backed : IsWhole s → Backs Can ran.stop files
 
--- that, or memory was wanting before anything was written, when some files were begun
-abbrev pub EndsOne : ℕ → (Ran → Type 0) → Written → ℕ → ℕ → Status → Type 0
-EndsOne files IsRun w before after s = EndsSome IsRun w before after s ⊎ (IsSilent w s × (after ≡ opened files before))
+-- that, or memory was wanting before anything was written, when so many files were begun
+abbrev pub EndsOne : ℕ → (List ℕ → Found → Type 0) → (Ran → Type 0) → Written → Files → Status → Type 0
+EndsOne begun Can IsRun w files s = EndsSome Can IsRun w files s ⊎ (IsSilent w s × (files.begun_after ≡ opened begun files.begun))
 
 -- memory was wanting, or one of the runs is written whole, and its files are begun
-abbrev pub Completes : (Ran → Type 0) → Written → ℕ → ℕ → Status → Type 0
-Completes IsRun w before after s = (s ≡ status.NoMemory) ⊎ ((ran : Ran) × IsRun ran × IsSaid ran w s × (after ≡ opened ran.begun before))
+abbrev pub Completes : (Ran → Type 0) → Written → Files → Status → Type 0
+Completes IsRun w files s = (s ≡ status.NoMemory) ⊎ ((ran : Ran) × IsRun ran × IsSaid ran w s × (files.begun_after ≡ opened ran.begun files.begun))
 
--- ---- why a run ends with a status, also where the bytes of files aren't told; a line is named where the output is told
+-- ---- why a run ends with a status: what is said of statements and files holds also where their bytes aren't told
 
--- the line written last names a rule that a record of a file breaks
-abbrev pub EndsUnfit : Option (List ℕ) → Option (List ℕ) → Type 0
-EndsUnfit before after = (rule : DataError) × (rule ≢ broken.NoMemory) × (text : List ℕ) × (after ≡ append_known before (text ++ data_line rule))
+-- one of the runs ends by this refusal of a statement, whose line is written last, and the refusal rests on its cause
+pub record EndsAt (Can : List ℕ → Found → Type 0) (IsRun : Ran → Type 0) (w : Written) (files : Files) (refused : StepRefusal) : Type 0 where
+  pub ran : Ran
+  pub is : IsRun ran
+  pub contents : Contents
+  pub statement : Statement
+  pub stop : ran.stop ≡ At contents statement refused
+  pub text : w.after ≡ append_known w.before (text_of ran)
+  pub stopped : IsStopped Can contents statement refused files
+
+-- by a break, which is the first of the statement and no want of a number to draw
+abbrev pub EndsBroken : (List ℕ → Found → Type 0) → (Ran → Type 0) → Written → Files → Type 0
+EndsBroken Can IsRun w files = (b : Break) × EndsAt Can IsRun w files (step.Break b)
+
+-- by a fault that the statement meets
+abbrev pub EndsFaulty : (List ℕ → Found → Type 0) → (Ran → Type 0) → Written → Files → Type 0
+EndsFaulty Can IsRun w files = (fault : RunFault) × (at : ℕ) × EndsAt Can IsRun w files (step.Run fault at)
+
+-- what the data of a file are refused for
+abbrev pub is_of_data : StepRefusal → Bool
+is_of_data (step.Break b) = false
+is_of_data (step.Run fault at) = false
+is_of_data (step.Missing at) = true
+is_of_data (step.TooLarge at) = true
+is_of_data (step.Unfit rule) = true
+is_of_data step.ReadFault = false
+is_of_data step.NoMemory = false
 
 -- one file was begun, the script's, and there is none of its name, or more bytes of it were read than a script may have
-abbrev pub IsBadScript : ℕ → ℕ → Bool → ℕ → Type 0
-IsBadScript before after absent taken = (after ≡ next_count before) × (IsTrue absent ⊎ (script_limit < taken))
+abbrev pub IsBadScript : Files → Type 0
+IsBadScript files = (files.begun_after ≡ next_count files.begun) × (IsTrue files.absent ⊎ (script_limit < files.taken))
 
--- more files were begun than this, and there is none of the last one's name, or more bytes of it were read than a file of
--- rows may have, or the line written last names a rule that a record breaks
-abbrev pub IsBadFile : ℕ → ℕ → ℕ → Bool → ℕ → Option (List ℕ) → Option (List ℕ) → Type 0
-IsBadFile others before after absent taken old new =
-    (files : ℕ) × (others < files) × (after ≡ opened files before) × (IsTrue absent ⊎ ((file_limit < taken) ⊎ EndsUnfit old new))
-
--- the line written last names a break of a statement, and that isn't want of a number to draw
-abbrev pub EndsBroken : Option (List ℕ) → Option (List ℕ) → Type 0
-EndsBroken before after = (b : Break) × (b.code ≢ 17) × (text : List ℕ) × (after ≡ append_known before (text ++ error_line b))
+-- more files were begun than this, and one of the runs ends by the last one
+abbrev pub IsBadFile : ℕ → (List ℕ → Found → Type 0) → (Ran → Type 0) → Written → Files → Type 0
+IsBadFile others Can IsRun w files =
+    (begun : ℕ) × (others < begun) × (files.begun_after ≡ opened begun files.begun)
+    × (refused : StepRefusal) × (is_of_data refused ≡ true) × EndsAt Can IsRun w files refused

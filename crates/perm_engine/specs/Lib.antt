@@ -1,6 +1,7 @@
-pub mod Asking
 pub mod Ends
-pub mod Lines
+pub mod Resolving
 pub mod Run
 pub mod Scripts
+pub mod Sessions
 pub mod Statuses
+pub mod Stops

@@ -8,9 +8,9 @@ use Rattle.sql_lexer.specs.declared.token.Token.{Token}
 use Rattle.sql_parser.specs.Nesting as nesting
 use Rattle.sql_parser.specs.Spells.{Spells, IsUnexpected}
 use Rattle.sql_tree.specs.declared.statement.Script.{Script}
-use Rattle.statement_steps.specs.declared.refusal.Break.{Break}
-use Rattle.statement_steps.specs.declared.refusal.CommandRefusal.{CommandRefusal}
-use Rattle.statement_steps.specs.declared.refusal.CommandRefusal.TheVariants.{Break as Broken, NoMemory}
+use Rattle.name_words.specs.declared.answer.Break.{Break}
+use Rattle.name_seen.specs.declared.refusal.Refusal.{Refusal}
+use Rattle.name_seen.specs.declared.refusal.Refusal.TheVariants.{Break as Broken, NoMemory}
 
 -- the bytes are split into tokens that nest within bounds and spell the script
 pub record IsScriptOf (bytes : List ℕ) (script : Script) : Type 0 where
@@ -35,7 +35,7 @@ pub data IsMisspelled (bytes : List ℕ) : Break → Type 0 where
       → IsMisspelled bytes (break_at 6 at)
 
 -- the refusal of bytes that have no tokens
-abbrev pub no_tokens : LexError → CommandRefusal
+abbrev pub no_tokens : LexError → Refusal
 no_tokens (NotUtf8 at) = Broken (break_at 1 at)
 no_tokens (BadCharacter at) = Broken (break_at 2 at)
 no_tokens (Unterminated at) = Broken (break_at 3 at)
@@ -43,7 +43,7 @@ no_tokens (NumberRange at) = Broken (break_at 4 at)
 no_tokens lexing.NoMemory = NoMemory
 
 -- the script, or why there is none
-abbrev pub IsReading : List ℕ → Result Script CommandRefusal → Type 0
+abbrev pub IsReading : List ℕ → Result Script Refusal → Type 0
 IsReading bytes (Ok script) = IsScriptOf bytes script
 IsReading bytes (Err (Broken b)) = IsMisspelled bytes b
 IsReading bytes (Err NoMemory) = Unit {0}

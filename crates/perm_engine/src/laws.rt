@@ -4,7 +4,7 @@ ghost use Rattle.sql_tree.specs.declared.statement.Script.{Script};
 ghost use Rattle.sql_tree.specs.declared.statement.Statement.{Statement};
 ghost use Rattle.perm_engine.specs.Run.{StopsAt};
 ghost use Rattle.perm_engine.specs.Scripts.{IsScriptOf, IsMisspelled};
-ghost use Rattle.statement_steps.specs.declared.refusal.Break.{Break};
+ghost use Rattle.name_words.specs.declared.answer.Break.{Break};
 
 use sql_lexer::lexing_is_unique;
 use sql_parser::{a_script_has_one_tree, an_unexpected_token_has_no_tree};

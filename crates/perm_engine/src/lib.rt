@@ -6,10 +6,9 @@ mod run;
 mod script;
 mod session;
 mod status;
-mod step_refusal;
+mod stopping;
 
 pub use laws::{a_run_has_numbers_left, bytes_are_one_script};
 pub use run::perm;
 pub use session::Session;
 pub use status::Status;
-pub use step_refusal::StepRefusal;

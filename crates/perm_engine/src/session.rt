@@ -1,166 +1,200 @@
-ghost use Rattle.std.specs.Prelude.{◌≡◌, ◌≢◌, ◌⊎◌, ◌<◌, Err, IsTrue, false};
-ghost use Rattle.csv_tables.specs.declared.data_error.DataError.TheVariants as broken;
-ghost use Rattle.perm_catalog.specs.Changes.{nothing_held, table_named};
-ghost use Rattle.perm_io.specs.Counts.{next_count, CountsFault, HasRisen};
-ghost use Rattle.statement_steps.specs.Answers.{IsTurn};
-ghost use Rattle.perm_engine.specs.Asking.{asked, begins, copy_asks, has_failed, is_missing, is_short, is_too_large, settled, IsAnswered, IsOutcome};
-ghost use Rattle.statement_steps.specs.Copying.{file_limit};
-ghost use Rattle.perm_io.specs.Found.{CanBe};
-ghost use Rattle.statement_steps.specs.Step.{turn};
+ghost use Rattle.std.specs.Prelude.{◌≡◌, ◌⊎◌, Err, IsTrue, true, false};
+ghost use Rattle.perm_catalog.specs.Changes.{nothing_held};
+ghost use Rattle.perm_catalog.specs.Sound.{IsSound};
+ghost use Rattle.perm_io.specs.Counts.{next_count, CountsFault};
+ghost use Rattle.sql_tree.specs.Regular.{RegularStatement};
+ghost use Rattle.statement_words.specs.Answers.{begins, can_be, has_failed, over, IsBacked, TakesTurn};
+ghost use Rattle.statement_laws.specs.Sounder.{KeepsSound};
+ghost use Rattle.statement_words.specs.Asking.{asked, asks};
+ghost use Rattle.statement_words.specs.Ready.{IsReady};
+ghost use Rattle.statement_words.specs.declared.refusal.StepRefusal.TheVariants.{NoMemory as OutOfMemory};
+ghost use Rattle.name_analysis.specs.Own.{own_breaks};
+ghost use Rattle.name_words.specs.Statements.{resolved};
+ghost use Rattle.resolved_steps.specs.Running.{KeepsRun};
+ghost use Rattle.perm_engine.specs.Resolving.{IsCarriedOut, IsDue, Resolves, ResolvesBuilt, due_breaks};
+ghost use Rattle.perm_engine.specs.Sessions.{begun_with};
 
-use crate::step_refusal::StepRefusal;
-use perm_catalog::Catalog;
+use name_analysis::resolve;
+use name_seen::Refusal;
+use name_words::{Break, Resolved};
+use perm_catalog::{Catalog, catalogs_stay_sound};
 use perm_io::Files;
-use perm_values::{Bytes, Chars};
-use sql_commands::command_of;
-use sql_tree::{Statement, StatementBody};
-use statement_steps::{CommandRefusal, copy_into, step};
+use perm_values::Bytes;
+use query_answers::Runner;
+use resolved_steps::{is_unbuilt, step};
+use sql_tree::Statement;
+use statement_laws::{
+    statements_keep_catalogs_sound, whole_statements_add_soundly, whole_statements_are_ready,
+};
+use statement_words::StepRefusal;
 use std::alloc::Global;
 use std::marker::Model;
 
-/// Runs statements one after another over a catalog, as which contracts see it.
+/// Runs statements one after another over a sound catalog, and keeps the last run of a query. Contracts see it as both.
 #[derive(Drop)]
 pub struct Session {
     alloc: Global,
     catalog: Catalog,
+    runner: Runner,
 }
 
 impl Model for Session {
-    ghost use Rattle.perm_catalog.specs.Contents.{Contents, contents_code};
+    ghost use Rattle.std.specs.Coded.{coded_option};
+    ghost use Rattle.perm_catalog.specs.Contents.{contents_code};
+    ghost use Rattle.perm_catalog.specs.Sound.{IsSound};
     ghost use Rattle.perm_catalog.specs.contracts.entries.TableEntry as table;
     ghost use Rattle.perm_catalog.specs.contracts.entries.ViewEntry as view_entry;
     ghost use Rattle.perm_values.specs.contracts.value.Value as cell;
+    ghost use Rattle.query_answers.specs.contracts.ran.Ran as run;
+    ghost use Rattle.perm_engine.specs.Sessions.{SessionState, session_code};
 
-    ghost Value = { Contents };
+    ghost Value = { SessionState };
 
-    ghost coded = { contents_code table.the_row.coded view_entry.the_row.coded cell.the_row.coded };
+    ghost coded = { session_code (contents_code table.the_row.coded view_entry.the_row.coded cell.the_row.coded)
+        (coded_option run.the_row.coded) };
 
-    ghost view = { λ s. s.catalog };
+    ghost view = { λ s. record { contents = s.catalog; last = s.runner } };
+
+    ghost invariant = { λ s. IsSound s.catalog };
 }
 
 impl Session {
-    /// A session over an empty catalog, which draws 1 first. It takes no memory.
+    /// A session over an empty catalog, which draws 1 first. It has no last run. It takes no memory.
     pub fn new(alloc: Global) -> Session
-        ensures { result ≡ nothing_held 1 }
+        ensures { result ≡ begun_with (nothing_held 1) }
     {
+        catalogs_stay_sound();
         Session::with(alloc, Catalog::new(alloc, 1))
     }
 
-    /// A session over this catalog. It takes no memory.
+    /// A session over this sound catalog. It has no last run. It takes no memory.
     pub fn with(alloc: Global, catalog: Catalog) -> Session
-        ensures { result ≡ catalog }
+        requires { IsSound catalog }
+        ensures { result ≡ begun_with catalog }
     {
-        Session { alloc, catalog }
+        Session {
+            alloc,
+            catalog,
+            runner: Runner::new(),
+        }
     }
 
-    /// The tables and views as they stand.
+    /// The tables and views as they stand, which are sound.
     pub fn catalog(&self) -> &Catalog
-        ensures { result.now ≡ self.now }
+        ensures same { result.now ≡ self.now.contents }
+        ensures sound { IsSound result.now }
     {
         &self.catalog
     }
 
+    /// The runner of its queries, with the last run. It takes no memory.
+    pub fn runner(&self) -> &Runner
+        ensures { result.now ≡ self.now.last }
+    {
+        &self.runner
+    }
+
     /// Runs a statement and gives its text. A statement of a form that isn't run is refused with 29 at its offset, before
-    /// all else; one that can't stand with 10 at 0; one that would draw the last number with 17 at its offset. A COPY into
-    /// a table that is known begins its file, and no other statement begins any. After a refusal the catalog is as before.
+    /// all else; then the first rule that it breaks refuses it, and then what it meets while it runs. A COPY that breaks no
+    /// rule begins its file, and no other statement begins any. After a refusal the catalog is as before.
+    ///
+    /// The rows that a query answers are those of the last run, of a query without PROVENANCE that stands for it. What the last
+    /// run is after a refusal of a query is left open.
     pub fn step<F: Files>(
         &mut self,
-        statement: &Statement,
+        statement: Statement,
         files: &mut F,
     ) -> Result<Bytes, StepRefusal>
-        ensures answer { IsAnswered (CanBe file_limit (F.held files.old) (HasRisen (F.faults files.old) (F.faults files.new)))
-            (asked self.old statement.now) self.old self.new result }
+        requires regular { RegularStatement statement }
+        ensures turn { TakesTurn (can_be (over F.held F.faults F.begun F.absent F.taken files.old files.new))
+            (asked self.old.contents statement) self.old.contents self.new.contents result }
+        ensures sound { IsSound self.new.contents }
+
+        // What its form or its own names break is answered however little memory there is.
+        ensures due { IsDue (due_breaks self.old.contents statement) result }
 
         // When the refusals come that files decide.
-        ensures missing { IsTrue (is_missing result) → IsTrue (F.absent files.new) }
-        ensures too_large { IsTrue (is_too_large result) → file_limit < F.taken files.new }
-        ensures memory { result ≢ Err (StepRefusal.Unfit broken.NoMemory) }
+        ensures backed { IsBacked result (over F.held F.faults F.begun F.absent F.taken files.old files.new) }
         ensures faults { CountsFault (F.faults files.old) (F.faults files.new) (has_failed result) }
 
         // The file is begun, unless memory was wanting before.
-        ensures begun { IsTrue (begins (asked self.old statement.now)) →
-            (F.begun files.new ≡ next_count (F.begun files.old)) ⊎ (IsTrue (is_short result) × (F.begun files.new ≡ F.begun files.old)) }
-        ensures unbegun { begins (asked self.old statement.now) ≡ false → files.new ≡ files.old }
+        ensures begun { IsTrue (begins (asked self.old.contents statement)) →
+            (F.begun files.new ≡ next_count (F.begun files.old)) ⊎ ((result ≡ Err OutOfMemory) × (F.begun files.new ≡ F.begun files.old)) }
+        ensures unbegun { begins (asked self.old.contents statement) ≡ false → files.new ≡ files.old }
         ensures held { F.held files.new ≡ F.held files.old }
-    {
-        match &statement.body {
-            StatementBody::Copy {
-                table,
-                file,
-                header,
-                mark,
-            } => self.copy(files, &table.text, file, mark, *header, statement.at),
-            StatementBody::CreateTable { .. }
-            | StatementBody::CreateTableAs { .. }
-            | StatementBody::CreateView { .. }
-            | StatementBody::Insert { .. }
-            | StatementBody::Delete { .. }
-            | StatementBody::DropTable { .. }
-            | StatementBody::DropView { .. }
-            | StatementBody::Select { .. }
-            | StatementBody::Explain { .. }
-            | StatementBody::ShowFresh { .. } => self.settle(statement),
-        }
-    }
 
-    /// Runs a COPY that stands at an offset.
-    fn copy<F: Files>(
-        &mut self,
-        files: &mut F,
-        table: &Chars,
-        file: &Chars,
-        mark: &Chars,
-        header: bool,
-        at: usize,
-    ) -> Result<Bytes, StepRefusal>
-        ensures answer { IsAnswered (CanBe file_limit (F.held files.old) (HasRisen (F.faults files.old) (F.faults files.new)))
-            (copy_asks self.old table.now file.now mark.now header at (table_named self.old table.now)) self.old self.new result }
-        ensures missing { IsTrue (is_missing result) → IsTrue (F.absent files.new) }
-        ensures too_large { IsTrue (is_too_large result) → file_limit < F.taken files.new }
-        ensures memory { result ≢ Err (StepRefusal.Unfit broken.NoMemory) }
-        ensures faults { CountsFault (F.faults files.old) (F.faults files.new) (has_failed result) }
-        ensures begun { IsTrue (begins (copy_asks self.old table.now file.now mark.now header at (table_named self.old table.now))) →
-            (F.begun files.new ≡ next_count (F.begun files.old)) ⊎ (IsTrue (is_short result) × (F.begun files.new ≡ F.begun files.old)) }
-        ensures unbegun { begins (copy_asks self.old table.now file.now mark.now header at (table_named self.old table.now)) ≡ false →
-            files.new ≡ files.old }
-        ensures held { F.held files.new ≡ F.held files.old }
+        // The run that gave a query's rows.
+        ensures ran { KeepsRun self.old.contents (resolved self.old.contents statement) result self.old.last self.new.last }
     {
-        match copy_into(
-            self.alloc,
-            &mut self.catalog,
-            files,
-            table,
-            file,
-            mark,
-            header,
-        ) {
-            Ok(text) => Ok(text),
-            Err(refusal) => Err(StepRefusal::of_copy(refusal, at)),
-        }
-    }
-
-    /// Runs a statement that begins no file.
-    fn settle(&mut self, statement: &Statement) -> Result<Bytes, StepRefusal>
-        ensures answer { IsOutcome (settled (turn self.old statement.now)) self.old self.new result }
-        ensures missing { is_missing result ≡ false }
-        ensures too_large { is_too_large result ≡ false }
-        ensures memory { result ≢ Err (StepRefusal.Unfit broken.NoMemory) }
-        ensures failed { has_failed result ≡ false }
-    {
-        match self.answer(statement) {
-            Ok(text) => Ok(text),
-            Err(CommandRefusal::Break(found)) => Err(StepRefusal::Break(found)),
-            Err(CommandRefusal::NoMemory) => Err(StepRefusal::NoMemory),
-        }
-    }
-
-    /// Runs a statement that begins no file.
-    pub(crate) fn answer(&mut self, statement: &Statement) -> Result<Bytes, CommandRefusal>
-        ensures { IsTurn (turn self.old statement.now) self.old self.new result }
-    {
-        let Some(command) = command_of(self.alloc, statement)? else {
-            return Err(CommandRefusal::new(29, statement.at));
-        };
-        step(self.alloc, &mut self.catalog, &command, statement.at)
+        let at = statement.at;
+        let resolved = resolved_statement(self.alloc, &self.catalog, statement)?;
+        let runner = &mut self.runner;
+        let told = carried_out(self.alloc, &mut self.catalog, files, at, &resolved, runner);
+        let_go(resolved);
+        told
     }
 }
+
+/// The statement with its names looked up, which can be carried out and keeps the catalog sound; or why it can't stand: it
+/// is of a form that isn't run, or breaks a rule of names and kinds.
+fn resolved_statement(
+    alloc: Global,
+    catalog: &Catalog,
+    statement: Statement,
+) -> Result<Resolved, StepRefusal>
+    requires sound { IsSound catalog.now }
+    requires regular { RegularStatement statement }
+    ensures resolves { Resolves catalog.now statement result }
+    ensures due { IsDue (due_breaks catalog.now statement) result }
+{
+    let at = statement.at;
+    if is_unbuilt(&statement) {
+        let_go(statement);
+        Err(StepRefusal::Break(Break { code: 29, at }))
+    } else {
+        looked_up(alloc, catalog, statement)
+    }
+}
+
+/// The same of a form that is run.
+fn looked_up(
+    alloc: Global,
+    catalog: &Catalog,
+    statement: Statement,
+) -> Result<Resolved, StepRefusal>
+    requires sound { IsSound catalog.now }
+    requires regular { RegularStatement statement }
+    ensures resolves { ResolvesBuilt catalog.now statement result }
+    ensures due { IsDue (own_breaks catalog.now statement.body) result }
+{
+    whole_statements_are_ready();
+    whole_statements_add_soundly();
+    statements_keep_catalogs_sound();
+    match resolve(alloc, catalog, statement) {
+        Ok(resolved) => Ok(resolved),
+        Err(Refusal::Break(found)) => Err(StepRefusal::Break(found)),
+        Err(Refusal::NoMemory) => Err(StepRefusal::NoMemory),
+    }
+}
+
+/// Carries out a resolved statement at an offset over a sound catalog, which stays sound.
+fn carried_out<F: Files>(
+    alloc: Global,
+    catalog: &mut Catalog,
+    files: &mut F,
+    at: usize,
+    resolved: &Resolved,
+    runner: &mut Runner,
+) -> Result<Bytes, StepRefusal>
+    requires before { IsSound catalog.old }
+    requires ready { IsReady catalog.old resolved.now }
+    requires sound { KeepsSound (asks catalog.old at resolved.now) }
+    ensures done { IsCarriedOut (asks catalog.old at resolved.now) catalog.old catalog.new result (over F.held F.faults F.begun F.absent F.taken files.old files.new)
+        (files.new ≡ files.old) }
+    ensures ran { KeepsRun catalog.old resolved.now result runner.old runner.new }
+{
+    step(alloc, catalog, files, at, resolved, runner)
+}
+
+/// Drops a value of many variants. A caller that dropped it by itself would have a way through its code for each of them.
+pub(crate) fn let_go<T: Drop>(_value: T) {}

@@ -1,61 +1,111 @@
--- The turn of a query, by what the rows of a query that stands for it are.
+-- The turn of a query and the run that answers it, by a query that stands for it.
 use mathlib.Core.Bool.{true≢false}
-use Rattle.std.proofs.Common.{◌≡◌, ◌∙◌, ℕ, true, List, [], Result, Ok, Err, refl, sym, ap, subst}
-use Rattle.null_logic.specs.declared.run_fault.RunFault.{RunFault}
+use Rattle.std.proofs.Common.{◌≡◌, ◌∙◌, ℕ, true, List, [], Option, Some, None, Result, Ok, Err, IfOk, Ordering, refl, sym, ap, subst}
 use Rattle.perm_values.specs.Rows.{printed_cmp}
-use Rattle.perm_values.specs.declared.key.Key.{Key}
-use Rattle.bag_algebra.proofs.SortedBags.{printed_unique}
+use Rattle.perm_values.specs.declared.value.Value.{Value}
+use Rattle.bag_algebra.proofs.BagLaws.{same_bag-trans}
+use Rattle.bag_algebra.proofs.SortedBags.{printed_unique, same_bag-sorted}
 use Rattle.bag_algebra.specs.Bags.{Bag, sorted}
 use Rattle.bag_algebra.specs.Meaning.{meaning}
-use Rattle.bag_algebra.specs.Outcome.{Outcome, Good, Bad, mapped}
+use Rattle.bag_algebra.specs.Outcome.{Outcome, Good, Bad, has, mapped}
 use Rattle.bag_algebra.specs.Rewriting.{SameRows, Stands}
 use Rattle.bag_algebra.specs.TableRows.{rows_in}
 use Rattle.bag_algebra.specs.declared.query.Answer.{Answer}
 use Rattle.bag_algebra.specs.declared.query.Query.{Query}
+use Rattle.query_measures.proofs.Closing.{query_within}
 use Rattle.csv_tables.specs.AnswerText.{answer_bytes}
-use Rattle.expression_values.specs.Answers.{Gives}
+use Rattle.expression_values.specs.Answers.{Refuses}
 use Rattle.expression_values.specs.declared.error.ExecError.{ExecError}
 use Rattle.expression_values.specs.declared.error.ExecError.TheVariants.{Fault, NoMemory}
 use Rattle.perm_catalog.specs.Contents.{Contents}
 use Rattle.statement_words.specs.Answers.{IsText, Names, met}
 use Rattle.statement_words.specs.Ready.{CanRun}
-use Rattle.statement_words.specs.Turns.{Turn, Stands as stands, answered, on_good, select}
+use Rattle.statement_words.specs.Turns.{Stands as stands, answered, on_good, select}
 use Rattle.statement_words.specs.declared.refusal.StepRefusal.{StepRefusal}
 use Rattle.query_answers.specs.Printed.{IsPrinted}
+use Rattle.query_answers.specs.Runs.{AnswersBy, IsAnswered, Keeps, run_of}
+use Rattle.query_answers.specs.declared.ran.Ran.{Ran}
 
--- what stands for a query has its rows in any order that ties equal rows alone, or its faults
-same-ordered : (keys : List Key) (o other : Outcome Bag) → SameRows o other → mapped (sorted (printed_cmp keys)) o ≡ mapped (sorted (printed_cmp keys)) other
-same-ordered keys (Good us) (Good vs) same = ap Good (printed_unique keys us vs same)
-same-ordered keys (Good us) (Bad g) same = absurd same
-same-ordered keys (Bad f) (Good vs) same = absurd same
-same-ordered keys (Bad f) (Bad g) same = ap Bad same
+-- a run with these rows
+abbrev made : Query → Bag → Ran
+made query rows = record { query = query; rows = rows }
 
-good-answer : (c : Contents) (at : ℕ) (answer : Answer) (o : Outcome Bag) (rows : Bag) → mapped (sorted (printed_cmp answer.keys)) o ≡ Good rows
-    → on_good at o (answered c answer) ≡ stands (answer_bytes answer.names rows) c
-good-answer c at answer (Good us) rows e =
-    let same : sorted (printed_cmp answer.keys) us ≡ rows = cc in
-    ap (λ (ordered : Bag). stands (answer_bytes answer.names ordered) c) same
-good-answer c at answer (Bad faults) rows e = absurd (cc e)
+-- what stands for a query, of which a run is kept, has its rows in any order that ties equal rows alone, or its faults
+module _ (c : Contents) (at : ℕ) (answer : Answer) (plain : Query) where
+  abbrev cmp : List Value → List Value → Ordering
+  cmp = printed_cmp answer.keys
 
-bad-answer : (c : Contents) (at : ℕ) (answer : Answer) (o : Outcome Bag) (error : ExecError) → Gives (mapped (sorted (printed_cmp answer.keys)) o) (Err error)
-    → Names (on_good at o (answered c answer)) (met at error)
-bad-answer c at answer (Good us) (Fault fault) meets = absurd (true≢false (sym meets))
-bad-answer c at answer (Bad faults) (Fault fault) meets = (faults, refl, meets)
-bad-answer c at answer o NoMemory meets = tt
+  abbrev kept : Outcome Bag → Outcome Ran
+  kept o = mapped (λ rows. made plain (sorted cmp rows)) o
 
-by_rows : (c : Contents) (at : ℕ) (answer : Answer) (o : Outcome Bag) (rows : Result Bag ExecError) (result : Result (List ℕ) StepRefusal) →
-    Gives (mapped (sorted (printed_cmp answer.keys)) o) rows → IsPrinted at answer.names rows result → IsText (on_good at o (answered c answer)) c result
-by_rows c at answer o (Ok rows) (Ok text) gives printed =
-    good-answer c at answer o rows gives ∙ ap (λ (t : List ℕ). stands t c) (sym printed)
-by_rows c at answer o (Ok rows) (Err refusal) gives printed = subst (Names (on_good at o (answered c answer))) (sym printed) tt
-by_rows c at answer o (Err error) (Ok text) gives printed = absurd printed
-by_rows c at answer o (Err error) (Err refusal) gives printed =
-    subst (Names (on_good at o (answered c answer))) (sym printed) (bad-answer c at answer o error gives)
+  good-answer : (o other : Outcome Bag) (ran : Ran) → SameRows o other → kept other ≡ Good ran →
+      on_good at o (answered c answer) ≡ stands (answer_bytes answer.names ran.rows) c
+  good-answer (Good us) (Good vs) ran same e =
+      let is : made plain (sorted cmp vs) ≡ ran = cc in
+      ap (λ (ordered : Bag). stands (answer_bytes answer.names ordered) c) (printed_unique answer.keys us vs same ∙ ap (λ r. r.rows) is)
+  good-answer (Good us) (Bad g) ran same e = absurd same
+  good-answer (Bad f) (Good vs) ran same e = absurd same
+  good-answer (Bad f) (Bad g) ran same e = absurd (cc e)
 
-pub by_stand : (c : Contents) (at : ℕ) (answer : Answer) (plain : Query) (rows : Result Bag ExecError) (result : Result (List ℕ) StepRefusal) →
-    CanRun c answer → Stands answer.query plain → Gives (mapped (sorted (printed_cmp answer.keys)) (meaning plain (rows_in c.rows) [])) rows →
-    IsPrinted at answer.names rows result → IsText (select c at answer) c result
-by_stand c at answer plain rows result can s gives printed =
-    by_rows c at answer (meaning answer.query (rows_in c.rows) []) rows result
-    (subst (λ (o : Outcome Bag). Gives o rows) (sym (same-ordered answer.keys (meaning answer.query (rows_in c.rows) []) (meaning plain (rows_in c.rows) [])
-    (s.rows [] (rows_in c.rows) [] can.formed can.fitting refl))) gives) printed
+  bad-answer : (o other : Outcome Bag) (error : ExecError) → SameRows o other → Refuses (kept other) error →
+      Names (on_good at o (answered c answer)) (met at error)
+  bad-answer (Good us) (Good vs) (Fault fault) same meets = absurd (true≢false (sym meets))
+  bad-answer (Good us) (Bad g) (Fault fault) same meets = absurd same
+  bad-answer (Bad f) (Good vs) (Fault fault) same meets = absurd same
+  bad-answer (Bad f) (Bad g) (Fault fault) same meets = (f, refl, subst (λ h. has h fault ≡ true) (sym same) meets)
+  bad-answer o other NoMemory same meets = tt
+
+  by_rows : (o other : Outcome Bag) (told : Result Unit ExecError) (last : Option Ran) (result : Result (List ℕ) StepRefusal) →
+      SameRows o other → Keeps (kept other) told last → IsPrinted at answer.names told last result → IsText (on_good at o (answered c answer)) c result
+  by_rows o other (Ok done) (Some ran) (Ok text) same keeps printed =
+      good-answer o other ran same keeps ∙ ap (λ (t : List ℕ). stands t c) (sym printed)
+  by_rows o other (Ok done) (Some ran) (Err refusal) same keeps printed = subst (Names (on_good at o (answered c answer))) (sym printed) tt
+  by_rows o other (Ok done) None result same keeps printed = absurd keeps
+  by_rows o other (Err error) (Some ran) result same keeps printed = absurd keeps
+  by_rows o other (Err error) None (Ok text) same keeps printed = absurd printed
+  by_rows o other (Err error) None (Err refusal) same keeps printed =
+      subst (Names (on_good at o (answered c answer))) (sym printed) (bad-answer o other error same keeps)
+
+  same-sorted : (o other : Outcome Bag) (vs : Bag) → SameRows o other → other ≡ Good vs → SameRows o (Good (sorted cmp vs))
+  same-sorted (Good us) other vs same is = same_bag-trans us vs (sorted cmp vs) (subst (SameRows (Good us)) is same) (same_bag-sorted cmp vs)
+  same-sorted (Bad f) other vs same is = absurd (subst (SameRows (Bad f)) is same)
+
+  module _ (can : CanRun c answer) (s : Stands answer.query plain) where
+    answers-made : (vs : Bag) → meaning plain (rows_in c.rows) [] ≡ Good vs →
+        AnswersBy c answer (answer_bytes answer.names (sorted cmp vs)) (made plain (sorted cmp vs))
+    answers-made vs is = record {
+      plain = s.plain;
+      closed = query_within [] plain 0 refl (s.formed [] can.formed);
+      formed = s.formed [] can.formed;
+      kinds = s.kinds [] can.formed;
+      tables = s.tables;
+      means = λ db fits. s.rows [] db [] can.formed fits refl;
+      run = subst (λ o. SameRows o (Good (sorted cmp vs))) (sym is) (same_bag-sorted cmp vs);
+      rows = same-sorted (meaning answer.query (rows_in c.rows) []) (meaning plain (rows_in c.rows) []) vs
+          (s.rows [] (rows_in c.rows) [] can.formed can.fitting refl) is;
+      told = refl;
+    }
+
+    answers-kept : (o : Outcome Bag) (ran : Ran) → meaning plain (rows_in c.rows) [] ≡ o → kept o ≡ Good ran →
+        AnswersBy c answer (answer_bytes answer.names ran.rows) ran
+    answers-kept (Good vs) ran is e =
+        let same : made plain (sorted cmp vs) ≡ ran = cc in
+        subst (λ r. AnswersBy c answer (answer_bytes answer.names r.rows) r) same (answers-made vs is)
+    answers-kept (Bad f) ran is e = absurd (cc e)
+
+    pub by_stand : (told : Result Unit ExecError) (last : Option Ran) (result : Result (List ℕ) StepRefusal) →
+        Keeps (run_of plain answer.keys (rows_in c.rows)) told last → IsPrinted at answer.names told last result → IsText (select c at answer) c result
+    by_stand told last result keeps printed =
+        by_rows (meaning answer.query (rows_in c.rows) []) (meaning plain (rows_in c.rows) []) told last result
+        (s.rows [] (rows_in c.rows) [] can.formed can.fitting refl) keeps printed
+
+    pub by_run : (told : Result Unit ExecError) (last : Option Ran) (result : Result (List ℕ) StepRefusal) →
+        Keeps (run_of plain answer.keys (rows_in c.rows)) told last → IsPrinted at answer.names told last result →
+        IfOk result (λ text. IsAnswered c answer text last)
+    by_run (Ok done) (Some ran) (Ok text) keeps printed =
+        subst (λ t. AnswersBy c answer t ran) (sym printed) (answers-kept (meaning plain (rows_in c.rows) []) ran refl keeps)
+    by_run (Ok done) (Some ran) (Err refusal) keeps printed = tt
+    by_run (Ok done) None result keeps printed = absurd keeps
+    by_run (Err error) (Some ran) result keeps printed = absurd keeps
+    by_run (Err error) None (Ok text) keeps printed = absurd printed
+    by_run (Err error) None (Err refusal) keeps printed = tt

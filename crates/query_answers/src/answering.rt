@@ -1,42 +1,38 @@
-ghost use Rattle.std.specs.Prelude.{◌≡◌, [], IfOk, IsTrue, true};
-ghost use Rattle.perm_values.specs.Rows.{printed_cmp};
-ghost use Rattle.bag_algebra.specs.Bags.{sorted};
-ghost use Rattle.bag_algebra.specs.Meaning.{meaning};
-ghost use Rattle.bag_algebra.specs.Outcome.{mapped};
-ghost use Rattle.bag_algebra.specs.Rewriting.{is_plain, Stands};
+ghost use Rattle.std.specs.Prelude.{◌≡◌, IfOk, IsSome, OnOk, true};
+ghost use Rattle.bag_algebra.specs.Rewriting.{Stands};
 ghost use Rattle.bag_algebra.specs.Scoped.{is_scoped};
-ghost use Rattle.bag_algebra.specs.TableRows.{rows_in};
-ghost use Rattle.expression_values.specs.Answers.{Gives};
 ghost use Rattle.statement_words.specs.Answers.{IsText};
 ghost use Rattle.statement_words.specs.Ready.{CanRun};
 ghost use Rattle.statement_words.specs.Turns.{select};
 ghost use Rattle.query_answers.specs.Printed.{IsPrinted};
+ghost use Rattle.query_answers.specs.Runs.{IsAnswered};
 
-use crate::order::in_order;
-use bag_algebra::{Answer, Env, Query};
+use crate::runner::Runner;
+use bag_algebra::{Answer, Query};
 use csv_tables::answer_text;
 use expression_values::ExecError;
 use perm_catalog::Catalog;
-use perm_values::{Bytes, Chars, Copyable, Key, NoMemory, Rows};
+use perm_values::{Bytes, Chars, Copyable, NoMemory};
 use rewrite_driver::eliminate;
-use row_executor::run_hashed;
 use statement_words::StepRefusal;
 use std::alloc::Global;
 
-/// The answer of a query at an offset: its rows in the order of its keys, then of all columns. `Run` names a fault that it
-/// meets.
+/// The answer of a query at an offset: its rows in the order of its keys, then of all columns. They are those of the
+/// runner's last run, of a plain query that stands for it. `Run` names a fault that it meets.
 pub fn select(
     alloc: Global,
     catalog: &Catalog,
     at: usize,
     answer: &Answer,
+    runner: &mut Runner,
 ) -> Result<Bytes, StepRefusal>
     requires { CanRun catalog.now answer.now }
-    ensures { IsText (select catalog.now at answer.now) catalog.now result }
+    ensures text { IsText (select catalog.now at answer.now) catalog.now result }
+    ensures ran { IfOk result (λ text. IsAnswered catalog.now answer.now text runner.new) }
 {
     let plain = without_provenance(alloc, &answer.query)?;
-    let rows = ordered_rows(alloc, catalog, &plain, answer.keys.as_slice());
-    text_of(alloc, at, answer.names.as_slice(), rows)
+    let told = runner.run(alloc, plain, answer.keys.as_slice(), catalog.tables());
+    text_of(alloc, at, answer.names.as_slice(), told, runner)
 }
 
 /// A query that stands for this one and can be run.
@@ -48,32 +44,22 @@ fn without_provenance(alloc: Global, query: &Query) -> Result<Query, NoMemory>
     eliminate(alloc, whole)
 }
 
-/// The rows of a query without PROVENANCE, in the order of the keys, then of all columns.
-fn ordered_rows(
-    alloc: Global,
-    catalog: &Catalog,
-    query: &Query,
-    keys: &[Key],
-) -> Result<Rows, ExecError>
-    requires { IsTrue (is_plain query.now) }
-    ensures { Gives (mapped (sorted (printed_cmp keys.now)) (meaning query.now (rows_in catalog.now.rows) [])) result }
-{
-    let env = Env::new(alloc);
-    let rows = run_hashed(alloc, query, catalog.tables(), &env)?;
-    Ok(in_order(rows, keys)?)
-}
-
-/// The text of rows in their order, or the refusal of a statement at an offset.
+/// The text of the last run's rows in their order, or the refusal of a statement at an offset.
 fn text_of(
     alloc: Global,
     at: usize,
     names: &[Chars],
-    rows: Result<Rows, ExecError>,
+    told: Result<(), ExecError>,
+    runner: &Runner,
 ) -> Result<Bytes, StepRefusal>
-    ensures { IsPrinted at names.now rows result }
+    requires { OnOk told (IsSome runner.now) }
+    ensures { IsPrinted at names.now told runner.now result }
 {
-    match rows {
-        Ok(rows) => Ok(answer_text(alloc, names, &rows)?),
+    match told {
+        Ok(()) => match runner.last() {
+            Some(ran) => Ok(answer_text(alloc, names, &ran.rows)?),
+            None => unreachable!(),
+        },
         Err(error) => Err(StepRefusal::met(error, at)),
     }
 }

@@ -3,6 +3,7 @@ ghost use Rattle.perm_io.specs.Counts.{next_count, CountsFault};
 ghost use Rattle.statement_words.specs.Answers.{Files as Seen, begins, over, can_be, has_failed, IsBacked, TakesTurn};
 ghost use Rattle.statement_words.specs.Asking.{asks};
 ghost use Rattle.statement_words.specs.Ready.{IsReady};
+ghost use Rattle.resolved_steps.specs.Running.{KeepsRun};
 ghost use Rattle.resolved_steps.specs.Settling.{IsSettled};
 
 use catalog_steps::{
@@ -12,18 +13,20 @@ use name_words::{Break, Resolved};
 use perm_catalog::Catalog;
 use perm_io::Files;
 use perm_values::Bytes;
-use query_answers::select;
+use query_answers::{Runner, select};
 use statement_words::StepRefusal;
 use std::alloc::Global;
 
 /// Carries out a resolved statement at an offset, which can be, and gives its text. COPY begins its file, and no other
-/// statement begins any. After a refusal the catalog is as before.
+/// statement begins any. After a refusal the catalog is as before. A query is run by the runner, and no other statement
+/// changes that.
 pub fn step<F: Files>(
     alloc: Global,
     catalog: &mut Catalog,
     files: &mut F,
     at: usize,
     statement: &Resolved,
+    runner: &mut Runner,
 ) -> Result<Bytes, StepRefusal>
     requires { IsReady catalog.old statement.now }
     ensures turn { TakesTurn (can_be (over F.held F.faults F.begun F.absent F.taken files.old files.new))
@@ -33,6 +36,7 @@ pub fn step<F: Files>(
     ensures begun { IsTrue (begins (asks catalog.old at statement.now)) → F.begun files.new ≡ next_count (F.begun files.old) }
     ensures unbegun { begins (asks catalog.old at statement.now) ≡ false → files.new ≡ files.old }
     ensures held { F.held files.new ≡ F.held files.old }
+    ensures ran { KeepsRun catalog.old statement.now result runner.old runner.new }
 {
     match statement {
         Resolved::Copy {
@@ -59,7 +63,7 @@ pub fn step<F: Files>(
         | Resolved::DropView { .. }
         | Resolved::Select { .. }
         | Resolved::Explain { .. }
-        | Resolved::ShowFresh { .. } => settle(alloc, catalog, at, statement),
+        | Resolved::ShowFresh { .. } => settle(alloc, catalog, at, statement, runner),
     }
 }
 
@@ -69,14 +73,16 @@ fn settle(
     catalog: &mut Catalog,
     at: usize,
     statement: &Resolved,
+    runner: &mut Runner,
 ) -> Result<Bytes, StepRefusal>
     requires ready { IsReady catalog.old statement.now }
     requires unasked { begins (asks catalog.old at statement.now) ≡ false }
     ensures turn { IsSettled (asks catalog.old at statement.now) catalog.old catalog.new result }
     ensures backed { (seen : Seen) → IsBacked result seen }
     ensures unfailed { has_failed result ≡ false }
+    ensures ran { KeepsRun catalog.old statement.now result runner.old runner.new }
 {
-    settled(alloc, catalog, at, statement)
+    settled(alloc, catalog, at, statement, runner)
 }
 
 fn settled(
@@ -84,10 +90,12 @@ fn settled(
     catalog: &mut Catalog,
     at: usize,
     statement: &Resolved,
+    runner: &mut Runner,
 ) -> Result<Bytes, StepRefusal>
     requires ready { IsReady catalog.old statement.now }
     requires unasked { begins (asks catalog.old at statement.now) ≡ false }
-    ensures { IsSettled (asks catalog.old at statement.now) catalog.old catalog.new result }
+    ensures turn { IsSettled (asks catalog.old at statement.now) catalog.old catalog.new result }
+    ensures ran { KeepsRun catalog.old statement.now result runner.old runner.new }
 {
     match statement {
         Resolved::CreateTable { name, columns } => create_table(alloc, catalog, at, name, columns),
@@ -96,7 +104,7 @@ fn settled(
         Resolved::Delete { name, condition } => delete(alloc, catalog, at, name, condition),
         Resolved::DropTable { name } => drop_table(alloc, catalog, name),
         Resolved::DropView { name } => drop_view(alloc, catalog, name),
-        Resolved::Select { answer } => select(alloc, catalog, at, answer),
+        Resolved::Select { answer } => select(alloc, catalog, at, answer, runner),
         Resolved::CreateTableAs { .. } | Resolved::Explain { .. } | Resolved::ShowFresh { .. } => {
             Err(StepRefusal::Break(Break { code: 29, at }))
         }

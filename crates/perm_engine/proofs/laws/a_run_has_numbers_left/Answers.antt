@@ -1,6 +1,6 @@
 use Rattle.std.proofs.Common.{arith}
 use Rattle.perm_catalog.specs.Changes.{nothing_held}
-use Rattle.perm_engine.proofs.Numbers.{stops-late}
+use Rattle.perm_engine.proofs.Firsts.{stops-late}
 use Rattle.perm_engine.proofs.laws.a_run_has_numbers_left.Goals as goal
 
 pub returns : goal.returns

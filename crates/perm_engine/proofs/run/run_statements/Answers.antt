@@ -1,107 +1,159 @@
-use Rattle.std.proofs.Common.{◌∙◌, ℕ, List, Option, length, sym, ap, arith, subst, false, Ok, Err, refl}
-use Rattle.perm_io.specs.Counts.{HasRisen, CountsFault}
-use Rattle.perm_io.specs.declared.named_file.NamedFile.{NamedFile}
+use Rattle.std.proofs.Common.{◌≡◌, ◌∙◌, ℕ, List, ◌∷◌, length, take, Ok, Err, false, refl, sym, ap, subst, arith}
+use Rattle.std.proofs.lemmas.List.{nil_from_length}
+use Rattle.std.specs.Io.KnownBytes.{append_known}
+use Rattle.std.specs.Vec.Iter.{into_iter_items}
 use Rattle.perm_catalog.specs.Changes.{nothing_held}
 use Rattle.perm_catalog.specs.Contents.{Contents}
-use Rattle.perm_engine.specs.Asking.{asked, has_failed, IsAnswered}
-use Rattle.statement_steps.specs.Copying.{file_limit}
-use Rattle.perm_io.specs.Found.{CanBe}
+use Rattle.perm_io.specs.Counts.{CountsFault}
+use Rattle.sql_tree.specs.Regular.{Each, RegularStatement}
+use Rattle.sql_tree.specs.declared.statement.Statement.{Statement}
+use Rattle.statement_words.specs.Answers.{can_be, file_limit, has_failed, over}
+use Rattle.statement_words.specs.Asking.{asked}
+use Rattle.perm_engine.specs.Sessions.{SessionState}
+use Rattle.perm_engine.specs.Stops.{ToTheEnd}
 use Rattle.perm_engine.specs.declared.status.Status.TheVariants as status
-use Rattle.perm_engine.specs.Ends.{joined, EndsBroken, IsBadFile}
-use Rattle.perm_engine.proofs.Damaged.{bad_file, ends_broken}
 use Rattle.perm_engine.proofs.Ending.{HasRun, HasRun-nothing, HasRun-more, HasRun-cut, HasRun-stopped, HasRun-done}
-use Rattle.perm_engine.proofs.Numbers.{next-after}
-use Rattle.perm_engine.proofs.Running.{of_script, other_end}
-use Rattle.perm_engine.proofs.Turns.{begun-told, still_risen, has_failed-is}
+use Rattle.perm_engine.proofs.Firsts.{next-after}
+use Rattle.perm_engine.proofs.Looping.{next-regular, left-regular, text≢memory, stopped-of_script, stopped-read_fault, stopped-steady, other_end}
+use Rattle.perm_engine.proofs.Running.{of_script}
+use Rattle.perm_engine.proofs.Turns.{begun-told, still_risen}
+use Rattle.perm_engine.proofs.Widening.{CanBe-moved, takes-wider, rests-moved}
 use Rattle.perm_engine.proofs.run.run_statements.Goals as goal
 
-pub loop-i-init : goal.loop-i-init
-loop-i-init g c = (
-  subst (λ now. HasRun (g.F.Files.held c.args.files.now) (g.F.Files.faults c.args.files.now) c.args.statements.now (nothing_held 1) 0 now (g.K.Sink.written c.args.out.now) (g.K.Sink.written c.args.out.now)
-      (g.K.Sink.faults c.args.out.now) (g.K.Sink.faults c.args.out.now) (g.F.Files.begun c.args.files.now) (g.F.Files.begun c.args.files.now)) (sym c.new-session.ensures)
-      (HasRun-nothing (g.F.Files.held c.args.files.now) (g.F.Files.faults c.args.files.now) c.args.statements.now (nothing_held 1) (g.K.Sink.written c.args.out.now)
-      (g.K.Sink.faults c.args.out.now) (g.F.Files.begun c.args.files.now)),
-  refl,
-  refl,
-  omega (arith, ap (λ (held : Contents). held.next) c.new-session.ensures),
-)
+pub loop-statement-init : goal.loop-statement-init
+loop-statement-init g c =
+    let items = into_iter_items c.into_iter-statement-iterator.result in
+    let whole : c.args.statements ≡ items = sym (c.into_iter-statement-iterator.ensures.into_iter_gives.0 ∙ c.into_vec-statement-items.ensures) in
+    let fresh : nothing_held 1 ≡ c.new-session.result.contents = sym (ap (λ (session : SessionState). session.contents) c.new-session.ensures) in
+    let vec = c.into_vec-statement-items.result in
+    let files = c.args.files.now in
+    let out = c.args.out.now in record {
+      has_run = subst (λ (p : List Statement × Contents). HasRun (g.F.Files.held files) (g.F.Files.faults files) c.args.statements (nothing_held 1) p.0 p.1 (g.K.Sink.written out) (g.K.Sink.written out)
+          (g.K.Sink.faults out) (g.K.Sink.faults out) (g.F.Files.begun files) (g.F.Files.begun files)) (λ i. (whole i, fresh i))
+          (HasRun-nothing (g.F.Files.held files) (g.F.Files.faults files) c.args.statements (nothing_held 1) (g.K.Sink.written out) (g.K.Sink.faults out) (g.F.Files.begun files));
+      calm = refl;
+      held = refl;
+      regular = subst (Each RegularStatement) whole c.requires;
+      drawn = omega (arith, ap (λ (session : SessionState). session.contents.next) c.new-session.ensures, ap length whole);
+      few = omega (arith, vec.ok.0, vec.ok.1, vec.small, ap length c.into_vec-statement-items.ensures);
+    }
+
+pub step-requires : goal.step-requires
+step-requires g c =
+    let statement = c.in-Some.statement in
+    let left = into_iter_items c.next.new.self in
+    let taken : into_iter_items c.loop-statement.statement-iterator ≡ statement ∷ left = c.in-Some.ensures.steps.0 in
+    record { regular = next-regular statement left (subst (Each RegularStatement) taken c.loop-statement.invariant.regular) }
 
 pub returns-in-Err-write_all : goal.returns-in-Err-write_all
 returns-in-Err-write_all g c =
-    let calm = c.loop-i.invariant.1 in
-    let answered = subst (λ (p : Option (List NamedFile) × ℕ × ℕ). IsAnswered (CanBe file_limit p.0 (HasRisen p.1 p.2)) (asked c.loop-i.session c.get.result.now) c.loop-i.session c.step.new.self (Ok c.in-Ok.text))
-    (λ i. (c.loop-i.invariant.2 i, calm i, (c.in-Ok.ensures.faults ∙ calm) i)) c.in-Ok.ensures.answer in
-    record {
-      ends = HasRun-cut (g.F.Files.held c.args.files.now) (g.F.Files.faults c.args.files.now) c.args.statements.now (nothing_held 1) c.loop-i.i c.loop-i.session (g.K.Sink.written c.args.out.now) (g.K.Sink.written c.loop-i.out)
-          (g.K.Sink.faults c.args.out.now) (g.K.Sink.faults c.loop-i.out) (g.F.Files.begun c.args.files.now) (g.F.Files.begun c.loop-i.files) c.loop-i.invariant.0 c.get.result.now c.get.ensures c.in-Ok.text c.step.new.self
-          (g.F.Files.faults c.step.new.files) (g.K.Sink.written c.write_all.new.out) (g.K.Sink.faults c.write_all.new.out)
-          c.in-Err-write_all.ensures.prefix.0 (g.F.Files.begun c.step.new.files) (g.K.Sink.unflushed c.write_all.new.out)
-          (still_risen (g.F.Files.faults c.args.files.now) (g.F.Files.faults c.step.new.files) false (c.in-Ok.ensures.faults ∙ calm)) answered
-          (begun-told (asked c.loop-i.session c.get.result.now) (g.F.Files.begun c.loop-i.files) (g.F.Files.begun c.step.new.files) false c.in-Ok.ensures.begun (λ e. ap g.F.Files.begun (c.in-Ok.ensures.unbegun e)) refl)
-          (omega (arith, c.in-Err-write_all.ensures.prefix.1, ap length c.as_slice.ensures)) (rw (← c.as_slice.ensures) c.in-Err-write_all.ensures.prefix.2) c.in-Err-write_all.ensures.faults;
+    let kept = c.loop-statement.invariant in
+    let statement = c.in-Some.statement in
+    let left = into_iter_items c.next.new.self in
+    let taken : into_iter_items c.loop-statement.statement-iterator ≡ statement ∷ left = c.in-Some.ensures.steps.0 in
+    let now = c.loop-statement.session.contents in
+    let next = c.step.new.self.contents in
+    let text = c.in-Ok.text in
+    let was = c.loop-statement.files in
+    let old = c.loop-statement.out in
+    let new = c.write_all.new.out in
+    let before = c.args.out.now in
+    let files = over g.F.Files.held g.F.Files.faults g.F.Files.begun g.F.Files.absent g.F.Files.taken c.args.files.now c.step.new.files in
+    let met = over g.F.Files.held g.F.Files.faults g.F.Files.begun g.F.Files.absent g.F.Files.taken was c.step.new.files in
+    let quiet = record files { faults_after = files.faults } in
+    let still = c.in-Ok.ensures.faults ∙ kept.calm in
+    let has_run = subst (λ ss. HasRun files.held files.faults c.args.statements (nothing_held 1) ss now (g.K.Sink.written before) (g.K.Sink.written old)
+    (g.K.Sink.faults before) (g.K.Sink.faults old) files.begun met.begun) taken kept.has_run in
+    let turn = takes-wider (can_be met) (can_be quiet)
+    (CanBe-moved file_limit met.held files.held met.faults files.faults met.faults_after files.faults kept.held kept.calm still) (asked now statement) now next (Ok text) c.in-Ok.ensures.turn in
+    let counted = begun-told (asked now statement) met.begun files.begun_after _ c.in-Ok.ensures.begun (λ e. ap g.F.Files.begun (c.in-Ok.ensures.unbegun e)) (text≢memory text) in
+    let count = c.in-Err-write_all.ensures.prefix.0 in record {
+      ends = HasRun-cut c.args.statements (nothing_held 1) statement left now (g.K.Sink.written before) (g.K.Sink.written old) (g.K.Sink.faults before) (g.K.Sink.faults old) met.begun files has_run
+          (still_risen files.faults files.faults_after false still) text next (g.K.Sink.written new) (g.K.Sink.faults new) count (g.K.Sink.unflushed new) turn counted
+          (omega (arith, c.in-Err-write_all.ensures.prefix.1, ap length c.as_slice.ensures))
+          (c.in-Err-write_all.ensures.prefix.2 ∙ ap (λ (bytes : List ℕ). append_known (g.K.Sink.written old) (take count bytes)) c.as_slice.ensures) c.in-Err-write_all.ensures.faults;
       status = tt;
-      refused = λ e. absurd {A = EndsBroken _ _} cc;
-      bad_data = λ e. absurd {A = IsBadFile 0 _ _ _ _ _ _} cc;
       read_fault = λ e. absurd cc;
       steady = λ w. absurd w;
-      held = c.in-Ok.ensures.held ∙ c.loop-i.invariant.2;
+      held = c.in-Ok.ensures.held ∙ kept.held;
     }
 
 pub returns-in-Err : goal.returns-in-Err
 returns-in-Err g c =
-    let calm = c.loop-i.invariant.1 in
-    let old = g.F.Files.faults c.args.files.now in
-    let new = g.F.Files.faults c.step.new.files in
-    let counts = subst (λ n. CountsFault n new (has_failed {T = List ℕ} (Err c.in-Err.refusal))) calm c.in-Err.ensures.faults in
-    let answered = subst (λ (p : Option (List NamedFile) × ℕ). IsAnswered (CanBe file_limit p.0 (HasRisen p.1 new)) (asked c.loop-i.session c.get.result.now) c.loop-i.session c.step.new.self (Err c.in-Err.refusal))
-    (λ i. (c.loop-i.invariant.2 i, calm i)) c.in-Err.ensures.answer in
-    record {
-      ends = HasRun-stopped (g.F.Files.held c.args.files.now) (g.F.Files.faults c.args.files.now) c.args.statements.now (nothing_held 1) c.loop-i.i c.loop-i.session (g.K.Sink.written c.args.out.now) (g.K.Sink.written c.loop-i.out)
-          (g.K.Sink.faults c.args.out.now) (g.K.Sink.faults c.loop-i.out) (g.F.Files.begun c.args.files.now) (g.F.Files.begun c.loop-i.files) c.loop-i.invariant.0 c.get.result.now c.get.ensures c.in-Err.refusal c.step.new.self
-          new (g.K.Sink.written c.stop.new.out) (g.K.Sink.faults c.stop.new.out) (g.F.Files.begun c.step.new.files) (g.K.Sink.unflushed c.stop.new.out) c.stop.result
-          (still_risen old new (has_failed {T = List ℕ} (Err c.in-Err.refusal)) counts) answered c.in-Err.ensures.begun (λ e. ap g.F.Files.begun (c.in-Err.ensures.unbegun e)) c.stop.ensures.ends;
-      status = c.stop.ensures.status;
-      refused = λ e. ends_broken (CanBe file_limit (g.F.Files.held c.args.files.now) (HasRisen old new)) c.loop-i.session c.step.new.self c.get.result.now c.in-Err.refusal
-          _ c.stop.result (g.K.Sink.written c.args.out.now) (joined c.loop-i.invariant.0.texts)
-          (omega (arith, c.loop-i.invariant.3, c.loop-i-test.true, c.len-i-end.ensures.bound)) answered c.loop-i.invariant.0.text c.stop.ensures.ends e;
-      bad_data = λ e. bad_file (CanBe file_limit (g.F.Files.held c.args.files.now) (HasRisen old new)) c.loop-i.session c.step.new.self c.get.result.now c.in-Err.refusal
-          _ c.stop.result (g.K.Sink.written c.args.out.now) (joined c.loop-i.invariant.0.texts)
-          c.loop-i.invariant.0.files (g.F.Files.begun c.args.files.now) (g.F.Files.begun c.loop-i.files) (g.F.Files.begun c.step.new.files) (g.F.Files.absent c.step.new.files) (g.F.Files.taken c.step.new.files)
-          answered c.in-Err.ensures.memory c.in-Err.ensures.missing c.in-Err.ensures.too_large c.in-Err.ensures.begun (λ e. ap g.F.Files.begun (c.in-Err.ensures.unbegun e))
-          c.loop-i.invariant.0.counted c.loop-i.invariant.0.text c.stop.ensures.ends e;
-      read_fault = λ e. subst (CountsFault old new) (has_failed-is c.in-Err.refusal ∙ c.stop.ensures.failed e) counts;
-      steady = λ w. subst (CountsFault old new) (has_failed-is c.in-Err.refusal ∙ c.stop.ensures.steady w) counts;
-      held = c.in-Err.ensures.held ∙ c.loop-i.invariant.2;
+    let kept = c.loop-statement.invariant in
+    let statement = c.in-Some.statement in
+    let left = into_iter_items c.next.new.self in
+    let taken : into_iter_items c.loop-statement.statement-iterator ≡ statement ∷ left = c.in-Some.ensures.steps.0 in
+    let now = c.loop-statement.session.contents in
+    let next = c.step.new.self.contents in
+    let refused = c.in-Err.refusal in
+    let was = c.loop-statement.files in
+    let old = c.loop-statement.out in
+    let new = c.stop.new.out in
+    let before = c.args.out.now in
+    let files = over g.F.Files.held g.F.Files.faults g.F.Files.begun g.F.Files.absent g.F.Files.taken c.args.files.now c.step.new.files in
+    let met = over g.F.Files.held g.F.Files.faults g.F.Files.begun g.F.Files.absent g.F.Files.taken was c.step.new.files in
+    let counts = subst (λ n. CountsFault n files.faults_after (has_failed {X = List ℕ} (Err refused))) kept.calm c.in-Err.ensures.faults in
+    let has_run = subst (λ ss. HasRun files.held files.faults c.args.statements (nothing_held 1) ss now (g.K.Sink.written before) (g.K.Sink.written old)
+    (g.K.Sink.faults before) (g.K.Sink.faults old) files.begun met.begun) taken kept.has_run in
+    let turn = takes-wider (can_be met) (can_be files)
+    (CanBe-moved file_limit met.held files.held met.faults files.faults met.faults_after files.faults_after kept.held kept.calm refl) (asked now statement) now next (Err refused) c.in-Err.ensures.turn in record {
+      ends = HasRun-stopped c.args.statements (nothing_held 1) statement left now (g.K.Sink.written before) (g.K.Sink.written old) (g.K.Sink.faults before) (g.K.Sink.faults old) met.begun files has_run
+          (still_risen files.faults files.faults_after (has_failed {X = List ℕ} (Err refused)) counts) refused next (g.K.Sink.written new) (g.K.Sink.faults new) (g.K.Sink.unflushed new) c.stop.result
+          (omega (arith, kept.drawn, kept.few, ap length taken)) turn c.in-Err.ensures.begun (λ e. ap g.F.Files.begun (c.in-Err.ensures.unbegun e))
+          (rests-moved refused met files refl refl c.in-Err.ensures.backed) (c.stop.ensures.ends now statement);
+      status = stopped-of_script refused c.stop.result c.stop.ensures.status;
+      read_fault = stopped-read_fault refused c.stop.result c.stop.ensures.status files.faults files.faults_after counts;
+      steady = stopped-steady refused c.stop.result c.stop.ensures.status files.faults files.faults_after counts;
+      held = c.in-Err.ensures.held ∙ kept.held;
     }
 
-pub loop-i-preserved : goal.loop-i-preserved
-loop-i-preserved g c =
-    let calm = c.loop-i.invariant.1 in
-    let answered = subst (λ (p : Option (List NamedFile) × ℕ × ℕ). IsAnswered (CanBe file_limit p.0 (HasRisen p.1 p.2)) (asked c.loop-i.session c.get.result.now) c.loop-i.session c.step.new.self (Ok c.in-Ok.text))
-    (λ i. (c.loop-i.invariant.2 i, calm i, (c.in-Ok.ensures.faults ∙ calm) i)) c.in-Ok.ensures.answer in (
-      HasRun-more (g.F.Files.held c.args.files.now) (g.F.Files.faults c.args.files.now) c.args.statements.now (nothing_held 1) c.loop-i.i c.loop-i.session (g.K.Sink.written c.args.out.now) (g.K.Sink.written c.loop-i.out)
-          (g.K.Sink.faults c.args.out.now) (g.K.Sink.faults c.loop-i.out) (g.F.Files.begun c.args.files.now) (g.F.Files.begun c.loop-i.files) c.loop-i.invariant.0 c.get.result.now c.get.ensures c.in-Ok.text c.step.new.self (g.K.Sink.written c.write_all.new.out) (g.K.Sink.faults c.write_all.new.out)
-          (g.F.Files.begun c.step.new.files) answered
-          (begun-told (asked c.loop-i.session c.get.result.now) (g.F.Files.begun c.loop-i.files) (g.F.Files.begun c.step.new.files) false c.in-Ok.ensures.begun (λ e. ap g.F.Files.begun (c.in-Ok.ensures.unbegun e)) refl)
-          (rw (← c.as_slice.ensures) c.in-Ok-write_all.ensures.whole) c.in-Ok-write_all.ensures.faults,
-      c.in-Ok.ensures.faults ∙ calm,
-      c.in-Ok.ensures.held ∙ c.loop-i.invariant.2,
-      omega (arith, next-after _ c.loop-i.session c.step.new.self c.get.result.now c.in-Ok.text answered, c.loop-i.invariant.3),
-    )
+pub loop-statement-preserved : goal.loop-statement-preserved
+loop-statement-preserved g c =
+    let kept = c.loop-statement.invariant in
+    let statement = c.in-Some.statement in
+    let left = into_iter_items c.next.new.self in
+    let taken : into_iter_items c.loop-statement.statement-iterator ≡ statement ∷ left = c.in-Some.ensures.steps.0 in
+    let now = c.loop-statement.session.contents in
+    let next = c.step.new.self.contents in
+    let text = c.in-Ok.text in
+    let was = c.loop-statement.files in
+    let old = c.loop-statement.out in
+    let new = c.write_all.new.out in
+    let before = c.args.out.now in
+    let files = over g.F.Files.held g.F.Files.faults g.F.Files.begun g.F.Files.absent g.F.Files.taken c.args.files.now c.step.new.files in
+    let met = over g.F.Files.held g.F.Files.faults g.F.Files.begun g.F.Files.absent g.F.Files.taken was c.step.new.files in
+    let quiet = record files { faults_after = files.faults } in
+    let still = c.in-Ok.ensures.faults ∙ kept.calm in
+    let has_run = subst (λ ss. HasRun files.held files.faults c.args.statements (nothing_held 1) ss now (g.K.Sink.written before) (g.K.Sink.written old)
+    (g.K.Sink.faults before) (g.K.Sink.faults old) files.begun met.begun) taken kept.has_run in
+    let turn = takes-wider (can_be met) (can_be quiet)
+    (CanBe-moved file_limit met.held files.held met.faults files.faults met.faults_after files.faults kept.held kept.calm still) (asked now statement) now next (Ok text) c.in-Ok.ensures.turn in
+    let counted = begun-told (asked now statement) met.begun files.begun_after _ c.in-Ok.ensures.begun (λ e. ap g.F.Files.begun (c.in-Ok.ensures.unbegun e)) (text≢memory text) in record {
+      has_run = HasRun-more files.held files.faults c.args.statements (nothing_held 1) statement left now (g.K.Sink.written before) (g.K.Sink.written old) (g.K.Sink.faults before) (g.K.Sink.faults old)
+          files.begun met.begun has_run text next (g.K.Sink.written new) (g.K.Sink.faults new) files.begun_after turn counted
+          (c.in-Ok-write_all.ensures.whole ∙ ap (append_known (g.K.Sink.written old)) c.as_slice.ensures) c.in-Ok-write_all.ensures.faults;
+      calm = still;
+      held = c.in-Ok.ensures.held ∙ kept.held;
+      regular = left-regular statement left (subst (Each RegularStatement) taken kept.regular);
+      drawn = omega (arith, next-after (can_be quiet) now next statement text turn, kept.drawn, ap length taken);
+      few = kept.few;
+    }
 
 pub returns : goal.returns
 returns g c =
-    let calm = c.loop-i.invariant.1 in
-    record {
-      ends = HasRun-done (g.F.Files.held c.args.files.now) (g.F.Files.faults c.args.files.now) c.args.statements.now (nothing_held 1) c.loop-i.i c.loop-i.session (g.K.Sink.written c.args.out.now) (g.K.Sink.written c.loop-i.out)
-          (g.K.Sink.faults c.args.out.now) (g.K.Sink.faults c.loop-i.out) (g.F.Files.begun c.args.files.now) (g.F.Files.begun c.loop-i.files) c.loop-i.invariant.0 (g.F.Files.faults c.loop-i.files)
-          (g.K.Sink.written c.finish.new.out) (g.K.Sink.faults c.finish.new.out) (g.K.Sink.unflushed c.finish.new.out) c.finish.result
-          (still_risen (g.F.Files.faults c.args.files.now) (g.F.Files.faults c.loop-i.files) false calm)
-          (omega (arith, c.loop-i-test.false, c.len-i-end.ensures.value)) c.finish.ensures.ends;
+    let kept = c.loop-statement.invariant in
+    let iterator = c.loop-statement.statement-iterator in
+    let before = c.args.out.now in
+    let old = c.loop-statement.out in
+    let new = c.finish.new.out in
+    let files = over g.F.Files.held g.F.Files.faults g.F.Files.begun g.F.Files.absent g.F.Files.taken c.args.files.now c.loop-statement.files in
+    let none = nil_from_length (into_iter_items iterator) (omega (arith, iterator.rest.ok.0, c.in-None.ensures.steps.0)) in record {
+      ends = HasRun-done c.args.statements (nothing_held 1) (into_iter_items iterator) c.loop-statement.session.contents (g.K.Sink.written before) (g.K.Sink.written old) (g.K.Sink.faults before) (g.K.Sink.faults old)
+          files.begun_after files kept.has_run (still_risen files.faults files.faults_after false kept.calm) (g.K.Sink.written new) (g.K.Sink.faults new) (g.K.Sink.unflushed new) c.finish.result none refl
+          (c.finish.ensures.ends ToTheEnd refl refl);
       status = of_script c.finish.result status.Done tt c.finish.ensures.status;
-      refused = λ e. absurd {A = EndsBroken _ _} (other_end c.finish.result status.Done status.Refused (λ e. absurd cc) (λ e. absurd cc) c.finish.ensures.status e);
-      bad_data = λ e. absurd {A = IsBadFile 0 _ _ _ _ _ _} (other_end c.finish.result status.Done status.BadData (λ e. absurd cc) (λ e. absurd cc) c.finish.ensures.status e);
-      read_fault = λ e. absurd (other_end c.finish.result status.Done status.ReadFault (λ e. absurd cc) (λ e. absurd cc) c.finish.ensures.status e);
-      steady = λ w. calm;
-      held = c.loop-i.invariant.2;
+      read_fault = λ e. absurd (other_end c.finish.result status.Done status.ReadFault (λ same. absurd cc) (λ same. absurd cc) c.finish.ensures.status e);
+      steady = λ w. kept.calm;
+      held = kept.held;
     }

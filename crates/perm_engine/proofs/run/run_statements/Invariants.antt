@@ -1,11 +1,17 @@
-use Rattle.std.proofs.Common.{◌≡◌, ◌+◌, ◌≤◌}
+use Rattle.std.proofs.Common.{◌≡◌, ◌+◌, ◌≤◌, ◌<◌, ◌^◌, length}
+use Rattle.std.specs.Vec.Iter.{into_iter_items}
 use Rattle.perm_catalog.specs.Changes.{nothing_held}
+use Rattle.sql_tree.specs.Regular.{Each, RegularStatement}
 use Rattle.perm_engine.proofs.Ending.{HasRun}
 use Rattle.perm_engine.proofs.run.run_statements.Given as goal
 
-abbrev pub invariant-loop-i : goal.invariant-loop-i
-invariant-loop-i g l =
-    HasRun (g.F.Files.held l.fn.files) (g.F.Files.faults l.fn.files) l.statements (nothing_held 1) l.i l.session (g.K.Sink.written l.fn.out) (g.K.Sink.written l.out)
-    (g.K.Sink.faults l.fn.out) (g.K.Sink.faults l.out) (g.F.Files.begun l.fn.files) (g.F.Files.begun l.files)
-    × (g.F.Files.faults l.files ≡ g.F.Files.faults l.fn.files) × (g.F.Files.held l.files ≡ g.F.Files.held l.fn.files)
-    × (l.session.next ≤ l.i + 1)
+abbrev pub invariant-loop-statement : goal.invariant-loop-statement
+invariant-loop-statement g l = record {
+  has_run : HasRun (g.F.Files.held l.fn.files) (g.F.Files.faults l.fn.files) l.fn.statements (nothing_held 1) (into_iter_items l.statement-iterator) l.session.contents (g.K.Sink.written l.fn.out) (g.K.Sink.written l.out)
+      (g.K.Sink.faults l.fn.out) (g.K.Sink.faults l.out) (g.F.Files.begun l.fn.files) (g.F.Files.begun l.files);
+  calm : g.F.Files.faults l.files ≡ g.F.Files.faults l.fn.files;
+  held : g.F.Files.held l.files ≡ g.F.Files.held l.fn.files;
+  regular : Each RegularStatement (into_iter_items l.statement-iterator);
+  drawn : l.session.contents.next + length (into_iter_items l.statement-iterator) ≤ length l.fn.statements + 1;
+  few : length l.fn.statements < 2 ^ 63;
+}

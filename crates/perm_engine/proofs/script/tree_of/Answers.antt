@@ -6,9 +6,9 @@ use Rattle.perm_engine.proofs.script.tree_of.Goals as goal
 pub returns-in-Err-Unexpected : goal.returns-in-Err-Unexpected
 returns-in-Err-Unexpected c =
     let why = subst (λ e. Parses c.args.found.now (length c.args.bytes.now) (Err e)) c.in-Err-Unexpected.field-0-is c.in-Err-Unexpected.ensures in
-    subst (λ r. IsReading c.args.bytes.now (Err r)) (sym c.new.ensures) (unexpected c.requires why.0 why.1)
+    subst (λ r. IsReading c.args.bytes.now (Err r)) (sym c.broken.ensures) (unexpected c.requires why.0 why.1)
 
 pub returns-in-Err-TooDeep : goal.returns-in-Err-TooDeep
 returns-in-Err-TooDeep c =
-    subst (λ r. IsReading c.args.bytes.now (Err r)) (sym c.new-in-Err-TooDeep.ensures)
+    subst (λ r. IsReading c.args.bytes.now (Err r)) (sym c.broken-in-Err-TooDeep.ensures)
     (too_deep c.requires (subst (λ e. Parses c.args.found.now (length c.args.bytes.now) (Err e)) c.in-Err-TooDeep.field-0-is c.in-Err-TooDeep.ensures))

@@ -1,0 +1,79 @@
+//! Calls that take memory and that no run of the program reaches.
+use crate::runs::{file, words_of};
+use bag_algebra::{Env, Query, Tables};
+use perm_engine::{Status, perm};
+use perm_io::{NeverFiles, NeverSink};
+use perm_values::{Bytes, Chars, Copyable, List, NoMemory, Row, Value};
+use row_executor::{ExecError, run_plain};
+use std::alloc::Global;
+use std::test::Fail;
+
+/// A row of a number and a text.
+fn row(alloc: Global) -> Result<Row, NoMemory> {
+    let text = Chars::from_text(alloc, "y")?;
+    let mut row = Row::new(alloc);
+    row.push(Value::Integer(1))?;
+    row.push(Value::Text(text))?;
+    Ok(row)
+}
+
+/// How many values a row has that is made of the second value alone.
+fn picked_width(alloc: Global) -> Result<usize, NoMemory> {
+    let row = row(alloc)?;
+    if row.len() == 2 {
+        Ok(row.picked([1].as_slice())?.len())
+    } else {
+        Ok(0)
+    }
+}
+
+fn bytes_copied(alloc: Global, from: &[u8]) -> Result<Bytes, NoMemory> {
+    let mut bytes = Bytes::new(alloc);
+    bytes.add(from)?;
+    bytes.copy(alloc)
+}
+
+/// How many rows the copy of an environment has.
+fn env_copied(alloc: Global) -> Result<usize, NoMemory> {
+    let env = Env::new(alloc).pushed(alloc, &Row::new(alloc))?;
+    Ok(env.copy(alloc)?.len())
+}
+
+/// How many rows the query without tables has, by nested loops.
+fn rows_of_single(alloc: Global) -> Result<usize, ExecError> {
+    let tables = Tables::new(alloc);
+    let env = Env::new(alloc);
+    Ok(run_plain(alloc, &Query::Single, &tables, &env)?.len())
+}
+
+#[test]
+fn calls_without_a_run_succeed(rt: HostRuntime) -> Result<(), Fail> {
+    let alloc = rt.alloc();
+    assert_eq!(rt; picked_width(alloc)?, 1);
+    assert_eq!(rt; bytes_copied(alloc, b"xy")?.as_slice(), b"xy".as_slice());
+    assert_eq!(rt; env_copied(alloc)?, 1);
+    assert_eq!(rt; rows_of_single(alloc), Ok(1));
+    Ok(())
+}
+
+/// How a run ends over files and an output whose calls never fail, and how many bytes the output took.
+fn never_failing(alloc: Global, script: &[u8]) -> Result<(Status, u64), NoMemory> {
+    let words = words_of(alloc, &["s"])?;
+    let mut held = List::new(alloc);
+    held.push(file(alloc, "s", script)?)?;
+    let mut out = NeverSink::new();
+    let status = perm(
+        alloc,
+        words.as_slice(),
+        &mut NeverFiles::new(held),
+        &mut out,
+    );
+    Ok((status, out.taken()))
+}
+
+#[test]
+fn runs_that_cannot_fail(rt: HostRuntime) -> Result<(), Fail> {
+    let script = b"CREATE TABLE r (a TEXT);";
+    assert_eq!(rt; never_failing(rt.alloc(), script)?, (Status::Done, 13));
+    Ok(())
+}

@@ -1,0 +1,58 @@
+use Rattle.std.proofs.Common.{◌≡◌, inl, refl}
+use Rattle.std.proofs.lemmas.Result.{err_from_is_err_and}
+use Rattle.name_words.specs.Statements.{resolved}
+use Rattle.statement_words.specs.Answers.{over}
+use Rattle.perm_engine.specs.Resolving.{due_breaks}
+use Rattle.perm_engine.proofs.Stepping.{asked-carried, due-carried, due-refused, made-ran, refused-ran, refused-takes, refused-backed, refused-unfailed, refused-unbegun}
+use Rattle.perm_engine.proofs.session.Session.step.Goals as goal
+
+pub resolved_statement-requires : goal.resolved_statement-requires
+resolved_statement-requires g c = record { sound = c.self.invariant; regular = c.requires.regular }
+
+pub returns-in_err-resolved : goal.returns-in_err-resolved
+returns-in_err-resolved g c =
+    let held = c.self.inside.catalog in
+    let statement = c.args.statement in
+    let f = c.args.files.now in
+    let files = over g.F.Files.held g.F.Files.faults g.F.Files.begun g.F.Files.absent g.F.Files.taken f f in
+    let refused = c.in_err-resolved.field-0.0 in
+    let h = c.in_err-resolved.ensures.resolves in
+    let p = err_from_is_err_and c.from_residual.result c.from_residual.ensures.1 in
+    rw (p.1, p.2, ← c.self.view_is) (record {
+      turn = refused-takes held statement files refused h;
+      sound = c.self.invariant;
+      due = due-refused (due_breaks held statement) refused c.in_err-resolved.ensures.due;
+      backed = refused-backed held statement files refused h;
+      faults = refused-unfailed held statement files refused h (g.F.Files.faults f);
+      begun = refused-unbegun held statement files refused h (g.F.Files.begun f);
+      unbegun = λ none. refl;
+      held = refl;
+      ran = refused-ran held (resolved held statement) refused c.self.inside.runner;
+    })
+
+pub carried_out-told-requires : goal.carried_out-told-requires
+carried_out-told-requires g c =
+    record { before = c.self.invariant; ready = c.in_ok-resolved.ensures.resolves.ready; sound = c.in_ok-resolved.ensures.resolves.sound }
+
+pub invariant_of-self : goal.invariant_of-self
+invariant_of-self g c = c.carried_out-told.ensures.done.sound
+
+pub returns : goal.returns
+returns g c =
+    let f = c.args.files.now in
+    let after = c.carried_out-told.new.files in
+    let files = over g.F.Files.held g.F.Files.faults g.F.Files.begun g.F.Files.absent g.F.Files.taken f after in
+    let h = asked-carried c.self.inside.catalog c.carried_out-told.new.catalog c.args.statement c.in_ok-resolved.resolved c.carried_out-told.result files (after ≡ f)
+    c.in_ok-resolved.ensures.resolves c.carried_out-told.ensures.done in
+    rw (← c.self.view_is) (record {
+      turn = h.turn;
+      sound = h.sound;
+      due = due-carried (due_breaks c.self.inside.catalog c.args.statement) c.in_ok-resolved.resolved c.carried_out-told.result c.in_ok-resolved.ensures.due;
+      backed = h.backed;
+      faults = h.faults;
+      begun = λ some. inl (h.begun some);
+      unbegun = h.unbegun;
+      held = h.held;
+      ran = made-ran c.self.inside.catalog c.args.statement c.in_ok-resolved.resolved c.carried_out-told.result c.self.inside.runner c.carried_out-told.new.runner
+          c.in_ok-resolved.ensures.resolves c.carried_out-told.ensures.ran;
+    })

@@ -1,4 +1,0 @@
-pub mod CopiedFile
-pub mod CopiedInto
-pub mod Fitting
-pub mod Queries

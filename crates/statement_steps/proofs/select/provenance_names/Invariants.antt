@@ -1,7 +1,0 @@
-use Rattle.std.proofs.Common.{◌≡◌, take}
-use Rattle.perm_catalog.specs.Columns.{column_names}
-use Rattle.statement_steps.specs.Step.{source_names}
-use Rattle.statement_steps.proofs.select.provenance_names.Given as goal
-
-abbrev pub invariant-loop-column : goal.invariant-loop-column
-invariant-loop-column l = l.names ≡ source_names l.table (column_names (take l.column-index l.columns))
