@@ -1,0 +1,109 @@
+#!/usr/bin/env python3
+"""Runs the examples of documents and compares what they answer: documents.py PROGRAM DOCUMENT..
+
+An example is a block ```sql, the script, and the block behind it, which names no language: the answer. Text between the two
+that says `status N` tells the exit status; it is 0 otherwise. A block ```csv NAME is a file that later scripts of the
+document may copy. A block ```sql PATH has lines of that script, in their order, which is run whole from the top of the
+repository: the answer is the end of what it answers. A block ```refusals has statements that are answered, an empty line, and
+then a refused statement on each line, with its refusal behind it: `-- E10 at 14`, an offset in that line. Each is run behind
+the first ones.
+"""
+import os
+import pathlib
+import re
+import subprocess
+import sys
+import tempfile
+
+TOP = pathlib.Path(__file__).resolve().parent.parent
+BLOCK = re.compile(r"^```(.*)\n((?:.*\n)*?)```$", re.M)
+REFUSAL = re.compile(r"-- E(\d\d) (?:at (\d+)|(.*))$")
+
+
+def run(program, script, folder):
+    done = subprocess.run([program, script], cwd=folder, stdin=subprocess.DEVNULL, capture_output=True)
+    return done.returncode, done.stdout.decode()
+
+
+def run_text(program, text, folder):
+    pathlib.Path(folder, "example.sql").write_text(text)
+    return run(program, "example.sql", folder)
+
+
+def mistake(program, words, script, answer, status, folder):
+    """Why the example is wrong; None where it is right."""
+    if len(words) > 1:
+        lines = iter((TOP / words[1]).read_text().splitlines())
+        if not all(line in lines for line in script.splitlines()):
+            return f"it isn't of lines of {words[1]}"
+        ended, written = run(program, words[1], TOP)
+        if not written.endswith(answer):
+            return f"{words[1]} answers\n{written}"
+    else:
+        ended, written = run_text(program, script, folder)
+        if written != answer:
+            return f"it answers\n{written}"
+    return None if ended == status else f"it ends with status {ended}, not {status}"
+
+
+def mistaken_refusals(program, block, folder):
+    """How many refusals the block has, and the reasons why some are wrong."""
+    first, _, refused = block.partition("\n\n")
+    first += "\n"
+    reasons, lines = [], refused.splitlines()
+    ended, answered = run_text(program, first, folder)
+    if ended != 0:
+        reasons.append(f"the first statements answer\n{answered}")
+    for line in lines:
+        told = REFUSAL.search(line)
+        if told is None:
+            reasons.append(f"no refusal stands behind {line}")
+            continue
+        code = int(told[1])
+        place = f"at {len(first.encode()) + int(told[2])}" if told[2] else told[3]
+        # A script that isn't spelled, or isn't read, answers its refusal alone.
+        wanted = f"error E{told[1]} {place}\n" if code < 10 else f"{answered}error E{told[1]} {place}\n"
+        status = 3 if code < 10 else 4 if code < 30 else 5 if code < 40 else 6
+        if run_text(program, first + line + "\n", folder) != (status, wanted):
+            reasons.append(f"{line}\nis answered\n{run_text(program, first + line, folder)}")
+    return len(lines), reasons
+
+
+def check(program, document, folder):
+    """How many examples the document has, and how many of them are wrong."""
+    text = (TOP / document).read_text()
+    blocks = list(BLOCK.finditer(text))
+    count = wrong = 0
+    for block, behind in zip(blocks, blocks[1:] + [None]):
+        words = block[1].split()
+        if words[:1] == ["csv"]:
+            pathlib.Path(folder, words[1]).write_text(block[2])
+        if words == ["refusals"]:
+            found, reasons = mistaken_refusals(program, block[2], folder)
+        elif words[:1] == ["sql"]:
+            status = re.search(r"status (\d)", text[block.end():behind.start()]) if behind else None
+            found, reasons = 1, ["no answer stands behind it"]
+            if behind and not behind[1]:
+                reason = mistake(program, words, block[2], behind[2], int(status[1]) if status else 0, folder)
+                reasons = [reason] if reason else []
+        else:
+            continue
+        count += found
+        wrong += len(reasons)
+        for reason in reasons:
+            print(f"{document}: the example at line {text.count(chr(10), 0, block.start()) + 1}: {reason}", file=sys.stderr)
+    return count, wrong
+
+
+def main():
+    program, failed = os.path.abspath(sys.argv[1]), False
+    for document in sys.argv[2:]:
+        with tempfile.TemporaryDirectory() as folder:
+            os.symlink(TOP / "examples", os.path.join(folder, "examples"))
+            count, wrong = check(program, document, folder)
+        print(f"check: {document}: {count} examples, {wrong} of them wrong", file=sys.stderr)
+        failed |= wrong > 0
+    sys.exit(failed)
+
+
+main()
