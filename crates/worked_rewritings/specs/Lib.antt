@@ -1,1 +1,2 @@
+pub mod ReadColumns
 pub mod RewrittenRows

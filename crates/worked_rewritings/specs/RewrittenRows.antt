@@ -1,6 +1,6 @@
 -- Worked examples of rewritten sublinks over the tables r(a INTEGER) and s(c INTEGER): the rewriting has the rows of the
 -- PROVENANCE of the query.
-use Rattle.std.specs.Prelude.{◌≡◌, ℕ, pos, cond, ◌==◌, List, [], ◌∷◌, Some, None, refl, codes}
+use Rattle.std.specs.Prelude.{◌≡◌, ℕ, pos, cond, ◌==◌, [], ◌∷◌, Some, None, refl, codes}
 use Rattle.null_logic.specs.declared.compare.Compare.{Compare}
 use Rattle.null_logic.specs.declared.compare.Compare.TheVariants as compare
 use Rattle.null_logic.specs.declared.operator.Operator.TheVariants as op
@@ -42,7 +42,7 @@ compared c a b = OpOf (op.Compare c) (tt ∷ tt ∷ []) (more_of-Expr a (more_of
 abbrev isnt : Expr → Expr
 isnt a = OpOf op.Not (tt ∷ []) (more_of-Expr a end_of-Expr)
 
-abbrev table : ℕ → Query
+abbrev pub table : ℕ → Query
 table id = Table id (kind.Integer ∷ [])
 
 abbrev r : Query
@@ -52,7 +52,7 @@ abbrev s : Query
 s = BaseOf (table 2) (0 ∷ []) (Relation (codes "s") (codes "c" ∷ []))
 
 -- the rewriting of a source: its column, and again as its provenance
-abbrev twice : ℕ → Query
+abbrev pub twice : ℕ → Query
 twice id = ProjectOf (table id) (column_items (kind.Integer ∷ []) (0 ∷ 0 ∷ [])) [] end_of-Sublink
 
 -- a node over r, and its rewriting
@@ -65,7 +65,7 @@ rewritten condition sub standing rewriting =
 
 -- ---- SELECT PROVENANCE a FROM r WHERE EXISTS (SELECT c FROM s WHERE c < a): each row that the sublink has
 
-abbrev below : Query → Query
+abbrev pub below : Query → Query
 below q = FilterOf q (compared compare.Less (Col 0 0) (Col 1 0)) [] end_of-Sublink
 
 abbrev exists : Query → Sublink

@@ -1,0 +1,3 @@
+pub mod BuiltReach
+pub mod InUsize
+pub mod Reach
