@@ -1,15 +1,12 @@
--- What is known of a node's sublinks before its rows are looked at.
-use Rattle.std.specs.Prelude.{◌≡◌, Bool, true, false, cond, IsTrue, List, [], ◌∷◌, Result, Ok, Err}
+-- What is known of a node's sublinks from row to row.
+use Rattle.std.specs.Prelude.{◌≡◌, ℕ, Bool, true, false, IsTrue, List, [], ◌∷◌, take, Result, Ok, Err}
 use Rattle.null_logic.specs.Logic.{truth_not}
 use Rattle.null_logic.specs.declared.compare.Compare.{Compare}
 use Rattle.null_logic.specs.declared.compare.Compare.TheVariants.{Equal, NotEqual, Less, LessEqual, Greater, GreaterEqual}
 use Rattle.null_logic.specs.declared.truth.Truth.{Truth}
-use Rattle.perm_values.specs.declared.value.Value.TheVariants.{Null}
 use Rattle.bag_algebra.specs.Bags.{Row, Bag}
-use Rattle.bag_algebra.specs.Children.{sublink_value}
-use Rattle.bag_algebra.specs.FaultFree.{faultless}
 use Rattle.bag_algebra.specs.Meaning.{Database, meaning}
-use Rattle.bag_algebra.specs.Outcome.{Good, each}
+use Rattle.bag_algebra.specs.Outcome.{Good}
 use Rattle.bag_algebra.specs.Patterns.{BaseOf, FilterOf, ProjectOf, JoinOf, UnionOf, IntersectOf, ExceptOf, DistinctOf, AggregateOf, LimitOf, ProvOf}
 use Rattle.bag_algebra.specs.declared.expr.Expr.{Expr}
 use Rattle.bag_algebra.specs.declared.query.Query.{Query}
@@ -21,11 +18,14 @@ use Rattle.expression_values.specs.Answers.{Refuses}
 use Rattle.expression_values.specs.declared.error.ExecError.{ExecError}
 use Rattle.join_keys.specs.Cells.{AreCells}
 use Rattle.join_keys.specs.Equated.{is_equality}
-use Rattle.join_keys.specs.Hashed.{on_pair, met_rows}
+use Rattle.node_rows.specs.Keeping.{Filters, Keeps, kept_reach}
 use Rattle.node_rows.specs.Keyed.{AreKeyed}
+use Rattle.node_rows.specs.declared.keeping.Keeping.{Keeping}
+use Rattle.node_rows.specs.declared.keeping.Keeping.TheVariants as of
+use Rattle.node_rows.specs.declared.known.Answer.{Answer}
+use Rattle.node_rows.specs.declared.known.Answer.TheVariants as by
 use Rattle.node_rows.specs.declared.known.Keyed.{Keyed}
 use Rattle.node_rows.specs.declared.known.Known.{Known}
-use Rattle.node_rows.specs.declared.known.Known.TheVariants as known
 
 abbrev pub is_not_equal : Compare → Bool
 is_not_equal Equal = false
@@ -48,65 +48,95 @@ turned (Any c) truth = truth
 turned (All c) truth = truth_not truth
 turned Scalar truth = truth
 
--- what is known of a sublink of this kind that has these rows on whatever row it is run
-abbrev pub HasRows : SubKind → Bag → Known → Type 0
-HasRows kind vs known.Nothing = Unit {0}
-HasRows kind vs (known.Rows rows) = rows ≡ vs
-HasRows kind vs (known.Cells cells) = IsTrue (tests_equality kind) × AreCells cells vs
-HasRows kind vs (known.Keyed keyed) = ⊥
+-- what answers a sublink of this kind whose query has these rows
+abbrev pub HasRows : SubKind → Bag → Answer → Type 0
+HasRows kind vs by.Nothing = Unit {0}
+HasRows kind vs (by.Rows rows) = rows ≡ vs
+HasRows kind vs (by.Cells cells) = IsTrue (tests_equality kind) × AreCells cells vs
+HasRows kind vs (by.Keyed keyed) = ⊥
 
--- the rows of a filter are those of which its condition is true, under every row
-pub record IsFilter (q : Query) (condition : Expr) (db : Database) (env : List Row) (keyed : Keyed) : Type 0 where
-  pub faultless_is : IsTrue (faultless condition)
+-- the query has rows under the outer rows, and these are they
+pub record IsWhole (db : Database) (inner : List Row) (sub : Sublink) (answer : Answer) : Type 0 where
+  pub rows : Bag
+  pub means : meaning sub.query db inner ≡ Good rows
+  pub has : HasRows sub.kind rows answer
+
+-- the input of a filter has rows under the outer rows, and these are they, by a key
+pub record IsInput (input : Query) (condition : Expr) (db : Database) (inner : List Row) (keyed : Keyed) : Type 0 where
+  pub means : meaning input db inner ≡ Good keyed.rows
   pub keyed_are : AreKeyed condition keyed.rows keyed
-  pub means : (u : Row) → meaning q db (u ∷ env) ≡ Good (met_rows (on_pair condition (u ∷ env)) keyed.rows)
 
--- the query, or the one below its items, is a filter over these rows
-abbrev pub KeyedBy : Query → Database → List Row → Keyed → Type 0
-KeyedBy (Table id kinds) db env keyed = Unit {0}
-KeyedBy Single db env keyed = Unit {0}
-KeyedBy (BaseOf input places label) db env keyed = Unit {0}
-KeyedBy (FilterOf input condition shape subs) db env keyed = IsFilter (FilterOf input condition shape subs) condition db env keyed
-KeyedBy (ProjectOf input items _ subs) db env keyed = KeyedBy input db env keyed
-KeyedBy (JoinOf kind left right condition _ subs) db env keyed = Unit {0}
-KeyedBy (UnionOf all left right) db env keyed = Unit {0}
-KeyedBy (IntersectOf all left right) db env keyed = Unit {0}
-KeyedBy (ExceptOf all left right) db env keyed = Unit {0}
-KeyedBy (DistinctOf input) db env keyed = Unit {0}
-KeyedBy (AggregateOf input groups aggregates) db env keyed = Unit {0}
-KeyedBy (LimitOf input keys count) db env keyed = Unit {0}
-KeyedBy (ProvOf input) db env keyed = Unit {0}
+-- the same of the filter that a query, or the one below its items, is
+abbrev pub HasInput : Query → Database → List Row → Keyed → Type 0
+HasInput (Table id kinds) db inner keyed = Unit {0}
+HasInput Single db inner keyed = Unit {0}
+HasInput (BaseOf input places label) db inner keyed = Unit {0}
+HasInput (FilterOf input condition shape subs) db inner keyed = IsInput input condition db inner keyed
+HasInput (ProjectOf input items _ subs) db inner keyed = HasInput input db inner keyed
+HasInput (JoinOf kind left right condition _ subs) db inner keyed = Unit {0}
+HasInput (UnionOf all left right) db inner keyed = Unit {0}
+HasInput (IntersectOf all left right) db inner keyed = Unit {0}
+HasInput (ExceptOf all left right) db inner keyed = Unit {0}
+HasInput (DistinctOf input) db inner keyed = Unit {0}
+HasInput (AggregateOf input groups aggregates) db inner keyed = Unit {0}
+HasInput (LimitOf input keys count) db inner keyed = Unit {0}
+HasInput (ProvOf input) db inner keyed = Unit {0}
 
--- the same under an environment that has a row in front
+-- the query is a filter that a key answers under the outer rows, or items of one
+pub record IsKeyed (q : Query) (db : Database) (inner : List Row) (keyed : Keyed) : Type 0 where
+  pub reach : ℕ
+  pub filters : Filters q reach
+  pub input : HasInput q db inner keyed
+
+-- the same under outer rows of which the row is the nearest
 pub record KeyedUnder (q : Query) (db : Database) (u : Row) (inner : List Row) (keyed : Keyed) : Type 0 where
   pub env : List Row
   pub front : inner ≡ u ∷ env
-  pub by : KeyedBy q db env keyed
+  pub on : IsKeyed q db inner keyed
 
--- what may be known of a query before rows are looked at, by a filter
-abbrev pub FilterKnown : Query → Database → List Row → Known → Type 0
-FilterKnown q db env known.Nothing = Unit {0}
-FilterKnown q db env (known.Rows rows) = ⊥
-FilterKnown q db env (known.Cells cells) = ⊥
-FilterKnown q db env (known.Keyed keyed) = KeyedBy q db env keyed
+-- what answers the sublink under these outer rows
+abbrev pub Answers : Database → List Row → Sublink → Answer → Type 0
+Answers db inner sub by.Nothing = Unit {0}
+Answers db inner sub (by.Rows rows) = IsWhole db inner sub (by.Rows rows)
+Answers db inner sub (by.Cells cells) = IsWhole db inner sub (by.Cells cells)
+Answers db inner sub (by.Keyed keyed) = IsKeyed sub.query db inner keyed
 
--- what may be answered: a fault is one that the query meets under every row
-abbrev pub IsFilterKnown : Database → List Row → Query → Result Known ExecError → Type 0
-IsFilterKnown db env q (Ok known) = FilterKnown q db env known
-IsFilterKnown db env q (Err error) = (u : Row) → Refuses (meaning q db (u ∷ env)) error
+-- what may be found of a query's filter under the outer rows
+abbrev pub FindsInput : Query → Database → List Row → Answer → Type 0
+FindsInput q db inner by.Nothing = Unit {0}
+FindsInput q db inner (by.Rows rows) = ⊥
+FindsInput q db inner (by.Cells cells) = ⊥
+FindsInput q db inner (by.Keyed keyed) = HasInput q db inner keyed
 
--- a sublink that has the same rows on whatever row it is run
-pub record IsSame (db : Database) (env : List Row) (sub : Sublink) (known : Known) : Type 0 where
-  pub rows : Bag
-  pub means : (u : Row) → meaning sub.query db (u ∷ env) ≡ Good rows
-  pub has : HasRows sub.kind rows known
+abbrev pub IsInputFound : Query → Database → List Row → Result Answer ExecError → Type 0
+IsInputFound q db inner (Ok answer) = FindsInput q db inner answer
+IsInputFound q db inner (Err error) = Refuses (meaning q db inner) error
 
--- what is known of the sublink is so on every row of its node
-abbrev pub Knows : Database → List Row → Sublink → Known → Type 0
-Knows db env sub known.Nothing = Unit {0}
-Knows db env sub (known.Rows rows) = IsSame db env sub (known.Rows rows)
-Knows db env sub (known.Cells cells) = IsSame db env sub (known.Cells cells)
-Knows db env sub (known.Keyed keyed) = KeyedBy sub.query db env keyed
+-- what may be found under the outer rows, where this is to be kept
+abbrev pub FindsNothing : Answer → Type 0
+FindsNothing by.Nothing = Unit {0}
+FindsNothing (by.Rows rows) = ⊥
+FindsNothing (by.Cells cells) = ⊥
+FindsNothing (by.Keyed keyed) = ⊥
+
+abbrev pub Finds : Keeping → Database → List Row → Sublink → Answer → Type 0
+Finds of.Nothing db inner sub answer = FindsNothing answer
+Finds (of.Rows n) db inner sub answer = IsWhole db inner sub answer
+Finds (of.Input n) db inner sub answer = FindsInput sub.query db inner answer
+
+abbrev pub IsFound : Keeping → Database → List Row → Sublink → Result Answer ExecError → Type 0
+IsFound keeping db inner sub (Ok answer) = Finds keeping db inner sub answer
+IsFound keeping db inner sub (Err error) = Refuses (meaning sub.query db inner) error
+
+-- what is known of the sublink is so on every row of its node that begins with the columns
+pub record Knows (db : Database) (env : List Row) (sub : Sublink) (known : Known) : Type 0 where
+  pub keeps : Keeps sub.query known.keeping
+  pub answers : (u : Row) → take (kept_reach known.keeping) u ≡ known.columns → Answers db (u ∷ env) sub known.answer
+
+-- and is so on this row
+pub record KnowsOn (db : Database) (env : List Row) (u : Row) (sub : Sublink) (known : Known) : Type 0 where
+  pub knows : Knows db env sub known
+  pub answers : Answers db (u ∷ env) sub known.answer
 
 -- one for each sublink
 abbrev pub AllKnown : Database → List Row → List Sublink → List Known → Type 0
@@ -114,12 +144,3 @@ AllKnown db env [] [] = Unit {0}
 AllKnown db env [] (known ∷ more) = ⊥
 AllKnown db env (sub ∷ subs) [] = ⊥
 AllKnown db env (sub ∷ subs) (known ∷ more) = Knows db env sub known × AllKnown db env subs more
-
--- what may be answered where a row is met, or where none is: a fault is one that the sublink meets on every row
-abbrev pub IsKnown : Bool → Database → List Row → Sublink → Result Known ExecError → Type 0
-IsKnown some_row db env sub (Ok known) = Knows db env sub known
-IsKnown some_row db env sub (Err error) = (u : Row) → Refuses (cond some_row (sublink_value db env u sub) (Good Null)) error
-
-abbrev pub AreKnown : Bool → Database → List Row → List Sublink → Result (List Known) ExecError → Type 0
-AreKnown some_row db env subs (Ok known) = AllKnown db env subs known
-AreKnown some_row db env subs (Err error) = (u : Row) → Refuses (cond some_row (each (sublink_value db env u) subs) (Good [])) error

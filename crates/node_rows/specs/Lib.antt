@@ -1,5 +1,6 @@
 pub mod Held
 pub mod Joins
+pub mod Keeping
 pub mod Keyed
 pub mod Known
 pub mod Marks

@@ -13,12 +13,12 @@ use std::alloc::Global;
 use std::marker::Model;
 
 /// Rows that are read where they lie, or moved on.
-#[derive(Debug, Drop)]
+#[derive(Drop)]
 pub struct Input<'a> {
     held: Held<'a>,
 }
 
-#[derive(Debug, Drop)]
+#[derive(Drop)]
 enum Held<'a> {
     Stored(&'a [Row]),
     Made(Rows),

@@ -1,62 +1,124 @@
-//! What is known of a sublink before the rows of its node are looked at.
-ghost use Rattle.std.specs.Prelude.{◌≡◌, ◌↔◌, ◌&&◌, [], ◌∷◌, IsTrue, IfOk, List as ListOf};
+//! What is known of a node's sublinks from row to row.
+ghost use Rattle.std.specs.Prelude.{◌≡◌, ◌∷◌, IsTrue, IfOk, OnOk, List as ListOf, take};
 ghost use Rattle.bag_algebra.specs.Bags.{Bag, Row as SeenRow};
-ghost use Rattle.bag_algebra.specs.Closed.{is_closed};
 ghost use Rattle.bag_algebra.specs.FaultFree.{faultless};
-ghost use Rattle.bag_algebra.specs.Means.{sub_value, is_some_row};
+ghost use Rattle.bag_algebra.specs.Meaning.{Database};
+ghost use Rattle.bag_algebra.specs.Means.{sub_value};
 ghost use Rattle.bag_algebra.specs.Outcome.{Good};
+ghost use Rattle.bag_algebra.specs.declared.query.Sublink.{Sublink as SeenSublink};
 ghost use Rattle.join_keys.specs.Cells.{AreCells};
 ghost use Rattle.join_keys.specs.Hashed.{on_pair, met_rows};
+ghost use Rattle.node_rows.specs.Keeping.{kept_reach};
 ghost use Rattle.node_rows.specs.Keyed.{AreKeyed};
-ghost use Rattle.node_rows.specs.Known.{HasRows, tests_equality, turned};
+ghost use Rattle.node_rows.specs.Known.{AllKnown, Finds, HasRows, Knows, KnowsOn, tests_equality, turned};
 
+use crate::first_columns::{first_columns, row_of, same_values};
 use crate::input::Input;
-use bag_algebra::{Env, Expr, Query, SubKind, Sublink};
+use crate::keeping::{Keeping, kept_of};
+use bag_algebra::{Env, Expr, SubKind, Sublink};
 use indexmap::IndexMap;
 use join_keys::{Cells, ColumnPair, Reading, equated, key_table, rows_around};
 use null_logic::{Compare, Truth};
 use perm_values::{List, NoMemory, Row, Rows, Value};
-use query_measures::{faultless, is_closed};
 use std::alloc::Global;
 
-/// What is known of a sublink's query.
+/// What answers a sublink.
 #[derive(Drop)]
-pub enum Known<'a> {
-    /// Nothing: it is run on each row.
+pub enum Answer<'a> {
+    /// Nothing that is known: its query is run.
     Nothing,
-    /// Its rows, on whatever row it is run.
+    /// The rows of its query.
     Rows(Input<'a>),
-    /// The first columns of its rows, on whatever row it is run.
+    /// The first columns of these.
     Cells(Cells),
-    /// The rows over which it, or the query below its items, is a filter.
+    /// The rows over which its query, or the one below its items, is a filter.
     Keyed(Keyed<'a>),
 }
 
-/// Whether anything is to be known of a node's sublinks before its rows are looked at: only where it has one, since a fault
-/// may be named only where a row meets it. It takes no memory.
-pub fn looks_ahead(is_hashed: bool, some_row: bool) -> bool
-    ensures { IsTrue result ↔ (IsTrue some_row × IsTrue is_hashed) }
-{
-    some_row && is_hashed
+/// What is known of a sublink's query: what was found of it on a row, for as long as the rows begin with the same columns.
+#[derive(Drop)]
+pub struct Known<'a> {
+    keeping: Keeping,
+    columns: Row,
+    answer: Answer<'a>,
 }
 
-/// Whether a filter may be answered by a key: its input reads no outer row, and its condition has no sublinks and can meet
-/// no fault. It takes no memory.
-pub fn can_key(input: &Query, condition: &Expr, subs: &[Sublink]) -> bool
-    ensures { IsTrue result ↔ (IsTrue (is_closed input.now) × IsTrue (faultless condition.now) × (subs.now ≡ [])) }
-{
-    is_closed(input) && faultless(condition) && subs.is_empty()
+impl<'a> Known<'a> {
+    /// Nothing yet; where there is no hashing, nothing for good. It takes no memory.
+    fn new(alloc: Global, is_hashed: bool, sub: &Sublink) -> Known<'a>
+        ensures { (db : Database) (env : ListOf SeenRow) → Knows db env sub.now result }
+    {
+        Known {
+            keeping: kept_of(is_hashed, &sub.query),
+            columns: Row::new(alloc),
+            answer: Answer::Nothing,
+        }
+    }
+
+    /// What is kept of the query.
+    pub fn keeping(&self) -> Keeping
+        ensures { result ≡ self.now.keeping }
+    {
+        self.keeping
+    }
+
+    /// What answers the sublink on a row that begins with the columns.
+    pub fn answer(&self) -> &Answer<'a>
+        ensures { result.now ≡ self.now.answer }
+    {
+        &self.answer
+    }
+
+    /// Goes on to a row. What was found is dropped where the row begins with other columns than the one before; where it
+    /// begins with the same and nothing was found, it is asked for. It fails only for want of memory.
+    pub fn asks(&mut self, alloc: Global, row: &Row) -> Result<bool, NoMemory>
+        ensures knows { (db : Database) (env : ListOf SeenRow) (sub : SeenSublink) →
+            Knows db env sub self.old → OnOk result (Knows db env sub self.new) }
+        ensures begins { OnOk result (take (kept_reach self.new.keeping) row.now ≡ self.new.columns) }
+    {
+        let columns = first_columns(row, self.keeping.reach());
+        if !same_values(columns, self.columns.as_slice()) {
+            self.columns = row_of(alloc, columns)?;
+            self.answer = Answer::Nothing;
+            return Ok(false);
+        }
+        Ok(self.keeping.keeps() && matches!(self.answer, Answer::Nothing))
+    }
+
+    /// Keeps what was found on a row that begins with the columns. It takes no memory.
+    pub fn keep(&mut self, answer: Answer<'a>)
+        ensures { (db : Database) (env : ListOf SeenRow) (row : SeenRow) (sub : SeenSublink) →
+            Knows db env sub self.old → take (kept_reach self.old.keeping) row ≡ self.old.columns →
+            Finds self.old.keeping db (row ∷ env) sub answer.entry → KnowsOn db env row sub self.new }
+    {
+        self.answer = answer;
+    }
 }
 
-/// The rows of a sublink that has the same on whatever row it is run: where it asks for a value among them, a table of their
+/// What is known of each sublink before a row is looked at: nothing. It fails only for want of memory.
+pub fn known_subs<'a>(
+    alloc: Global,
+    is_hashed: bool,
+    subs: &[Sublink],
+) -> Result<Vec<Known<'a>>, NoMemory>
+    ensures { (db : Database) (env : ListOf SeenRow) → IfOk result (λ known. AllKnown db env subs.now known.items) }
+{
+    let mut known = Vec::new(alloc);
+    for sub in subs {
+        known.push(Known::new(alloc, is_hashed, sub))?;
+    }
+    Ok(known)
+}
+
+/// What answers a sublink of this kind whose query has these rows: where it asks for a value among them, a table of their
 /// first columns. It fails only for want of memory.
-pub fn same_rows<'a>(alloc: Global, kind: SubKind, rows: Input<'a>) -> Result<Known<'a>, NoMemory>
+pub fn same_rows<'a>(alloc: Global, kind: SubKind, rows: Input<'a>) -> Result<Answer<'a>, NoMemory>
     ensures { IfOk result (HasRows kind rows.entry) }
 {
     if tests_equality(kind) {
-        return Ok(Known::Cells(Cells::new(alloc, rows.as_slice())?));
+        return Ok(Answer::Cells(Cells::new(alloc, rows.as_slice())?));
     }
-    Ok(Known::Rows(rows))
+    Ok(Answer::Rows(rows))
 }
 
 /// Whether the sublink is IN or NOT IN.
@@ -143,21 +205,4 @@ impl<'a> Keyed<'a> {
             inner,
         )
     }
-}
-
-/// Whether there is a row. It takes no memory.
-pub fn is_some_row(rows: &[Row]) -> bool
-    ensures { result ≡ is_some_row rows.now }
-{
-    match rows {
-        [] => false,
-        [_, ..] => true,
-    }
-}
-
-/// Whether there is a pair of a row of each side. It takes no memory.
-pub fn is_some_pair(lefts: &[Row], rights: &[Row]) -> bool
-    ensures { result ≡ (is_some_row lefts.now && is_some_row rights.now) }
-{
-    is_some_row(lefts) && is_some_row(rights)
 }

@@ -1,10 +1,13 @@
-//! What a node makes of rows that are there: set operations, groups, limits, items, and the pairs of joins.
+//! What a node makes of rows that are there: set operations, groups, limits, items, and the pairs of joins; and
+//! what is known of its sublinks from row to row.
 #![tactic(auto)]
 
+mod first_columns;
 mod groups;
 mod input;
 mod items;
 mod join;
+mod keeping;
 mod known;
 mod limit;
 mod marks;
@@ -14,8 +17,7 @@ pub use groups::in_groups;
 pub use input::{Input, made, single_row, table_rows};
 pub use items::item_values;
 pub use join::{beside, hashed_pairs, meets_by_keys, more_met};
-pub use known::{
-    Keyed, Known, can_key, cells_value, is_some_pair, is_some_row, looks_ahead, same_rows,
-};
+pub use keeping::Keeping;
+pub use known::{Answer, Keyed, Known, cells_value, known_subs, same_rows};
 pub use limit::limited;
 pub use set_operation::{distinct, excepted, intersected, united};
