@@ -18,6 +18,7 @@ pub mod RegularQueries
 pub mod RegularStatements
 pub mod RegularTrees
 pub mod Samples
+pub mod Sequenced
 pub mod Shut
 pub mod Sound
 pub mod Steps

@@ -8,6 +8,7 @@ pub mod Nests
 pub mod Pieces
 pub mod Readers
 pub mod Rules
+pub mod Sequences
 pub mod Sorts
 pub mod Symbols
 pub mod Tables

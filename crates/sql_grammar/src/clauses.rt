@@ -8,11 +8,11 @@ ghost use Rattle.sql_grammar.specs.Symbols as n;
 
 use crate::cursor::Cursor;
 use crate::fault::Fault;
+use crate::names::name_of;
 use crate::sort::{NAMES, Sort, same_sort, sort_of};
-use perm_values::{List, NoMemory};
+use perm_values::List;
 use sql_lexer::Token;
 use sql_tree::{FromSource, JoinWord, Name, OrderTree, ScopeMark, SelectItem};
-use std::alloc::Global;
 
 fn outer_of(token: &Token<'_>) -> JoinWord
     ensures { result ≡ b.outer_of token.now }
@@ -28,32 +28,29 @@ fn outer_of(token: &Token<'_>) -> JoinWord
 }
 
 impl<'a> Cursor<'a> {
-    #[tactic(auto, using(crate::proofs::Steps::reading_is))]
+    #[tactic(auto, using(crate::proofs::Sequenced::join_kind_is))]
     pub fn join_kind(&mut self) -> Result<JoinWord, Fault>
         ensures given { spec.Reads result (spec.reading n.JoinKind self.old) self.new }
         ensures fewer { IfOk result (λ _. length self.new < length self.old) }
     {
         if self.sees_any(&[Sort::Inner, Sort::Join]) {
-            self.option(Sort::Inner)?;
-            self.past(Sort::Join)?;
+            self.past_behind(Sort::Inner, Sort::Join)?;
             Ok(JoinWord::Inner)
         } else {
             let token = self.one(&[Sort::Left, Sort::Right, Sort::Full])?;
-            self.option(Sort::Outer)?;
-            self.past(Sort::Join)?;
+            self.past_behind(Sort::Outer, Sort::Join)?;
             Ok(outer_of(token))
         }
     }
 
+    #[tactic(auto, using(crate::proofs::Sequenced::attributes_is))]
     pub fn attributes(&mut self) -> Result<List<Name>, Fault>
         ensures given { spec.Reads result (piece.attributes self.old) self.new }
         ensures fewer { IfOk result (λ _. length self.new < length self.old) }
     {
-        self.past(Sort::Provenance)?;
-        self.past(Sort::Opening)?;
+        self.past_both(Sort::Provenance, Sort::Opening)?;
         let attributes = self.names()?;
-        self.past(Sort::Closing)?;
-        Ok(attributes)
+        self.closed(attributes)
     }
 
     /// What stands behind an item of FROM about its provenance.
@@ -83,24 +80,13 @@ impl<'a> Cursor<'a> {
     }
 }
 
-fn named(alloc: Global, token: &Token<'_>) -> Result<Name, NoMemory>
-    ensures { IfOk result (λ name. name ≡ b.name_of token.now) }
-{
-    Ok(Name {
-        text: token.spelled(alloc)?,
-        at: token.start(),
-    })
-}
-
 impl<'a> Cursor<'a> {
     /// Whether a word that may stand next does; it is passed.
-    #[tactic(auto, using(crate::proofs::Queries::is_some_word_if))]
     pub fn has(&mut self, sort: Sort) -> Result<bool, Fault>
         ensures given { spec.Reads result (piece.has sort self.old) self.new }
         ensures fewer { IfOk result (λ _. length self.new ≤ length self.old) }
     {
-        let found = self.option(sort)?;
-        Ok(found)
+        self.option(sort)
     }
 
     /// The place of the word PROVENANCE, if it stands next.
@@ -117,14 +103,14 @@ impl<'a> Cursor<'a> {
         }
     }
 
+    #[tactic(auto, using(crate::proofs::Sequenced::table_star_is))]
     pub fn table_star(&mut self) -> Result<SelectItem, Fault>
         ensures given { spec.Reads result (piece.table_star self.old) self.new }
         ensures fewer { IfOk result (λ _. length self.new < length self.old) }
     {
         let token = self.one(&NAMES)?;
-        let table = named(self.alloc(), token)?;
-        self.past(Sort::Dot)?;
-        self.past(Sort::Star)?;
+        self.past_both(Sort::Dot, Sort::Star)?;
+        let table = name_of(self.alloc(), token)?;
         Ok(SelectItem::TableStar { table })
     }
 }

@@ -1,6 +1,7 @@
 ghost use Rattle.std.specs.Prelude.{◌≡◌, ◌<◌, ◌≤◌, [], ◌∷◌, length, IfOk};
 ghost use Rattle.sql_grammar.specs.Cursors as spec;
 ghost use Rattle.sql_grammar.specs.Pieces.{sees_pair, sees_table_star, word_if, word_at};
+ghost use Rattle.sql_grammar.specs.Sequences as sequence;
 
 use crate::fault::Fault;
 use crate::sort::{NAMES, Sort, is_among, same_sort, sort_of};
@@ -35,6 +36,18 @@ fn next_sort(tokens: &[Token<'_>]) -> Option<Sort>
     match tokens.first() {
         Some(token) => Some(sort_of(token)),
         None => None,
+    }
+}
+
+/// Whether a dot and a star stand first.
+fn dot_and_star(tokens: &[Token<'_>]) -> bool
+    ensures { result ≡ sequence.dot_and_star tokens.now }
+{
+    match tokens {
+        [dot, star, ..] => {
+            same_sort(sort_of(dot), Sort::Dot) && same_sort(sort_of(star), Sort::Star)
+        }
+        [] | [_] => false,
     }
 }
 
@@ -174,17 +187,41 @@ impl<'a> Cursor<'a> {
         }
     }
 
+    /// Goes past the next two tokens, which have to be of these sorts.
+    pub fn past_both(&mut self, first: Sort, second: Sort) -> Result<(), Fault>
+        ensures given { spec.Reads result (sequence.both first second self.old) self.new }
+        ensures fewer { IfOk result (λ _. length self.new < length self.old) }
+    {
+        self.past(first)?;
+        self.past(second)
+    }
+
+    /// Goes past a token that has to be of the second sort, and past one of the first before it, if there is one.
+    pub fn past_behind(&mut self, option: Sort, sort: Sort) -> Result<(), Fault>
+        ensures given { spec.Reads result (sequence.behind_option option sort self.old) self.new }
+        ensures fewer { IfOk result (λ _. length self.new < length self.old) }
+    {
+        self.option(option)?;
+        self.past(sort)
+    }
+
+    /// The value that was read, where a closing parenthesis stands next; it is passed. It is generic, so that what is let go
+    /// where none does isn't taken apart in each function.
+    pub fn closed<T: Drop>(&mut self, value: T) -> Result<T, Fault>
+        ensures given { spec.Reads result (sequence.closed value self.old) self.new }
+        ensures fewer { IfOk result (λ _. length self.new < length self.old) }
+    {
+        self.past(Sort::Closing)?;
+        Ok(value)
+    }
+
     /// Whether a name, a dot and a star stand next.
     pub fn sees_table_star(&self) -> bool
         ensures { result ≡ sees_table_star self.now }
     {
         match self.tokens {
-            [name, dot, star, ..] => {
-                is_among(sort_of(name), &NAMES)
-                    && is_among(sort_of(dot), &[Sort::Dot])
-                    && is_among(sort_of(star), &[Sort::Star])
-            }
-            [] | [_] | [_, _] => false,
+            [_, behind @ ..] => self.sees_any(&NAMES) && dot_and_star(behind),
+            [] => false,
         }
     }
 }

@@ -1,7 +1,7 @@
 use perm_values::NoMemory;
 
 /// Why nothing was read: the cursor stands at a token that can't stand there, or there was not enough memory.
-#[derive(Clone, Copy, Debug, PartialEq, Eq)]
+#[derive(Clone, Copy, PartialEq, Eq)]
 pub enum Fault {
     Unexpected,
     NoMemory,

@@ -61,7 +61,7 @@ impl<
         }
     }
 
-    #[tactic(auto, using(crate::proofs::Steps::reading_is))]
+    #[tactic(auto, using(crate::proofs::Sequenced::in_parentheses_is))]
     pub fn in_parentheses(&self, cursor: &mut Cursor<'_>) -> Result<Boxed<QueryTree>, Fault>
         requires sound { Nests self.now.most (F.pre self.now.expr) (G.pre self.now.query) (F.post self.now.expr) (G.post self.now.query) }
         requires below { length cursor.old ≤ self.now.most }
@@ -70,8 +70,7 @@ impl<
     {
         cursor.past(Sort::Opening)?;
         let query = self.inner(cursor)?;
-        cursor.past(Sort::Closing)?;
-        Ok(query)
+        cursor.closed(query)
     }
 
     /// Expressions with commas between them.

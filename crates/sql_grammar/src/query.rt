@@ -60,14 +60,13 @@ impl<'a> Cursor<'a> {
     }
 
     /// ORDER BY and its keys.
-    #[tactic(auto, using(crate::proofs::Queries::order_is))]
+    #[tactic(auto, using(crate::proofs::Sequenced::order_is))]
     pub fn order(&mut self) -> Result<List<OrderTree>, Fault>
         ensures given { spec.Reads result (spec.reading n.Order self.old) self.new }
         ensures fewer { IfOk result (λ _. length self.new ≤ length self.old) }
     {
         if self.sees(Sort::Order) {
-            self.past(Sort::Order)?;
-            self.past(Sort::By)?;
+            self.past_both(Sort::Order, Sort::By)?;
             self.keys()
         } else {
             Ok(List::new(self.alloc()))
@@ -111,14 +110,13 @@ impl<'a> Cursor<'a> {
         }
     }
 
-    #[tactic(auto, using(crate::proofs::Queries::groups_is))]
+    #[tactic(auto, using(crate::proofs::Sequenced::groups_is))]
     pub fn groups(&mut self) -> Result<List<ColRef>, Fault>
         ensures given { spec.Reads result (spec.reading n.Groups self.old) self.new }
         ensures fewer { IfOk result (λ _. length self.new ≤ length self.old) }
     {
         if self.sees(Sort::Group) {
-            self.past(Sort::Group)?;
-            self.past(Sort::By)?;
+            self.past_both(Sort::Group, Sort::By)?;
             self.columns()
         } else {
             Ok(List::new(self.alloc()))

@@ -6,7 +6,7 @@ ghost use Rattle.sql_grammar.specs.Sorts as spec;
 use sql_lexer::{Token, TokenKind, is_word};
 
 /// What the grammar tells tokens apart by: each word that it names, each symbol, and the rest by what they are.
-#[derive(Clone, Copy, Debug, PartialEq, Eq)]
+#[derive(Clone, Copy, PartialEq, Eq)]
 pub enum Sort {
     /// A word that the grammar doesn't name, which is a name.
     Plain,

@@ -1,17 +1,18 @@
 //! AND, OR and NOT over predicates.
 
-ghost use Rattle.std.specs.Prelude.{◌≡◌, ◌<◌, ◌≤◌, [], ◌∷◌, length, IfOk};
+ghost use Rattle.std.specs.Prelude.{◌≡◌, ◌<◌, ◌≤◌, length, IfOk};
 ghost use Rattle.sql_grammar.specs.Building as b;
 ghost use Rattle.sql_grammar.specs.Cursors as spec;
-ghost use Rattle.sql_grammar.specs.Lists.{all_of, more_listed as more_read};
+ghost use Rattle.sql_grammar.specs.Lists.{more_listed as more_read};
 ghost use Rattle.sql_grammar.specs.Nests.{ReadsUpTo};
 ghost use Rattle.sql_grammar.specs.Symbols as n;
 ghost use Rattle.sql_grammar.specs.declared.sort.Sort.TheVariants as s;
 ghost use Rattle.sql_tree.specs.declared.expression.ExprBody.TheVariants.{Logic};
 
+use crate::words::words;
 use null_logic::Operator;
 use perm_values::{Boxed, List, NoMemory};
-use sql_grammar::{Cursor, Fault, Sort, more_listed, node, repeated};
+use sql_grammar::{Cursor, Fault, Sort, more_listed, node};
 use sql_tree::{ExprBody, ExprTree};
 use std::alloc::Global;
 
@@ -42,17 +43,6 @@ fn connected(
     node(alloc, at, ExprBody::Logic { op, parts })
 }
 
-fn nots(cursor: &mut Cursor<'_>) -> Result<List<()>, Fault>
-    ensures given { spec.Reads result (all_of (s.Not ∷ []) (spec.past s.Not) cursor.old) cursor.new }
-    ensures fewer { IfOk result (λ _. length cursor.new ≤ length cursor.old) }
-{
-    repeated(
-        cursor,
-        &[Sort::Not],
-        |cursor: &mut Cursor<'_>| cursor.past(Sort::Not),
-    )
-}
-
 /// AND, OR and NOT, over what reads a predicate where no more than `most` tokens are left.
 #[derive(Clone, Copy)]
 pub struct Connectives<T> {
@@ -61,7 +51,6 @@ pub struct Connectives<T> {
 }
 
 impl<T: Fn(&mut Cursor<'_>) -> Result<Boxed<ExprTree>, Fault>> Connectives<T> {
-    #[tactic(auto, using(crate::proofs::Parts::test_takes))]
     fn part(&self, cursor: &mut Cursor<'_>) -> Result<Boxed<ExprTree>, Fault>
         requires sound { ReadsUpTo self.now.most n.Test (T.pre self.now.test) (T.post self.now.test) }
         requires below { length cursor.old ≤ self.now.most }
@@ -79,9 +68,12 @@ impl<T: Fn(&mut Cursor<'_>) -> Result<Boxed<ExprTree>, Fault>> Connectives<T> {
         ensures fewer { IfOk result (λ _. length cursor.new < length cursor.old) }
     {
         let at = cursor.place();
-        let nots = nots(cursor)?;
+        let nots = words(cursor, Sort::Not)?;
         let part = self.part(cursor)?;
-        Ok(negated(cursor.alloc(), at, nots.len() as u64, part)?)
+        match negated(cursor.alloc(), at, nots.len() as u64, part) {
+            Ok(tree) => Ok(tree),
+            Err(NoMemory) => Err(Fault::NoMemory),
+        }
     }
 
     /// A part, and those that stand behind it, each behind AND.
@@ -116,7 +108,10 @@ impl<T: Fn(&mut Cursor<'_>) -> Result<Boxed<ExprTree>, Fault>> Connectives<T> {
         }
         let at = first.get().at;
         let parts = self.conjuncts(cursor, first)?;
-        Ok(connected(cursor.alloc(), at, Operator::And, parts)?)
+        match connected(cursor.alloc(), at, Operator::And, parts) {
+            Ok(tree) => Ok(tree),
+            Err(NoMemory) => Err(Fault::NoMemory),
+        }
     }
 
     /// A part, and those that stand behind it, each behind OR.
@@ -152,6 +147,9 @@ impl<T: Fn(&mut Cursor<'_>) -> Result<Boxed<ExprTree>, Fault>> Connectives<T> {
         }
         let at = first.get().at;
         let parts = self.disjuncts(cursor, first)?;
-        Ok(connected(cursor.alloc(), at, Operator::Or, parts)?)
+        match connected(cursor.alloc(), at, Operator::Or, parts) {
+            Ok(tree) => Ok(tree),
+            Err(NoMemory) => Err(Fault::NoMemory),
+        }
     }
 }

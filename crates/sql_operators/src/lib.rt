@@ -4,6 +4,7 @@
 
 mod connectives;
 mod sums;
+mod words;
 
 pub use connectives::Connectives;
 pub use sums::Sums;

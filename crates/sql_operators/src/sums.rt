@@ -8,6 +8,7 @@ ghost use Rattle.sql_grammar.specs.Nests.{ReadsUpTo};
 ghost use Rattle.sql_grammar.specs.Symbols as n;
 ghost use Rattle.sql_grammar.specs.declared.sort.Sort.TheVariants as s;
 
+use crate::words::words;
 use null_logic::Arith;
 use perm_values::{Boxed, List, NoMemory};
 use sql_grammar::{Cursor, Fault, Sort, node, repeated, same_sort, sort_of};
@@ -62,17 +63,6 @@ fn signed(
     node(alloc, at, ExprBody::Signs { count, part })
 }
 
-fn minuses(cursor: &mut Cursor<'_>) -> Result<List<()>, Fault>
-    ensures given { spec.Reads result (all_of (s.Minus ∷ []) (spec.past s.Minus) cursor.old) cursor.new }
-    ensures fewer { IfOk result (λ _. length cursor.new ≤ length cursor.old) }
-{
-    repeated(
-        cursor,
-        &[Sort::Minus],
-        |cursor: &mut Cursor<'_>| cursor.past(Sort::Minus),
-    )
-}
-
 /// Arithmetic, over what reads a primary where no more than `most` tokens are left.
 #[derive(Clone, Copy)]
 pub struct Sums<P> {
@@ -81,7 +71,6 @@ pub struct Sums<P> {
 }
 
 impl<P: Fn(&mut Cursor<'_>) -> Result<Boxed<ExprTree>, Fault>> Sums<P> {
-    #[tactic(auto, using(crate::proofs::Parts::primary_takes))]
     fn part(&self, cursor: &mut Cursor<'_>) -> Result<Boxed<ExprTree>, Fault>
         requires sound { ReadsUpTo self.now.most n.Primary (P.pre self.now.primary) (P.post self.now.primary) }
         requires below { length cursor.old ≤ self.now.most }
@@ -99,9 +88,12 @@ impl<P: Fn(&mut Cursor<'_>) -> Result<Boxed<ExprTree>, Fault>> Sums<P> {
         ensures fewer { IfOk result (λ _. length cursor.new < length cursor.old) }
     {
         let at = cursor.place();
-        let minuses = minuses(cursor)?;
+        let minuses = words(cursor, Sort::Minus)?;
         let part = self.part(cursor)?;
-        Ok(signed(cursor.alloc(), at, minuses.len() as u64, part)?)
+        match signed(cursor.alloc(), at, minuses.len() as u64, part) {
+            Ok(tree) => Ok(tree),
+            Err(NoMemory) => Err(Fault::NoMemory),
+        }
     }
 
     #[tactic(auto, using(sql_grammar::proofs::Steps::product_step_is))]
@@ -142,7 +134,10 @@ impl<P: Fn(&mut Cursor<'_>) -> Result<Boxed<ExprTree>, Fault>> Sums<P> {
     {
         let first = self.sign(cursor)?;
         let steps = self.product_steps(cursor)?;
-        Ok(chain(cursor.alloc(), first, steps)?)
+        match chain(cursor.alloc(), first, steps) {
+            Ok(tree) => Ok(tree),
+            Err(NoMemory) => Err(Fault::NoMemory),
+        }
     }
 
     #[tactic(auto, using(sql_grammar::proofs::Steps::sum_step_is))]
@@ -183,6 +178,9 @@ impl<P: Fn(&mut Cursor<'_>) -> Result<Boxed<ExprTree>, Fault>> Sums<P> {
     {
         let first = self.product(cursor)?;
         let steps = self.sum_steps(cursor)?;
-        Ok(chain(cursor.alloc(), first, steps)?)
+        match chain(cursor.alloc(), first, steps) {
+            Ok(tree) => Ok(tree),
+            Err(NoMemory) => Err(Fault::NoMemory),
+        }
     }
 }

@@ -10,7 +10,7 @@ ghost use Rattle.sql_grammar.specs.declared.sort.Sort.TheVariants as s;
 
 use crate::tail::Tail;
 use null_logic::{Compare, Truth};
-use perm_values::Boxed;
+use perm_values::{Boxed, NoMemory};
 use sql_grammar::{Cursor, Fault, Nest, Sort, same_sort, sort_of};
 use sql_lexer::Token;
 use sql_tree::{ExprTree, QueryTree};
@@ -95,7 +95,6 @@ impl<
     F: Fn(&mut Cursor<'_>) -> Result<Boxed<ExprTree>, Fault>,
     G: Fn(&mut Cursor<'_>) -> Result<Boxed<QueryTree>, Fault>,
 > Predicates<S, F, G> {
-    #[tactic(auto, using(crate::proofs::Comparing::sum_takes))]
     fn operand(&self, cursor: &mut Cursor<'_>) -> Result<Boxed<ExprTree>, Fault>
         requires sums { ReadsUpTo self.now.nest.most n.Sum (S.pre self.now.sum) (S.post self.now.sum) }
         requires below { length cursor.old ≤ self.now.nest.most }
@@ -162,7 +161,10 @@ impl<
             return Ok(part);
         }
         let (negated, tail) = self.is_test(cursor)?;
-        Ok(tail.on(cursor.alloc(), negated, part)?)
+        match tail.on(cursor.alloc(), negated, part) {
+            Ok(tree) => Ok(tree),
+            Err(NoMemory) => Err(Fault::NoMemory),
+        }
     }
 
     fn quantified(&self, cursor: &mut Cursor<'_>, op: Compare) -> Result<Tail, Fault>
@@ -216,7 +218,10 @@ impl<
             return Ok(part);
         }
         let tail = self.comparison(cursor)?;
-        Ok(tail.on(cursor.alloc(), false, part)?)
+        match tail.on(cursor.alloc(), false, part) {
+            Ok(tree) => Ok(tree),
+            Err(NoMemory) => Err(Fault::NoMemory),
+        }
     }
 
     fn among(&self, cursor: &mut Cursor<'_>) -> Result<Tail, Fault>
@@ -241,8 +246,13 @@ impl<
     {
         cursor.past(Sort::Opening)?;
         let tail = self.among(cursor)?;
-        cursor.past(Sort::Closing)?;
-        Ok(tail)
+        match cursor.past(Sort::Closing) {
+            Ok(()) => Ok(tail),
+            Err(fault) => {
+                drop(tail);
+                Err(fault)
+            }
+        }
     }
 
     fn like(&self, cursor: &mut Cursor<'_>) -> Result<Tail, Fault>
@@ -309,6 +319,9 @@ impl<
         }
         let negated = cursor.has(Sort::Not)?;
         let tail = self.range(cursor)?;
-        Ok(tail.on(cursor.alloc(), negated, part)?)
+        match tail.on(cursor.alloc(), negated, part) {
+            Ok(tree) => Ok(tree),
+            Err(NoMemory) => Err(Fault::NoMemory),
+        }
     }
 }

@@ -72,7 +72,10 @@ fn named(cursor: &mut Cursor<'_>, first: &Token<'_>) -> Result<ExprBody, Fault>
     ensures fewer { IfOk result (λ _. length cursor.new ≤ length cursor.old) }
 {
     let second = cursor.qualified()?;
-    Ok(column(cursor.alloc(), first, second)?)
+    match column(cursor.alloc(), first, second) {
+        Ok(body) => Ok(body),
+        Err(NoMemory) => Err(Fault::NoMemory),
+    }
 }
 
 fn count_rows(cursor: &mut Cursor<'_>) -> Result<ExprBody, Fault>

@@ -72,7 +72,10 @@ pub fn literal(cursor: &mut Cursor<'_>) -> Result<ExprBody, Fault>
     ensures fewer { IfOk result (λ _. length cursor.new < length cursor.old) }
 {
     let token = cursor.one(&LITERALS)?;
-    Ok(literal_of(cursor.alloc(), token)?)
+    match literal_of(cursor.alloc(), token) {
+        Ok(body) => Ok(body),
+        Err(NoMemory) => Err(Fault::NoMemory),
+    }
 }
 
 #[tactic(auto, using(sql_grammar::proofs::Steps::cast_kind_is))]
@@ -242,6 +245,9 @@ impl<
     {
         let at = cursor.place();
         let body = self.body(cursor)?;
-        Ok(node(cursor.alloc(), at, body)?)
+        match node(cursor.alloc(), at, body) {
+            Ok(tree) => Ok(tree),
+            Err(NoMemory) => Err(Fault::NoMemory),
+        }
     }
 }

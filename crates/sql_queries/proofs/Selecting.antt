@@ -8,7 +8,7 @@ use Rattle.sql_grammar.specs.Pieces as piece
 use Rattle.sql_grammar.specs.Symbols as n
 use Rattle.sql_grammar.specs.declared.sort.Sort.TheVariants as s
 use Rattle.sql_grammar.proofs.Queries as queries
-use Rattle.sql_queries.specs.Selects.{clauses_of, clauses, core_of}
+use Rattle.sql_queries.specs.Selects.{clauses_of, clauses, core_of, head}
 use Rattle.sql_tree.specs.declared.expression.ExprTree.{ExprTree}
 use Rattle.sql_tree.specs.declared.name.ColRef.{ColRef}
 use Rattle.sql_tree.specs.declared.query.SelectItem.{SelectItem}
@@ -64,13 +64,33 @@ by_provenance : (at : ℕ) (o : Outcome Token (Option ℕ))
 by_provenance at (Stopped rest) = refl
 by_provenance at (Taken p c) = by_distinct at p (piece.has s.Distinct c)
 
-pub core_is : (tokens : List Token) → reading n.CoreOf tokens
+by_parts : (tokens : List Token) → reading n.CoreOf tokens
     ≡ and_then (past s.Select tokens) (λ _ a. and_then (piece.provenance a) (λ p c. and_then (piece.has s.Distinct c) (λ d e.
     and_then (piece.items e) (λ items rest. mapped (core_of (place tokens) p d items) (clauses rest)))))
-core_is tokens = queries.core_is tokens ∙ by_select (past s.Select tokens) where
+by_parts tokens = queries.core_is tokens ∙ by_select (past s.Select tokens) where
   by_select : (o : Outcome Token Word)
       → and_then o (λ _ a. and_then (piece.provenance a) (λ p c. and_then (piece.has s.Distinct c) (λ d e. mapped (λ v. piece.core_of (place tokens) p d v) (piece.items_on e))))
       ≡ and_then o (λ _ a. and_then (piece.provenance a) (λ p c. and_then (piece.has s.Distinct c) (λ d e.
       and_then (piece.items e) (λ items rest. mapped (core_of (place tokens) p d items) (clauses rest)))))
   by_select (Stopped rest) = refl
   by_select (Taken w a) = by_provenance (place tokens) (piece.provenance a)
+
+-- the words before the items are read at once
+at_once : {X P D : Type 0} (o : Outcome Token Word) (k : List Token → Outcome Token P) (l : List Token → Outcome Token D) (m : P → D → List Token → Outcome Token X)
+    → and_then o (λ _ a. and_then (k a) (λ p c. and_then (l c) (λ d e. m p d e)))
+    ≡ and_then (and_then o (λ _ a. and_then (k a) (λ p c. mapped (λ d. (p, d)) (l c)))) (λ (v : P × D). λ e. m v.0 v.1 e)
+at_once (Stopped rest) k l m = refl
+at_once {P = P} {D = D} (Taken w a) k l m = by_first (k a) where
+  by_second : (p : P) (o : Outcome Token D) → and_then o (λ d e. m p d e) ≡ and_then (mapped (λ d. (p, d)) o) (λ (v : P × D). λ e. m v.0 v.1 e)
+  by_second p (Stopped rest) = refl
+  by_second p (Taken d rest) = refl
+
+  by_first : (o : Outcome Token P) → and_then o (λ p c. and_then (l c) (λ d e. m p d e)) ≡ and_then (and_then o (λ p c. mapped (λ d. (p, d)) (l c))) (λ (v : P × D). λ e. m v.0 v.1 e)
+  by_first (Stopped rest) = refl
+  by_first (Taken p c) = by_second p (l c)
+
+pub core_is : (tokens : List Token) → reading n.CoreOf tokens
+    ≡ and_then (head tokens) (λ v e. and_then (piece.items e) (λ items rest. mapped (core_of (place tokens) v.0 v.1 items) (clauses rest)))
+core_is tokens =
+    by_parts tokens
+    ∙ at_once (past s.Select tokens) piece.provenance (piece.has s.Distinct) (λ p d e. and_then (piece.items e) (λ items rest. mapped (core_of (place tokens) p d items) (clauses rest)))

@@ -3,8 +3,10 @@ use Rattle.std.specs.Prelude.{ℕ, Bool, cond, List, [], ◌∷◌, Option, Some
 use Rattle.sql_lexer.specs.declared.token.Token.{Token}
 use Rattle.sql_grammar.specs.Cursors.{reading, sees, past}
 use Rattle.sql_grammar.specs.Descent.{Outcome, Taken, and_then, mapped}
+use Rattle.sql_grammar.specs.Pieces as piece
 use Rattle.sql_grammar.specs.Symbols as n
 use Rattle.sql_grammar.specs.declared.sort.Sort.{Sort}
+use Rattle.sql_grammar.specs.declared.sort.Sort.TheVariants as s
 use Rattle.sql_queries.specs.declared.select.Clauses.{Clauses}
 use Rattle.sql_tree.specs.declared.expression.ExprTree.{ExprTree}
 use Rattle.sql_tree.specs.declared.name.ColRef.{ColRef}
@@ -12,6 +14,10 @@ use Rattle.sql_tree.specs.declared.query.Core.{Core, roll-Core}
 use Rattle.sql_tree.specs.declared.query.SelectItem.{SelectItem}
 use Rattle.sql_tree.specs.declared.query.SelectItem.TheVariants.{Value}
 use Rattle.sql_tree.specs.declared.source.FromTree.{FromTree}
+
+-- the words before the items
+abbrev pub head : List Token → Outcome Token (Option ℕ × Bool)
+head tokens = and_then (past s.Select tokens) (λ _ a. and_then (piece.provenance a) (λ p c. mapped (λ d. (p, d)) (piece.has s.Distinct c)))
 
 -- an expression of the SELECT list with the name behind it
 abbrev pub named : ExprTree → List Token → Outcome Token SelectItem

@@ -6,6 +6,7 @@ ghost use Rattle.sql_grammar.specs.Cursors as spec;
 ghost use Rattle.sql_grammar.specs.Nests.{Nests};
 ghost use Rattle.sql_grammar.specs.Pieces as piece;
 ghost use Rattle.sql_grammar.specs.Symbols as n;
+ghost use Rattle.sql_queries.specs.Sources as spelled;
 
 use crate::grammar::Grammar;
 use perm_values::{Boxed, List};
@@ -15,10 +16,41 @@ use sql_tree::{
     ExprTree, FromItem, FromSource, FromTree, JoinStep, JoinWord, Name, QueryTree, ScopeMark,
 };
 
+/// The name of an inner query, behind the parenthesis that closes it.
+fn name_behind(cursor: &mut Cursor<'_>) -> Result<Name, Fault>
+    ensures given { spec.Reads result (spelled.name_behind cursor.old) cursor.new }
+    ensures fewer { IfOk result (λ _. length cursor.new < length cursor.old) }
+{
+    cursor.past(Sort::Closing)?;
+    cursor.option(Sort::As)?;
+    cursor.name()
+}
+
+/// An item of FROM, which was read before, with the mark behind it.
+fn marked(
+    cursor: &mut Cursor<'_>,
+    at: usize,
+    aliased: (FromSource, Option<Name>),
+) -> Result<Boxed<FromItem>, Fault>
+    ensures given { spec.Reads result (spelled.marked at aliased cursor.old) cursor.new }
+    ensures fewer { IfOk result (λ _. length cursor.new ≤ length cursor.old) }
+{
+    let mark = cursor.mark()?;
+    let (source, alias) = aliased;
+    let item = FromItem {
+        at,
+        source,
+        alias,
+        mark,
+    };
+    Ok(Boxed::new(cursor.alloc(), item)?)
+}
+
 impl<
     F: Fn(&mut Cursor<'_>) -> Result<Boxed<ExprTree>, Fault>,
     G: Fn(&mut Cursor<'_>) -> Result<Boxed<QueryTree>, Fault>,
 > Grammar<F, G> {
+    #[tactic(auto, using(crate::proofs::Parts::inner_source_is))]
     fn inner_source(&self, cursor: &mut Cursor<'_>) -> Result<(FromSource, Option<Name>), Fault>
         requires sound { Nests self.now.nest.most (F.pre self.now.nest.expr) (G.pre self.now.nest.query) (F.post self.now.nest.expr) (G.post self.now.nest.query) }
         requires below { length cursor.old ≤ self.now.nest.most }
@@ -27,9 +59,7 @@ impl<
     {
         cursor.past(Sort::Opening)?;
         let query = self.nest.nested_query(cursor)?;
-        cursor.past(Sort::Closing)?;
-        cursor.option(Sort::As)?;
-        let name = cursor.name()?;
+        let name = name_behind(cursor)?;
         Ok((FromSource::Inner(query), Some(name)))
     }
 
@@ -47,7 +77,7 @@ impl<
         }
     }
 
-    #[tactic(auto, using(sql_grammar::proofs::Steps::reading_is))]
+    #[tactic(auto, using(crate::proofs::Parts::source_is))]
     fn from_item(&self, cursor: &mut Cursor<'_>) -> Result<Boxed<FromItem>, Fault>
         requires sound { Nests self.now.nest.most (F.pre self.now.nest.expr) (G.pre self.now.nest.query) (F.post self.now.nest.expr) (G.post self.now.nest.query) }
         requires below { length cursor.old ≤ self.now.nest.most }
@@ -55,17 +85,11 @@ impl<
         ensures fewer { IfOk result (λ _. length cursor.new < length cursor.old) }
     {
         let at = cursor.place();
-        let (source, alias) = self.aliased(cursor)?;
-        let mark = cursor.mark()?;
-        let item = FromItem {
-            at,
-            source,
-            alias,
-            mark,
-        };
-        Ok(Boxed::new(cursor.alloc(), item)?)
+        let aliased = self.aliased(cursor)?;
+        marked(cursor, at, aliased)
     }
 
+    #[tactic(auto, using(crate::proofs::Parts::joined_on_is))]
     fn joined_on(&self, cursor: &mut Cursor<'_>) -> Result<JoinStep, Fault>
         requires sound { Nests self.now.nest.most (F.pre self.now.nest.expr) (G.pre self.now.nest.query) (F.post self.now.nest.expr) (G.post self.now.nest.query) }
         requires below { length cursor.old ≤ self.now.nest.most }
@@ -83,14 +107,14 @@ impl<
         })
     }
 
+    #[tactic(auto, using(crate::proofs::Parts::crossed_is))]
     fn crossed(&self, cursor: &mut Cursor<'_>) -> Result<JoinStep, Fault>
         requires sound { Nests self.now.nest.most (F.pre self.now.nest.expr) (G.pre self.now.nest.query) (F.post self.now.nest.expr) (G.post self.now.nest.query) }
         requires below { length cursor.old ≤ self.now.nest.most }
         ensures given { spec.Reads result (piece.crossed cursor.old) cursor.new }
         ensures fewer { IfOk result (λ _. length cursor.new < length cursor.old) }
     {
-        cursor.past(Sort::Cross)?;
-        cursor.past(Sort::Join)?;
+        cursor.past_both(Sort::Cross, Sort::Join)?;
         let item = self.from_item(cursor)?;
         Ok(JoinStep {
             word: JoinWord::Cross,

@@ -56,6 +56,17 @@ impl Clauses {
     }
 }
 
+/// The words before the items: the offset of PROVENANCE, if it stands there, and whether DISTINCT does.
+fn head(cursor: &mut Cursor<'_>) -> Result<(Option<usize>, bool), Fault>
+    ensures given { spec.Reads result (spelled.head cursor.old) cursor.new }
+    ensures fewer { IfOk result (λ _. length cursor.new < length cursor.old) }
+{
+    cursor.past(Sort::Select)?;
+    let provenance = cursor.provenance()?;
+    let distinct = cursor.has(Sort::Distinct)?;
+    Ok((provenance, distinct))
+}
+
 /// An expression of the SELECT list, which was read before, with the name behind it.
 fn named(cursor: &mut Cursor<'_>, expr: Boxed<ExprTree>) -> Result<SelectItem, Fault>
     ensures given { spec.Reads result (spelled.named expr cursor.old) cursor.new }
@@ -174,9 +185,7 @@ impl<
         ensures fewer { IfOk result (λ _. length cursor.new < length cursor.old) }
     {
         let at = cursor.place();
-        cursor.past(Sort::Select)?;
-        let provenance = cursor.provenance()?;
-        let distinct = cursor.has(Sort::Distinct)?;
+        let (provenance, distinct) = head(cursor)?;
         let items = self.items(cursor)?;
         let clauses = self.clauses(cursor)?;
         let core = clauses.core(at, provenance, distinct, items);

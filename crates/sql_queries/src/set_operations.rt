@@ -1,6 +1,6 @@
 //! Queries and their set operations (ISO/IEC 9075-2, 'query expression').
 
-ghost use Rattle.std.specs.Prelude.{◌≡◌, ◌<◌, ◌≤◌, length, IfOk};
+ghost use Rattle.std.specs.Prelude.{◌≡◌, ◌<◌, ◌≤◌, Ok, length, IfOk};
 ghost use Rattle.sql_grammar.specs.Building as b;
 ghost use Rattle.sql_grammar.specs.Cursors as spec;
 ghost use Rattle.sql_grammar.specs.Nests.{Nests};
@@ -39,6 +39,18 @@ fn set_chain(
     Boxed::new(alloc, SetTree::Chain { first, steps })
 }
 
+/// A result with a value that was there before. It is generic, so that what is let go where the result is wanting isn't taken
+/// apart in each function.
+fn with<A: Drop, B: Drop>(first: Result<A, NoMemory>, second: B) -> Result<(A, B), NoMemory>
+    ensures first_was { IfOk result (λ pair. first ≡ Ok pair.0) }
+    ensures second_was { IfOk result (λ pair. pair.1 ≡ second) }
+{
+    match first {
+        Ok(first) => Ok((first, second)),
+        Err(error) => Err(error),
+    }
+}
+
 fn query_tree(
     alloc: Global,
     at: usize,
@@ -50,9 +62,9 @@ fn query_tree(
 ) -> Result<Boxed<QueryTree>, NoMemory>
     ensures { IfOk result (λ tree. tree ≡ b.query_rest rest at first) }
 {
-    let (intersections, (unions, (order, limit))) = rest;
-    let term = set_chain(alloc, first, intersections)?;
-    let body = set_chain(alloc, term, unions)?;
+    let (intersections, behind) = rest;
+    let (term, (unions, ends)) = with(set_chain(alloc, first, intersections), behind)?;
+    let (body, (order, limit)) = with(set_chain(alloc, term, unions), ends)?;
     let query = QueryTree {
         at,
         body: body.into_inner(),
@@ -66,6 +78,7 @@ impl<
     F: Fn(&mut Cursor<'_>) -> Result<Boxed<ExprTree>, Fault>,
     G: Fn(&mut Cursor<'_>) -> Result<Boxed<QueryTree>, Fault>,
 > Grammar<F, G> {
+    #[tactic(auto, using(crate::proofs::Parts::parenthesised_is))]
     fn parenthesised(&self, cursor: &mut Cursor<'_>) -> Result<Boxed<SetTree>, Fault>
         requires sound { Nests self.now.nest.most (F.pre self.now.nest.expr) (G.pre self.now.nest.query) (F.post self.now.nest.expr) (G.post self.now.nest.query) }
         requires below { length cursor.old ≤ self.now.nest.most }
@@ -74,8 +87,8 @@ impl<
     {
         cursor.past(Sort::Opening)?;
         let query = self.nest.nested_query(cursor)?;
-        cursor.past(Sort::Closing)?;
-        Ok(Boxed::new(cursor.alloc(), SetTree::Paren(query))?)
+        let tree = Boxed::new(cursor.alloc(), SetTree::Paren(query))?;
+        cursor.closed(tree)
     }
 
     #[tactic(auto, using(sql_grammar::proofs::Queries::operand_is))]

@@ -3,6 +3,7 @@
 
 mod copy_tree;
 mod names;
+mod placed;
 mod statements;
 mod trees;
 

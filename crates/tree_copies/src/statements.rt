@@ -1,7 +1,10 @@
 //! Copies of statements.
+ghost use Rattle.std.specs.Prelude.{◌≡◌, IfOk};
+ghost use Rattle.sql_tree.specs.declared.statement.StatementBody.TheVariants as s;
+
 use crate::copy_tree::CopyTree;
-use perm_values::{Copyable, NoMemory};
-use sql_tree::{ColumnDef, Script, Statement, StatementBody, ValuesRow};
+use perm_values::{Chars, Copyable, List, NoMemory, both, three};
+use sql_tree::{ColumnDef, ExprTree, Name, QueryTree, Script, Statement, StatementBody, ValuesRow};
 use std::alloc::Global;
 
 impl CopyTree for Script {
@@ -24,37 +27,21 @@ impl CopyTree for Statement {
 impl CopyTree for StatementBody {
     fn copy_tree(&self, alloc: Global) -> Result<StatementBody, NoMemory> {
         match self {
-            StatementBody::CreateTable { table, columns } => Ok(StatementBody::CreateTable {
-                table: table.copy_tree(alloc)?,
-                columns: columns.copy_tree(alloc)?,
-            }),
-            StatementBody::CreateTableAs { table, query } => Ok(StatementBody::CreateTableAs {
-                table: table.copy_tree(alloc)?,
-                query: query.copy_tree(alloc)?,
-            }),
-            StatementBody::CreateView { view, query } => Ok(StatementBody::CreateView {
-                view: view.copy_tree(alloc)?,
-                query: query.copy_tree(alloc)?,
-            }),
+            StatementBody::CreateTable { table, columns } => {
+                copy_create_table(alloc, table, columns)
+            }
+            StatementBody::CreateTableAs { table, query } => {
+                copy_create_table_as(alloc, table, query)
+            }
+            StatementBody::CreateView { view, query } => copy_create_view(alloc, view, query),
             StatementBody::Copy {
                 table,
                 file,
                 header,
                 mark,
-            } => Ok(StatementBody::Copy {
-                table: table.copy_tree(alloc)?,
-                file: file.copy(alloc)?,
-                header: *header,
-                mark: mark.copy(alloc)?,
-            }),
-            StatementBody::Insert { table, rows } => Ok(StatementBody::Insert {
-                table: table.copy_tree(alloc)?,
-                rows: rows.copy_tree(alloc)?,
-            }),
-            StatementBody::Delete { table, condition } => Ok(StatementBody::Delete {
-                table: table.copy_tree(alloc)?,
-                condition: condition.copy_tree(alloc)?,
-            }),
+            } => copy_copy(alloc, table, file, *header, mark),
+            StatementBody::Insert { table, rows } => copy_insert(alloc, table, rows),
+            StatementBody::Delete { table, condition } => copy_delete(alloc, table, condition),
             StatementBody::DropTable { table } => Ok(StatementBody::DropTable {
                 table: table.copy_tree(alloc)?,
             }),
@@ -72,6 +59,79 @@ impl CopyTree for StatementBody {
             }),
         }
     }
+}
+
+fn copy_create_table(
+    alloc: Global,
+    table: &Name,
+    columns: &List<ColumnDef>,
+) -> Result<StatementBody, NoMemory>
+    ensures { IfOk result (λ copy. copy ≡ s.CreateTable table.now columns.now) }
+{
+    let (table, columns) = both(table.copy_tree(alloc), columns.copy_tree(alloc))?;
+    Ok(StatementBody::CreateTable { table, columns })
+}
+
+fn copy_create_table_as(
+    alloc: Global,
+    table: &Name,
+    query: &QueryTree,
+) -> Result<StatementBody, NoMemory>
+    ensures { IfOk result (λ copy. copy ≡ s.CreateTableAs table.now query.now) }
+{
+    let (table, query) = both(table.copy_tree(alloc), query.copy_tree(alloc))?;
+    Ok(StatementBody::CreateTableAs { table, query })
+}
+
+fn copy_create_view(
+    alloc: Global,
+    view: &Name,
+    query: &QueryTree,
+) -> Result<StatementBody, NoMemory>
+    ensures { IfOk result (λ copy. copy ≡ s.CreateView view.now query.now) }
+{
+    let (view, query) = both(view.copy_tree(alloc), query.copy_tree(alloc))?;
+    Ok(StatementBody::CreateView { view, query })
+}
+
+fn copy_copy(
+    alloc: Global,
+    table: &Name,
+    file: &Chars,
+    header: bool,
+    mark: &Chars,
+) -> Result<StatementBody, NoMemory>
+    ensures { IfOk result (λ copy. copy ≡ s.Copy table.now file.now header mark.now) }
+{
+    let (table, file, mark) = three(table.copy_tree(alloc), file.copy(alloc), mark.copy(alloc))?;
+    Ok(StatementBody::Copy {
+        table,
+        file,
+        header,
+        mark,
+    })
+}
+
+fn copy_insert(
+    alloc: Global,
+    table: &Name,
+    rows: &List<ValuesRow>,
+) -> Result<StatementBody, NoMemory>
+    ensures { IfOk result (λ copy. copy ≡ s.Insert table.now rows.now) }
+{
+    let (table, rows) = both(table.copy_tree(alloc), rows.copy_tree(alloc))?;
+    Ok(StatementBody::Insert { table, rows })
+}
+
+fn copy_delete(
+    alloc: Global,
+    table: &Name,
+    condition: &Option<ExprTree>,
+) -> Result<StatementBody, NoMemory>
+    ensures { IfOk result (λ copy. copy ≡ s.Delete table.now condition.now) }
+{
+    let (table, condition) = both(table.copy_tree(alloc), condition.copy_tree(alloc))?;
+    Ok(StatementBody::Delete { table, condition })
 }
 
 impl CopyTree for ColumnDef {

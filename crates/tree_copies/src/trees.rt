@@ -2,7 +2,8 @@
 ghost use Rattle.std.specs.Prelude.{◌≡◌, IfOk};
 
 use crate::copy_tree::CopyTree;
-use perm_values::{Boxed, Copyable, List, NoMemory};
+use crate::placed::{add, boxed};
+use perm_values::{Boxed, Copyable, List, NoMemory, both, three};
 use sql_tree::{
     ArmTree, Core, ExprBody, ExprStep, ExprTree, FromItem, FromSource, FromTree, JoinStep,
     QueryTree, SelectItem, SetStep, SetTree,
@@ -101,7 +102,7 @@ fn copy_expr(alloc: Global, expr: &ExprTree) -> Result<ExprTree, NoMemory>
 fn copy_boxed(alloc: Global, part: &Boxed<ExprTree>) -> Result<Boxed<ExprTree>, NoMemory>
     ensures { IfOk result (λ copy. copy ≡ part.now) }
 {
-    Boxed::new(alloc, copy_expr(alloc, part.get())?)
+    boxed(alloc, copy_expr(alloc, part.get()))
 }
 
 #[cycle(copy_tree)]
@@ -112,10 +113,7 @@ fn copy_optional(
     ensures { IfOk result (λ copy. copy ≡ part.now) }
 {
     match part {
-        Some(part) => {
-            let copy = copy_expr(alloc, part.get())?;
-            Ok(Some(Boxed::new(alloc, copy)?))
-        }
+        Some(part) => Ok(Some(boxed(alloc, copy_expr(alloc, part.get()))?)),
         None => Ok(None),
     }
 }
@@ -126,7 +124,7 @@ fn copy_parts(alloc: Global, parts: &[ExprTree]) -> Result<List<ExprTree>, NoMem
 {
     let mut copy = List::with_room(alloc, parts.len())?;
     for part in parts {
-        copy.push(copy_expr(alloc, part)?)?;
+        add(&mut copy, copy_expr(alloc, part))?;
     }
     Ok(copy)
 }
@@ -147,7 +145,7 @@ fn copy_steps(alloc: Global, steps: &[ExprStep]) -> Result<List<ExprStep>, NoMem
 {
     let mut copy = List::with_room(alloc, steps.len())?;
     for step in steps {
-        copy.push(copy_step(alloc, step)?)?;
+        add(&mut copy, copy_step(alloc, step))?;
     }
     Ok(copy)
 }
@@ -156,10 +154,10 @@ fn copy_steps(alloc: Global, steps: &[ExprStep]) -> Result<List<ExprStep>, NoMem
 fn copy_arm(alloc: Global, arm: &ArmTree) -> Result<ArmTree, NoMemory>
     ensures { IfOk result (λ copy. copy ≡ arm.now) }
 {
-    Ok(ArmTree {
-        condition: copy_expr(alloc, &arm.condition)?,
-        value: copy_expr(alloc, &arm.value)?,
-    })
+    let condition = copy_expr(alloc, &arm.condition);
+    let value = copy_expr(alloc, &arm.value);
+    let (condition, value) = both(condition, value)?;
+    Ok(ArmTree { condition, value })
 }
 
 #[cycle(copy_tree)]
@@ -168,7 +166,7 @@ fn copy_arms(alloc: Global, arms: &[ArmTree]) -> Result<List<ArmTree>, NoMemory>
 {
     let mut copy = List::with_room(alloc, arms.len())?;
     for arm in arms {
-        copy.push(copy_arm(alloc, arm)?)?;
+        add(&mut copy, copy_arm(alloc, arm))?;
     }
     Ok(copy)
 }
@@ -197,64 +195,85 @@ fn copy_body(alloc: Global, body: &ExprBody) -> Result<ExprBody, NoMemory>
             op: *op,
             parts: copy_parts(alloc, parts.as_slice())?,
         }),
-        ExprBody::Chain { first, steps } => Ok(ExprBody::Chain {
-            first: copy_boxed(alloc, first)?,
-            steps: copy_steps(alloc, steps.as_slice())?,
-        }),
-        ExprBody::Compared { op, first, second } => Ok(ExprBody::Compared {
-            op: *op,
-            first: copy_boxed(alloc, first)?,
-            second: copy_boxed(alloc, second)?,
-        }),
+        ExprBody::Chain { first, steps } => {
+            let first = copy_boxed(alloc, first);
+            let (first, steps) = both(first, copy_steps(alloc, steps.as_slice()))?;
+            Ok(ExprBody::Chain { first, steps })
+        }
+        ExprBody::Compared { op, first, second } => {
+            let (first, second) = both(copy_boxed(alloc, first), copy_boxed(alloc, second))?;
+            Ok(ExprBody::Compared {
+                op: *op,
+                first,
+                second,
+            })
+        }
         ExprBody::Like {
             negated,
             text,
             pattern,
-        } => Ok(ExprBody::Like {
-            negated: *negated,
-            text: copy_boxed(alloc, text)?,
-            pattern: copy_boxed(alloc, pattern)?,
-        }),
+        } => {
+            let (text, pattern) = both(copy_boxed(alloc, text), copy_boxed(alloc, pattern))?;
+            Ok(ExprBody::Like {
+                negated: *negated,
+                text,
+                pattern,
+            })
+        }
         ExprBody::Between {
             negated,
             part,
             low,
             high,
-        } => Ok(ExprBody::Between {
-            negated: *negated,
-            part: copy_boxed(alloc, part)?,
-            low: copy_boxed(alloc, low)?,
-            high: copy_boxed(alloc, high)?,
-        }),
+        } => {
+            let part = copy_boxed(alloc, part);
+            let (part, low, high) = three(part, copy_boxed(alloc, low), copy_boxed(alloc, high))?;
+            Ok(ExprBody::Between {
+                negated: *negated,
+                part,
+                low,
+                high,
+            })
+        }
         ExprBody::InList {
             negated,
             part,
             list,
-        } => Ok(ExprBody::InList {
-            negated: *negated,
-            part: copy_boxed(alloc, part)?,
-            list: copy_parts(alloc, list.as_slice())?,
-        }),
+        } => {
+            let part = copy_boxed(alloc, part);
+            let (part, list) = both(part, copy_parts(alloc, list.as_slice()))?;
+            Ok(ExprBody::InList {
+                negated: *negated,
+                part,
+                list,
+            })
+        }
         ExprBody::InQuery {
             negated,
             part,
             query,
-        } => Ok(ExprBody::InQuery {
-            negated: *negated,
-            part: copy_boxed(alloc, part)?,
-            query: copy_boxed_query(alloc, query)?,
-        }),
+        } => {
+            let (part, query) = both(copy_boxed(alloc, part), copy_boxed_query(alloc, query))?;
+            Ok(ExprBody::InQuery {
+                negated: *negated,
+                part,
+                query,
+            })
+        }
         ExprBody::Quantified {
             every,
             op,
             part,
             query,
-        } => Ok(ExprBody::Quantified {
-            every: *every,
-            op: *op,
-            part: copy_boxed(alloc, part)?,
-            query: copy_boxed_query(alloc, query)?,
-        }),
+        } => {
+            let (part, query) = both(copy_boxed(alloc, part), copy_boxed_query(alloc, query))?;
+            Ok(ExprBody::Quantified {
+                every: *every,
+                op: *op,
+                part,
+                query,
+            })
+        }
         ExprBody::IsNull { negated, part } => Ok(ExprBody::IsNull {
             negated: *negated,
             part: copy_boxed(alloc, part)?,
@@ -272,22 +291,26 @@ fn copy_body(alloc: Global, body: &ExprBody) -> Result<ExprBody, NoMemory>
             negated,
             first,
             second,
-        } => Ok(ExprBody::IsDistinct {
-            negated: *negated,
-            first: copy_boxed(alloc, first)?,
-            second: copy_boxed(alloc, second)?,
-        }),
-        ExprBody::Case { arms, otherwise } => Ok(ExprBody::Case {
-            arms: copy_arms(alloc, arms.as_slice())?,
-            otherwise: copy_optional(alloc, otherwise)?,
-        }),
+        } => {
+            let (first, second) = both(copy_boxed(alloc, first), copy_boxed(alloc, second))?;
+            Ok(ExprBody::IsDistinct {
+                negated: *negated,
+                first,
+                second,
+            })
+        }
+        ExprBody::Case { arms, otherwise } => {
+            let arms = copy_arms(alloc, arms.as_slice());
+            let (arms, otherwise) = both(arms, copy_optional(alloc, otherwise))?;
+            Ok(ExprBody::Case { arms, otherwise })
+        }
         ExprBody::Coalesce(parts) => {
             Ok(ExprBody::Coalesce(copy_parts(alloc, parts.as_slice())?))
         }
-        ExprBody::NullIf { first, second } => Ok(ExprBody::NullIf {
-            first: copy_boxed(alloc, first)?,
-            second: copy_boxed(alloc, second)?,
-        }),
+        ExprBody::NullIf { first, second } => {
+            let (first, second) = both(copy_boxed(alloc, first), copy_boxed(alloc, second))?;
+            Ok(ExprBody::NullIf { first, second })
+        }
         ExprBody::Aggregate { function, argument } => Ok(ExprBody::Aggregate {
             function: *function,
             argument: copy_optional(alloc, argument)?,
@@ -301,10 +324,11 @@ fn copy_body(alloc: Global, body: &ExprBody) -> Result<ExprBody, NoMemory>
 fn copy_query(alloc: Global, query: &QueryTree) -> Result<QueryTree, NoMemory>
     ensures { IfOk result (λ copy. copy ≡ query.now) }
 {
+    let (body, order) = both(copy_set(alloc, &query.body), query.order.copy_tree(alloc))?;
     Ok(QueryTree {
         at: query.at,
-        body: copy_set(alloc, &query.body)?,
-        order: query.order.copy_tree(alloc)?,
+        body,
+        order,
         limit: query.limit,
     })
 }
@@ -313,7 +337,7 @@ fn copy_query(alloc: Global, query: &QueryTree) -> Result<QueryTree, NoMemory>
 fn copy_boxed_query(alloc: Global, query: &Boxed<QueryTree>) -> Result<Boxed<QueryTree>, NoMemory>
     ensures { IfOk result (λ copy. copy ≡ query.now) }
 {
-    Boxed::new(alloc, copy_query(alloc, query.get())?)
+    boxed(alloc, copy_query(alloc, query.get()))
 }
 
 #[cycle(copy_tree)]
@@ -323,10 +347,12 @@ fn copy_set(alloc: Global, set: &SetTree) -> Result<SetTree, NoMemory>
     match set {
         SetTree::Core(core) => Ok(SetTree::Core(copy_boxed_core(alloc, core)?)),
         SetTree::Paren(query) => Ok(SetTree::Paren(copy_boxed_query(alloc, query)?)),
-        SetTree::Chain { first, steps } => Ok(SetTree::Chain {
-            first: copy_boxed_set(alloc, first)?,
-            steps: copy_set_steps(alloc, steps.as_slice())?,
-        }),
+        SetTree::Chain { first, steps } => {
+            let first = copy_boxed_set(alloc, first);
+            let steps = copy_set_steps(alloc, steps.as_slice());
+            let (first, steps) = both(first, steps)?;
+            Ok(SetTree::Chain { first, steps })
+        }
     }
 }
 
@@ -334,7 +360,7 @@ fn copy_set(alloc: Global, set: &SetTree) -> Result<SetTree, NoMemory>
 fn copy_boxed_set(alloc: Global, set: &Boxed<SetTree>) -> Result<Boxed<SetTree>, NoMemory>
     ensures { IfOk result (λ copy. copy ≡ set.now) }
 {
-    Boxed::new(alloc, copy_set(alloc, set.get())?)
+    boxed(alloc, copy_set(alloc, set.get()))
 }
 
 #[cycle(copy_tree)]
@@ -355,7 +381,7 @@ fn copy_set_steps(alloc: Global, steps: &[SetStep]) -> Result<List<SetStep>, NoM
 {
     let mut copy = List::with_room(alloc, steps.len())?;
     for step in steps {
-        copy.push(copy_set_step(alloc, step)?)?;
+        add(&mut copy, copy_set_step(alloc, step))?;
     }
     Ok(copy)
 }
@@ -364,22 +390,32 @@ fn copy_set_steps(alloc: Global, steps: &[SetStep]) -> Result<List<SetStep>, NoM
 fn copy_boxed_core(alloc: Global, core: &Boxed<Core>) -> Result<Boxed<Core>, NoMemory>
     ensures { IfOk result (λ copy. copy ≡ core.now) }
 {
-    Boxed::new(alloc, copy_core(alloc, core.get())?)
+    boxed(alloc, copy_core(alloc, core.get()))
 }
 
 #[cycle(copy_tree)]
 fn copy_core(alloc: Global, core: &Core) -> Result<Core, NoMemory>
     ensures { IfOk result (λ copy. copy ≡ core.now) }
 {
+    let items = copy_items(alloc, core.items.as_slice());
+    let sources = copy_sources(alloc, core.sources.as_slice());
+    let condition = copy_condition(alloc, &core.condition);
+    let having = copy_condition(alloc, &core.having);
+    let (lists, conditions) = both(
+        three(items, sources, core.groups.copy_tree(alloc)),
+        both(condition, having),
+    )?;
+    let (items, sources, groups) = lists;
+    let (condition, having) = conditions;
     Ok(Core {
         at: core.at,
         provenance: core.provenance,
         distinct: core.distinct,
-        items: copy_items(alloc, core.items.as_slice())?,
-        sources: copy_sources(alloc, core.sources.as_slice())?,
-        condition: copy_condition(alloc, &core.condition)?,
-        groups: core.groups.copy_tree(alloc)?,
-        having: copy_condition(alloc, &core.having)?,
+        items,
+        sources,
+        condition,
+        groups,
+        having,
     })
 }
 
@@ -399,7 +435,7 @@ fn copy_items(alloc: Global, items: &[SelectItem]) -> Result<List<SelectItem>, N
 {
     let mut copy = List::with_room(alloc, items.len())?;
     for item in items {
-        copy.push(copy_item(alloc, item)?)?;
+        add(&mut copy, copy_item(alloc, item))?;
     }
     Ok(copy)
 }
@@ -413,10 +449,10 @@ fn copy_item(alloc: Global, item: &SelectItem) -> Result<SelectItem, NoMemory>
         SelectItem::TableStar { table } => Ok(SelectItem::TableStar {
             table: table.copy_tree(alloc)?,
         }),
-        SelectItem::Value { expr, name } => Ok(SelectItem::Value {
-            expr: copy_expr(alloc, expr)?,
-            name: name.copy_tree(alloc)?,
-        }),
+        SelectItem::Value { expr, name } => {
+            let (expr, name) = both(copy_expr(alloc, expr), name.copy_tree(alloc))?;
+            Ok(SelectItem::Value { expr, name })
+        }
     }
 }
 
@@ -426,7 +462,7 @@ fn copy_sources(alloc: Global, sources: &[FromTree]) -> Result<List<FromTree>, N
 {
     let mut copy = List::with_room(alloc, sources.len())?;
     for source in sources {
-        copy.push(copy_from(alloc, source)?)?;
+        add(&mut copy, copy_from(alloc, source))?;
     }
     Ok(copy)
 }
@@ -435,10 +471,10 @@ fn copy_sources(alloc: Global, sources: &[FromTree]) -> Result<List<FromTree>, N
 fn copy_from(alloc: Global, from: &FromTree) -> Result<FromTree, NoMemory>
     ensures { IfOk result (λ copy. copy ≡ from.now) }
 {
-    Ok(FromTree {
-        first: copy_from_item(alloc, &from.first)?,
-        joins: copy_joins(alloc, from.joins.as_slice())?,
-    })
+    let first = copy_from_item(alloc, &from.first);
+    let joins = copy_joins(alloc, from.joins.as_slice());
+    let (first, joins) = both(first, joins)?;
+    Ok(FromTree { first, joins })
 }
 
 #[cycle(copy_tree)]
@@ -447,7 +483,7 @@ fn copy_joins(alloc: Global, joins: &[JoinStep]) -> Result<List<JoinStep>, NoMem
 {
     let mut copy = List::with_room(alloc, joins.len())?;
     for join in joins {
-        copy.push(copy_join(alloc, join)?)?;
+        add(&mut copy, copy_join(alloc, join))?;
     }
     Ok(copy)
 }
@@ -456,10 +492,13 @@ fn copy_joins(alloc: Global, joins: &[JoinStep]) -> Result<List<JoinStep>, NoMem
 fn copy_join(alloc: Global, join: &JoinStep) -> Result<JoinStep, NoMemory>
     ensures { IfOk result (λ copy. copy ≡ join.now) }
 {
+    let item = copy_from_item(alloc, &join.item);
+    let condition = copy_condition(alloc, &join.condition);
+    let (item, condition) = both(item, condition)?;
     Ok(JoinStep {
         word: join.word,
-        item: copy_from_item(alloc, &join.item)?,
-        condition: copy_condition(alloc, &join.condition)?,
+        item,
+        condition,
     })
 }
 
@@ -467,11 +506,15 @@ fn copy_join(alloc: Global, join: &JoinStep) -> Result<JoinStep, NoMemory>
 fn copy_from_item(alloc: Global, item: &FromItem) -> Result<FromItem, NoMemory>
     ensures { IfOk result (λ copy. copy ≡ item.now) }
 {
+    let source = copy_source(alloc, &item.source);
+    let alias = item.alias.copy_tree(alloc);
+    let mark = item.mark.copy_tree(alloc);
+    let (source, alias, mark) = three(source, alias, mark)?;
     Ok(FromItem {
         at: item.at,
-        source: copy_source(alloc, &item.source)?,
-        alias: item.alias.copy_tree(alloc)?,
-        mark: item.mark.copy_tree(alloc)?,
+        source,
+        alias,
+        mark,
     })
 }
 

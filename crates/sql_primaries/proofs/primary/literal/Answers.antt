@@ -1,0 +1,9 @@
+use Rattle.std.proofs.Common.{arith}
+use Rattle.sql_grammar.proofs.Steps.{literal_is}
+use Rattle.sql_primaries.proofs.primary.literal.Goals as goal
+
+pub returns-in_err-token-clause-given : goal.returns-in_err-token-clause-given
+returns-in_err-token-clause-given c = grind (arith, literal_is)
+
+pub returns-in-Ok-clause-given : goal.returns-in-Ok-clause-given
+returns-in-Ok-clause-given c = grind (arith, literal_is)
