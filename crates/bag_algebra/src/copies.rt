@@ -4,7 +4,7 @@ ghost use Rattle.std.specs.Prelude.{◌≡◌, IfOk};
 use crate::expr::Expr;
 use crate::place::Place;
 use crate::query::{Aggr, Answer, Label, Query, Sublink};
-use perm_values::{Boxed, Copyable, List, NoMemory};
+use perm_values::{Boxed, Copyable, List, NoMemory, both, four, three};
 use std::alloc::Global;
 
 impl Copyable for Query {
@@ -15,8 +15,10 @@ impl Copyable for Query {
 
 impl Copyable for Sublink {
     fn copy(&self, alloc: Global) -> Result<Sublink, NoMemory> {
-        let tested = copy_option(alloc, &self.tested)?;
-        let query = copy_query(alloc, &self.query)?;
+        let (tested, query) = both(
+            copy_option(alloc, &self.tested),
+            copy_query(alloc, &self.query),
+        )?;
         Ok(Sublink {
             kind: self.kind,
             tested,
@@ -38,10 +40,10 @@ impl Copyable for Aggr {
 impl Copyable for Label {
     fn copy(&self, alloc: Global) -> Result<Label, NoMemory> {
         match self {
-            Label::Relation { name, columns } => Ok(Label::Relation {
-                name: name.copy(alloc)?,
-                columns: columns.copy(alloc)?,
-            }),
+            Label::Relation { name, columns } => {
+                let (name, columns) = both(name.copy(alloc), columns.copy(alloc))?;
+                Ok(Label::Relation { name, columns })
+            }
             Label::External { columns } => Ok(Label::External {
                 columns: columns.copy(alloc)?,
             }),
@@ -51,20 +53,19 @@ impl Copyable for Label {
 
 impl Copyable for Place {
     fn copy(&self, alloc: Global) -> Result<Place, NoMemory> {
-        Ok(Place {
-            label: self.label.copy(alloc)?,
-            kinds: self.kinds.copy(alloc)?,
-        })
+        let (label, kinds) = both(self.label.copy(alloc), self.kinds.copy(alloc))?;
+        Ok(Place { label, kinds })
     }
 }
 
 impl Copyable for Answer {
     fn copy(&self, alloc: Global) -> Result<Answer, NoMemory> {
-        Ok(Answer {
-            query: copy_query(alloc, &self.query)?,
-            names: self.names.copy(alloc)?,
-            keys: self.keys.copy(alloc)?,
-        })
+        let (query, names, keys) = three(
+            copy_query(alloc, &self.query),
+            self.names.copy(alloc),
+            self.keys.copy(alloc),
+        )?;
+        Ok(Answer { query, names, keys })
     }
 }
 
@@ -83,9 +84,11 @@ fn copy_query(alloc: Global, query: &Query) -> Result<Query, NoMemory>
             places,
             label,
         } => {
-            let input = copy_boxed(alloc, input)?;
-            let places = places.copy(alloc)?;
-            let label = label.copy(alloc)?;
+            let (input, places, label) = three(
+                copy_boxed(alloc, input),
+                places.copy(alloc),
+                label.copy(alloc),
+            )?;
             Ok(Query::Base {
                 input,
                 places,
@@ -97,9 +100,11 @@ fn copy_query(alloc: Global, query: &Query) -> Result<Query, NoMemory>
             condition,
             subs,
         } => {
-            let input = copy_boxed(alloc, input)?;
-            let subs = copy_subs(alloc, subs.as_slice())?;
-            let condition = condition.copy(alloc)?;
+            let (input, subs, condition) = three(
+                copy_boxed(alloc, input),
+                copy_subs(alloc, subs.as_slice()),
+                condition.copy(alloc),
+            )?;
             Ok(Query::Filter {
                 input,
                 condition,
@@ -107,9 +112,11 @@ fn copy_query(alloc: Global, query: &Query) -> Result<Query, NoMemory>
             })
         }
         Query::Project { input, items, subs } => {
-            let input = copy_boxed(alloc, input)?;
-            let subs = copy_subs(alloc, subs.as_slice())?;
-            let items = items.copy(alloc)?;
+            let (input, subs, items) = three(
+                copy_boxed(alloc, input),
+                copy_subs(alloc, subs.as_slice()),
+                items.copy(alloc),
+            )?;
             Ok(Query::Project { input, items, subs })
         }
         Query::Join {
@@ -119,10 +126,12 @@ fn copy_query(alloc: Global, query: &Query) -> Result<Query, NoMemory>
             condition,
             subs,
         } => {
-            let left = copy_boxed(alloc, left)?;
-            let right = copy_boxed(alloc, right)?;
-            let subs = copy_subs(alloc, subs.as_slice())?;
-            let condition = condition.copy(alloc)?;
+            let (left, right, subs, condition) = four(
+                copy_boxed(alloc, left),
+                copy_boxed(alloc, right),
+                copy_subs(alloc, subs.as_slice()),
+                condition.copy(alloc),
+            )?;
             Ok(Query::Join {
                 kind: *kind,
                 left,
@@ -132,8 +141,7 @@ fn copy_query(alloc: Global, query: &Query) -> Result<Query, NoMemory>
             })
         }
         Query::Union { all, left, right } => {
-            let left = copy_boxed(alloc, left)?;
-            let right = copy_boxed(alloc, right)?;
+            let (left, right) = both(copy_boxed(alloc, left), copy_boxed(alloc, right))?;
             Ok(Query::Union {
                 all: *all,
                 left,
@@ -141,8 +149,7 @@ fn copy_query(alloc: Global, query: &Query) -> Result<Query, NoMemory>
             })
         }
         Query::Intersect { all, left, right } => {
-            let left = copy_boxed(alloc, left)?;
-            let right = copy_boxed(alloc, right)?;
+            let (left, right) = both(copy_boxed(alloc, left), copy_boxed(alloc, right))?;
             Ok(Query::Intersect {
                 all: *all,
                 left,
@@ -150,8 +157,7 @@ fn copy_query(alloc: Global, query: &Query) -> Result<Query, NoMemory>
             })
         }
         Query::Except { all, left, right } => {
-            let left = copy_boxed(alloc, left)?;
-            let right = copy_boxed(alloc, right)?;
+            let (left, right) = both(copy_boxed(alloc, left), copy_boxed(alloc, right))?;
             Ok(Query::Except {
                 all: *all,
                 left,
@@ -166,9 +172,11 @@ fn copy_query(alloc: Global, query: &Query) -> Result<Query, NoMemory>
             groups,
             aggregates,
         } => {
-            let input = copy_boxed(alloc, input)?;
-            let groups = groups.copy(alloc)?;
-            let aggregates = aggregates.copy(alloc)?;
+            let (input, groups, aggregates) = three(
+                copy_boxed(alloc, input),
+                groups.copy(alloc),
+                aggregates.copy(alloc),
+            )?;
             Ok(Query::Aggregate {
                 input,
                 groups,
@@ -176,8 +184,7 @@ fn copy_query(alloc: Global, query: &Query) -> Result<Query, NoMemory>
             })
         }
         Query::Limit { input, keys, count } => {
-            let input = copy_boxed(alloc, input)?;
-            let keys = keys.copy(alloc)?;
+            let (input, keys) = both(copy_boxed(alloc, input), keys.copy(alloc))?;
             Ok(Query::Limit {
                 input,
                 keys,
@@ -205,8 +212,10 @@ fn copy_subs(alloc: Global, subs: &[Sublink]) -> Result<List<Sublink>, NoMemory>
     let mut copy = List::new(alloc);
     for sub in subs {
         let kind = sub.kind;
-        let tested = copy_option(alloc, &sub.tested)?;
-        let query = copy_query(alloc, &sub.query)?;
+        let (tested, query) = both(
+            copy_option(alloc, &sub.tested),
+            copy_query(alloc, &sub.query),
+        )?;
         copy.push(Sublink {
             kind,
             tested,

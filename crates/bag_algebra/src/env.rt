@@ -5,7 +5,7 @@ use std::alloc::Global;
 use std::marker::Model;
 
 /// The outer rows that a query sees, the nearest one first.
-#[derive(Debug, Drop)]
+#[derive(Drop)]
 pub struct Env {
     rows: List<Row>,
 }

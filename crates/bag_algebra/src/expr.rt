@@ -1,11 +1,11 @@
 ghost use Rattle.std.specs.Prelude.{◌≡◌, IfOk};
 
 use null_logic::{Arith, Operator, Truth};
-use perm_values::{Boxed, Copyable, Kind, List, NoMemory, Value};
+use perm_values::{Boxed, Copyable, Kind, List, NoMemory, Value, both};
 use std::alloc::Global;
 
 /// An expression over the rows that it sees: its node's own row, and the outer rows around it.
-#[derive(Debug, Drop)]
+#[derive(Drop)]
 #[cycle(expr)]
 pub enum Expr {
     /// A column: level 0 reads the node's own row, level k the kth outer row.
@@ -54,7 +54,7 @@ pub enum Expr {
 }
 
 /// One step of a chain: the operation and its right operand.
-#[derive(Debug, Drop)]
+#[derive(Drop)]
 #[cycle(expr)]
 pub struct ChainStep {
     pub op: Arith,
@@ -62,7 +62,7 @@ pub struct ChainStep {
 }
 
 /// One arm of a CASE.
-#[derive(Debug, Drop)]
+#[derive(Drop)]
 #[cycle(expr)]
 pub struct Arm {
     pub condition: Expr,
@@ -70,7 +70,7 @@ pub struct Arm {
 }
 
 /// One output column of a projection, with its kind.
-#[derive(Debug, Drop)]
+#[derive(Drop)]
 pub struct Item {
     pub expr: Expr,
     pub kind: Kind,
@@ -93,8 +93,10 @@ impl Copyable for ChainStep {
 
 impl Copyable for Arm {
     fn copy(&self, alloc: Global) -> Result<Arm, NoMemory> {
-        let condition = copy_expr(alloc, &self.condition)?;
-        let value = copy_expr(alloc, &self.value)?;
+        let (condition, value) = both(
+            copy_expr(alloc, &self.condition),
+            copy_expr(alloc, &self.value),
+        )?;
         Ok(Arm { condition, value })
     }
 }
@@ -126,13 +128,17 @@ fn copy_expr(alloc: Global, expr: &Expr) -> Result<Expr, NoMemory>
             parts: copy_parts(alloc, parts.as_slice())?,
         }),
         Expr::Chain { first, steps } => {
-            let first = copy_boxed(alloc, first)?;
-            let steps = copy_steps(alloc, steps.as_slice())?;
+            let (first, steps) = both(
+                copy_boxed(alloc, first),
+                copy_steps(alloc, steps.as_slice()),
+            )?;
             Ok(Expr::Chain { first, steps })
         }
         Expr::Case { arms, otherwise } => {
-            let arms = copy_arms(alloc, arms.as_slice())?;
-            let otherwise = copy_boxed(alloc, otherwise)?;
+            let (arms, otherwise) = both(
+                copy_arms(alloc, arms.as_slice()),
+                copy_boxed(alloc, otherwise),
+            )?;
             Ok(Expr::Case { arms, otherwise })
         }
         Expr::Sub { number } => Ok(Expr::Sub { number: *number }),
@@ -144,8 +150,7 @@ fn copy_expr(alloc: Global, expr: &Expr) -> Result<Expr, NoMemory>
             part: copy_boxed(alloc, part)?,
         }),
         Expr::Same { first, second } => {
-            let first = copy_boxed(alloc, first)?;
-            let second = copy_boxed(alloc, second)?;
+            let (first, second) = both(copy_boxed(alloc, first), copy_boxed(alloc, second))?;
             Ok(Expr::Same { first, second })
         }
     }
@@ -189,8 +194,10 @@ fn copy_arms(alloc: Global, arms: &[Arm]) -> Result<List<Arm>, NoMemory>
 {
     let mut copy = List::new(alloc);
     for arm in arms {
-        let condition = copy_expr(alloc, &arm.condition)?;
-        let value = copy_expr(alloc, &arm.value)?;
+        let (condition, value) = both(
+            copy_expr(alloc, &arm.condition),
+            copy_expr(alloc, &arm.value),
+        )?;
         copy.push(Arm { condition, value })?;
     }
     Ok(copy)

@@ -3,7 +3,7 @@ use null_logic::Compare;
 use perm_values::{Boxed, Chars, Key, Kind, List};
 
 /// What a sublink asks of its query's rows.
-#[derive(Clone, Copy, Debug, PartialEq, Eq)]
+#[derive(Clone, Copy, PartialEq, Eq)]
 pub enum SubKind {
     Exists,
     Any(Compare),
@@ -12,7 +12,7 @@ pub enum SubKind {
 }
 
 /// A subquery that stands in an expression of a node.
-#[derive(Debug, Drop)]
+#[derive(Drop)]
 #[cycle(query)]
 pub struct Sublink {
     pub kind: SubKind,
@@ -21,7 +21,7 @@ pub struct Sublink {
 }
 
 /// An aggregate function.
-#[derive(Clone, Copy, Debug, PartialEq, Eq)]
+#[derive(Clone, Copy, PartialEq, Eq)]
 pub enum AggFn {
     CountRows,
     Count,
@@ -32,7 +32,7 @@ pub enum AggFn {
 }
 
 /// An aggregate of a grouping, with its kind.
-#[derive(Debug, Drop)]
+#[derive(Drop)]
 pub struct Aggr {
     pub function: AggFn,
     pub argument: Option<Expr>,
@@ -40,7 +40,7 @@ pub struct Aggr {
 }
 
 /// Which side of a join keeps its unmatched rows.
-#[derive(Clone, Copy, Debug, PartialEq, Eq)]
+#[derive(Clone, Copy, PartialEq, Eq)]
 pub enum JoinKind {
     Inner,
     Left,
@@ -49,14 +49,14 @@ pub enum JoinKind {
 }
 
 /// How the columns of a source are named in a provenance answer.
-#[derive(Debug, Drop)]
+#[derive(Drop)]
 pub enum Label {
     Relation { name: Chars, columns: List<Chars> },
     External { columns: List<Chars> },
 }
 
 /// A query over bags.
-#[derive(Debug, Drop)]
+#[derive(Drop)]
 #[cycle(query)]
 pub enum Query {
     Table {
@@ -120,7 +120,7 @@ pub enum Query {
 }
 
 /// A query with the names of its columns and the order in which its rows are printed.
-#[derive(Debug, Drop)]
+#[derive(Drop)]
 pub struct Answer {
     pub query: Query,
     pub names: List<Chars>,

@@ -11,7 +11,7 @@ use std::collections::BTreeMap;
 use std::marker::Model;
 
 /// The rows of each table by the table's identity: a finite map.
-#[derive(Debug, Drop)]
+#[derive(Drop)]
 pub struct Tables {
     rows: BTreeMap<u64, Rows>,
 }

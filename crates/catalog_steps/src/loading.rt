@@ -12,7 +12,7 @@ use std::alloc::Global;
 
 /// The file of a COPY: its name, the kinds of the columns that it fills, the field that stands for NULL, and whether its
 /// first record is none of the rows.
-#[derive(Debug, Drop)]
+#[derive(Drop)]
 pub struct RowFile<'a> {
     pub name: &'a Chars,
     pub kinds: &'a [Kind],

@@ -1,7 +1,7 @@
 use perm_values::{Chars, Kind};
 
 /// A column that a query shows; without a kind it is of any.
-#[derive(Debug, Drop)]
+#[derive(Drop)]
 pub struct ShownColumn {
     pub name: Chars,
     pub kind: Option<Kind>,

@@ -22,12 +22,12 @@ ghost use Rattle.perm_values.specs.declared.kind.Kind.{Kind as Sort};
 use crate::blank::null_row;
 use crate::places::add_picked;
 use bag_algebra::{Expr, JoinKind, Query, Sublink};
-use perm_values::{Boxed, Copyable, Kind, List, NoMemory, Value};
+use perm_values::{Copyable, Kind, List, NoMemory, Value, both, boxes};
 use query_parts::{column_items, joined, projection};
 use std::alloc::Global;
 
 /// A source over a table: the table, and the places of the source.
-#[derive(Debug, Drop)]
+#[derive(Drop)]
 pub struct TableSource {
     pub id: u64,
     pub kinds: List<Kind>,
@@ -168,7 +168,10 @@ fn crossed(alloc: Global, sources: &[TableSource]) -> Result<Query, NoMemory>
 fn beside(alloc: Global, source: &TableSource, rest: Query) -> Result<Query, NoMemory>
     ensures { IfOk result (λ p. p ≡ JoinOf Inner (source_query source.now) rest always [] end_of-Sublink) }
 {
-    let left = source_query(alloc, source)?;
+    let Ok(left) = source_query(alloc, source) else {
+        drop(rest);
+        return Err(NoMemory);
+    };
     joined(alloc, JoinKind::Inner, left, rest, always())
 }
 
@@ -185,8 +188,8 @@ fn always() -> Expr
 fn source_query(alloc: Global, source: &TableSource) -> Result<Query, NoMemory>
     ensures { IfOk result (λ p. p ≡ source_query source.now) }
 {
-    let left = Boxed::new(alloc, source_rows(alloc, source)?)?;
-    let right = Boxed::new(alloc, blank_row(alloc, source)?)?;
+    let (rows, blank) = both(source_rows(alloc, source), blank_row(alloc, source))?;
+    let (left, right) = boxes(alloc, rows, blank)?;
     Ok(Query::Union {
         all: true,
         left,

@@ -22,7 +22,7 @@ use query_parts::kind_or_text;
 use std::alloc::Global;
 
 /// The places of a query's witness lists, in order.
-#[derive(Debug, Drop)]
+#[derive(Drop)]
 pub struct PlaceList {
     pub places: List<Place>,
 }

@@ -5,4 +5,5 @@ pub mod Lists
 mod Named
 pub mod Opened
 pub mod Queried
+mod Results
 mod Starred

@@ -21,7 +21,10 @@ pub fn grouped_scope(alloc: Global, core: &Core, own: Scope) -> Result<Scope, Re
 {
     match places(alloc, core, &own) {
         Ok(groups) => Ok(grouped(own, groups)),
-        Err(refusal) => Err(refusal),
+        Err(refusal) => {
+            drop(own);
+            Err(refusal)
+        }
     }
 }
 

@@ -1,7 +1,8 @@
 //! The provenance columns of a query behind its own.
-ghost use Rattle.std.specs.Prelude.{◌≡◌, ◌++◌, ◌+◌, ◌<◌, ◌^◌, map, IfOk, OnOk};
+ghost use Rattle.std.specs.Prelude.{◌≡◌, ◌++◌, ◌+◌, ◌<◌, ◌^◌, length, map, IfOk, OnOk};
 ghost use Rattle.std.specs.List.{range_with_len};
 ghost use Rattle.bag_algebra.specs.Kinds.{place_kinds};
+ghost use Rattle.bag_algebra.specs.PlaceNames.{place_names};
 ghost use Rattle.name_words.specs.Froms.{named_columns};
 ghost use Rattle.name_words.specs.Queries.{out_column};
 ghost use Rattle.clauses_seen.specs.Columns.{columns_of};
@@ -22,18 +23,35 @@ pub(crate) fn with_places(
 ) -> Result<QueryShown, NoMemory>
     ensures { IfOk result (PlacesBehind columns facts) }
 {
-    let own = columns.len();
     let traceable = facts.traceable;
     let Facts { places, .. } = facts;
     let list = PlaceList { places };
-    let kinds = kinds_of_places(alloc, list.places.as_slice())?;
-    let names = prov_names(alloc, &list)?;
-    add_named(alloc, &mut columns, names.as_slice(), kinds.as_slice())?;
+    let Ok(places) = add_places(alloc, &mut columns, &list) else {
+        drop(columns);
+        return Err(NoMemory);
+    };
     Ok(QueryShown {
         columns,
-        places: Some(places_from(alloc, own, kinds.len())?),
+        places: Some(places),
         facts: Facts::proved(alloc, traceable),
     })
+}
+
+/// The provenance columns of these places behind the columns so far, and where they stand.
+fn add_places(
+    alloc: Global,
+    columns: &mut List<ShownColumn>,
+    list: &PlaceList,
+) -> Result<List<usize>, NoMemory>
+    ensures shown { OnOk result (columns_of columns.new
+        ≡ columns_of columns.old ++ map out_column (named_columns (place_names list.now.places) (place_kinds list.now.places))) }
+    ensures places { IfOk result (λ places. places ≡ range_with_len (length columns.old) (length (place_kinds list.now.places))) }
+{
+    let own = columns.len();
+    let kinds = kinds_of_places(alloc, list.places.as_slice())?;
+    let names = prov_names(alloc, list)?;
+    add_named(alloc, columns, names.as_slice(), kinds.as_slice())?;
+    places_from(alloc, own, kinds.len())
 }
 
 fn kinds_of_places(alloc: Global, places: &[Place]) -> Result<List<Kind>, NoMemory>
@@ -41,9 +59,17 @@ fn kinds_of_places(alloc: Global, places: &[Place]) -> Result<List<Kind>, NoMemo
 {
     let mut kinds = List::new(alloc);
     for place in places {
-        kinds.append(place.kinds.copy(alloc)?)?;
+        add_kinds(alloc, place, &mut kinds)?;
     }
     Ok(kinds)
+}
+
+/// The kinds of the place behind those so far.
+fn add_kinds(alloc: Global, place: &Place, kinds: &mut List<Kind>) -> Result<(), NoMemory>
+    ensures { OnOk result (kinds.new ≡ kinds.old ++ place.now.kinds) }
+{
+    kinds.append(place.kinds.copy(alloc)?)?;
+    Ok(())
 }
 
 /// The columns of these names and kinds behind those so far.

@@ -22,7 +22,10 @@ pub fn add_operand(
 {
     match right {
         Ok(right) => united(left, at, right),
-        Err(refusal) => Err(refusal),
+        Err(refusal) => {
+            drop(left);
+            Err(refusal)
+        }
     }
 }
 

@@ -52,7 +52,7 @@ fn calls_without_a_run_succeed(rt: HostRuntime) -> Result<(), Fail> {
     assert_eq!(rt; picked_width(alloc)?, 1);
     assert_eq!(rt; bytes_copied(alloc, b"xy")?.as_slice(), b"xy".as_slice());
     assert_eq!(rt; env_copied(alloc)?, 1);
-    assert_eq!(rt; rows_of_single(alloc), Ok(1));
+    assert!(rt; rows_of_single(alloc) == Ok(1));
     Ok(())
 }
 

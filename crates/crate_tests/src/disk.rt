@@ -34,7 +34,7 @@ fn reading_the_disk(rt: HostRuntime) -> Result<(), Fail> {
     ];
     for (name, limit, want) in cases {
         let got = read_length(alloc, &mut files, name, limit);
-        assert_eq!(rt; got, want, "{name} within {limit}");
+        assert!(rt; got == want, "{name} within {limit}");
     }
     fs::remove_file(&rt, name.as_str())?;
     Ok(())

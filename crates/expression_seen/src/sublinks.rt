@@ -14,7 +14,7 @@ use perm_values::Kind;
 use query_facts::{Facts, QueryShown};
 
 /// The columns of a sublink's query: whether it is one, and the kind of the first.
-#[derive(Clone, Copy, Debug, PartialEq, Eq)]
+#[derive(Clone, Copy, PartialEq, Eq)]
 pub struct InnerColumns {
     pub one: bool,
     pub kind: Option<Kind>,

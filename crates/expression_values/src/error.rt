@@ -6,7 +6,7 @@ use perm_values::NoMemory;
 use std::alloc::{AllocError, AllocFailed};
 
 /// Why an evaluation has no value.
-#[derive(Clone, Copy, Debug, PartialEq, Eq)]
+#[derive(Clone, Copy, PartialEq, Eq)]
 pub enum ExecError {
     /// A fault that the evaluation meets.
     Fault(RunFault),

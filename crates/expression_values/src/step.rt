@@ -8,7 +8,7 @@ use null_logic::{Arith, RunFault};
 use perm_values::Value;
 
 /// A step of a chain: the operation and the value of its right operand.
-#[derive(Debug, Drop)]
+#[derive(Drop)]
 pub(crate) struct Step {
     pub operation: Arith,
     pub operand: Value,

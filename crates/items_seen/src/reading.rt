@@ -25,7 +25,7 @@ use std::alloc::Global;
 
 /// What an item of FROM reads: its columns and their kinds, whether it is a table or a view, and its facts where it has
 /// no mark.
-#[derive(Debug, Drop)]
+#[derive(Drop)]
 pub struct Reading {
     pub columns: List<Column>,
     pub kinds: List<Kind>,

@@ -5,7 +5,6 @@ ghost use Rattle.bag_algebra.specs.Kinds.{width_of};
 ghost use Rattle.bag_algebra.specs.declared.query.JoinKind.TheVariants.{Inner};
 ghost use Rattle.joined_rewritings.specs.KeptColumns.{columns_kept, differs_from_first, kept_places, pairs_of, same_as_first};
 
-use crate::letting_go::let_go;
 use bag_algebra::{Expr, JoinKind, Query};
 use null_logic::Operator;
 use perm_values::{List, NoMemory};
@@ -71,7 +70,7 @@ pub fn join_kept(
 {
     let pairs = joined(alloc, kind, left, right, condition)?;
     let Ok(order) = kept_order(alloc, &pairs, kept, left_out) else {
-        let_go(pairs);
+        drop(pairs);
         return Err(NoMemory);
     };
     regroup(alloc, pairs, order.as_slice())
@@ -117,8 +116,8 @@ pub fn matched(
     ensures { IfOk result (λ p. p ≡ columns_kept (pairs_of Inner left right (same_as_first columns kept)) kept columns) }
 {
     let Ok(same) = same_as_first(alloc, columns, kept) else {
-        let_go(left);
-        let_go(right);
+        drop(left);
+        drop(right);
         return Err(NoMemory);
     };
     join_kept(alloc, inwards(), left, right, same, kept, columns)

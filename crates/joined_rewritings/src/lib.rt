@@ -3,11 +3,9 @@
 #![tactic(auto)]
 
 mod kept;
-mod letting_go;
 mod unions;
 
 pub use kept::{
     columns_from, differs_from_first, exact_width, join_kept, matched, same_as_first, sum,
 };
-pub use letting_go::let_go;
 pub use unions::{UnionSide, before_nulls};

@@ -23,7 +23,7 @@ use sql_tree::{Core, FromTree};
 use std::alloc::Global;
 
 /// A condition that is made, if there is one, and the aggregates in it.
-#[derive(Debug, Drop)]
+#[derive(Drop)]
 pub struct Kept {
     pub condition: Option<Condition>,
     pub aggregates: List<Aggr>,

@@ -17,7 +17,7 @@ use sql_tree::QueryTree;
 use std::alloc::Global;
 
 /// The names of a query's columns, and the places of its provenance columns where it asks for provenance.
-#[derive(Debug, Drop)]
+#[derive(Drop)]
 pub struct ShownNames {
     pub names: List<Chars>,
     pub places: Option<List<usize>>,

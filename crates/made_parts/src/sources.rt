@@ -14,7 +14,7 @@ use name_nodes::{
     attributes_of, external, join, table_plain, table_rows, truth_value, whole_source,
 };
 use perm_catalog::{Catalog, Column, TableEntry, ViewEntry};
-use perm_values::{Boxed, Chars, Copyable, List, NoMemory};
+use perm_values::{Boxed, Chars, Copyable, List, NoMemory, boxes};
 use sql_tree::{FromTree, JoinWord, Name, ScopeMark};
 use std::alloc::Global;
 
@@ -99,7 +99,10 @@ fn view_item(
     match mark {
         ScopeMark::Plain => view_plain(alloc, query, view),
         ScopeMark::BaseRelation => {
-            let names = view.answer.names.copy(alloc)?;
+            let Ok(names) = view.answer.names.copy(alloc) else {
+                drop(query);
+                return Err(NoMemory);
+            };
             whole_source(alloc, query, name, names)
         }
         ScopeMark::External { attributes } => {
@@ -138,7 +141,10 @@ pub fn marked_query(
     match mark {
         ScopeMark::Plain => shown_plain(alloc, query, shown),
         ScopeMark::BaseRelation => {
-            let label = alias_text(alloc, alias)?;
+            let Ok(label) = alias_text(alloc, alias) else {
+                drop(query);
+                return Err(NoMemory);
+            };
             let ShownNames { names, .. } = shown;
             whole_source(alloc, query, &label, names)
         }
@@ -180,18 +186,6 @@ pub fn join_kind(word: JoinWord) -> JoinKind
     }
 }
 
-fn boxed_both(
-    alloc: Global,
-    left: Query,
-    right: Query,
-) -> Result<(Boxed<Query>, Boxed<Query>), NoMemory>
-    ensures { IfOk result (λ both. (both.0 ≡ left) × (both.1 ≡ right)) }
-{
-    let left = Boxed::new(alloc, left)?;
-    let right = Boxed::new(alloc, right)?;
-    Ok((left, right))
-}
-
 /// A join of what is made, whose condition has no sublink.
 pub fn joined(
     alloc: Global,
@@ -202,7 +196,10 @@ pub fn joined(
 ) -> Result<Query, NoMemory>
     ensures { IfOk result (λ made. made ≡ Paired kind left right condition []) }
 {
-    let (left, right) = boxed_both(alloc, left, right)?;
+    let Ok((left, right)) = boxes(alloc, left, right) else {
+        drop(condition);
+        return Err(NoMemory);
+    };
     Ok(join(alloc, kind, left, right, condition))
 }
 

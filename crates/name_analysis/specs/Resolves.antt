@@ -2,6 +2,10 @@
 use Rattle.std.specs.Prelude.{◌≡◌, ℕ, cond, List, [], ◌++◌, length, Option, option_map, Result, Ok, Err}
 use Rattle.perm_catalog.specs.Contents.{Contents}
 use Rattle.bag_algebra.specs.declared.expr.Expr.{Expr}
+use Rattle.bag_algebra.specs.declared.query.Query.{Query}
+use Rattle.name_nodes.specs.Makes.{MakesQuery}
+use Rattle.queries_inside.specs.Held.{inside_in}
+use Rattle.queries_inside.specs.declared.gathered.Gathered.{Gathered}
 use Rattle.perm_catalog.specs.declared.entries.TableEntry.{TableEntry}
 use Rattle.sql_tree.specs.declared.expression.ExprTree.{ExprTree}
 use Rattle.sql_tree.specs.declared.name.Name.{Name}
@@ -9,7 +13,7 @@ use Rattle.sql_tree.specs.declared.statement.StatementBody.{StatementBody}
 use Rattle.name_words.specs.Froms.{names_of}
 use Rattle.name_words.specs.Meanings.{QueryMeant, broken_if, is_whole}
 use Rattle.name_words.specs.Scopes.{KnownColumn}
-use Rattle.name_words.specs.Statements.{answer_of, columns_of, condition_made, delete_breaks, has_boolean, limit_breaks, name_breaks, query_limits, repeats, resolved_body, stored_columns, table_limit}
+use Rattle.name_words.specs.Statements.{answer_of, columns_of, condition_made, delete_breaks, has_boolean, limit_breaks, name_breaks, query_limits, repeats, resolved_body, size_limit, stored_columns, table_limit, width_limit}
 use Rattle.name_words.specs.declared.answer.Break.{Break}
 use Rattle.name_words.specs.declared.answer.Resolved.{Resolved}
 use Rattle.name_seen.specs.Seen.{first_or}
@@ -51,6 +55,19 @@ abbrev pub WholeSeen : ℕ → QueryMeant → Result Whole Refusal → Type 0
 WholeSeen at m (Ok whole) = IsWhole at m whole
 WholeSeen at m (Err (Broken first)) = first_or (query_limits at m) (tt {0}) ≡ Err first
 WholeSeen at m (Err NoMemory) = Unit {0}
+
+-- ---- a query that breaks nothing, made, with what stands inside it
+
+pub record IsWithin (at : ℕ) (m : QueryMeant) (made : Query) (found : Gathered) : Type 0 where
+  pub inside : inside_in found ≡ m.inside
+  pub narrow : width_limit found.queries ≡ []
+  pub makes : MakesQuery m [] made
+  pub small : size_limit at made ≡ []
+
+abbrev pub WithinSeen : ℕ → QueryMeant → Result (Query × Gathered) Refusal → Type 0
+WithinSeen at m (Ok both) = IsWithin at m both.0 both.1
+WithinSeen at m (Err (Broken first)) = first_or (query_limits at m) (tt {0}) ≡ Err first
+WithinSeen at m (Err NoMemory) = Unit {0}
 
 -- ---- the condition of DELETE
 

@@ -26,14 +26,11 @@ pub fn resolve(alloc: Global, catalog: &Catalog, statement: Statement) -> Result
     match own_break(catalog, &statement.body) {
         Ok(()) => behind_names(alloc, catalog, statement),
         Err(first) => {
-            let_go(statement);
+            drop(statement);
             Err(Refusal::Break(first))
         }
     }
 }
-
-/// Drops a value of many variants. A caller that dropped it by itself would have a way through its code for each of them.
-fn let_go<T: Drop>(_value: T) {}
 
 /// The same of a statement whose own names break nothing.
 fn behind_names(alloc: Global, catalog: &Catalog, statement: Statement) -> Result<Resolved, Refusal>
@@ -45,9 +42,9 @@ fn behind_names(alloc: Global, catalog: &Catalog, statement: Statement) -> Resul
     match body {
         StatementBody::CreateTable { table, columns } => create_table(alloc, table, columns),
         StatementBody::CreateTableAs { table, query } => {
-            create_table_as(alloc, catalog, table, &query)
+            create_table_as(alloc, catalog, table, query)
         }
-        StatementBody::CreateView { view, query } => create_view(alloc, catalog, view, &query),
+        StatementBody::CreateView { view, query } => create_view(alloc, catalog, view, query),
         StatementBody::Copy {
             table,
             file,
@@ -55,15 +52,15 @@ fn behind_names(alloc: Global, catalog: &Catalog, statement: Statement) -> Resul
             mark,
         } => copy(alloc, catalog, table, file, header, mark),
         StatementBody::Insert { table, rows } => insert(alloc, catalog, table, rows),
-        StatementBody::Delete { table, condition } => delete(alloc, catalog, table, &condition),
+        StatementBody::Delete { table, condition } => delete(alloc, catalog, table, condition),
         StatementBody::DropTable { table } => Ok(Resolved::DropTable {
             name: text_of(table),
         }),
         StatementBody::DropView { view } => Ok(Resolved::DropView {
             name: text_of(view),
         }),
-        StatementBody::Select { query } => select(alloc, catalog, &query),
-        StatementBody::Explain { query } => explain(alloc, catalog, &query),
+        StatementBody::Select { query } => select(alloc, catalog, query),
+        StatementBody::Explain { query } => explain(alloc, catalog, query),
         StatementBody::ShowFresh { table } => Ok(Resolved::ShowFresh {
             name: text_of(table),
         }),

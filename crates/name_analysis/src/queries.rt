@@ -1,5 +1,5 @@
 //! Statements over a query.
-ghost use Rattle.std.specs.Prelude.{◌≡◌, [], IfOk, map};
+ghost use Rattle.std.specs.Prelude.{◌≡◌, [], Ok, IfOk, IfErr, IsErrAnd, map};
 ghost use Rattle.clauses_seen.specs.Columns.{columns_of};
 ghost use Rattle.name_seen.specs.Named.{scopes_of};
 ghost use Rattle.name_seen.specs.Seen.{first_or};
@@ -14,7 +14,8 @@ ghost use Rattle.name_words.specs.Trees.{query_of};
 ghost use Rattle.perm_catalog.specs.Sound.{IsSound};
 ghost use Rattle.query_facts.specs.Queried.{QueryWhole};
 ghost use Rattle.sql_tree.specs.declared.statement.StatementBody.TheVariants as asked;
-ghost use Rattle.name_analysis.specs.Resolves.{ResolvesBody, WholeSeen, stored_breaks};
+ghost use Rattle.name_seen.specs.declared.refusal.Refusal.TheVariants.{Break as Broken};
+ghost use Rattle.name_analysis.specs.Resolves.{ResolvesBody, WholeSeen, WithinSeen, stored_breaks};
 
 use crate::answers::{names_of, stored_columns};
 use crate::limits::size_break;
@@ -26,7 +27,7 @@ use name_made::query_made;
 use name_seen::{Around, Refusal, Scopes};
 use name_words::{Break, Resolved, Trace};
 use perm_catalog::{Catalog, Column, ViewEntry};
-use perm_values::{Chars, List, NoMemory};
+use perm_values::{Chars, Key, List, NoMemory};
 use queries_inside::{Gathered, all_noted, first_wide, query_inside};
 use query_facts::QueryShown;
 use query_seen::query_seen;
@@ -36,6 +37,7 @@ use std::alloc::Global;
 
 /// A query that breaks nothing: its answer, the places of its provenance columns where it asks for provenance, its columns
 /// as a table has them, and the names of tables and views in it.
+#[derive(Drop)]
 pub(crate) struct Whole {
     pub answer: Answer,
     pub places: Option<List<usize>>,
@@ -43,11 +45,21 @@ pub(crate) struct Whole {
     pub names: List<Chars>,
 }
 
+/// SELECT.
 pub(crate) fn select(
     alloc: Global,
     catalog: &Catalog,
-    query: &QueryTree,
+    query: QueryTree,
 ) -> Result<Resolved, Refusal>
+    requires { IsSound catalog.now }
+    ensures { ResolvesBody catalog.now (asked.Select query) result }
+{
+    let resolved = selected(alloc, catalog, &query);
+    drop(query);
+    resolved
+}
+
+fn selected(alloc: Global, catalog: &Catalog, query: &QueryTree) -> Result<Resolved, Refusal>
     requires { IsSound catalog.now }
     ensures { ResolvesBody catalog.now (asked.Select query.now) result }
 {
@@ -60,11 +72,21 @@ pub(crate) fn select(
     })
 }
 
+/// EXPLAIN.
 pub(crate) fn explain(
     alloc: Global,
     catalog: &Catalog,
-    query: &QueryTree,
+    query: QueryTree,
 ) -> Result<Resolved, Refusal>
+    requires { IsSound catalog.now }
+    ensures { ResolvesBody catalog.now (asked.Explain query) result }
+{
+    let resolved = explained(alloc, catalog, &query);
+    drop(query);
+    resolved
+}
+
+fn explained(alloc: Global, catalog: &Catalog, query: &QueryTree) -> Result<Resolved, Refusal>
     requires { IsSound catalog.now }
     ensures { ResolvesBody catalog.now (asked.Explain query.now) result }
 {
@@ -77,7 +99,23 @@ pub(crate) fn explain(
     })
 }
 
+/// CREATE VIEW.
 pub(crate) fn create_view(
+    alloc: Global,
+    catalog: &Catalog,
+    view: Name,
+    query: QueryTree,
+) -> Result<Resolved, Refusal>
+    requires sound { IsSound catalog.now }
+    requires free { words.taken catalog.now view ≡ [] }
+    ensures { ResolvesBody catalog.now (asked.CreateView view query) result }
+{
+    let resolved = view_made(alloc, catalog, view, &query);
+    drop(query);
+    resolved
+}
+
+fn view_made(
     alloc: Global,
     catalog: &Catalog,
     view: Name,
@@ -99,7 +137,23 @@ pub(crate) fn create_view(
     })
 }
 
+/// CREATE TABLE AS.
 pub(crate) fn create_table_as(
+    alloc: Global,
+    catalog: &Catalog,
+    table: Name,
+    query: QueryTree,
+) -> Result<Resolved, Refusal>
+    requires sound { IsSound catalog.now }
+    requires free { words.taken catalog.now table ≡ [] }
+    ensures { ResolvesBody catalog.now (asked.CreateTableAs table query) result }
+{
+    let resolved = table_made(alloc, catalog, table, &query);
+    drop(query);
+    resolved
+}
+
+fn table_made(
     alloc: Global,
     catalog: &Catalog,
     table: Name,
@@ -152,13 +206,16 @@ fn answer_of(whole: Whole) -> Answer
 fn entry_of(alloc: Global, whole: Whole) -> Result<ViewEntry, NoMemory>
     ensures { IfOk result (λ entry. entry ≡ record { answer = whole.answer; places = whole.places; names_used = words.all_noted whole.names }) }
 {
+    let Ok(names_used) = all_noted(alloc, whole.names.as_slice()) else {
+        drop(whole);
+        return Err(NoMemory);
+    };
     let Whole {
         answer,
         places,
         columns: _columns,
-        names,
+        names: _names,
     } = whole;
-    let names_used = all_noted(alloc, names.as_slice())?;
     Ok(ViewEntry {
         answer,
         places,
@@ -181,18 +238,50 @@ fn around_alone<'a>(alloc: Global, catalog: &'a Catalog, outermost: &'a Scopes<'
 }
 
 /// A query that was seen to break nothing, made, or the first limit that it passes.
-#[tactic(auto, using(crate::proofs::Wholes::wide_first, crate::proofs::Wholes::size_second, crate::proofs::Wholes::whole_made))]
 fn whole_of(query: &QueryTree, around: &Around, shown: QueryShown) -> Result<Whole, Refusal>
     requires sound { IsSound around.now.catalog.now }
     requires seen { QueryWhole (query_means_at (query_of around.now.catalog.now query.now) (around_of around.now)) shown }
     ensures { WholeSeen query.now.at (query_means_at (query_of around.now.catalog.now query.now) (around_of around.now)) result }
 {
+    match made_within(query, around) {
+        Ok((made, gathered)) => {
+            let order = query.order.as_slice();
+            Ok(with_shown(around.alloc, order, made, shown, gathered)?)
+        }
+        Err(refusal) => {
+            drop(shown);
+            Err(refusal)
+        }
+    }
+}
+
+/// A query that breaks nothing, made, with what stands inside it, or the first limit that it passes.
+#[tactic(auto, using(crate::proofs::Wholes::wide_first, crate::proofs::Wholes::size_second))]
+fn made_within(query: &QueryTree, around: &Around) -> Result<(Query, Gathered), Refusal>
+    requires sound { IsSound around.now.catalog.now }
+    requires whole { (query_means_at (query_of around.now.catalog.now query.now) (around_of around.now)).breaks ≡ [] }
+    ensures { WithinSeen query.now.at (query_means_at (query_of around.now.catalog.now query.now) (around_of around.now)) result }
+{
     let gathered = gathered_in(query, around)?;
-    first_wide(gathered.queries.as_slice())?;
-    let made = query_made(query, &[], around)?;
-    size_break(query.at, &made)?;
-    let order = query.order.as_slice();
-    Ok(with_shown(around.alloc, order, made, shown, gathered)?)
+    let width = first_wide(gathered.queries.as_slice());
+    let gathered = within(gathered, width)?;
+    let Ok(made) = query_made(query, &[], around) else {
+        drop(gathered);
+        return Err(Refusal::NoMemory);
+    };
+    let size = size_break(query.at, &made);
+    within((made, gathered), size)
+}
+
+/// What keeps within a limit, or the break of the limit.
+fn within<T: Drop>(value: T, limit: Result<(), Break>) -> Result<T, Refusal>
+    ensures kept { IfOk result (λ same. (same ≡ value) × (limit ≡ Ok tt)) }
+    ensures broken { IfErr result (λ refusal. IsErrAnd limit (λ first. refusal ≡ Broken first)) }
+{
+    match limit {
+        Ok(()) => Ok(value),
+        Err(first) => Err(Refusal::Break(first)),
+    }
 }
 
 /// What stands inside the query.
@@ -221,26 +310,57 @@ fn with_shown(
       names = gathered.names;
     }) }
 {
-    let columns = stored_columns(alloc, shown.columns.as_slice())?;
-    let names = names_of(alloc, shown.columns.as_slice())?;
-    let keys = keys_of(alloc, shown.columns.as_slice(), order)?;
-    let QueryShown {
-        columns: _shown,
-        places,
-        facts: _facts,
-    } = shown;
-    let Gathered {
-        queries: _queries,
-        names: used,
-    } = gathered;
+    let Ok((columns, names, keys)) = shown_parts(alloc, shown.columns.as_slice(), order) else {
+        drop(made);
+        drop(shown);
+        drop(gathered);
+        return Err(NoMemory);
+    };
     Ok(Whole {
         answer: Answer {
             query: made,
             names,
             keys,
         },
-        places,
+        places: places_of(shown),
         columns,
-        names: used,
+        names: names_in(gathered),
     })
+}
+
+/// The columns as a table has them, their names, and the keys of the order.
+fn shown_parts(
+    alloc: Global,
+    columns: &[ShownColumn],
+    order: &[OrderTree],
+) -> Result<(List<Column>, List<Chars>, List<Key>), NoMemory>
+    ensures columns { IfOk result (λ parts. parts.0 ≡ stored_columns (settled_columns (columns_of columns.now))) }
+    ensures names { IfOk result (λ parts. parts.1 ≡ names_of (settled_columns (columns_of columns.now))) }
+    ensures keys { IfOk result (λ parts. parts.2 ≡ map (key_of (columns_of columns.now)) order.now) }
+{
+    let stored = stored_columns(alloc, columns)?;
+    let names = names_of(alloc, columns)?;
+    let keys = keys_of(alloc, columns, order)?;
+    Ok((stored, names, keys))
+}
+
+fn places_of(shown: QueryShown) -> Option<List<usize>>
+    ensures { result ≡ shown.places }
+{
+    let QueryShown {
+        columns: _columns,
+        places,
+        facts: _facts,
+    } = shown;
+    places
+}
+
+fn names_in(gathered: Gathered) -> List<Chars>
+    ensures { result ≡ gathered.names }
+{
+    let Gathered {
+        queries: _queries,
+        names,
+    } = gathered;
+    names
 }

@@ -30,6 +30,20 @@ pub(crate) fn insert(
     requires { IsSound catalog.now }
     ensures { ResolvesBody catalog.now (asked.Insert table rows) result }
 {
+    let resolved = inserted(alloc, catalog, table, rows.as_slice());
+    drop(rows);
+    resolved
+}
+
+fn inserted(
+    alloc: Global,
+    catalog: &Catalog,
+    table: Name,
+    rows: &[ValuesRow],
+) -> Result<Resolved, Refusal>
+    requires { IsSound catalog.now }
+    ensures { ResolvesBody catalog.now (asked.Insert table rows.now) result }
+{
     match catalog.table(&table.text) {
         None => Err(Refusal::Break(Break {
             code: 10,
@@ -37,8 +51,8 @@ pub(crate) fn insert(
         })),
         Some(entry) => {
             let columns = entry.columns.as_slice();
-            rows_break(alloc, catalog, columns, rows.as_slice())?;
-            let rows = rows_made(alloc, catalog, columns, rows.as_slice())?;
+            rows_break(alloc, catalog, columns, rows)?;
+            let rows = rows_made(alloc, catalog, columns, rows)?;
             Ok(Resolved::Insert {
                 name: text_of(table),
                 rows,
@@ -66,7 +80,14 @@ fn rows_made(
     };
     let mut made = List::new(alloc);
     for row in rows {
-        made.push(row_made(&here, columns, row)?)?;
+        let Ok(values) = row_made(&here, columns, row) else {
+            drop(made);
+            return Err(NoMemory);
+        };
+        let Ok(()) = made.push(values) else {
+            drop(made);
+            return Err(NoMemory);
+        };
     }
     Ok(made)
 }
@@ -77,8 +98,7 @@ fn row_made(here: &Here, columns: &[Column], row: &ValuesRow) -> Result<List<Exp
     requires whole { words.row_breaks here.now.catalog.now (column_kinds columns.now) row.now ≡ [] }
     ensures { IfOk result (λ made. made ≡ words.row_made here.now.catalog.now (column_kinds columns.now) row.now.values) }
 {
-    let made = values_made(here, columns, row.values.as_slice())?;
-    Ok(made)
+    values_made(here, columns, row.values.as_slice())
 }
 
 fn values_made(here: &Here, columns: &[Column], values: &[ExprTree]) -> Result<List<Expr>, NoMemory>
@@ -89,7 +109,14 @@ fn values_made(here: &Here, columns: &[Column], values: &[ExprTree]) -> Result<L
 {
     let mut made = List::new(here.alloc);
     for at in 0..values.len().min(columns.len()) {
-        made.push(value_made(here, &columns[at], &values[at])?)?;
+        let Ok(value) = value_made(here, &columns[at], &values[at]) else {
+            drop(made);
+            return Err(NoMemory);
+        };
+        let Ok(()) = made.push(value) else {
+            drop(made);
+            return Err(NoMemory);
+        };
     }
     Ok(made)
 }
@@ -101,5 +128,7 @@ fn value_made(here: &Here, column: &Column, tree: &ExprTree) -> Result<Expr, NoM
     ensures { IfOk result (λ e. e ≡ words.made_alone column.now.kind (means_at (part_of here.now.catalog.now tree.now) (surroundings here.now))) }
 {
     let mut found = Within::nothing(here.alloc);
-    made(tree, column.kind, here, &mut found)
+    let value = made(tree, column.kind, here, &mut found);
+    drop(found);
+    value
 }

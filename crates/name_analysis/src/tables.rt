@@ -102,6 +102,20 @@ pub(crate) fn delete(
     alloc: Global,
     catalog: &Catalog,
     table: Name,
+    condition: Option<ExprTree>,
+) -> Result<Resolved, Refusal>
+    requires { IsSound catalog.now }
+    ensures { ResolvesBody catalog.now (asked.Delete table condition) result }
+{
+    let resolved = deleted(alloc, catalog, table, &condition);
+    drop(condition);
+    resolved
+}
+
+fn deleted(
+    alloc: Global,
+    catalog: &Catalog,
+    table: Name,
     condition: &Option<ExprTree>,
 ) -> Result<Resolved, Refusal>
     requires { IsSound catalog.now }
@@ -153,7 +167,10 @@ fn condition_made(
 {
     let scope = table_scope(alloc, &table.text, entry.columns.as_slice())?;
     let outermost = Scopes::Outermost;
-    let scopes = inside(&scope, false, &outermost)?;
+    let Ok(scopes) = inside(&scope, false, &outermost) else {
+        drop(scope);
+        return Err(NoMemory);
+    };
     let mut found = Within::nothing(alloc);
     let here = Here {
         alloc,
@@ -161,6 +178,8 @@ fn condition_made(
         scopes: &scopes,
         standing: alone(),
     };
-    let condition = made(tree, Kind::Boolean, &here, &mut found)?;
-    Ok(condition)
+    let condition = made(tree, Kind::Boolean, &here, &mut found);
+    drop(found);
+    drop(scope);
+    condition
 }

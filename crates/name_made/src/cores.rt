@@ -13,16 +13,18 @@ ghost use Rattle.name_seen.specs.Standing.{around_of as standing_of, surrounding
 ghost use Rattle.made_parts.specs.Cored.{Keeps, MakesClauses, MakesList, MakesSelected, core_over_items, having_part, items_meant, select_parts, sources_meant};
 ghost use Rattle.made_parts.specs.Sources.{IsScope};
 
+use crate::expression_results::add_value;
 use crate::expressions::made;
+use crate::query_results::{clauses_of, core_of, kept_of, listed_of, scope_grouped};
 use crate::sources::sources_made;
+use crate::together::beside;
 use bag_algebra::{Aggr, Item, Query};
-use clauses_seen::grouped;
 use cores_seen::in_clause;
 use made_parts::{
-    Kept, add_star, add_table_star, behind_aggregates, condition_found, core_trace, groups_made,
-    groups_of, item_kind, listed_with, scope_or_none,
+    Kept, add_star, add_table_star, behind_aggregates, core_trace, groups_of, item_kind,
+    scope_or_none,
 };
-use name_nodes::{Clauses, Condition, Listed, Within, core_query};
+use name_nodes::{Clauses, Condition, Listed, Within};
 use name_seen::{Around, Here, inside};
 use name_words::Scope;
 use perm_values::{Kind, List, NoMemory};
@@ -55,11 +57,11 @@ fn over_items(core: &Core, wanted: &[Kind], around: &Around, own: Scope) -> Resu
     ensures { IfOk result (λ query. IsScope (sources_meant around.now.catalog.now (standing_of around.now) core.now) own → (breaks : Items Broken) (items : Items ScopeItem)
         → own ≡ scope_of items → MakesQuery (core_over_items around.now.catalog.now (standing_of around.now) core.now breaks items) wanted.now query) }
 {
-    let groups = groups_made(around.alloc, &own, core)?;
-    let scope = grouped(own, groups);
-    let clauses = clauses_made(core, wanted, around, &scope)?;
-    let input = sources_made(core.sources.as_slice(), around, &scope)?;
-    core_query(around.alloc, input, clauses)
+    let scope = scope_grouped(around.alloc, own, core)?;
+    let clauses = clauses_made(core, wanted, around, &scope);
+    let input = sources_made(core.sources.as_slice(), around, &scope);
+    drop(scope);
+    core_of(around.alloc, input, clauses)
 }
 
 /// What a core does with the rows of its FROM.
@@ -73,17 +75,10 @@ fn clauses_made(
     requires { IsSound around.now.catalog.now }
     ensures { IfOk result (MakesClauses around.now.catalog.now (standing_of around.now) core.now scope.now wanted.now) }
 {
-    let groups = groups_of(around.alloc, scope)?;
-    let kept = condition_made(&core.condition, false, around, scope)?;
-    let Kept { condition, .. } = kept;
-    let (having, list) = selected_made(core, wanted, around, scope)?;
-    Ok(Clauses {
-        condition,
-        groups,
-        having,
-        list,
-        distinct: core.distinct,
-    })
+    let groups = groups_of(around.alloc, scope);
+    let kept = condition_made(&core.condition, false, around, scope);
+    let selected = selected_made(core, wanted, around, scope);
+    clauses_of(groups, kept, selected, core.distinct)
 }
 
 /// HAVING, and the list behind its aggregates.
@@ -103,8 +98,8 @@ fn selected_made(
         condition,
         aggregates,
     } = kept;
-    let list = list_made(core.items.as_slice(), wanted, aggregates, around, scope)?;
-    Ok((condition, list))
+    let list = list_made(core.items.as_slice(), wanted, aggregates, around, scope);
+    beside(condition, list)
 }
 
 /// The condition of WHERE or of HAVING, if there is one.
@@ -148,8 +143,8 @@ fn kept_made(
         standing: in_clause(around.trace, in_groups),
     };
     let mut found = Within::nothing(around.alloc);
-    let expr = made(tree, Kind::Boolean, &here, &mut found)?;
-    Ok(condition_found(expr, found))
+    let expr = made(tree, Kind::Boolean, &here, &mut found);
+    kept_of(expr, found)
 }
 
 /// The list, behind the aggregates of HAVING.
@@ -164,7 +159,10 @@ fn list_made(
     requires { IsSound around.now.catalog.now }
     ensures { IfOk result (MakesList (standing_of around.now) scope.now (map (item_of around.now.catalog.now) items.now) wanted.now aggregates) }
 {
-    let scopes = inside(scope, false, &*around.outer)?;
+    let Ok(scopes) = inside(scope, false, &*around.outer) else {
+        drop(aggregates);
+        return Err(NoMemory);
+    };
     let here = Here {
         alloc: around.alloc,
         catalog: &*around.catalog,
@@ -172,8 +170,8 @@ fn list_made(
         standing: in_clause(around.trace, true),
     };
     let mut found = behind_aggregates(around.alloc, aggregates);
-    let made_items = items_made(items, wanted, scope, &here, &mut found)?;
-    Ok(listed_with(made_items, found))
+    let made_items = items_made(items, wanted, scope, &here, &mut found);
+    listed_of(made_items, found)
 }
 
 /// The columns of the list.
@@ -191,7 +189,10 @@ fn items_made(
 {
     let mut made_items = List::new(here.alloc);
     for item in items {
-        item_listed(item, wanted, scope, here, &mut made_items, found)?;
+        let Ok(()) = item_listed(item, wanted, scope, here, &mut made_items, found) else {
+            drop(made_items);
+            return Err(NoMemory);
+        };
     }
     Ok(made_items)
 }
@@ -215,9 +216,8 @@ fn item_listed(
         SelectItem::TableStar { table } => add_table_star(scope, table, items),
         SelectItem::Value { expr, .. } => {
             let kind = item_kind(expr, wanted, items.len(), here)?;
-            let expr = made(expr, kind, here, found)?;
-            items.push(Item { expr, kind })?;
-            Ok(())
+            let expr = made(expr, kind, here, found);
+            add_value(expr, kind, items)
         }
     }
 }

@@ -1,5 +1,5 @@
 //! Expressions, made where they stand at the kinds that are wanted of them.
-ghost use Rattle.std.specs.Prelude.{◌≡◌, ℕ, false, ◌∷◌, [], IfOk, OnOk, map};
+ghost use Rattle.std.specs.Prelude.{◌≡◌, ℕ, false, [], IfOk, map};
 ghost use Rattle.bag_algebra.specs.declared.expr.Expr.TheVariants.{Lit as Number, Op as Operated};
 ghost use Rattle.perm_catalog.specs.Sound.{IsSound};
 ghost use Rattle.perm_values.specs.declared.kind.Kind.{Kind as Sort};
@@ -12,7 +12,12 @@ ghost use Rattle.name_words.specs.Trees.{arm_of, part_of, query_of, step_of};
 ghost use Rattle.name_nodes.specs.Makes.{Links, Makes, MakesArms, MakesMore, MakesSteps};
 ghost use Rattle.name_seen.specs.Standing.{surroundings};
 
+use crate::expression_results::{
+    aggregate_of, arm_of, between, case, chained, in_list, like, null_tested, on_parts, on_two,
+    repeated, same_tested, step_of, sublink_of, truth_tested,
+};
 use crate::queries::query_made;
+use crate::together::with_more;
 use bag_algebra::{Arm, ChainStep, Expr, SubKind};
 use expression_seen::{in_argument, in_tested, trace_below};
 use made_parts::{
@@ -20,14 +25,13 @@ use made_parts::{
     group_count, kind_or_any, scalar_kind, tested_kind,
 };
 use name_nodes::{
-    Within, aggregate_made, argument_wanted, chain_start, column_made, count_made, in_kind,
-    in_list_kind, integer_value, negated_if, null_at, null_test, same_test, sublink_made,
-    text_value, times, truth_test, truth_value, wanted_of,
+    Within, argument_wanted, chain_start, column_made, count_made, in_kind, in_list_kind,
+    integer_value, null_at, text_value, truth_value, wanted_of,
 };
 use name_seen::{Around, Here, gives_of, look_up, need_of, ungrouped};
 use name_words::{Gives, Need};
 use null_logic::Operator;
-use perm_values::{Boxed, Kind, List, NoMemory};
+use perm_values::{Kind, List, NoMemory};
 use sql_tree::{AggWord, ArmTree, ExprBody, ExprStep, ExprTree, QueryTree};
 
 /// The expression where it stands, at the kind that is wanted of it if it may be of any. What it adds to the sublinks and
@@ -56,12 +60,12 @@ pub fn made(
         }
         ExprBody::Paren(part) => made(part.get(), wanted, here, found),
         ExprBody::Nots { count, part } => {
-            let part = made(part.get(), Kind::Boolean, here, found)?;
-            times(alloc, Operator::Not, *count, part)
+            let part = made(part.get(), Kind::Boolean, here, found);
+            repeated(alloc, Operator::Not, *count, part)
         }
         ExprBody::Signs { count, part } => {
-            let part = made(part.get(), Kind::Integer, here, found)?;
-            times(alloc, Operator::Negate, *count, part)
+            let part = made(part.get(), Kind::Integer, here, found);
+            repeated(alloc, Operator::Negate, *count, part)
         }
         ExprBody::Logic { op, parts } => {
             let need = need_of(*op, false);
@@ -69,37 +73,29 @@ pub fn made(
             operator_made(parts.as_slice(), *op, need, gives, wanted, here, found)
         }
         ExprBody::Chain { first, steps } => {
-            let first = boxed_made(first.get(), chain_start(steps.as_slice()), here, found)?;
-            let steps = steps_made(steps.as_slice(), here, found)?;
-            Ok(Expr::Chain { first, steps })
+            let first = made(first.get(), chain_start(steps.as_slice()), here, found);
+            let steps = steps_made(steps.as_slice(), here, found);
+            chained(alloc, first, steps)
         }
         ExprBody::Compared { op, first, second } => {
             let op = Operator::Compare(*op);
             let need = Need::Alike;
             let gives = Gives::Always(Kind::Boolean);
-            let alike = alike_of_two(need, gives, first.get(), second.get(), wanted, here)?;
-            let mut parts = List::new(alloc);
-            operand_made(first.get(), need, alike, here, &mut parts, found)?;
-            operand_made(second.get(), need, alike, here, &mut parts, found)?;
-            Ok(Expr::Op { op, parts })
+            let first = first.get();
+            let second = second.get();
+            let alike = alike_of_two(need, gives, first, second, wanted, here)?;
+            let first = made(first, alike, here, found);
+            let second = made(second, alike, here, found);
+            on_two(alloc, op, first, second)
         }
         ExprBody::Like {
             negated,
             text,
             pattern,
         } => {
-            let need = Need::OfKind(Kind::Text);
-            let mut parts = List::new(alloc);
-            operand_made(text.get(), need, Kind::Text, here, &mut parts, found)?;
-            operand_made(pattern.get(), need, Kind::Text, here, &mut parts, found)?;
-            negated_if(
-                alloc,
-                *negated,
-                Expr::Op {
-                    op: Operator::Like,
-                    parts,
-                },
-            )
+            let text = made(text.get(), Kind::Text, here, found);
+            let pattern = made(pattern.get(), Kind::Text, here, found);
+            like(alloc, *negated, text, pattern)
         }
         ExprBody::Between {
             negated,
@@ -107,79 +103,66 @@ pub fn made(
             low,
             high,
         } => {
-            let alike = alike_of_three(part.get(), low.get(), high.get(), here)?;
-            let mut parts = List::new(alloc);
-            operand_made(part.get(), Need::Alike, alike, here, &mut parts, found)?;
-            operand_made(low.get(), Need::Alike, alike, here, &mut parts, found)?;
-            operand_made(high.get(), Need::Alike, alike, here, &mut parts, found)?;
-            negated_if(
-                alloc,
-                *negated,
-                Expr::Op {
-                    op: Operator::Between,
-                    parts,
-                },
-            )
+            let part = part.get();
+            let low = low.get();
+            let high = high.get();
+            let alike = alike_of_three(part, low, high, here)?;
+            let part = made(part, alike, here, found);
+            let low = made(low, alike, here, found);
+            let high = made(high, alike, here, found);
+            between(alloc, *negated, part, low, high)
         }
         ExprBody::InList {
             negated,
             part,
             list,
         } => {
-            let alike = alike_behind(part.get(), list.as_slice(), here)?;
-            let mut parts = List::new(alloc);
-            operand_made(part.get(), Need::Alike, alike, here, &mut parts, found)?;
-            operands_made(list.as_slice(), Need::Alike, alike, here, &mut parts, found)?;
-            negated_if(
-                alloc,
-                *negated,
-                Expr::Op {
-                    op: Operator::InList,
-                    parts,
-                },
-            )
+            let part = part.get();
+            let list = list.as_slice();
+            let alike = alike_behind(part, list, here)?;
+            let part = made(part, alike, here, found);
+            let list = operands_made(list, Need::Alike, alike, here, found);
+            in_list(alloc, *negated, part, list)
         }
         ExprBody::IsNull { negated, part } => {
-            let part = made(part.get(), Kind::Text, here, found)?;
-            null_test(alloc, *negated, part)
+            let part = made(part.get(), Kind::Text, here, found);
+            null_tested(alloc, *negated, part)
         }
         ExprBody::IsTruth {
             negated,
             truth,
             part,
         } => {
-            let part = made(part.get(), Kind::Boolean, here, found)?;
-            truth_test(alloc, *negated, *truth, part)
+            let part = made(part.get(), Kind::Boolean, here, found);
+            truth_tested(alloc, *negated, *truth, part)
         }
         ExprBody::IsDistinct {
             negated,
             first,
             second,
         } => {
-            let alike = alike_of_two(
-                Need::Alike,
-                Gives::Always(Kind::Boolean),
-                first.get(),
-                second.get(),
-                wanted,
-                here,
-            )?;
-            let first = boxed_made(first.get(), alike, here, found)?;
-            let second = boxed_made(second.get(), alike, here, found)?;
-            same_test(alloc, !*negated, first, second)
+            let gives = Gives::Always(Kind::Boolean);
+            let first = first.get();
+            let second = second.get();
+            let alike = alike_of_two(Need::Alike, gives, first, second, wanted, here)?;
+            let first = made(first, alike, here, found);
+            let second = made(second, alike, here, found);
+            same_tested(alloc, !*negated, first, second)
         }
         ExprBody::Case { arms, otherwise } => match otherwise {
             None => {
-                let alike = alike_of_arms(arms.as_slice(), wanted, here)?;
-                let arms = arms_made(arms.as_slice(), alike, here, found)?;
-                let otherwise = Boxed::new(alloc, null_at(alike))?;
-                Ok(Expr::Case { arms, otherwise })
+                let arms = arms.as_slice();
+                let alike = alike_of_arms(arms, wanted, here)?;
+                let arms = arms_made(arms, alike, here, found);
+                case(alloc, arms, Ok(null_at(alike)))
             }
             Some(part) => {
-                let alike = alike_of_case(arms.as_slice(), part.get(), wanted, here)?;
-                let arms = arms_made(arms.as_slice(), alike, here, found)?;
-                let otherwise = boxed_made(part.get(), alike, here, found)?;
-                Ok(Expr::Case { arms, otherwise })
+                let arms = arms.as_slice();
+                let part = part.get();
+                let alike = alike_of_case(arms, part, wanted, here)?;
+                let arms = arms_made(arms, alike, here, found);
+                let otherwise = made(part, alike, here, found);
+                case(alloc, arms, otherwise)
             }
         },
         ExprBody::Coalesce(list) => operator_made(
@@ -192,21 +175,12 @@ pub fn made(
             found,
         ),
         ExprBody::NullIf { first, second } => {
-            let alike = alike_of_two(
-                Need::Alike,
-                Gives::Common,
-                first.get(),
-                second.get(),
-                wanted,
-                here,
-            )?;
-            let mut parts = List::new(alloc);
-            operand_made(first.get(), Need::Alike, alike, here, &mut parts, found)?;
-            operand_made(second.get(), Need::Alike, alike, here, &mut parts, found)?;
-            Ok(Expr::Op {
-                op: Operator::NullIf,
-                parts,
-            })
+            let first = first.get();
+            let second = second.get();
+            let alike = alike_of_two(Need::Alike, Gives::Common, first, second, wanted, here)?;
+            let first = made(first, alike, here, found);
+            let second = made(second, alike, here, found);
+            on_two(alloc, Operator::NullIf, first, second)
         }
         ExprBody::Aggregate { function, argument } => match argument {
             None => count_made(group_count(&*here.scopes), *function, found),
@@ -222,10 +196,12 @@ pub fn made(
             if !here.standing.sublinks {
                 return Ok(null_at(Kind::Boolean));
             }
-            let kind = tested_kind(part.get(), query.get(), here)?;
-            let tested = tested_made(part.get(), kind, here, found)?;
+            let part = part.get();
+            let query = query.get();
+            let kind = tested_kind(part, query, here)?;
+            let tested = tested_made(part, kind, here, found)?;
             let sub = in_list_kind(*negated);
-            linked(query.get(), sub, Some(tested), &[kind], here, found)
+            linked(query, sub, Some(tested), &[kind], here, found)
         }
         ExprBody::Quantified {
             every,
@@ -236,10 +212,12 @@ pub fn made(
             if !here.standing.sublinks {
                 return Ok(null_at(Kind::Boolean));
             }
-            let kind = tested_kind(part.get(), query.get(), here)?;
-            let tested = tested_made(part.get(), kind, here, found)?;
+            let part = part.get();
+            let query = query.get();
+            let kind = tested_kind(part, query, here)?;
+            let tested = tested_made(part, kind, here, found)?;
             let sub = in_kind(*every, *op);
-            linked(query.get(), sub, Some(tested), &[kind], here, found)
+            linked(query, sub, Some(tested), &[kind], here, found)
         }
     }
 }
@@ -250,59 +228,25 @@ fn integer_read(number: &i64) -> Expr
     integer_value(*number)
 }
 
-/// The expression in a box.
-#[cycle(made)]
-fn boxed_made(
-    tree: &ExprTree,
-    wanted: Kind,
-    here: &Here,
-    found: &mut Within,
-) -> Result<Boxed<Expr>, NoMemory>
-    requires { IsSound here.now.catalog.now }
-    ensures { IfOk result (λ e. Makes here.now.standing.sublinks
-        (means_at (part_of here.now.catalog.now tree.now) (surroundings here.now)) wanted e found.old found.new) }
-{
-    let part = made(tree, wanted, here, found)?;
-    Boxed::new(here.alloc, part)
-}
-
-/// One more operand of a node, behind those that are made.
-#[cycle(made)]
-fn operand_made(
-    tree: &ExprTree,
-    need: Need,
-    alike: Kind,
-    here: &Here,
-    parts: &mut List<Expr>,
-    found: &mut Within,
-) -> Result<(), NoMemory>
-    requires { IsSound here.now.catalog.now }
-    ensures { OnOk result (MakesMore here.now.standing.sublinks alike
-        (operand (surroundings here.now) need (part_of here.now.catalog.now tree.now) ∷ []) parts.old parts.new found.old found.new) }
-{
-    let part = made(tree, wanted_of(alike, need), here, found)?;
-    parts.push(part)?;
-    Ok(())
-}
-
-/// Operands of one need, behind those that are made.
+/// Operands of one need.
 #[cycle(made)]
 fn operands_made(
     trees: &[ExprTree],
     need: Need,
     alike: Kind,
     here: &Here,
-    parts: &mut List<Expr>,
     found: &mut Within,
-) -> Result<(), NoMemory>
+) -> Result<List<Expr>, NoMemory>
     requires { IsSound here.now.catalog.now }
-    ensures { OnOk result (MakesMore here.now.standing.sublinks alike
-        (map (operand (surroundings here.now) need) (map (part_of here.now.catalog.now) trees.now)) parts.old parts.new found.old found.new) }
+    ensures { IfOk result (λ parts. MakesMore here.now.standing.sublinks alike
+        (map (operand (surroundings here.now) need) (map (part_of here.now.catalog.now) trees.now)) [] parts found.old found.new) }
 {
+    let mut parts = List::new(here.alloc);
     for tree in trees {
-        operand_made(tree, need, alike, here, parts, found)?;
+        let part = made(tree, wanted_of(alike, need), here, found);
+        parts = with_more(parts, part)?;
     }
-    Ok(())
+    Ok(parts)
 }
 
 /// The operator on operands of one need.
@@ -321,9 +265,8 @@ fn operator_made(
         (node gives (Operated op) (map (operand (surroundings here.now) need) (map (part_of here.now.catalog.now) trees.now))) wanted e found.old found.new) }
 {
     let alike = alike_of_all(need, gives, trees, wanted, here)?;
-    let mut parts = List::new(here.alloc);
-    operands_made(trees, need, alike, here, &mut parts, found)?;
-    Ok(Expr::Op { op, parts })
+    let parts = operands_made(trees, need, alike, here, found);
+    on_parts(op, parts)
 }
 
 /// The steps of a chain.
@@ -339,9 +282,8 @@ fn steps_made(
 {
     let mut made_steps = List::new(here.alloc);
     for step in steps {
-        let op = step.op;
-        let part = made(&step.part, Kind::Integer, here, found)?;
-        made_steps.push(ChainStep { op, part })?;
+        let part = made(&step.part, Kind::Integer, here, found);
+        made_steps = with_more(made_steps, step_of(step.op, part))?;
     }
     Ok(made_steps)
 }
@@ -360,9 +302,9 @@ fn arms_made(
 {
     let mut made_arms = List::new(here.alloc);
     for arm in arms {
-        let condition = made(&arm.condition, Kind::Boolean, here, found)?;
-        let value = made(&arm.value, alike, here, found)?;
-        made_arms.push(Arm { condition, value })?;
+        let condition = made(&arm.condition, Kind::Boolean, here, found);
+        let value = made(&arm.value, alike, here, found);
+        made_arms = with_more(made_arms, arm_of(condition, value))?;
     }
     Ok(made_arms)
 }
@@ -389,8 +331,9 @@ fn aggregated(
     };
     let kind = kind_or_any(argument, &inner)?;
     let mut own = Within::nothing(here.alloc);
-    let part = made(argument, argument_wanted(word), &inner, &mut own)?;
-    aggregate_made(group_count(&*here.scopes), word, kind, Some(part), found)
+    let part = made(argument, argument_wanted(word), &inner, &mut own);
+    drop(own);
+    aggregate_of(group_count(&*here.scopes), word, kind, part, found)
 }
 
 /// Whether a query has a row.
@@ -448,8 +391,8 @@ fn linked(
         trace: trace_below(here.standing.trace),
         provable: false,
     };
-    let query = query_made(query, wanted, &around)?;
-    sublink_made(kind, tested, query, found)
+    let query = query_made(query, wanted, &around);
+    sublink_of(kind, tested, query, found)
 }
 
 /// The left operand of a sublink, in which no sublink stands.

@@ -9,10 +9,10 @@ ghost use Rattle.name_nodes.specs.Makes.{MakesQuery};
 ghost use Rattle.name_seen.specs.Standing.{around_of as standing_of};
 
 use crate::cores::core_made;
+use crate::query_results::{finished_of, with_operand};
 use bag_algebra::Query;
 use cores_seen::is_proving;
 use made_parts::{chain_kinds, limit_keys, trace_inside};
-use name_nodes::{finished, set_joined};
 use name_seen::Around;
 use perm_values::{Kind, NoMemory};
 use sql_tree::{QueryTree, SetStep, SetTree};
@@ -34,8 +34,8 @@ pub fn query_made(tree: &QueryTree, wanted: &[Kind], around: &Around) -> Result<
         provable: around.provable,
     };
     let keys = limit_keys(tree, &inner)?;
-    let body = set_made(&tree.body, wanted, &inner)?;
-    finished(around.alloc, body, keys, tree.limit, proving)
+    let body = set_made(&tree.body, wanted, &inner);
+    finished_of(around.alloc, body, keys, tree.limit, proving)
 }
 
 /// The tree of set operations where it stands.
@@ -63,8 +63,13 @@ fn set_made(tree: &SetTree, wanted: &[Kind], around: &Around) -> Result<Query, N
                 return set_made(before, wanted, around);
             }
             let kinds = chain_kinds(tree, wanted, around)?;
-            let whole = set_made(before, kinds.as_slice(), around)?;
-            chained(steps.as_slice(), whole, kinds.as_slice(), around)
+            let Ok(first) = set_made(before, kinds.as_slice(), around) else {
+                drop(kinds);
+                return Err(NoMemory);
+            };
+            let whole = chained(steps.as_slice(), first, kinds.as_slice(), around);
+            drop(kinds);
+            whole
         }
     }
 }
@@ -91,8 +96,8 @@ fn chained(
     };
     let mut whole = first;
     for step in steps {
-        let operand = set_made(&step.operand, kinds, &inner)?;
-        whole = set_joined(around.alloc, step.word, step.all, whole, operand)?;
+        let operand = set_made(&step.operand, kinds, &inner);
+        whole = with_operand(around.alloc, step.word, step.all, whole, operand)?;
     }
     Ok(whole)
 }

@@ -10,13 +10,11 @@ ghost use Rattle.made_parts.specs.Sources.{MakesFrom, MakesJoin, MakesOn, MakesS
 
 use crate::expressions::made;
 use crate::queries::query_made;
+use crate::query_results::{marked_of, with_next, with_right};
 use bag_algebra::{Expr, Query};
 use cores_seen::in_on;
 use items_seen::trace_under;
-use made_parts::{
-    behind, beside_from, input_or_single, join_kind, joined, marked_query, named_item, segment,
-    shown_names,
-};
+use made_parts::{behind, input_or_single, join_kind, named_item, segment, shown_names};
 use name_nodes::{Within, truth_value};
 use name_seen::{Around, Here, inside};
 use name_words::Scope;
@@ -36,9 +34,13 @@ pub(crate) fn sources_made(
     let mut whole = None;
     let mut first = 0;
     for source in sources {
-        let next = source_made(source, first, around, scope)?;
-        whole = Some(beside_from(around.alloc, whole, next)?);
-        first = behind(first, source)?;
+        let next = source_made(source, first, around, scope);
+        whole = Some(with_next(around.alloc, whole, next)?);
+        let Ok(next_first) = behind(first, source) else {
+            drop(whole);
+            return Err(NoMemory);
+        };
+        first = next_first;
     }
     Ok(input_or_single(whole))
 }
@@ -75,9 +77,9 @@ fn join_made(
     requires { IsSound around.now.catalog.now }
     ensures { IfOk result (MakesJoin (scopes_of around.now.outer.now) around.now.trace (join_of around.now.catalog.now step.now) first count scope.now whole) }
 {
-    let condition = on_made(&step.condition, first, count, around, scope)?;
-    let right = item_made(&step.item, around)?;
-    joined(around.alloc, join_kind(step.word), whole, right, condition)
+    let condition = on_made(&step.condition, first, count, around, scope);
+    let right = item_made(&step.item, around);
+    with_right(around.alloc, join_kind(step.word), whole, right, condition)
 }
 
 /// A condition of ON, which sees as many items behind the first ones; TRUE, if there is none.
@@ -96,7 +98,9 @@ fn on_made(
         None => Ok(truth_value(true)),
         Some(tree) => {
             let own = segment(around.alloc, scope, first, count)?;
-            on_items(tree, around, &own)
+            let condition = on_items(tree, around, &own);
+            drop(own);
+            condition
         }
     }
 }
@@ -117,7 +121,9 @@ fn on_items(tree: &ExprTree, around: &Around, own: &Scope) -> Result<Expr, NoMem
         standing: in_on(around.trace),
     };
     let mut found = Within::nothing(around.alloc);
-    made(tree, Kind::Boolean, &here, &mut found)
+    let condition = made(tree, Kind::Boolean, &here, &mut found);
+    drop(found);
+    condition
 }
 
 /// An item of FROM.
@@ -139,8 +145,8 @@ fn item_made(item: &FromItem, around: &Around) -> Result<Query, NoMemory>
             };
             let tree = query.get();
             let shown = shown_names(tree, &inner)?;
-            let query = query_made(tree, &[], &inner)?;
-            marked_query(around.alloc, query, shown, &item.alias, &item.mark)
+            let query = query_made(tree, &[], &inner);
+            marked_of(around.alloc, query, shown, &item.alias, &item.mark)
         }
     }
 }

@@ -9,14 +9,14 @@ use perm_values::{List, NoMemory};
 use std::alloc::Global;
 
 /// A condition that is made, with its sublinks.
-#[derive(Debug, Drop)]
+#[derive(Drop)]
 pub struct Condition {
     pub expr: Expr,
     pub subs: List<Sublink>,
 }
 
 /// A SELECT list that is made, with its sublinks, and the aggregates of HAVING and the list.
-#[derive(Debug, Drop)]
+#[derive(Drop)]
 pub struct Listed {
     pub items: List<Item>,
     pub subs: List<Sublink>,
@@ -24,7 +24,7 @@ pub struct Listed {
 }
 
 /// What a core does with the rows of its FROM.
-#[derive(Debug, Drop)]
+#[derive(Drop)]
 pub struct Clauses {
     pub condition: Option<Condition>,
     pub groups: Option<List<usize>>,
@@ -44,7 +44,12 @@ pub fn core_query(alloc: Global, input: Query, clauses: Clauses) -> Result<Query
         list,
         distinct,
     } = clauses;
-    let rows = condition_over(alloc, input, condition)?;
+    let Ok(rows) = condition_over(alloc, input, condition) else {
+        drop(groups);
+        drop(having);
+        drop(list);
+        return Err(NoMemory);
+    };
     let made = listed_over(alloc, rows, groups, having, list)?;
     distinct_if(alloc, distinct, made)
 }
@@ -78,8 +83,17 @@ fn listed_over(
         subs,
         aggregates,
     } = list;
-    let rows = grouped_if(alloc, rows, groups, aggregates)?;
-    let kept = condition_over(alloc, rows, having)?;
+    let Ok(rows) = grouped_if(alloc, rows, groups, aggregates) else {
+        drop(having);
+        drop(items);
+        drop(subs);
+        return Err(NoMemory);
+    };
+    let Ok(kept) = condition_over(alloc, rows, having) else {
+        drop(items);
+        drop(subs);
+        return Err(NoMemory);
+    };
     project(alloc, kept, items, subs)
 }
 
@@ -93,7 +107,10 @@ fn grouped_if(
     ensures { IfOk result (λ made. made ≡ aggregated_input rows groups aggregates) }
 {
     match groups {
-        None => Ok(rows),
+        None => {
+            drop(aggregates);
+            Ok(rows)
+        }
         Some(groups) => aggregate(alloc, rows, groups, aggregates),
     }
 }

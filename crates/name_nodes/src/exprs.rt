@@ -57,7 +57,10 @@ fn on_one(alloc: Global, op: Operator, part: Expr) -> Result<Expr, NoMemory>
     ensures { IfOk result (λ made. made ≡ Operated op (part ∷ [])) }
 {
     let mut parts = List::new(alloc);
-    parts.push(part)?;
+    let Ok(_) = parts.push(part) else {
+        drop(parts);
+        return Err(NoMemory);
+    };
     Ok(Expr::Op { op, parts })
 }
 

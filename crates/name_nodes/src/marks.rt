@@ -83,8 +83,15 @@ pub fn external(
 ) -> Result<Query, NoMemory>
     ensures { IfOk result (λ made. made ≡ external query names.now places.now) }
 {
-    let columns = names_at(alloc, names, places)?;
-    let places = copied_places(alloc, places)?;
+    let Ok(columns) = names_at(alloc, names, places) else {
+        drop(query);
+        return Err(NoMemory);
+    };
+    let Ok(places) = copied_places(alloc, places) else {
+        drop(query);
+        drop(columns);
+        return Err(NoMemory);
+    };
     source(alloc, query, places, Label::External { columns })
 }
 
@@ -97,8 +104,17 @@ pub fn whole_source(
 ) -> Result<Query, NoMemory>
     ensures { IfOk result (λ made. made ≡ Source query (all_places names) (Whole label.now names)) }
 {
-    let places = places_below(alloc, names.len())?;
-    let name = label.copy(alloc)?;
+    let Ok(places) = places_below(alloc, names.len()) else {
+        drop(query);
+        drop(names);
+        return Err(NoMemory);
+    };
+    let Ok(name) = label.copy(alloc) else {
+        drop(query);
+        drop(names);
+        drop(places);
+        return Err(NoMemory);
+    };
     source(
         alloc,
         query,
@@ -160,8 +176,15 @@ pub fn attributes_of(
 ) -> Result<Query, NoMemory>
     ensures { IfOk result (λ made. made ≡ Source query (map (place_of names.now) (texts_of attributes.now)) (Outside (texts_of attributes.now))) }
 {
-    let places = attribute_places(alloc, names, attributes)?;
-    let columns = attribute_names(alloc, attributes)?;
+    let Ok(places) = attribute_places(alloc, names, attributes) else {
+        drop(query);
+        return Err(NoMemory);
+    };
+    let Ok(columns) = attribute_names(alloc, attributes) else {
+        drop(query);
+        drop(places);
+        return Err(NoMemory);
+    };
     source(alloc, query, places, Label::External { columns })
 }
 
@@ -181,9 +204,16 @@ pub fn table_plain(alloc: Global, name: &Chars, table: &TableEntry) -> Result<Qu
     ensures { IfOk result (λ made. made ≡ table_plain name.now table.now) }
 {
     let names = column_names(alloc, table.columns.as_slice())?;
-    let rows = table_rows(alloc, table)?;
+    let Ok(rows) = table_rows(alloc, table) else {
+        drop(names);
+        return Err(NoMemory);
+    };
     match &table.mark {
         None => whole_source(alloc, rows, name, names),
-        Some(mark) => external(alloc, rows, names.as_slice(), mark.places.as_slice()),
+        Some(mark) => {
+            let made = external(alloc, rows, names.as_slice(), mark.places.as_slice());
+            drop(names);
+            made
+        }
     }
 }

@@ -18,7 +18,11 @@ pub fn source(
 ) -> Result<Query, NoMemory>
     ensures { IfOk result (λ made. made ≡ Source input places label) }
 {
-    let input = Boxed::new(alloc, input)?;
+    let Ok(input) = Boxed::new(alloc, input) else {
+        drop(places);
+        drop(label);
+        return Err(NoMemory);
+    };
     Ok(Query::Base {
         input,
         places,
@@ -35,7 +39,11 @@ pub fn filter(
 ) -> Result<Query, NoMemory>
     ensures { IfOk result (λ made. made ≡ Kept input condition subs) }
 {
-    let input = Boxed::new(alloc, input)?;
+    let Ok(input) = Boxed::new(alloc, input) else {
+        drop(condition);
+        drop(subs);
+        return Err(NoMemory);
+    };
     Ok(Query::Filter {
         input,
         condition,
@@ -52,7 +60,11 @@ pub fn project(
 ) -> Result<Query, NoMemory>
     ensures { IfOk result (λ made. made ≡ Listed input items subs) }
 {
-    let input = Boxed::new(alloc, input)?;
+    let Ok(input) = Boxed::new(alloc, input) else {
+        drop(items);
+        drop(subs);
+        return Err(NoMemory);
+    };
     Ok(Query::Project { input, items, subs })
 }
 
@@ -65,7 +77,11 @@ pub fn aggregate(
 ) -> Result<Query, NoMemory>
     ensures { IfOk result (λ made. made ≡ Grouped input groups aggregates) }
 {
-    let input = Boxed::new(alloc, input)?;
+    let Ok(input) = Boxed::new(alloc, input) else {
+        drop(groups);
+        drop(aggregates);
+        return Err(NoMemory);
+    };
     Ok(Query::Aggregate {
         input,
         groups,
@@ -113,8 +129,14 @@ pub fn set_joined(
 ) -> Result<Query, NoMemory>
     ensures { IfOk result (λ made. made ≡ set_of word all left right) }
 {
-    let left = Boxed::new(alloc, left)?;
-    let right = Boxed::new(alloc, right)?;
+    let Ok(left) = Boxed::new(alloc, left) else {
+        drop(right);
+        return Err(NoMemory);
+    };
+    let Ok(right) = Boxed::new(alloc, right) else {
+        drop(left);
+        return Err(NoMemory);
+    };
     Ok(set_of(word, all, left, right))
 }
 
@@ -138,9 +160,13 @@ pub fn limited(
     ensures { IfOk result (λ made. made ≡ limited limit keys input) }
 {
     let Some(count) = limit else {
+        drop(keys);
         return Ok(input);
     };
-    let input = Boxed::new(alloc, input)?;
+    let Ok(input) = Boxed::new(alloc, input) else {
+        drop(keys);
+        return Err(NoMemory);
+    };
     Ok(Query::Limit {
         input,
         keys,

@@ -6,7 +6,7 @@ use perm_values::List;
 use std::alloc::Global;
 
 /// The sublinks and the aggregates of a clause as far as they are made; the next is numbered by how many stand before.
-#[derive(Debug, Drop)]
+#[derive(Drop)]
 pub struct Within {
     pub subs: List<Sublink>,
     pub aggregates: List<Aggr>,

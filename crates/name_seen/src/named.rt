@@ -8,7 +8,7 @@ use name_words::{Scope, ScopeColumn};
 use perm_values::{Chars, Kind};
 
 /// Which columns of a scope a name means: none, one with its place in the rows and its kind, or several.
-#[derive(Clone, Copy, Debug, PartialEq, Eq)]
+#[derive(Clone, Copy, PartialEq, Eq)]
 pub enum Named {
     Nowhere,
     Once { place: usize, kind: Kind },

@@ -7,7 +7,7 @@ use perm_values::Kind;
 
 /// What the operands of a node come to so far: the kind to which those that are to be alike were united, and the offset
 /// of the first that doesn't have the kind that it needs or doesn't unite with those before it.
-#[derive(Clone, Copy, Debug, PartialEq, Eq)]
+#[derive(Clone, Copy, PartialEq, Eq)]
 pub struct Operands {
     pub common: Option<Kind>,
     pub unfit: Option<usize>,

@@ -5,7 +5,7 @@ use name_words::Break;
 use perm_values::NoMemory;
 
 /// Why what stands in a statement is not resolved.
-#[derive(Clone, Copy, Debug, PartialEq, Eq)]
+#[derive(Clone, Copy, PartialEq, Eq)]
 pub enum Refusal {
     /// The first rule of names and kinds that it breaks.
     Break(Break),

@@ -3,14 +3,14 @@ use perm_catalog::{Column, ViewEntry};
 use perm_values::{Chars, Kind, List};
 
 /// A rule of names and kinds that a statement breaks: the number of its error code, and the offset where it is broken.
-#[derive(Clone, Copy, Debug, PartialEq, Eq)]
+#[derive(Clone, Copy, PartialEq, Eq)]
 pub struct Break {
     pub code: u8,
     pub at: usize,
 }
 
 /// A statement with its names looked up and its kinds settled.
-#[derive(Debug, Drop)]
+#[derive(Drop)]
 pub enum Resolved {
     CreateTable {
         name: Chars,

@@ -7,7 +7,7 @@ use perm_values::{Copyable, NoMemory};
 use std::alloc::Global;
 
 /// An operation on integers (ISO/IEC 9075-2, 'numeric value expression'; `%` is its MOD).
-#[derive(Clone, Copy, Debug, PartialEq, Eq)]
+#[derive(Clone, Copy, PartialEq, Eq)]
 pub enum Arith {
     Add,
     Subtract,

@@ -8,7 +8,7 @@ use std::alloc::Global;
 use std::cmp::Ordering;
 
 /// A comparison (ISO/IEC 9075-2, 'comparison predicate').
-#[derive(Clone, Copy, Debug, PartialEq, Eq)]
+#[derive(Clone, Copy, PartialEq, Eq)]
 pub enum Compare {
     Equal,
     NotEqual,

@@ -7,7 +7,7 @@ use perm_values::{Copyable, Kind, NoMemory};
 use std::alloc::Global;
 
 /// An operator of expressions, or a function that is written as one.
-#[derive(Clone, Copy, Debug, PartialEq, Eq)]
+#[derive(Clone, Copy, PartialEq, Eq)]
 pub enum Operator {
     And,
     Or,
@@ -50,7 +50,7 @@ impl Copyable for Operator {
 }
 
 /// What an operator asks of its operands.
-#[derive(Clone, Copy, Debug, PartialEq, Eq)]
+#[derive(Clone, Copy, PartialEq, Eq)]
 pub enum Needs {
     Integers,
     Texts,
@@ -60,7 +60,7 @@ pub enum Needs {
 }
 
 /// One row of the table of operators: which one, where it stands, how tightly it binds, what it takes and gives.
-#[derive(Clone, Copy, Debug, PartialEq, Eq)]
+#[derive(Clone, Copy, PartialEq, Eq)]
 pub struct OpRow {
     pub operator: Operator,
     /// Whether it stands before its one operand.
@@ -87,7 +87,7 @@ impl OpRow {
 }
 
 /// A table of operators.
-#[derive(Clone, Copy, Debug)]
+#[derive(Clone, Copy)]
 pub struct OpTable<const N: usize> {
     pub rows: [OpRow; N],
 }

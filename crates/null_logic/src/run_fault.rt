@@ -1,5 +1,5 @@
 /// What can go wrong while a query runs.
-#[derive(Clone, Copy, Debug, PartialEq, Eq)]
+#[derive(Clone, Copy, PartialEq, Eq)]
 pub enum RunFault {
     /// A division or remainder by 0 (ISO/IEC 9075-2, SQLSTATE 22012).
     DivideByZero,

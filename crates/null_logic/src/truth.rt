@@ -5,7 +5,7 @@ use perm_values::{Copyable, NoMemory, Value};
 use std::alloc::Global;
 
 /// A truth value of the three-valued logic (ISO/IEC 9075-2, 'boolean value expression').
-#[derive(Clone, Copy, Debug, PartialEq, Eq)]
+#[derive(Clone, Copy, PartialEq, Eq)]
 pub enum Truth {
     True,
     False,

@@ -16,7 +16,7 @@ use std::alloc::Global;
 use std::marker::Model;
 
 /// Why the catalog refuses a change.
-#[derive(Clone, Copy, Debug, PartialEq, Eq)]
+#[derive(Clone, Copy, PartialEq, Eq)]
 pub enum CatalogRefusal {
     /// The next number is the last one, which is never drawn.
     VersionsSpent,
@@ -141,6 +141,9 @@ impl Catalog {
         ensures err { OnErr result (self.new ≡ self.old) }
     {
         if self.next == u64::MAX {
+            drop(columns);
+            drop(rows);
+            drop(mark);
             return Err(CatalogRefusal::VersionsSpent);
         }
         let entry = TableEntry {
@@ -166,8 +169,16 @@ impl Catalog {
         ensures ok { OnOk result (self.new ≡ with_entry self.old name.now entry rows) }
         ensures err { OnErr result (self.new ≡ self.old) }
     {
-        let key = room_for(alloc, &mut self.tables, name)?;
-        self.rows.put(entry.id, rows)?;
+        let Ok(key) = room_for(alloc, &mut self.tables, name) else {
+            drop(rows);
+            drop(entry);
+            return Err(NoMemory);
+        };
+        let Ok(_) = self.rows.put(entry.id, rows) else {
+            drop(key);
+            drop(entry);
+            return Err(NoMemory);
+        };
         add_last(&mut self.tables, key, entry);
         Ok(())
     }
@@ -181,6 +192,7 @@ impl Catalog {
         ensures err { OnErr result (self.new ≡ self.old) }
     {
         if self.next == u64::MAX {
+            drop(rows);
             return Err(CatalogRefusal::VersionsSpent);
         }
         self.add_to_table(name, rows)?;
@@ -195,6 +207,7 @@ impl Catalog {
         ensures err { OnErr result (self.new ≡ self.old) }
     {
         let Some(entry) = self.tables.get(name) else {
+            drop(rows);
             return Ok(());
         };
         self.rows.add_rows(entry.id, rows)?;
@@ -247,7 +260,10 @@ impl Catalog {
         ensures ok { OnOk result (self.new ≡ with_view self.old name.now entry) }
         ensures err { OnErr result (self.new ≡ self.old) }
     {
-        let key = room_for(alloc, &mut self.views, name)?;
+        let Ok(key) = room_for(alloc, &mut self.views, name) else {
+            drop(entry);
+            return Err(NoMemory);
+        };
         add_last(&mut self.views, key, entry);
         Ok(())
     }
@@ -259,9 +275,10 @@ impl Catalog {
         ensures dropped { IfSome (table_named self.old name.now) (λ entry. self.new ≡ without_table self.old name.now entry.id) }
         ensures gone { table_named self.new name.now ≡ None }
     {
-        if let Some(entry) = self.tables.shift_remove(name) {
-            let _rows = self.rows.remove(entry.id);
+        if let Some(entry) = self.tables.get(name) {
+            drop(self.rows.remove(entry.id));
         }
+        drop(self.tables.shift_remove(name));
     }
 
     /// Takes a view that no view names out. It takes no memory.
@@ -271,6 +288,6 @@ impl Catalog {
         ensures dropped { self.new ≡ without_view self.old name.now }
         ensures gone { view_named self.new name.now ≡ None }
     {
-        let _entry = self.views.shift_remove(name);
+        drop(self.views.shift_remove(name));
     }
 }

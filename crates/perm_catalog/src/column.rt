@@ -4,7 +4,7 @@ use perm_values::{Chars, Copyable, Kind, NoMemory};
 use std::alloc::Global;
 
 /// A column of a table.
-#[derive(Debug, Drop)]
+#[derive(Drop)]
 pub struct Column {
     pub name: Chars,
     pub kind: Kind,

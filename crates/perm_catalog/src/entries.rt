@@ -2,11 +2,11 @@ ghost use Rattle.std.specs.Prelude.{◌≡◌, IfOk};
 
 use crate::column::Column;
 use bag_algebra::{Answer, Query};
-use perm_values::{Chars, Copyable, List, NoMemory};
+use perm_values::{Chars, Copyable, List, NoMemory, both, three};
 use std::alloc::Global;
 
 /// A table that a stored provenance query read: its name, identity and version then.
-#[derive(Debug, Drop)]
+#[derive(Drop)]
 pub struct Kept {
     pub table: Chars,
     pub id: u64,
@@ -14,7 +14,7 @@ pub struct Kept {
 }
 
 /// What a stored provenance table remembers: the places of its provenance columns, its query, and what that read.
-#[derive(Debug, Drop)]
+#[derive(Drop)]
 pub struct Mark {
     pub places: List<usize>,
     pub query: Query,
@@ -23,7 +23,7 @@ pub struct Mark {
 
 /// A table: its identity, which no other table has, the version of its rows, its columns, and its mark where it
 /// stores provenance.
-#[derive(Debug, Drop)]
+#[derive(Drop)]
 pub struct TableEntry {
     pub id: u64,
     pub version: u64,
@@ -33,7 +33,7 @@ pub struct TableEntry {
 
 /// A view as it was resolved: its answer, the places of its provenance columns where it has any, and the names of the
 /// tables and views that it names, each once in ascending order.
-#[derive(Debug, Drop)]
+#[derive(Drop)]
 pub struct ViewEntry {
     pub answer: Answer,
     pub places: Option<List<usize>>,
@@ -64,31 +64,42 @@ impl Copyable for Kept {
 
 impl Copyable for Mark {
     fn copy(&self, alloc: Global) -> Result<Mark, NoMemory> {
+        let places = self.places.copy(alloc);
+        let query = self.query.copy(alloc);
+        let kept = self.kept.copy(alloc);
+        let (places, query, kept) = three(places, query, kept)?;
         Ok(Mark {
-            places: self.places.copy(alloc)?,
-            query: self.query.copy(alloc)?,
-            kept: self.kept.copy(alloc)?,
+            places,
+            query,
+            kept,
         })
     }
 }
 
 impl Copyable for TableEntry {
     fn copy(&self, alloc: Global) -> Result<TableEntry, NoMemory> {
+        let columns = self.columns.copy(alloc);
+        let mark = copy_option(alloc, &self.mark);
+        let (columns, mark) = both(columns, mark)?;
         Ok(TableEntry {
             id: self.id,
             version: self.version,
-            columns: self.columns.copy(alloc)?,
-            mark: copy_option(alloc, &self.mark)?,
+            columns,
+            mark,
         })
     }
 }
 
 impl Copyable for ViewEntry {
     fn copy(&self, alloc: Global) -> Result<ViewEntry, NoMemory> {
+        let answer = self.answer.copy(alloc);
+        let places = copy_option(alloc, &self.places);
+        let names_used = self.names_used.copy(alloc);
+        let (answer, places, names_used) = three(answer, places, names_used)?;
         Ok(ViewEntry {
-            answer: self.answer.copy(alloc)?,
-            places: copy_option(alloc, &self.places)?,
-            names_used: self.names_used.copy(alloc)?,
+            answer,
+            places,
+            names_used,
         })
     }
 }

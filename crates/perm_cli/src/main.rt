@@ -16,7 +16,7 @@ use std::rt::Env;
 use std::{env, io};
 
 /// Why the words can't be handed on: one isn't UTF-8 or can't be asked for, or memory is wanting.
-#[derive(Clone, Copy, Debug, PartialEq, Eq)]
+#[derive(Clone, Copy, PartialEq, Eq)]
 enum WordsError {
     NotText,
     NoMemory,

@@ -9,7 +9,7 @@ ghost use Rattle.perm_engine.specs.Ends.{Completes, EndsBroken, EndsFaulty, Ends
 ghost use Rattle.perm_engine.specs.Run.{Runs, RunsFrom, RunsScript, is_one, IsWhole, IsSteady, IsOfScript};
 
 use crate::script::script_of;
-use crate::session::{Session, let_go};
+use crate::session::Session;
 use crate::status::Status;
 use crate::stopping::{finish, refuse, stop};
 use perm_io::{Files, ReadError, Sink, read_all, write_all};
@@ -43,17 +43,17 @@ fn run_statements<F: Files, K: Sink>(
             Ok(text) => match write_all(out, text.as_slice()) {
                 Ok(()) => {}
                 Err(_) => {
-                    let_go(session);
+                    drop(session);
                     return Status::WriteFault;
                 }
             },
             Err(refusal) => {
-                let_go(session);
+                drop(session);
                 return stop(refusal, out);
             }
         }
     }
-    let_go(session);
+    drop(session);
     finish(out, b"", Status::Done)
 }
 

@@ -130,7 +130,7 @@ impl Session {
         let resolved = resolved_statement(self.alloc, &self.catalog, statement)?;
         let runner = &mut self.runner;
         let told = carried_out(self.alloc, &mut self.catalog, files, at, &resolved, runner);
-        let_go(resolved);
+        drop(resolved);
         told
     }
 }
@@ -149,7 +149,7 @@ fn resolved_statement(
 {
     let at = statement.at;
     if is_unbuilt(&statement) {
-        let_go(statement);
+        drop(statement);
         Err(StepRefusal::Break(Break { code: 29, at }))
     } else {
         looked_up(alloc, catalog, statement)
@@ -195,6 +195,3 @@ fn carried_out<F: Files>(
 {
     step(alloc, catalog, files, at, resolved, runner)
 }
-
-/// Drops a value of many variants. A caller that dropped it by itself would have a way through its code for each of them.
-pub(crate) fn let_go<T: Drop>(_value: T) {}

@@ -7,7 +7,7 @@ use perm_values::NoMemory;
 use std::alloc::Global;
 
 /// The numbers of the calls that are to fail, counted from 1, and how many calls were made and failed.
-#[derive(Debug, Drop)]
+#[derive(Drop)]
 pub(crate) struct Failures {
     listed: Vec<u64>,
     calls: u64,

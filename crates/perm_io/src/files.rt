@@ -12,7 +12,7 @@ use perm_values::Chars;
 use std::alloc::Global;
 
 /// Why no file was begun: a fault, or want of memory.
-#[derive(Clone, Copy, Debug, PartialEq, Eq)]
+#[derive(Clone, Copy, PartialEq, Eq)]
 pub enum BeginError {
     Failed,
     NoMemory,

@@ -10,7 +10,7 @@ use perm_values::{Chars, List, NoMemory};
 use std::alloc::Global;
 
 /// Files in memory. The calls of the listed numbers fail, counted from 1 over `begin` and `read`.
-#[derive(Debug, Drop)]
+#[derive(Drop)]
 pub struct MemoryFiles {
     shelf: Shelf,
     failures: Failures,

@@ -9,7 +9,7 @@ use std::alloc::Global;
 
 /// An output into memory, with room for so many bytes. The calls of the listed numbers fail, counted from 1 over `write`
 /// and `flush`, and so does a write of some bytes where no room is left.
-#[derive(Debug, Drop)]
+#[derive(Drop)]
 pub struct MemorySink {
     bytes: Vec<u8>,
     room: usize,

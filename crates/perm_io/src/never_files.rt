@@ -9,7 +9,7 @@ use perm_values::{Chars, List};
 use std::alloc::Global;
 
 /// Files in memory whose calls never fail.
-#[derive(Debug, Drop)]
+#[derive(Drop)]
 pub struct NeverFiles {
     shelf: Shelf,
 }

@@ -4,7 +4,7 @@ ghost use Rattle.perm_io.specs.Counts.{raised};
 use crate::{Failed, Sink};
 
 /// An output that keeps only the number of bytes taken. Its calls never fail.
-#[derive(Debug, Drop)]
+#[derive(Drop)]
 pub struct NeverSink {
     taken: u64,
     unflushed: bool,

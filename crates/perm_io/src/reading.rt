@@ -9,7 +9,7 @@ use std::alloc::Global;
 
 /// Why a file wasn't read whole: there is none of the name, it has more bytes than may be, a call on it failed, or memory
 /// is wanting.
-#[derive(Clone, Copy, Debug, PartialEq, Eq)]
+#[derive(Clone, Copy, PartialEq, Eq)]
 pub enum ReadError {
     Missing,
     TooLarge,

@@ -8,7 +8,7 @@ use crate::count::next_count;
 use perm_values::{Chars, List};
 
 /// Files, the place of the open one and how far it is read. A place past the last means that none is open.
-#[derive(Debug, Drop)]
+#[derive(Drop)]
 pub(crate) struct Shelf {
     files: List<NamedFile>,
     current: usize,

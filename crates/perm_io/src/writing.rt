@@ -5,7 +5,7 @@ ghost use Rattle.perm_io.specs.Counts.{CountsFault};
 use crate::{Failed, Sink};
 
 /// Not all bytes were written.
-#[derive(Clone, Copy, Debug, PartialEq, Eq)]
+#[derive(Clone, Copy, PartialEq, Eq)]
 pub struct WriteFault;
 
 impl From<Failed> for WriteFault {

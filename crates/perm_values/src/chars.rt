@@ -12,7 +12,7 @@ use std::hash::{Hash, Hasher};
 use std::marker::Model;
 
 /// A text, seen as its list of bytes, which are always UTF-8.
-#[derive(Debug, Drop)]
+#[derive(Drop)]
 pub struct Chars {
     text: Text,
 }

@@ -4,7 +4,7 @@ use crate::{Copyable, NoMemory};
 use std::alloc::Global;
 
 /// One key of an ORDER BY: an output column, counted from 0, and its direction.
-#[derive(Clone, Copy, Debug, PartialEq, Eq)]
+#[derive(Clone, Copy, PartialEq, Eq)]
 pub struct Key {
     pub place: usize,
     pub descending: bool,

@@ -4,7 +4,7 @@ use crate::{Copyable, NoMemory};
 use std::alloc::Global;
 
 /// The kind of a column or an expression (ISO/IEC 9075-2, 'Data types', cut to three).
-#[derive(Clone, Copy, Debug, PartialEq, Eq)]
+#[derive(Clone, Copy, PartialEq, Eq)]
 pub enum Kind {
     Integer,
     Text,

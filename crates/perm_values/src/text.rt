@@ -10,7 +10,7 @@ use std::marker::Model;
 const SHORT: usize = 14;
 
 /// A text of few bytes, which lie in the value itself.
-#[derive(Debug, Drop)]
+#[derive(Drop)]
 pub(crate) struct ShortText {
     len: u8,
     bytes: [u8; SHORT],
@@ -52,7 +52,7 @@ impl ShortText {
 }
 
 /// A text in the value itself, or behind a pointer.
-#[derive(Debug, Drop)]
+#[derive(Drop)]
 pub(crate) enum Text {
     Short(ShortText),
     Long(Box<String>),

@@ -12,7 +12,7 @@ use std::hash::{Hash, Hasher};
 use std::mem::size_of;
 
 /// A value of SQL: NULL, a 64-bit integer, a text or a boolean.
-#[derive(Debug, Drop)]
+#[derive(Drop)]
 pub enum Value {
     Null,
     Integer(i64),

@@ -8,7 +8,7 @@ use std::alloc::Global;
 
 /// What stands inside the parts that were gone through: the offset of each query with its number of columns, in the order
 /// of the text, and the names of tables and views.
-#[derive(Debug, Drop)]
+#[derive(Drop)]
 pub struct Gathered {
     pub queries: List<(usize, usize)>,
     pub names: List<Chars>,

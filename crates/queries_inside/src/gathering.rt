@@ -233,36 +233,21 @@ fn expression_inside(tree: &ExprTree, here: &Here, found: &mut Gathered) -> Resu
         ExprBody::Text(_) => Ok(()),
         ExprBody::Truth(_) => Ok(()),
         ExprBody::Column(_) => Ok(()),
-        ExprBody::Paren(part) => {
-            expression_inside(part.get(), here, found)?;
-            Ok(())
-        }
-        ExprBody::Nots { part, .. } => {
-            expression_inside(part.get(), here, found)?;
-            Ok(())
-        }
-        ExprBody::Signs { part, .. } => {
-            expression_inside(part.get(), here, found)?;
-            Ok(())
-        }
-        ExprBody::Logic { parts, .. } => {
-            expressions_inside(parts.as_slice(), here, found)?;
-            Ok(())
-        }
+        ExprBody::Paren(part) => expression_inside(part.get(), here, found),
+        ExprBody::Nots { part, .. } => expression_inside(part.get(), here, found),
+        ExprBody::Signs { part, .. } => expression_inside(part.get(), here, found),
+        ExprBody::Logic { parts, .. } => expressions_inside(parts.as_slice(), here, found),
         ExprBody::Chain { first, steps } => {
             expression_inside(first.get(), here, found)?;
-            steps_inside(steps.as_slice(), here, found)?;
-            Ok(())
+            steps_inside(steps.as_slice(), here, found)
         }
         ExprBody::Compared { first, second, .. } => {
             expression_inside(first.get(), here, found)?;
-            expression_inside(second.get(), here, found)?;
-            Ok(())
+            expression_inside(second.get(), here, found)
         }
         ExprBody::Like { text, pattern, .. } => {
             expression_inside(text.get(), here, found)?;
-            expression_inside(pattern.get(), here, found)?;
-            Ok(())
+            expression_inside(pattern.get(), here, found)
         }
         ExprBody::Between {
             part,
@@ -272,58 +257,32 @@ fn expression_inside(tree: &ExprTree, here: &Here, found: &mut Gathered) -> Resu
         } => {
             expression_inside(part.get(), here, found)?;
             expression_inside(low.get(), here, found)?;
-            expression_inside(high.get(), here, found)?;
-            Ok(())
+            expression_inside(high.get(), here, found)
         }
         ExprBody::InList { part, list, .. } => {
             expression_inside(part.get(), here, found)?;
-            expressions_inside(list.as_slice(), here, found)?;
-            Ok(())
+            expressions_inside(list.as_slice(), here, found)
         }
-        ExprBody::InQuery { query, .. } => {
-            sublink_inside(query.get(), here, found)?;
-            Ok(())
-        }
-        ExprBody::Quantified { query, .. } => {
-            sublink_inside(query.get(), here, found)?;
-            Ok(())
-        }
-        ExprBody::IsNull { part, .. } => {
-            expression_inside(part.get(), here, found)?;
-            Ok(())
-        }
-        ExprBody::IsTruth { part, .. } => {
-            expression_inside(part.get(), here, found)?;
-            Ok(())
-        }
+        ExprBody::InQuery { query, .. } => sublink_inside(query.get(), here, found),
+        ExprBody::Quantified { query, .. } => sublink_inside(query.get(), here, found),
+        ExprBody::IsNull { part, .. } => expression_inside(part.get(), here, found),
+        ExprBody::IsTruth { part, .. } => expression_inside(part.get(), here, found),
         ExprBody::IsDistinct { first, second, .. } => {
             expression_inside(first.get(), here, found)?;
-            expression_inside(second.get(), here, found)?;
-            Ok(())
+            expression_inside(second.get(), here, found)
         }
         ExprBody::Case { arms, otherwise } => {
             arms_inside(arms.as_slice(), here, found)?;
-            otherwise_inside(otherwise, here, found)?;
-            Ok(())
+            otherwise_inside(otherwise, here, found)
         }
-        ExprBody::Coalesce(list) => {
-            expressions_inside(list.as_slice(), here, found)?;
-            Ok(())
-        }
+        ExprBody::Coalesce(list) => expressions_inside(list.as_slice(), here, found),
         ExprBody::NullIf { first, second } => {
             expression_inside(first.get(), here, found)?;
-            expression_inside(second.get(), here, found)?;
-            Ok(())
+            expression_inside(second.get(), here, found)
         }
         ExprBody::Aggregate { .. } => Ok(()),
-        ExprBody::Exists(query) => {
-            sublink_inside(query.get(), here, found)?;
-            Ok(())
-        }
-        ExprBody::Scalar(query) => {
-            sublink_inside(query.get(), here, found)?;
-            Ok(())
-        }
+        ExprBody::Exists(query) => sublink_inside(query.get(), here, found),
+        ExprBody::Scalar(query) => sublink_inside(query.get(), here, found),
     }
 }
 

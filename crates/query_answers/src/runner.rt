@@ -66,9 +66,9 @@ impl Runner {
         requires { IsTrue (is_plain query) }
         ensures { Keeps (run_of query keys.now (rows_in tables.now)) result self.new }
     {
-        let_go(self.last.take());
+        drop(self.last.take());
         let ran = ran_of(alloc, query, keys, tables)?;
-        let_go(self.last.replace(ran));
+        drop(self.last.replace(ran));
         Ok(())
     }
 }
@@ -81,7 +81,7 @@ fn ran_of(alloc: Global, query: Query, keys: &[Key], tables: &Tables) -> Result<
     match ordered_rows(alloc, &query, keys, tables) {
         Ok(rows) => Ok(Ran { query, rows }),
         Err(error) => {
-            let_go(query);
+            drop(query);
             Err(error)
         }
     }
@@ -101,7 +101,3 @@ fn ordered_rows(
     let rows = run_hashed(alloc, query, tables, &env)?;
     Ok(in_order(rows, keys)?)
 }
-
-/// Drops a value that holds trees of many variants. A caller that dropped it by itself would have a way through its code for
-/// each of them.
-fn let_go<T: Drop>(_value: T) {}

@@ -8,7 +8,7 @@ use std::alloc::Global;
 
 /// What the provenance of a query that isn't made yet rests on: the places of its witness lists, whether its sources
 /// are over tables, and whether the sublinks that are traced with it have such sources.
-#[derive(Debug, Drop)]
+#[derive(Drop)]
 pub struct Facts {
     pub places: List<Place>,
     pub over_tables: bool,

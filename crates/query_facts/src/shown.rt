@@ -4,7 +4,7 @@ use perm_values::List;
 
 /// What a query shows before it is made: its columns, the places of its provenance columns where it asks for
 /// provenance, and its facts.
-#[derive(Debug, Drop)]
+#[derive(Drop)]
 pub struct QueryShown {
     pub columns: List<ShownColumn>,
     pub places: Option<List<usize>>,

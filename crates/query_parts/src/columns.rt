@@ -37,7 +37,10 @@ pub fn regroup(alloc: Global, query: Query, order: &[usize]) -> Result<Query, No
     ensures tables { IfOk result (λ p. tables_read p ≡ tables_read query) }
     ensures closed { IfOk result (λ p. no_open_sublink p ≡ no_open_sublink query) }
 {
-    let items = columns_of(alloc, &query, order)?;
+    let Ok(items) = columns_of(alloc, &query, order) else {
+        drop(query);
+        return Err(NoMemory);
+    };
     projection(alloc, query, items)
 }
 

@@ -4,7 +4,7 @@ ghost use Rattle.bag_algebra.specs.declared.expr.Expr.TheVariants.{Col};
 ghost use Rattle.query_parts.specs.MovedColumns.{IsMoved, PartsMoved, StepsMoved, ArmsMoved};
 
 use bag_algebra::{Arm, ChainStep, Expr};
-use perm_values::{Boxed, Copyable, Kind, List, NoMemory, Value};
+use perm_values::{Boxed, Copyable, Kind, List, NoMemory, Value, both};
 use std::alloc::Global;
 
 /// The expression with each column of the node's own row at the place that the order has for it; one without a place is
@@ -33,13 +33,17 @@ pub fn moved(alloc: Global, expr: &Expr, order: &[usize]) -> Result<Expr, NoMemo
             parts: moved_parts(alloc, parts.as_slice(), order)?,
         }),
         Expr::Chain { first, steps } => {
-            let first = moved_boxed(alloc, first, order)?;
-            let steps = moved_steps(alloc, steps.as_slice(), order)?;
+            let (first, steps) = both(
+                moved_boxed(alloc, first, order),
+                moved_steps(alloc, steps.as_slice(), order),
+            )?;
             Ok(Expr::Chain { first, steps })
         }
         Expr::Case { arms, otherwise } => {
-            let arms = moved_arms(alloc, arms.as_slice(), order)?;
-            let otherwise = moved_boxed(alloc, otherwise, order)?;
+            let (arms, otherwise) = both(
+                moved_arms(alloc, arms.as_slice(), order),
+                moved_boxed(alloc, otherwise, order),
+            )?;
             Ok(Expr::Case { arms, otherwise })
         }
         Expr::Sub { number } => Ok(Expr::Sub { number: *number }),
@@ -51,8 +55,10 @@ pub fn moved(alloc: Global, expr: &Expr, order: &[usize]) -> Result<Expr, NoMemo
             part: moved_boxed(alloc, part, order)?,
         }),
         Expr::Same { first, second } => {
-            let first = moved_boxed(alloc, first, order)?;
-            let second = moved_boxed(alloc, second, order)?;
+            let (first, second) = both(
+                moved_boxed(alloc, first, order),
+                moved_boxed(alloc, second, order),
+            )?;
             Ok(Expr::Same { first, second })
         }
     }
@@ -116,8 +122,10 @@ fn moved_arms(alloc: Global, arms: &[Arm], order: &[usize]) -> Result<List<Arm>,
 {
     let mut made = List::new(alloc);
     for arm in arms {
-        let condition = moved(alloc, &arm.condition, order)?;
-        let value = moved(alloc, &arm.value, order)?;
+        let (condition, value) = both(
+            moved(alloc, &arm.condition, order),
+            moved(alloc, &arm.value, order),
+        )?;
         made.push(Arm { condition, value })?;
     }
     Ok(made)

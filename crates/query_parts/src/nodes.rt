@@ -16,7 +16,7 @@ ghost use Rattle.perm_values.specs.declared.kind.Kind.TheVariants.{Boolean};
 ghost use Rattle.query_parts.specs.ItemKinds.{item_kinds};
 
 use bag_algebra::{Expr, Item, JoinKind, Query};
-use perm_values::{Boxed, List, NoMemory};
+use perm_values::{Boxed, List, NoMemory, boxes};
 use std::alloc::Global;
 
 /// A projection of the query to the items, without sublinks. It is well formed where the query and the items are, plain
@@ -33,7 +33,10 @@ pub fn projection(alloc: Global, query: Query, items: List<Item>) -> Result<Quer
     ensures tables { IfOk result (λ p. tables_read p ≡ tables_read query) }
     ensures closed { IfOk result (λ p. no_open_sublink p ≡ no_open_sublink query) }
 {
-    let input = Boxed::new(alloc, query)?;
+    let Ok(input) = Boxed::new(alloc, query) else {
+        drop(items);
+        return Err(NoMemory);
+    };
     Ok(Query::Project {
         input,
         items,
@@ -55,7 +58,10 @@ pub fn filtered(alloc: Global, query: Query, condition: Expr) -> Result<Query, N
     ensures tables { IfOk result (λ p. tables_read p ≡ tables_read query) }
     ensures closed { IfOk result (λ p. no_open_sublink p ≡ no_open_sublink query) }
 {
-    let input = Boxed::new(alloc, query)?;
+    let Ok(input) = Boxed::new(alloc, query) else {
+        drop(condition);
+        return Err(NoMemory);
+    };
     Ok(Query::Filter {
         input,
         condition,
@@ -84,8 +90,10 @@ pub fn joined(
     ensures tables { IfOk result (λ p. tables_read p ≡ tables_read left ++ tables_read right) }
     ensures closed { IfOk result (λ p. no_open_sublink p ≡ (no_open_sublink left && no_open_sublink right)) }
 {
-    let left = Boxed::new(alloc, left)?;
-    let right = Boxed::new(alloc, right)?;
+    let Ok((left, right)) = boxes(alloc, left, right) else {
+        drop(condition);
+        return Err(NoMemory);
+    };
     Ok(Query::Join {
         kind,
         left,

@@ -45,7 +45,10 @@ pub fn padded(
     ensures tables { IfOk result (λ p. tables_read p ≡ tables_read query) }
     ensures closed { IfOk result (λ p. no_open_sublink p ≡ no_open_sublink query) }
 {
-    let items = padded_items(alloc, &query, before, kinds, behind)?;
+    let Ok(items) = padded_items(alloc, &query, before, kinds, behind) else {
+        drop(query);
+        return Err(NoMemory);
+    };
     projection(alloc, query, items)
 }
 

@@ -10,7 +10,7 @@ ghost use Rattle.joined_rewritings.specs.KeptColumns.{pairs_of, columns_kept};
 ghost use Rattle.rewrite_aggregate.specs.SameGroups.{same_groups};
 
 use bag_algebra::{Aggr, Expr, JoinKind, Query};
-use joined_rewritings::{columns_from, exact_width, join_kept, let_go, sum};
+use joined_rewritings::{columns_from, exact_width, join_kept, sum};
 use perm_values::{Boxed, Copyable, List, NoMemory};
 use query_parts::same_columns;
 use std::alloc::Global;
@@ -30,7 +30,7 @@ pub fn aggregate(
         IfOk result (λ p. IsTrue (no_open_sublink p)) }
 {
     let Ok(plain) = plain_grouping(alloc, input, groups, aggregates) else {
-        let_go(rewriting);
+        drop(rewriting);
         return Err(NoMemory);
     };
     let Plain {
@@ -81,8 +81,8 @@ fn beside_class(
     ensures { IfOk result (λ p. p ≡ columns_kept (pairs_of Left plain rewriting (same_groups groups.now kept)) kept columns) }
 {
     let Ok(same) = same_groups(alloc, groups, kept) else {
-        let_go(plain);
-        let_go(rewriting);
+        drop(plain);
+        drop(rewriting);
         return Err(NoMemory);
     };
     join_kept(alloc, outwards(), plain, rewriting, same, kept, columns)

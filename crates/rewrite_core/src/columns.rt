@@ -10,7 +10,6 @@ ghost use Rattle.bag_algebra.specs.declared.query.Query.{Query as Whole, end_of-
 
 use bag_algebra::{Item, Query};
 use contribution::kinds;
-use joined_rewritings::let_go;
 use perm_values::{List, NoMemory};
 use query_parts::{column_items, projection};
 use std::alloc::Global;
@@ -41,7 +40,7 @@ fn arranged(alloc: Global, query: Query, order: &[usize]) -> Result<Query, NoMem
     ensures closed { IfOk result (λ p. no_open_sublink p ≡ no_open_sublink query) }
 {
     let Ok(items) = columns_at(alloc, &query, order) else {
-        let_go(query);
+        drop(query);
         return Err(NoMemory);
     };
     projection(alloc, query, items)
@@ -54,7 +53,7 @@ pub(crate) fn laid(alloc: Global, query: Query, order: &[usize]) -> Result<Query
     ensures closed { IfOk result (λ p. no_open_sublink p ≡ no_open_sublink query) }
 {
     let Ok(all) = is_all_columns(alloc, &query, order) else {
-        let_go(query);
+        drop(query);
         return Err(NoMemory);
     };
     if all {

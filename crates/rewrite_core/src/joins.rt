@@ -10,7 +10,6 @@ ghost use Rattle.rewrite_core.specs.JoinColumns.{own_places, added_places, IsPai
 
 use crate::columns::{add_places, column_count, laid};
 use bag_algebra::{Expr, JoinKind, Query};
-use joined_rewritings::let_go;
 use perm_values::{List, NoMemory};
 use query_parts::{joined, moved};
 use std::alloc::Global;
@@ -34,8 +33,8 @@ pub fn join(
         IfOk result (λ p. IsTrue (no_open_sublink p)) }
 {
     let Ok(order) = all_columns(alloc, left, &left_rewriting, right, &right_rewriting) else {
-        let_go(left_rewriting);
-        let_go(right_rewriting);
+        drop(left_rewriting);
+        drop(right_rewriting);
         return Err(NoMemory);
     };
     laid_out(
@@ -92,8 +91,8 @@ fn paired(
     ensures closed { IfOk result (λ p. no_open_sublink p ≡ (no_open_sublink left_rewriting && no_open_sublink right_rewriting)) }
 {
     let Ok(condition) = over_rewritings(alloc, left, &left_rewriting, right, condition) else {
-        let_go(left_rewriting);
-        let_go(right_rewriting);
+        drop(left_rewriting);
+        drop(right_rewriting);
         return Err(NoMemory);
     };
     joined(alloc, kind, left_rewriting, right_rewriting, condition)

@@ -7,7 +7,6 @@ ghost use Rattle.rewrite_core.specs.ProvenanceColumns.{provenance_items};
 
 use crate::columns::{add_places, column_count, columns_at};
 use bag_algebra::{Expr, Item, Query};
-use joined_rewritings::let_go;
 use perm_values::{Copyable, List, NoMemory};
 use query_parts::{filtered, projection};
 use std::alloc::Global;
@@ -37,7 +36,7 @@ pub fn filter(
     ensures closed { IsTrue (no_open_sublink rewriting) → IfOk result (λ p. IsTrue (no_open_sublink p)) }
 {
     let Ok(condition) = condition.copy(alloc) else {
-        let_go(rewriting);
+        drop(rewriting);
         return Err(NoMemory);
     };
     filtered(alloc, rewriting, condition)
@@ -57,7 +56,7 @@ pub fn project(
     ensures closed { IsTrue (no_open_sublink rewriting) → IfOk result (λ p. IsTrue (no_open_sublink p)) }
 {
     let Ok(items) = with_provenance(alloc, input, &rewriting, items) else {
-        let_go(rewriting);
+        drop(rewriting);
         return Err(NoMemory);
     };
     projection(alloc, rewriting, items)

@@ -10,7 +10,6 @@ ghost use Rattle.bag_algebra.specs.declared.query.Query.{Query as Whole};
 
 use crate::columns::{add_places, column_count, laid};
 use bag_algebra::Query;
-use joined_rewritings::let_go;
 use perm_values::{List, NoMemory};
 use std::alloc::Global;
 
@@ -21,7 +20,7 @@ pub fn base(alloc: Global, input: Query, places: &[usize]) -> Result<Query, NoMe
     ensures closed { IsTrue (no_open_sublink input) → IfOk result (λ p. IsTrue (no_open_sublink p)) }
 {
     let Ok(order) = columns_and(alloc, &input, places) else {
-        let_go(input);
+        drop(input);
         return Err(NoMemory);
     };
     laid(alloc, input, order.as_slice())

@@ -14,7 +14,7 @@ ghost use Rattle.rewrite_core.specs.UnionColumns.{items_behind, padded_behind, p
 use crate::columns::{add_places, column_count, columns_at};
 use bag_algebra::{Item, Query};
 use contribution::kinds;
-use joined_rewritings::{UnionSide, before_nulls, let_go};
+use joined_rewritings::{UnionSide, before_nulls};
 use perm_values::{Boxed, Kind, List, NoMemory};
 use query_parts::{kind_or_text, null_items, projection};
 use std::alloc::Global;
@@ -37,8 +37,8 @@ pub fn union_of(
         IfOk result (λ p. IsTrue (no_open_sublink p)) }
 {
     let Ok(right_added) = added_kinds(alloc, right, &right_rewriting) else {
-        let_go(left_rewriting);
-        let_go(right_rewriting);
+        drop(left_rewriting);
+        drop(right_rewriting);
         return Err(NoMemory);
     };
     both_padded(
@@ -65,12 +65,12 @@ fn both_padded(
     ensures closed { IfOk result (λ p. no_open_sublink p ≡ (no_open_sublink left_rewriting && no_open_sublink right_rewriting)) }
 {
     let Ok(left_added) = added_kinds(alloc, left, &left_rewriting) else {
-        let_go(left_rewriting);
-        let_go(right_rewriting);
+        drop(left_rewriting);
+        drop(right_rewriting);
         return Err(NoMemory);
     };
     let Ok(left_side) = padded(alloc, UnionSide::Left, left, left_rewriting, right_added) else {
-        let_go(right_rewriting);
+        drop(right_rewriting);
         return Err(NoMemory);
     };
     beside(
@@ -94,7 +94,7 @@ fn beside(
     ensures closed { IfOk result (λ p. no_open_sublink p ≡ (no_open_sublink left_side && no_open_sublink right_rewriting)) }
 {
     let Ok(right_side) = padded(alloc, UnionSide::Right, right, right_rewriting, left_added) else {
-        let_go(left_side);
+        drop(left_side);
         return Err(NoMemory);
     };
     union_all(alloc, left_side, right_side)
@@ -112,7 +112,7 @@ fn padded(
     ensures closed { IfOk result (λ p. no_open_sublink p ≡ no_open_sublink rewriting) }
 {
     let Ok(first) = null_place(alloc, side, query, &rewriting) else {
-        let_go(rewriting);
+        drop(rewriting);
         return Err(NoMemory);
     };
     padded_at(alloc, rewriting, first, added)
@@ -148,7 +148,7 @@ fn widened(alloc: Global, query: Query, first: usize, added: &[Kind]) -> Result<
     ensures closed { IfOk result (λ p. no_open_sublink p ≡ no_open_sublink query) }
 {
     let Ok(items) = padded_columns(alloc, &query, first, added) else {
-        let_go(query);
+        drop(query);
         return Err(NoMemory);
     };
     projection(alloc, query, items)
@@ -209,7 +209,7 @@ fn union_all(alloc: Global, left: Query, right: Query) -> Result<Query, NoMemory
     ensures closed { IfOk result (λ p. no_open_sublink p ≡ (no_open_sublink left && no_open_sublink right)) }
 {
     let Ok(left) = Boxed::new(alloc, left) else {
-        let_go(right);
+        drop(right);
         return Err(NoMemory);
     };
     let right = Boxed::new(alloc, right)?;

@@ -9,7 +9,7 @@ ghost use Rattle.rewrite_sets.specs.OtherRows.{remaining};
 
 use crate::columns::{Columns, columns_of};
 use bag_algebra::{JoinKind, Query};
-use joined_rewritings::{differs_from_first, join_kept, let_go, same_as_first};
+use joined_rewritings::{differs_from_first, join_kept, same_as_first};
 use perm_values::{Boxed, Copyable, NoMemory};
 use query_parts::joined;
 use std::alloc::Global;
@@ -32,7 +32,7 @@ pub(crate) fn remaining(
     ensures columns { IfOk result (λ rest. ColumnsOf rest.columns left.now rewriting) }
 {
     let Ok(plain) = difference(alloc, all, left, &rewriting, right) else {
-        let_go(rewriting);
+        drop(rewriting);
         return Err(NoMemory);
     };
     let Counted { rows, columns } = plain;
@@ -70,8 +70,8 @@ fn same_rows(
     ensures { IfOk result (λ p. p ≡ pairs_of Inner rewriting plain (same_as_first columns.own columns.kept)) }
 {
     let Ok(same) = same_as_first(alloc, columns.own, columns.kept) else {
-        let_go(rewriting);
-        let_go(plain);
+        drop(rewriting);
+        drop(plain);
         return Err(NoMemory);
     };
     joined(alloc, JoinKind::Inner, rewriting, plain, same)
@@ -88,8 +88,8 @@ pub(crate) fn beside_others(
     ensures { IfOk result (λ p. p ≡ columns_kept (pairs_of Left rest right (differs_from_first columns.own columns.right)) columns.kept columns.left_out) }
 {
     let Ok(others) = differs_from_first(alloc, columns.own, columns.right) else {
-        let_go(rest);
-        let_go(right);
+        drop(rest);
+        drop(right);
         return Err(NoMemory);
     };
     join_kept(

@@ -9,7 +9,7 @@ use crate::columns::columns_of;
 use crate::nodes::limited;
 use crate::others::{Counted, beside_others, remaining};
 use bag_algebra::Query;
-use joined_rewritings::{exact_width, let_go, matched};
+use joined_rewritings::{exact_width, matched};
 use perm_values::{Key, NoMemory};
 use std::alloc::Global;
 
@@ -28,11 +28,11 @@ pub fn limit(
         IfOk result (λ p. IsTrue (no_open_sublink p)) }
 {
     let Ok(columns) = exact_width(input) else {
-        let_go(rewriting);
+        drop(rewriting);
         return Err(NoMemory);
     };
     let Ok(plain) = limited(alloc, input, keys, count) else {
-        let_go(rewriting);
+        drop(rewriting);
         return Err(NoMemory);
     };
     matched(alloc, plain, rewriting, columns, columns)
@@ -55,8 +55,8 @@ pub fn intersect(
         IfOk result (λ p. IsTrue (no_open_sublink p)) }
 {
     let Ok(columns) = columns_of(left, &left_rewriting) else {
-        let_go(left_rewriting);
-        let_go(right_rewriting);
+        drop(left_rewriting);
+        drop(right_rewriting);
         return Err(NoMemory);
     };
     matched(
@@ -86,7 +86,7 @@ pub fn except(
         IfOk result (λ p. IsTrue (no_open_sublink p)) }
 {
     let Ok(rest) = remaining(alloc, all, left, left_rewriting, right) else {
-        let_go(right_rewriting);
+        drop(right_rewriting);
         return Err(NoMemory);
     };
     let Counted { rows, columns } = rest;

@@ -33,10 +33,6 @@ pub rewrites_without_places : (q : Query) (result : Result Query NoMemory) → h
 rewrites_without_places q result none given =
     where_made (λ p. Stands q p) (λ p. IsRewrite q p) result (λ p s. rewrite-without_places q p (no_place (shape q) none) s) given
 
--- a result that is there has what it has where it is there
-pub opened : {X : Type 0} (P : X → Type 0) (result : Result X NoMemory) (x : X) → result ≡ Ok x → IfOk result P → P x
-opened P result x was h = subst (λ r. IfOk r P) was h
-
 pub none_left : {X : Type 0} (xs : List X) → length xs ≡ 0 → xs ≡ []
 none_left [] e = refl
 none_left (x ∷ xs) e = absurd (omega (arith, e))

@@ -7,7 +7,6 @@ mod places;
 mod rules;
 mod standing;
 mod sublinks;
-mod together;
 
 pub use nodes::table;
 pub use places::has_places;

@@ -2,10 +2,8 @@
 ghost use Rattle.std.specs.Prelude.{◌≡◌, IfOk};
 ghost use Rattle.bag_algebra.specs.declared.query.Query.TheVariants.{Table, Filter, Project, Join, Union, Intersect, Except, Distinct, Aggregate, Limit};
 
-use crate::together::boxes;
 use bag_algebra::{Aggr, Expr, Item, JoinKind, Query, Sublink};
-use joined_rewritings::let_go;
-use perm_values::{Boxed, Copyable, Key, Kind, List, NoMemory};
+use perm_values::{Boxed, Copyable, Key, Kind, List, NoMemory, boxes};
 use std::alloc::Global;
 
 /// The table of this identity. It fails only for want of memory.
@@ -148,7 +146,7 @@ pub(crate) fn sublink_over(alloc: Global, sub: &Sublink, query: Query) -> Result
     ensures over { IfOk result (λ other. other.query ≡ query) }
 {
     let Ok(tested) = tested_copy(alloc, &sub.tested) else {
-        let_go(query);
+        drop(query);
         return Err(NoMemory);
     };
     Ok(Sublink {

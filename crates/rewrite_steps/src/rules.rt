@@ -8,10 +8,8 @@ ghost use Rattle.query_congruence.specs.Standing.{SubsStand};
 ghost use Rattle.query_measures.specs.BuiltScopes.{all_over_tables};
 ghost use Rattle.sublink_laws.specs.SubRewritings.{SubsRewritten};
 
-use crate::together::{both, four, three};
 use bag_algebra::{Aggr, Expr, Item, JoinKind, Query, Sublink};
-use joined_rewritings::let_go;
-use perm_values::{Key, List, NoMemory};
+use perm_values::{Key, List, NoMemory, both, four, three};
 use rewrite_aggregate::aggregate;
 use rewrite_core::{base, distinct, filter, join, project, union_of};
 use rewrite_sets::{except, intersect, limit};
@@ -160,8 +158,8 @@ pub fn except_rule(
 {
     let (left, lefts, right, rights) = four(left, lefts, right, rights)?;
     let made = except(alloc, all, &left, lefts, &right, rights);
-    let_go(left);
-    let_go(right);
+    drop(left);
+    drop(right);
     made
 }
 
@@ -188,7 +186,7 @@ pub fn aggregate_rule(
 {
     let (plain, rewriting) = both(plain, rewriting)?;
     let made = aggregate(alloc, &plain, rewriting, groups, aggregates);
-    let_go(plain);
+    drop(plain);
     made
 }
 
@@ -206,6 +204,6 @@ pub fn limit_rule(
 {
     let (plain, rewriting) = both(plain, rewriting)?;
     let made = limit(alloc, &plain, rewriting, keys, count);
-    let_go(plain);
+    drop(plain);
     made
 }

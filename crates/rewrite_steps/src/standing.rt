@@ -11,9 +11,8 @@ use crate::nodes::{
     aggregate_over, distinct_over, except_over, filter_over, intersect_over, join_over, limit_over,
     project_over, union_over,
 };
-use crate::together::{both, three};
 use bag_algebra::{Aggr, Expr, Item, JoinKind, Query, Sublink};
-use perm_values::{Key, List, NoMemory};
+use perm_values::{Key, List, NoMemory, both, three};
 use std::alloc::Global;
 
 /// What stands for a Filter over what stands for its input and its sublinks. It fails where one of these failed, and for want of memory.

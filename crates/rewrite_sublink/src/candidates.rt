@@ -12,7 +12,7 @@ ghost use Rattle.sublink_laws.specs.Candidates.{all_contributed, contributed, de
 use crate::matching::{Columns, always, first_column, matching};
 use bag_algebra::{Arm, Expr, JoinKind, Query, SubKind, Sublink};
 use contribution::cross_base;
-use joined_rewritings::{exact_width, let_go};
+use joined_rewritings::exact_width;
 use null_logic::Truth;
 use perm_values::{Boxed, Copyable, List, NoMemory};
 use query_parts::joined;
@@ -51,11 +51,11 @@ fn with_contribution(
 {
     let Candidates { pairs, columns } = beside_candidates(alloc, rows, sub, standing)?;
     let Ok(found) = matching(alloc, rewriting, columns) else {
-        let_go(pairs);
+        drop(pairs);
         return Err(NoMemory);
     };
     let whole = tested(alloc, pairs, standing, &found);
-    let_go(found);
+    drop(found);
     whole
 }
 
@@ -78,12 +78,12 @@ fn beside_candidates(
     ensures own { IfOk result (λ made. made.columns.own ≡ width_of standing.now.query) }
 {
     let Ok(base) = cross_base(alloc, &sub.query) else {
-        let_go(rows);
+        drop(rows);
         return Err(NoMemory);
     };
     let Ok(columns) = candidate_columns(&rows, &base, standing) else {
-        let_go(rows);
-        let_go(base);
+        drop(rows);
+        drop(base);
         return Err(NoMemory);
     };
     let pairs = joined(alloc, JoinKind::Inner, rows, base, always())?;
@@ -197,7 +197,7 @@ fn sub_over(alloc: Global, standing: &Sublink, found: &Query) -> Result<Sublink,
 {
     let tested = copied(alloc, &standing.tested)?;
     let Ok(query) = first_column(alloc, found) else {
-        let_go(tested);
+        drop(tested);
         return Err(NoMemory);
     };
     Ok(Sublink {
@@ -231,7 +231,7 @@ fn deciding_arm(alloc: Global, truth: Truth) -> Result<Arm, NoMemory>
 {
     let condition = has_truth(alloc, truth, 1)?;
     let Ok(value) = has_truth(alloc, truth, 2) else {
-        let_go(condition);
+        drop(condition);
         return Err(NoMemory);
     };
     Ok(Arm { condition, value })

@@ -8,7 +8,7 @@ ghost use Rattle.sublink_laws.specs.Candidates.{first_column, matching, or_nulls
 
 use bag_algebra::{Expr, Query};
 use contribution::kinds;
-use joined_rewritings::{columns_from, let_go};
+use joined_rewritings::columns_from;
 use null_logic::Operator;
 use perm_values::{Boxed, Copyable, Kind, List, NoMemory, Value};
 use query_parts::{column_items, filtered, joined, projection};
@@ -34,7 +34,7 @@ pub(crate) fn matching(
 {
     let rows = or_nulls(alloc, rewriting)?;
     let Ok(same) = same_as_outer(alloc, columns) else {
-        let_go(rows);
+        drop(rows);
         return Err(NoMemory);
     };
     filtered(alloc, rows, same)

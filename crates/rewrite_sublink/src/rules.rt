@@ -13,7 +13,7 @@ ghost use Rattle.sublink_laws.specs.SubRewritings.{SubsRewritten};
 use crate::candidates::with_contributions;
 use bag_algebra::{Expr, Item, Query, Sublink};
 use contribution::kinds;
-use joined_rewritings::{columns_from, exact_width, let_go, sum};
+use joined_rewritings::{columns_from, exact_width, sum};
 use perm_values::{Boxed, Copyable, List, NoMemory};
 use query_parts::{column_items, projection};
 use std::alloc::Global;
@@ -86,11 +86,11 @@ fn items_with(
         (width_of input.now) (width_of rewriting) (length items.now)) }
 {
     let Ok(own) = exact_width(input) else {
-        let_go(rewriting);
+        drop(rewriting);
         return Err(NoMemory);
     };
     let Ok(row) = exact_width(&rewriting) else {
-        let_go(rewriting);
+        drop(rewriting);
         return Err(NoMemory);
     };
     let rows = own_items(alloc, rewriting, items, standing)?;
@@ -127,7 +127,7 @@ fn own_items(
     ensures { IfOk result (λ p. p ≡ Project rewriting (beside_row rewriting items.now) standing.now) }
 {
     let Ok(items) = beside_row(alloc, &rewriting, items) else {
-        let_go(rewriting);
+        drop(rewriting);
         return Err(NoMemory);
     };
     let input = Boxed::new(alloc, rewriting)?;
@@ -166,7 +166,7 @@ fn answer_columns(
     ensures { IfOk result (λ p. p ≡ answer_columns query own row made) }
 {
     let Ok(items) = answer_items(alloc, &query, own, row, made) else {
-        let_go(query);
+        drop(query);
         return Err(NoMemory);
     };
     projection(alloc, query, items)

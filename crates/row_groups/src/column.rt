@@ -12,7 +12,7 @@ use perm_values::{List, NoMemory, Row, Value};
 use std::alloc::Global;
 
 /// An aggregate function, and for each class the values of its argument on the rows of the class.
-#[derive(Debug, Drop)]
+#[derive(Drop)]
 pub(crate) struct Column {
     pub function: AggFn,
     pub values: List<List<Value>>,

@@ -9,7 +9,7 @@ use crate::words::{number, word};
 use crate::{LexError, Token};
 
 /// What stands at the front of a text.
-#[derive(Debug, Drop)]
+#[derive(Drop)]
 pub(crate) enum Piece<'a> {
     /// A blank or a comment, which ends here.
     Skipped(usize),

@@ -8,7 +8,7 @@ use perm_values::{Chars, NoMemory};
 use std::alloc::Global;
 
 /// What a byte may begin.
-#[derive(Clone, Copy, Debug)]
+#[derive(Clone, Copy)]
 pub(crate) enum Class {
     Blank,
     Letter,

@@ -10,7 +10,7 @@ use std::alloc::Global;
 use std::marker::Model;
 
 /// What a token is.
-#[derive(Clone, Copy, Debug, PartialEq, Eq)]
+#[derive(Clone, Copy, PartialEq, Eq)]
 pub enum TokenKind {
     /// A letter or `_`, then letters, digits and `_`: a keyword or a regular identifier.
     Word,
@@ -25,7 +25,7 @@ pub enum TokenKind {
 }
 
 /// A token of a script. What follows from its text isn't held: a script has up to a token a byte.
-#[derive(Debug, Drop)]
+#[derive(Drop)]
 pub struct Token<'a> {
     kind: TokenKind,
     start: usize,

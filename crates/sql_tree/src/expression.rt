@@ -4,7 +4,7 @@ use null_logic::{Arith, Compare, Operator, Truth};
 use perm_values::{Boxed, Chars, Kind, List};
 
 /// An aggregate function as it is written; COUNT has three forms.
-#[derive(Clone, Copy, Debug, PartialEq, Eq)]
+#[derive(Clone, Copy, PartialEq, Eq)]
 pub enum AggWord {
     CountRows,
     Count,
@@ -15,7 +15,7 @@ pub enum AggWord {
 }
 
 /// An expression, with the offset of its first token.
-#[derive(Debug, Drop)]
+#[derive(Drop)]
 #[cycle(tree)]
 pub struct ExprTree {
     pub at: usize,
@@ -23,7 +23,7 @@ pub struct ExprTree {
 }
 
 /// What an expression is made of.
-#[derive(Debug, Drop)]
+#[derive(Drop)]
 #[cycle(tree)]
 pub enum ExprBody {
     Null,
@@ -122,7 +122,7 @@ pub enum ExprBody {
 }
 
 /// One step of a chain: the operation and its right operand.
-#[derive(Debug, Drop)]
+#[derive(Drop)]
 #[cycle(tree)]
 pub struct ExprStep {
     pub op: Arith,
@@ -130,7 +130,7 @@ pub struct ExprStep {
 }
 
 /// One arm of a CASE: `WHEN condition THEN value`.
-#[derive(Debug, Drop)]
+#[derive(Drop)]
 #[cycle(tree)]
 pub struct ArmTree {
     pub condition: ExprTree,

@@ -4,14 +4,14 @@ use crate::source::FromTree;
 use perm_values::{Boxed, Chars, List};
 
 /// What an ORDER BY key names: an output column by its name, or by its place from 1.
-#[derive(Debug, Drop)]
+#[derive(Drop)]
 pub enum OrderKey {
     Named(Chars),
     Position(i64),
 }
 
 /// A key of ORDER BY.
-#[derive(Debug, Drop)]
+#[derive(Drop)]
 pub struct OrderTree {
     pub at: usize,
     pub key: OrderKey,
@@ -19,7 +19,7 @@ pub struct OrderTree {
 }
 
 /// A set operation.
-#[derive(Clone, Copy, Debug, PartialEq, Eq)]
+#[derive(Clone, Copy, PartialEq, Eq)]
 pub enum SetWord {
     Union,
     Except,
@@ -27,7 +27,7 @@ pub enum SetWord {
 }
 
 /// A query (ISO/IEC 9075-2, 'query expression'), with the offset of its first token.
-#[derive(Debug, Drop)]
+#[derive(Drop)]
 #[cycle(tree)]
 pub struct QueryTree {
     pub at: usize,
@@ -37,7 +37,7 @@ pub struct QueryTree {
 }
 
 /// A core, a query in parentheses, or several of them under set operations of one level, from the left.
-#[derive(Debug, Drop)]
+#[derive(Drop)]
 #[cycle(tree)]
 pub enum SetTree {
     Core(Boxed<Core>),
@@ -49,7 +49,7 @@ pub enum SetTree {
 }
 
 /// One step of a chain of set operations, with the offset of its operand.
-#[derive(Debug, Drop)]
+#[derive(Drop)]
 #[cycle(tree)]
 pub struct SetStep {
     pub word: SetWord,
@@ -59,7 +59,7 @@ pub struct SetStep {
 }
 
 /// A SELECT with its clauses (ISO/IEC 9075-2, 'query specification'); `provenance` is the offset of the word PROVENANCE.
-#[derive(Debug, Drop)]
+#[derive(Drop)]
 #[cycle(tree)]
 pub struct Core {
     pub at: usize,
@@ -73,7 +73,7 @@ pub struct Core {
 }
 
 /// An item of a SELECT list: `*`, `x.*`, or an expression with its name if it is given one.
-#[derive(Debug, Drop)]
+#[derive(Drop)]
 #[cycle(tree)]
 pub enum SelectItem {
     Star { at: usize },

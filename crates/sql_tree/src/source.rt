@@ -4,7 +4,7 @@ use crate::query::QueryTree;
 use perm_values::{Boxed, List};
 
 /// How a join keeps rows.
-#[derive(Clone, Copy, Debug, PartialEq, Eq)]
+#[derive(Clone, Copy, PartialEq, Eq)]
 pub enum JoinWord {
     Inner,
     Left,
@@ -14,7 +14,7 @@ pub enum JoinWord {
 }
 
 /// How far the provenance of an item of FROM is followed: as usual, to the item itself, or to these of its attributes.
-#[derive(Debug, Drop)]
+#[derive(Drop)]
 pub enum ScopeMark {
     Plain,
     BaseRelation,
@@ -22,7 +22,7 @@ pub enum ScopeMark {
 }
 
 /// An item of FROM with the joins behind it (ISO/IEC 9075-2, 'joined table').
-#[derive(Debug, Drop)]
+#[derive(Drop)]
 #[cycle(tree)]
 pub struct FromTree {
     pub first: FromItem,
@@ -30,7 +30,7 @@ pub struct FromTree {
 }
 
 /// One join, from the left; a cross join has no condition.
-#[derive(Debug, Drop)]
+#[derive(Drop)]
 #[cycle(tree)]
 pub struct JoinStep {
     pub word: JoinWord,
@@ -39,7 +39,7 @@ pub struct JoinStep {
 }
 
 /// A table, a view or a subquery as FROM reads it.
-#[derive(Debug, Drop)]
+#[derive(Drop)]
 #[cycle(tree)]
 pub struct FromItem {
     pub at: usize,
@@ -49,7 +49,7 @@ pub struct FromItem {
 }
 
 /// What an item of FROM reads.
-#[derive(Debug, Drop)]
+#[derive(Drop)]
 #[cycle(tree)]
 pub enum FromSource {
     Named(Name),

@@ -4,20 +4,20 @@ use crate::query::QueryTree;
 use perm_values::{Chars, Kind, List};
 
 /// The statements of a script; those without a token are left out.
-#[derive(Debug, Drop)]
+#[derive(Drop)]
 pub struct Script {
     pub statements: List<Statement>,
 }
 
 /// A statement, with the offset of its first token.
-#[derive(Debug, Drop)]
+#[derive(Drop)]
 pub struct Statement {
     pub at: usize,
     pub body: StatementBody,
 }
 
 /// What a statement asks for.
-#[derive(Debug, Drop)]
+#[derive(Drop)]
 pub enum StatementBody {
     CreateTable {
         table: Name,
@@ -64,14 +64,14 @@ pub enum StatementBody {
 }
 
 /// A column of CREATE TABLE.
-#[derive(Debug, Drop)]
+#[derive(Drop)]
 pub struct ColumnDef {
     pub name: Name,
     pub kind: Kind,
 }
 
 /// A row of VALUES.
-#[derive(Debug, Drop)]
+#[derive(Drop)]
 pub struct ValuesRow {
     pub at: usize,
     pub values: List<ExprTree>,

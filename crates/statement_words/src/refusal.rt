@@ -10,7 +10,7 @@ use perm_values::NoMemory;
 use std::alloc::AllocError;
 
 /// Why a statement isn't carried out. Offsets are those of the statement in the script.
-#[derive(Clone, Copy, Debug, PartialEq, Eq)]
+#[derive(Clone, Copy, PartialEq, Eq)]
 pub enum StepRefusal {
     /// It breaks a rule of names and kinds, or no number is left to draw.
     Break(Break),

@@ -20,7 +20,7 @@ use Rattle.name_made.proofs.+made.Given as goal
 abbrev pub invariant-expressions::operands_made-loop-tree : goal.invariant-expressions::operands_made-loop-tree
 invariant-expressions::operands_made-loop-tree l =
     MakesMore l.here.standing.sublinks l.alike (map (operand (surroundings l.here) l.need) (map (part_of l.here.catalog.now) (take l.tree-index l.trees)))
-    l.initial.parts l.parts l.initial.found l.found
+    [] l.parts l.initial.found l.found
 
 abbrev pub invariant-expressions::steps_made-loop-step : goal.invariant-expressions::steps_made-loop-step
 invariant-expressions::steps_made-loop-step l =

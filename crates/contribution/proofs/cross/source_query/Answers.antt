@@ -1,7 +1,20 @@
-use Rattle.std.proofs.Common.{true, ◌∙◌}
+use Rattle.std.proofs.Common.{◌≡◌, true, ◌∙◌, []}
+use Rattle.perm_values.proofs.Taken.{opened}
 use Rattle.bag_algebra.specs.Built.{Union-is}
-use Rattle.bag_algebra.specs.declared.query.Query.TheVariants.{Union}
+use Rattle.bag_algebra.specs.ColumnItems.{column_items}
+use Rattle.bag_algebra.specs.Kinds.{kinds_in}
+use Rattle.bag_algebra.specs.Patterns.{ProjectOf}
+use Rattle.bag_algebra.specs.declared.query.Query.{Query, end_of-Sublink}
+use Rattle.bag_algebra.specs.declared.query.Query.TheVariants.{Table, Union}
+use Rattle.contribution.specs.NullRow.{null_row_of}
 use Rattle.contribution.proofs.cross.source_query.Goals as goal
 
 pub returns : goal.returns
-returns c = (λ i. Union true ((c.in_ok-left.ensures ∙ c.in_ok-source_rows.ensures) i) ((c.in_ok-right.ensures ∙ c.in_ok-blank_row.ensures) i)) ∙ Union-is true _ _
+returns c =
+    (λ i. Union true
+    ((c.in_ok-left.ensures.first_kept
+    ∙ opened (λ (p : Query). p ≡ ProjectOf (Table c.args.source.now.id c.args.source.now.kinds) (column_items c.args.source.now.kinds c.args.source.now.places) [] end_of-Sublink)
+    c.source_rows.result _ c.in_ok-rows.ensures.first_was c.source_rows.ensures) i)
+    ((c.in_ok-left.ensures.second_kept
+    ∙ opened (λ (p : Query). p ≡ null_row_of (kinds_in c.args.source.now.kinds c.args.source.now.places)) c.blank_row.result _ c.in_ok-rows.ensures.second_was c.blank_row.ensures) i))
+    ∙ Union-is true _ _

@@ -11,10 +11,10 @@ returns-in-Plain c =
     (of-ok (λ made. (name : _) → made ≡ (read_view name c.args.view.now).plain) (λ made. made ≡ (read_view c.args.name.now c.args.view.now).plain) c.view_plain.result
     (λ made is. is c.args.name.now) (c.view_plain.ensures c.in_ok-query.ensures))
 
-pub returns-in_ok-names-in-BaseRelation : goal.returns-in_ok-names-in-BaseRelation
-returns-in_ok-names-in-BaseRelation c =
+pub returns-in-Ok : goal.returns-in-Ok
+returns-in-Ok c =
     rw (c.in-BaseRelation.is, names-kept c.args.view.now.answer.names (kinds_of c.args.view.now.answer.query) c.requires)
-    (rw (c.in_ok-query.ensures, c.in_ok-names-in-BaseRelation.ensures) at c.whole_source.ensures)
+    (rw (c.in_ok-query.ensures, c.in-Ok.ensures) at c.whole_source.ensures)
 
 pub returns-in-External : goal.returns-in-External
 returns-in-External c =

@@ -15,9 +15,9 @@ value_made-requires-clause-whole c =
 pub loop-at-preserved : goal.loop-at-preserved
 loop-at-preserved c =
     row-step c.args.here.now.catalog.now c.args.columns.now c.args.values.now c.loop-at.at c.index-columns-at.result c.index-values-at.result (surroundings c.args.here.now)
-    c.loop-at.made c.push.new.self c.in_ok-value_made.field-0 c.requires.alone
+    c.loop-at.made c.push.new.self c.in-Ok.value c.requires.alone
     (omega (arith, c.loop-at-test.true, c.min-at-end.ensures)) c.index-columns-at.is (omega (arith, c.loop-at-test.true, c.min-at-end.ensures)) c.index-values-at.is
-    c.loop-at.invariant c.in_ok-value_made.ensures c.in_ok-push.ensures.ok
+    c.loop-at.invariant c.in-Ok.ensures c.in-Ok-push.ensures.ok
 
 pub returns : goal.returns
 returns c =

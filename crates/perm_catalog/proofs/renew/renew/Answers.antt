@@ -7,5 +7,6 @@ use Rattle.perm_catalog.proofs.renew.renew.Goals as goal
 pub returns-in-Some : goal.returns-in-Some
 returns-in-Some c =
     let found : named c.args.entries.now.entries c.args.name.now ≡ Some c.in-Some.entry.now = sym (sym (ap option_copied_mut c.in-Some.is) ∙ c.get_mut.ensures.value) in
-    (c.get_mut.follows.holds (renewed c.args.version c.in-Some.entry.now)).0
-    ∙ set_value-changed (renewed c.args.version) c.args.name.now c.in-Some.entry.now c.args.entries.now.entries found
+    rw c.take.ensures.after
+    ((c.get_mut.follows.holds (renewed c.args.version c.in-Some.entry.now)).0
+    ∙ set_value-changed (renewed c.args.version) c.args.name.now c.in-Some.entry.now c.args.entries.now.entries found)

@@ -11,7 +11,7 @@ use Rattle.queries_inside.specs.Passed.{HasWidth}
 use Rattle.queries_inside.proofs.Arms.{aggregate_adds, arm-adds, between_adds, case_adds, chain_adds, coalesce_adds, column_adds, compared_adds, exists_adds, inlist_adds, inquery_adds, integer_adds, isdistinct_adds, isnull_adds, istruth_adds, like_adds, logic_adds, nots_adds, null_adds, nullif_adds, nullof_adds, paren_adds, quantified_adds, scalar_adds, signs_adds, step-adds, text_adds, truth_adds}
 use Rattle.queries_inside.proofs.Cores.{chain-stands, clauses-adds, core-adds, core-broken, core-stands, from-adds, inner-adds, join-adds, named-adds, operand-adds, paren-stands, query-adds, star-adds, table_star-adds, value-adds}
 use Rattle.queries_inside.proofs.Gone.{flat-more, froms-more, joins-more, mapped-more}
-use Rattle.queries_inside.proofs.Over.{adds-alike, adds-both, adds-over}
+use Rattle.queries_inside.proofs.Over.{adds-alike, adds-both, adds-over, when-ok}
 use Rattle.queries_inside.proofs.gathering.+gathering.Goals as goal
 
 pub expression_inside-returns-in-Null : goal.expression_inside-returns-in-Null
@@ -38,93 +38,112 @@ pub expression_inside-returns-in-Column : goal.expression_inside-returns-in-Colu
 expression_inside-returns-in-Column t c =
     column_adds c.args.here.now.catalog.now (surroundings c.args.here.now) c.args.tree.now _ _ c.in-Column.is
 
-pub expression_inside-returns-in_ok-expression_inside-in-Paren : goal.expression_inside-returns-in_ok-expression_inside-in-Paren
-expression_inside-returns-in_ok-expression_inside-in-Paren t c =
-    paren_adds c.args.here.now.catalog.now (surroundings c.args.here.now) c.args.tree.now _ _ _ _ c.in-Paren.is c.get.ensures c.in_ok-expression_inside-in-Paren.ensures
+pub expression_inside-returns-in-Paren : goal.expression_inside-returns-in-Paren
+expression_inside-returns-in-Paren t c =
+    when-ok c.expression_inside.result c.expression_inside.ensures (λ added.
+    paren_adds c.args.here.now.catalog.now (surroundings c.args.here.now) c.args.tree.now _ _ _ _ c.in-Paren.is c.get.ensures added)
 
-pub expression_inside-returns-in_ok-expression_inside-in-Nots : goal.expression_inside-returns-in_ok-expression_inside-in-Nots
-expression_inside-returns-in_ok-expression_inside-in-Nots t c =
-    nots_adds c.args.here.now.catalog.now (surroundings c.args.here.now) c.args.tree.now _ _ _ _ _ c.in-Nots.is c.get-in-Nots.ensures c.in_ok-expression_inside-in-Nots.ensures
+pub expression_inside-returns-in-Nots : goal.expression_inside-returns-in-Nots
+expression_inside-returns-in-Nots t c =
+    when-ok c.expression_inside-in-Nots.result c.expression_inside-in-Nots.ensures (λ added.
+    nots_adds c.args.here.now.catalog.now (surroundings c.args.here.now) c.args.tree.now _ _ _ _ _ c.in-Nots.is c.get-in-Nots.ensures added)
 
-pub expression_inside-returns-in_ok-expression_inside-in-Signs : goal.expression_inside-returns-in_ok-expression_inside-in-Signs
-expression_inside-returns-in_ok-expression_inside-in-Signs t c =
-    signs_adds c.args.here.now.catalog.now (surroundings c.args.here.now) c.args.tree.now _ _ _ _ _ c.in-Signs.is c.get-in-Signs.ensures c.in_ok-expression_inside-in-Signs.ensures
+pub expression_inside-returns-in-Signs : goal.expression_inside-returns-in-Signs
+expression_inside-returns-in-Signs t c =
+    when-ok c.expression_inside-in-Signs.result c.expression_inside-in-Signs.ensures (λ added.
+    signs_adds c.args.here.now.catalog.now (surroundings c.args.here.now) c.args.tree.now _ _ _ _ _ c.in-Signs.is c.get-in-Signs.ensures added)
 
-pub expression_inside-returns-in_ok-expression_inside-in-IsNull : goal.expression_inside-returns-in_ok-expression_inside-in-IsNull
-expression_inside-returns-in_ok-expression_inside-in-IsNull t c =
-    isnull_adds c.args.here.now.catalog.now (surroundings c.args.here.now) c.args.tree.now _ _ _ _ _ c.in-IsNull.is c.get-in-IsNull.ensures c.in_ok-expression_inside-in-IsNull.ensures
+pub expression_inside-returns-in-IsNull : goal.expression_inside-returns-in-IsNull
+expression_inside-returns-in-IsNull t c =
+    when-ok c.expression_inside-in-IsNull.result c.expression_inside-in-IsNull.ensures (λ added.
+    isnull_adds c.args.here.now.catalog.now (surroundings c.args.here.now) c.args.tree.now _ _ _ _ _ c.in-IsNull.is c.get-in-IsNull.ensures added)
 
-pub expression_inside-returns-in_ok-expression_inside-in-IsTruth : goal.expression_inside-returns-in_ok-expression_inside-in-IsTruth
-expression_inside-returns-in_ok-expression_inside-in-IsTruth t c =
-    istruth_adds c.args.here.now.catalog.now (surroundings c.args.here.now) c.args.tree.now _ _ _ _ _ _ c.in-IsTruth.is c.get-in-IsTruth.ensures c.in_ok-expression_inside-in-IsTruth.ensures
+pub expression_inside-returns-in-IsTruth : goal.expression_inside-returns-in-IsTruth
+expression_inside-returns-in-IsTruth t c =
+    when-ok c.expression_inside-in-IsTruth.result c.expression_inside-in-IsTruth.ensures (λ added.
+    istruth_adds c.args.here.now.catalog.now (surroundings c.args.here.now) c.args.tree.now _ _ _ _ _ _ c.in-IsTruth.is c.get-in-IsTruth.ensures added)
 
-pub expression_inside-returns-in_ok-expression_inside-in-Compared-2 : goal.expression_inside-returns-in_ok-expression_inside-in-Compared-2
-expression_inside-returns-in_ok-expression_inside-in-Compared-2 t c =
+pub expression_inside-returns-in_ok-expression_inside-in-Compared : goal.expression_inside-returns-in_ok-expression_inside-in-Compared
+expression_inside-returns-in_ok-expression_inside-in-Compared t c =
+    when-ok c.expression_inside-in-Compared-2.result c.expression_inside-in-Compared-2.ensures (λ added.
     compared_adds c.args.here.now.catalog.now (surroundings c.args.here.now) c.args.tree.now _ _ _ _ _ _ _ _ c.in-Compared.is c.get-in-Compared.ensures c.get-in-Compared-2.ensures
-    c.in_ok-expression_inside-in-Compared.ensures c.in_ok-expression_inside-in-Compared-2.ensures
+    c.in_ok-expression_inside-in-Compared.ensures added)
 
-pub expression_inside-returns-in_ok-expression_inside-in-Like-2 : goal.expression_inside-returns-in_ok-expression_inside-in-Like-2
-expression_inside-returns-in_ok-expression_inside-in-Like-2 t c =
+pub expression_inside-returns-in_ok-expression_inside-in-Like : goal.expression_inside-returns-in_ok-expression_inside-in-Like
+expression_inside-returns-in_ok-expression_inside-in-Like t c =
+    when-ok c.expression_inside-in-Like-2.result c.expression_inside-in-Like-2.ensures (λ added.
     like_adds c.args.here.now.catalog.now (surroundings c.args.here.now) c.args.tree.now _ _ _ _ _ _ _ _ c.in-Like.is c.get-in-Like.ensures c.get-in-Like-2.ensures
-    c.in_ok-expression_inside-in-Like.ensures c.in_ok-expression_inside-in-Like-2.ensures
+    c.in_ok-expression_inside-in-Like.ensures added)
 
-pub expression_inside-returns-in_ok-expression_inside-in-IsDistinct-2 : goal.expression_inside-returns-in_ok-expression_inside-in-IsDistinct-2
-expression_inside-returns-in_ok-expression_inside-in-IsDistinct-2 t c =
+pub expression_inside-returns-in_ok-expression_inside-in-IsDistinct : goal.expression_inside-returns-in_ok-expression_inside-in-IsDistinct
+expression_inside-returns-in_ok-expression_inside-in-IsDistinct t c =
+    when-ok c.expression_inside-in-IsDistinct-2.result c.expression_inside-in-IsDistinct-2.ensures (λ added.
     isdistinct_adds c.args.here.now.catalog.now (surroundings c.args.here.now) c.args.tree.now _ _ _ _ _ _ _ _ c.in-IsDistinct.is c.get-in-IsDistinct.ensures c.get-in-IsDistinct-2.ensures
-    c.in_ok-expression_inside-in-IsDistinct.ensures c.in_ok-expression_inside-in-IsDistinct-2.ensures
+    c.in_ok-expression_inside-in-IsDistinct.ensures added)
 
-pub expression_inside-returns-in_ok-expression_inside-in-NullIf-2 : goal.expression_inside-returns-in_ok-expression_inside-in-NullIf-2
-expression_inside-returns-in_ok-expression_inside-in-NullIf-2 t c =
+pub expression_inside-returns-in_ok-expression_inside-in-NullIf : goal.expression_inside-returns-in_ok-expression_inside-in-NullIf
+expression_inside-returns-in_ok-expression_inside-in-NullIf t c =
+    when-ok c.expression_inside-in-NullIf-2.result c.expression_inside-in-NullIf-2.ensures (λ added.
     nullif_adds c.args.here.now.catalog.now (surroundings c.args.here.now) c.args.tree.now _ _ _ _ _ _ _ c.in-NullIf.is c.get-in-NullIf.ensures c.get-in-NullIf-2.ensures
-    c.in_ok-expression_inside-in-NullIf.ensures c.in_ok-expression_inside-in-NullIf-2.ensures
+    c.in_ok-expression_inside-in-NullIf.ensures added)
 
-pub expression_inside-returns-in_ok-expression_inside-in-Between-3 : goal.expression_inside-returns-in_ok-expression_inside-in-Between-3
-expression_inside-returns-in_ok-expression_inside-in-Between-3 t c =
+pub expression_inside-returns-in_ok-expression_inside-in-Between-2 : goal.expression_inside-returns-in_ok-expression_inside-in-Between-2
+expression_inside-returns-in_ok-expression_inside-in-Between-2 t c =
+    when-ok c.expression_inside-in-Between-3.result c.expression_inside-in-Between-3.ensures (λ added.
     between_adds c.args.here.now.catalog.now (surroundings c.args.here.now) c.args.tree.now _ _ _ _ _ _ _ _ _ _ _ c.in-Between.is c.get-in-Between.ensures c.get-in-Between-2.ensures c.get-in-Between-3.ensures
-    c.in_ok-expression_inside-in-Between.ensures c.in_ok-expression_inside-in-Between-2.ensures c.in_ok-expression_inside-in-Between-3.ensures
+    c.in_ok-expression_inside-in-Between.ensures c.in_ok-expression_inside-in-Between-2.ensures added)
 
-pub expression_inside-returns-in_ok-expressions_inside-in-Logic : goal.expression_inside-returns-in_ok-expressions_inside-in-Logic
-expression_inside-returns-in_ok-expressions_inside-in-Logic t c =
-    logic_adds c.args.here.now.catalog.now (surroundings c.args.here.now) c.args.tree.now _ _ _ _ _ c.in-Logic.is c.as_slice.ensures c.in_ok-expressions_inside-in-Logic.ensures
+pub expression_inside-returns-in-Logic : goal.expression_inside-returns-in-Logic
+expression_inside-returns-in-Logic t c =
+    when-ok c.expressions_inside.result c.expressions_inside.ensures (λ added.
+    logic_adds c.args.here.now.catalog.now (surroundings c.args.here.now) c.args.tree.now _ _ _ _ _ c.in-Logic.is c.as_slice.ensures added)
 
-pub expression_inside-returns-in_ok-expressions_inside-in-Coalesce : goal.expression_inside-returns-in_ok-expressions_inside-in-Coalesce
-expression_inside-returns-in_ok-expressions_inside-in-Coalesce t c =
-    coalesce_adds c.args.here.now.catalog.now (surroundings c.args.here.now) c.args.tree.now _ _ _ _ c.in-Coalesce.is c.as_slice-in-Coalesce.ensures c.in_ok-expressions_inside-in-Coalesce.ensures
+pub expression_inside-returns-in-Coalesce : goal.expression_inside-returns-in-Coalesce
+expression_inside-returns-in-Coalesce t c =
+    when-ok c.expressions_inside-in-Coalesce.result c.expressions_inside-in-Coalesce.ensures (λ added.
+    coalesce_adds c.args.here.now.catalog.now (surroundings c.args.here.now) c.args.tree.now _ _ _ _ c.in-Coalesce.is c.as_slice-in-Coalesce.ensures added)
 
-pub expression_inside-returns-in_ok-expressions_inside-in-InList : goal.expression_inside-returns-in_ok-expressions_inside-in-InList
-expression_inside-returns-in_ok-expressions_inside-in-InList t c =
+pub expression_inside-returns-in_ok-expression_inside-in-InList : goal.expression_inside-returns-in_ok-expression_inside-in-InList
+expression_inside-returns-in_ok-expression_inside-in-InList t c =
+    when-ok c.expressions_inside-in-InList.result c.expressions_inside-in-InList.ensures (λ added.
     inlist_adds c.args.here.now.catalog.now (surroundings c.args.here.now) c.args.tree.now _ _ _ _ _ _ _ _ c.in-InList.is c.get-in-InList.ensures c.as_slice-in-InList.ensures
-    c.in_ok-expression_inside-in-InList.ensures c.in_ok-expressions_inside-in-InList.ensures
+    c.in_ok-expression_inside-in-InList.ensures added)
 
-pub expression_inside-returns-in_ok-steps_inside-in-Chain : goal.expression_inside-returns-in_ok-steps_inside-in-Chain
-expression_inside-returns-in_ok-steps_inside-in-Chain t c =
+pub expression_inside-returns-in_ok-expression_inside-in-Chain : goal.expression_inside-returns-in_ok-expression_inside-in-Chain
+expression_inside-returns-in_ok-expression_inside-in-Chain t c =
+    when-ok c.steps_inside.result c.steps_inside.ensures (λ added.
     chain_adds c.args.here.now.catalog.now (surroundings c.args.here.now) c.args.tree.now _ _ _ _ _ _ _ c.in-Chain.is c.get-in-Chain.ensures c.as_slice-in-Chain.ensures
-    c.in_ok-expression_inside-in-Chain.ensures c.in_ok-steps_inside-in-Chain.ensures
+    c.in_ok-expression_inside-in-Chain.ensures added)
 
-pub expression_inside-returns-in_ok-otherwise_inside-in-Case : goal.expression_inside-returns-in_ok-otherwise_inside-in-Case
-expression_inside-returns-in_ok-otherwise_inside-in-Case t c =
+pub expression_inside-returns-in_ok-arms_inside-in-Case : goal.expression_inside-returns-in_ok-arms_inside-in-Case
+expression_inside-returns-in_ok-arms_inside-in-Case t c =
+    when-ok c.otherwise_inside.result c.otherwise_inside.ensures (λ added.
     case_adds c.args.here.now.catalog.now (surroundings c.args.here.now) c.args.tree.now _ _ c.in-Case.otherwise _ _ _ c.in-Case.is c.as_slice-in-Case.ensures
-    c.in_ok-arms_inside-in-Case.ensures c.in_ok-otherwise_inside-in-Case.ensures
+    c.in_ok-arms_inside-in-Case.ensures added)
 
 pub expression_inside-returns-in-Aggregate : goal.expression_inside-returns-in-Aggregate
 expression_inside-returns-in-Aggregate t c =
     aggregate_adds c.args.here.now.catalog.now (surroundings c.args.here.now) c.args.tree.now c.in-Aggregate.function c.in-Aggregate.argument _ c.in-Aggregate.is
 
-pub expression_inside-returns-in_ok-sublink_inside-in-InQuery : goal.expression_inside-returns-in_ok-sublink_inside-in-InQuery
-expression_inside-returns-in_ok-sublink_inside-in-InQuery t c =
-    inquery_adds c.args.here.now.catalog.now (surroundings c.args.here.now) c.args.tree.now _ _ _ _ _ _ c.in-InQuery.is c.get-in-InQuery.ensures c.in_ok-sublink_inside-in-InQuery.ensures
+pub expression_inside-returns-in-InQuery : goal.expression_inside-returns-in-InQuery
+expression_inside-returns-in-InQuery t c =
+    when-ok c.sublink_inside.result c.sublink_inside.ensures (λ added.
+    inquery_adds c.args.here.now.catalog.now (surroundings c.args.here.now) c.args.tree.now _ _ _ _ _ _ c.in-InQuery.is c.get-in-InQuery.ensures added)
 
-pub expression_inside-returns-in_ok-sublink_inside-in-Quantified : goal.expression_inside-returns-in_ok-sublink_inside-in-Quantified
-expression_inside-returns-in_ok-sublink_inside-in-Quantified t c =
-    quantified_adds c.args.here.now.catalog.now (surroundings c.args.here.now) c.args.tree.now _ _ _ _ _ _ _ c.in-Quantified.is c.get-in-Quantified.ensures c.in_ok-sublink_inside-in-Quantified.ensures
+pub expression_inside-returns-in-Quantified : goal.expression_inside-returns-in-Quantified
+expression_inside-returns-in-Quantified t c =
+    when-ok c.sublink_inside-in-Quantified.result c.sublink_inside-in-Quantified.ensures (λ added.
+    quantified_adds c.args.here.now.catalog.now (surroundings c.args.here.now) c.args.tree.now _ _ _ _ _ _ _ c.in-Quantified.is c.get-in-Quantified.ensures added)
 
-pub expression_inside-returns-in_ok-sublink_inside-in-Exists : goal.expression_inside-returns-in_ok-sublink_inside-in-Exists
-expression_inside-returns-in_ok-sublink_inside-in-Exists t c =
-    exists_adds c.args.here.now.catalog.now (surroundings c.args.here.now) c.args.tree.now _ _ _ _ c.in-Exists.is c.get-in-Exists.ensures c.in_ok-sublink_inside-in-Exists.ensures
+pub expression_inside-returns-in-Exists : goal.expression_inside-returns-in-Exists
+expression_inside-returns-in-Exists t c =
+    when-ok c.sublink_inside-in-Exists.result c.sublink_inside-in-Exists.ensures (λ added.
+    exists_adds c.args.here.now.catalog.now (surroundings c.args.here.now) c.args.tree.now _ _ _ _ c.in-Exists.is c.get-in-Exists.ensures added)
 
-pub expression_inside-returns-in_ok-sublink_inside-in-Scalar : goal.expression_inside-returns-in_ok-sublink_inside-in-Scalar
-expression_inside-returns-in_ok-sublink_inside-in-Scalar t c =
-    scalar_adds c.args.here.now.catalog.now (surroundings c.args.here.now) c.args.tree.now _ _ _ _ c.in-Scalar.is c.get-in-Scalar.ensures c.in_ok-sublink_inside-in-Scalar.ensures
+pub expression_inside-returns-in-Scalar : goal.expression_inside-returns-in-Scalar
+expression_inside-returns-in-Scalar t c =
+    when-ok c.sublink_inside-in-Scalar.result c.sublink_inside-in-Scalar.ensures (λ added.
+    scalar_adds c.args.here.now.catalog.now (surroundings c.args.here.now) c.args.tree.now _ _ _ _ c.in-Scalar.is c.get-in-Scalar.ensures added)
 
 pub expressions_inside-loop-tree-preserved : goal.expressions_inside-loop-tree-preserved
 expressions_inside-loop-tree-preserved t c =

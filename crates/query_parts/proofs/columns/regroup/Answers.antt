@@ -13,7 +13,7 @@ use Rattle.query_parts.proofs.NodeQueries.{of_made}
 use Rattle.query_parts.proofs.columns.regroup.Goals as goal
 
 pub returns-clause-made : goal.returns-clause-made
-returns-clause-made c = subst (λ items. IfOk c.projection.result (λ q. q ≡ ProjectOf c.args.query items [] end_of-Sublink)) c.in_ok-items.ensures c.projection.ensures.made
+returns-clause-made c = subst (λ items. IfOk c.projection.result (λ q. q ≡ ProjectOf c.args.query items [] end_of-Sublink)) c.in-Ok.ensures c.projection.ensures.made
 
 pub returns-clause-kinds : goal.returns-clause-kinds
 returns-clause-kinds c =

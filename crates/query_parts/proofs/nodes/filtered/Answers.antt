@@ -16,7 +16,7 @@ use Rattle.query_parts.proofs.nodes.filtered.Goals as goal
 use Rattle.bag_algebra.specs.BuiltForms.{Filter_alone-is}
 
 pub returns-clause-made : goal.returns-clause-made
-returns-clause-made c = (λ i. Filter (c.in_ok-input.ensures i) c.args.condition (c.new-2.ensures i)) ∙ Filter_alone-is _ _
+returns-clause-made c = (λ i. Filter (c.in-Ok.ensures i) c.args.condition (c.new-2.ensures i)) ∙ Filter_alone-is _ _
 
 pub returns-clause-kinds : goal.returns-clause-kinds
 returns-clause-kinds c = subst (λ p. kinds_of p ≡ kinds_of c.args.query) (sym (returns-clause-made c)) refl

@@ -17,7 +17,7 @@ use Rattle.bag_algebra.specs.BuiltForms.{Join_alone-is}
 
 pub returns-clause-made : goal.returns-clause-made
 returns-clause-made c =
-    (λ i. Join c.args.kind (c.in_ok-left.ensures i) (c.in_ok-right.ensures i) c.args.condition (c.new-3.ensures i)) ∙ Join_alone-is _ _ _ _
+    (λ i. Join c.args.kind (c.in-Ok.ensures.first_kept i) (c.in-Ok.ensures.second_kept i) c.args.condition (c.new.ensures i)) ∙ Join_alone-is _ _ _ _
 
 pub returns-clause-kinds : goal.returns-clause-kinds
 returns-clause-kinds c = subst (λ p. kinds_of p ≡ kinds_of c.args.left ++ kinds_of c.args.right) (sym (returns-clause-made c)) refl

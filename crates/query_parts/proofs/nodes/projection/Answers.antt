@@ -16,7 +16,7 @@ use Rattle.query_parts.specs.ItemKinds.{item_kinds}
 use Rattle.query_parts.proofs.nodes.projection.Goals as goal
 
 pub returns-clause-made : goal.returns-clause-made
-returns-clause-made c = (λ i. Project (c.in_ok-input.ensures i) c.args.items (c.new-2.ensures i)) ∙ Project-is _ _
+returns-clause-made c = (λ i. Project (c.in-Ok.ensures i) c.args.items (c.new-2.ensures i)) ∙ Project-is _ _
 
 pub returns-clause-kinds : goal.returns-clause-kinds
 returns-clause-kinds c = subst (λ p. kinds_of p ≡ item_kinds c.args.items) (sym (returns-clause-made c)) refl

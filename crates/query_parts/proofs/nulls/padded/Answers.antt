@@ -13,7 +13,7 @@ use Rattle.query_parts.specs.NullItems.{padded_row}
 use Rattle.query_parts.proofs.nulls.padded.Goals as goal
 
 pub returns-clause-made : goal.returns-clause-made
-returns-clause-made c = subst (λ items. IfOk c.projection.result (λ p. p ≡ ProjectOf c.args.query items [] end_of-Sublink)) c.in_ok-items.ensures c.projection.ensures.made
+returns-clause-made c = subst (λ items. IfOk c.projection.result (λ p. p ≡ ProjectOf c.args.query items [] end_of-Sublink)) c.in-Ok.ensures c.projection.ensures.made
 
 pub returns-clause-kinds : goal.returns-clause-kinds
 returns-clause-kinds c =

@@ -3,7 +3,8 @@ use Rattle.std.proofs.lemmas.Grind.{common_steps}
 use Rattle.bag_algebra.specs.Rewriting.{IsRewrite}
 use Rattle.bag_algebra.specs.declared.query.Query.TheVariants.{Filter}
 use Rattle.query_congruence.specs.Standing.{SubsStand}
-use Rattle.rewrite_steps.proofs.MadeQueries.{opened, where_made, none_left}
+use Rattle.perm_values.proofs.Taken.{opened}
+use Rattle.rewrite_steps.proofs.MadeQueries.{where_made, none_left}
 use Rattle.sublink_laws.specs.SubRewritings.{SubsRewritten}
 use Rattle.rewrite_steps.proofs.rules.filter_rule.Goals as goal
 

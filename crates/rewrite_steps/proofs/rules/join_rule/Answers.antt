@@ -1,5 +1,5 @@
 use Rattle.bag_algebra.specs.Rewriting.{IsRewrite}
-use Rattle.rewrite_steps.proofs.MadeQueries.{opened}
+use Rattle.perm_values.proofs.Taken.{opened}
 use Rattle.rewrite_steps.proofs.rules.join_rule.Goals as goal
 
 pub join-requires-clause-left : goal.join-requires-clause-left

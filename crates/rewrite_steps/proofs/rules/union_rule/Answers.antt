@@ -1,5 +1,5 @@
 use Rattle.bag_algebra.specs.Rewriting.{IsRewrite}
-use Rattle.rewrite_steps.proofs.MadeQueries.{opened}
+use Rattle.perm_values.proofs.Taken.{opened}
 use Rattle.rewrite_steps.proofs.rules.union_rule.Goals as goal
 
 pub union_of-requires-clause-left : goal.union_of-requires-clause-left

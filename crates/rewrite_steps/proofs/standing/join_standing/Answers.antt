@@ -3,7 +3,7 @@ use Rattle.bag_algebra.specs.declared.query.Query.TheVariants.{Join}
 use Rattle.query_congruence.proofs.StandingNodes.{stands-Join}
 use Rattle.query_congruence.specs.Standing.{SubsStand}
 use Rattle.query_parts.proofs.NodeQueries.{of_made}
-use Rattle.rewrite_steps.proofs.MadeQueries.{opened}
+use Rattle.perm_values.proofs.Taken.{opened}
 use Rattle.rewrite_steps.proofs.standing.join_standing.Goals as goal
 
 pub returns : goal.returns

@@ -2,7 +2,7 @@ use Rattle.bag_algebra.specs.Rewriting.{Stands}
 use Rattle.bag_algebra.specs.declared.query.Query.TheVariants.{Limit}
 use Rattle.query_congruence.proofs.StandingNodes.{stands-Limit}
 use Rattle.query_parts.proofs.NodeQueries.{of_made}
-use Rattle.rewrite_steps.proofs.MadeQueries.{opened}
+use Rattle.perm_values.proofs.Taken.{opened}
 use Rattle.rewrite_steps.proofs.standing.limit_standing.Goals as goal
 
 pub returns : goal.returns

@@ -3,7 +3,7 @@ use Rattle.bag_algebra.specs.declared.query.Query.TheVariants.{Project}
 use Rattle.query_congruence.proofs.StandingNodes.{stands-Project}
 use Rattle.query_congruence.specs.Standing.{SubsStand}
 use Rattle.query_parts.proofs.NodeQueries.{of_made}
-use Rattle.rewrite_steps.proofs.MadeQueries.{opened}
+use Rattle.perm_values.proofs.Taken.{opened}
 use Rattle.rewrite_steps.proofs.standing.project_standing.Goals as goal
 
 pub returns : goal.returns

@@ -1,7 +1,7 @@
 use Rattle.bag_algebra.specs.Rewriting.{IsRewrite, Stands}
 use Rattle.bag_algebra.specs.declared.query.Query.TheVariants.{Prov}
 use Rattle.query_parts.proofs.NodeQueries.{of_made}
-use Rattle.rewrite_steps.proofs.MadeQueries.{opened}
+use Rattle.perm_values.proofs.Taken.{opened}
 use Rattle.rewriting_laws.proofs.Provenance.{stands-Prov}
 use Rattle.rewrite_steps.proofs.standing.provenance_standing.Goals as goal
 

@@ -1,6 +1,7 @@
 use Rattle.std.proofs.Common.{◌∷◌, ◌++◌, []}
 use Rattle.bag_algebra.specs.Rewriting.{IsRewrite}
-use Rattle.rewrite_steps.proofs.MadeQueries.{opened, appended}
+use Rattle.perm_values.proofs.Taken.{opened}
+use Rattle.rewrite_steps.proofs.MadeQueries.{appended}
 use Rattle.rewrite_steps.proofs.SublinkLists.{rewritten-more}
 use Rattle.sublink_laws.specs.SubRewritings.{SubsRewritten}
 use Rattle.rewrite_steps.proofs.sublinks.add_rewriting.Goals as goal

@@ -1,7 +1,8 @@
 use Rattle.std.proofs.Common.{◌∷◌, ◌++◌, [], sym, subst}
 use Rattle.bag_algebra.specs.Rewriting.{Stands}
 use Rattle.query_congruence.specs.Standing.{SubsStand}
-use Rattle.rewrite_steps.proofs.MadeQueries.{opened, appended}
+use Rattle.perm_values.proofs.Taken.{opened}
+use Rattle.rewrite_steps.proofs.MadeQueries.{appended}
 use Rattle.rewrite_steps.proofs.SublinkLists.{stand-more}
 use Rattle.rewrite_steps.proofs.sublinks.add_standing.Goals as goal
 

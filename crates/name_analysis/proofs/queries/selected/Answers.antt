@@ -4,7 +4,7 @@ use Rattle.sql_tree.specs.declared.statement.StatementBody.TheVariants as st
 use Rattle.name_analysis.specs.Resolves.{ResolvesBody}
 use Rattle.name_analysis.proofs.Queried.{select-limited, select-made, select-seen}
 use Rattle.name_analysis.proofs.Refused.{is-whole, limits-refused, query-refused, query-whole, same-refused}
-use Rattle.name_analysis.proofs.queries.select.Goals as goal
+use Rattle.name_analysis.proofs.queries.selected.Goals as goal
 
 pub returns-in_err-shown : goal.returns-in_err-shown
 returns-in_err-shown c =

@@ -2,11 +2,11 @@
 //! taken apart in each function that needs them.
 ghost use Rattle.std.specs.Prelude.{◌≡◌, Ok, IfOk};
 
-use perm_values::{Boxed, NoMemory};
+use crate::{Boxed, NoMemory};
 use std::alloc::Global;
 
 /// Both, where neither failed.
-pub(crate) fn both<A: Drop, B: Drop>(
+pub fn both<A: Drop, B: Drop>(
     first: Result<A, NoMemory>,
     second: Result<B, NoMemory>,
 ) -> Result<(A, B), NoMemory>
@@ -19,7 +19,7 @@ pub(crate) fn both<A: Drop, B: Drop>(
 }
 
 /// All three, where none failed.
-pub(crate) fn three<A: Drop, B: Drop, C: Drop>(
+pub fn three<A: Drop, B: Drop, C: Drop>(
     first: Result<A, NoMemory>,
     second: Result<B, NoMemory>,
     third: Result<C, NoMemory>,
@@ -35,7 +35,7 @@ pub(crate) fn three<A: Drop, B: Drop, C: Drop>(
 }
 
 /// All four, where none failed.
-pub(crate) fn four<A: Drop, B: Drop, C: Drop, D: Drop>(
+pub fn four<A: Drop, B: Drop, C: Drop, D: Drop>(
     first: Result<A, NoMemory>,
     second: Result<B, NoMemory>,
     third: Result<C, NoMemory>,
@@ -54,7 +54,7 @@ pub(crate) fn four<A: Drop, B: Drop, C: Drop, D: Drop>(
 }
 
 /// Each in a box. It fails only for want of memory.
-pub(crate) fn boxes<A: Drop, B: Drop>(
+pub fn boxes<A: Drop, B: Drop>(
     alloc: Global,
     first: A,
     second: B,

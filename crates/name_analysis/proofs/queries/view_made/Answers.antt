@@ -10,7 +10,7 @@ use Rattle.sql_tree.specs.declared.statement.StatementBody.TheVariants as st
 use Rattle.name_analysis.specs.Resolves.{ResolvesBody}
 use Rattle.name_analysis.proofs.Queried.{view-limited, view-made, view-repeats, view-seen}
 use Rattle.name_analysis.proofs.Refused.{is-whole, limits-refused, query-refused, query-whole, repeats-told, same-refused}
-use Rattle.name_analysis.proofs.queries.create_view.Goals as goal
+use Rattle.name_analysis.proofs.queries.view_made.Goals as goal
 
 pub returns-in_err-shown : goal.returns-in_err-shown
 returns-in_err-shown c =

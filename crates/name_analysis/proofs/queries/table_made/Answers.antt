@@ -10,7 +10,7 @@ use Rattle.sql_tree.specs.declared.statement.StatementBody.TheVariants as st
 use Rattle.name_analysis.specs.Resolves.{ResolvesBody, stored_breaks}
 use Rattle.name_analysis.proofs.Queried.{stored-broken, stored-limited, stored-made, stored-seen}
 use Rattle.name_analysis.proofs.Refused.{is-whole, known-here, limits-refused, query-refused, query-whole, same-refused}
-use Rattle.name_analysis.proofs.queries.create_table_as.Goals as goal
+use Rattle.name_analysis.proofs.queries.table_made.Goals as goal
 
 pub returns-in_err-shown : goal.returns-in_err-shown
 returns-in_err-shown c =
