@@ -26,5 +26,5 @@ pub use laws::{order_is_total, printed_order_is_total, same_is_equality};
 pub use list::List;
 pub use no_memory::NoMemory;
 pub use row::{Row, Rows};
-pub use together::{both, boxes, four, three};
+pub use together::{both, boxes, four, in_box, three};
 pub use value::Value;

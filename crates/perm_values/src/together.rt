@@ -1,6 +1,6 @@
 //! Results and boxes taken together. The functions are generic, so that what is let go where one of several is wanting isn't
 //! taken apart in each function that needs them.
-ghost use Rattle.std.specs.Prelude.{◌≡◌, Ok, IfOk};
+ghost use Rattle.std.specs.Prelude.{◌≡◌, ◌⊎◌, Ok, Err, IfOk, IfErr};
 
 use crate::{Boxed, NoMemory};
 use std::alloc::Global;
@@ -12,6 +12,7 @@ pub fn both<A: Drop, B: Drop>(
 ) -> Result<(A, B), NoMemory>
     ensures first_was { IfOk result (λ pair. first ≡ Ok pair.0) }
     ensures second_was { IfOk result (λ pair. second ≡ Ok pair.1) }
+    ensures lacking { IfErr result (λ lack. (first ≡ Err lack) ⊎ (second ≡ Err lack)) }
 {
     let first = first?;
     let second = second?;
@@ -27,6 +28,7 @@ pub fn three<A: Drop, B: Drop, C: Drop>(
     ensures first_was { IfOk result (λ all. first ≡ Ok all.0) }
     ensures second_was { IfOk result (λ all. second ≡ Ok all.1) }
     ensures third_was { IfOk result (λ all. third ≡ Ok all.2) }
+    ensures lacking { IfErr result (λ lack. (first ≡ Err lack) ⊎ ((second ≡ Err lack) ⊎ (third ≡ Err lack))) }
 {
     let first = first?;
     let second = second?;
@@ -45,12 +47,20 @@ pub fn four<A: Drop, B: Drop, C: Drop, D: Drop>(
     ensures second_was { IfOk result (λ all. second ≡ Ok all.1) }
     ensures third_was { IfOk result (λ all. third ≡ Ok all.2) }
     ensures fourth_was { IfOk result (λ all. fourth ≡ Ok all.3) }
+    ensures lacking { IfErr result (λ lack. (first ≡ Err lack) ⊎ ((second ≡ Err lack) ⊎ ((third ≡ Err lack) ⊎ (fourth ≡ Err lack)))) }
 {
     let first = first?;
     let second = second?;
     let third = third?;
     let fourth = fourth?;
     Ok((first, second, third, fourth))
+}
+
+/// What is there in a box. It fails only for want of memory.
+pub fn in_box<T: Drop>(alloc: Global, part: Result<T, NoMemory>) -> Result<Boxed<T>, NoMemory>
+    ensures { IfOk result (λ boxed. part ≡ Ok boxed) }
+{
+    Boxed::new(alloc, part?)
 }
 
 /// Each in a box. It fails only for want of memory.

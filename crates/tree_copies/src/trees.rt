@@ -2,8 +2,8 @@
 ghost use Rattle.std.specs.Prelude.{◌≡◌, IfOk};
 
 use crate::copy_tree::CopyTree;
-use crate::placed::{add, boxed};
-use perm_values::{Boxed, Copyable, List, NoMemory, both, three};
+use crate::placed::add;
+use perm_values::{Boxed, Copyable, List, NoMemory, both, in_box, three};
 use sql_tree::{
     ArmTree, Core, ExprBody, ExprStep, ExprTree, FromItem, FromSource, FromTree, JoinStep,
     QueryTree, SelectItem, SetStep, SetTree,
@@ -102,7 +102,7 @@ fn copy_expr(alloc: Global, expr: &ExprTree) -> Result<ExprTree, NoMemory>
 fn copy_boxed(alloc: Global, part: &Boxed<ExprTree>) -> Result<Boxed<ExprTree>, NoMemory>
     ensures { IfOk result (λ copy. copy ≡ part.now) }
 {
-    boxed(alloc, copy_expr(alloc, part.get()))
+    in_box(alloc, copy_expr(alloc, part.get()))
 }
 
 #[cycle(copy_tree)]
@@ -113,7 +113,7 @@ fn copy_optional(
     ensures { IfOk result (λ copy. copy ≡ part.now) }
 {
     match part {
-        Some(part) => Ok(Some(boxed(alloc, copy_expr(alloc, part.get()))?)),
+        Some(part) => Ok(Some(in_box(alloc, copy_expr(alloc, part.get()))?)),
         None => Ok(None),
     }
 }
@@ -337,7 +337,7 @@ fn copy_query(alloc: Global, query: &QueryTree) -> Result<QueryTree, NoMemory>
 fn copy_boxed_query(alloc: Global, query: &Boxed<QueryTree>) -> Result<Boxed<QueryTree>, NoMemory>
     ensures { IfOk result (λ copy. copy ≡ query.now) }
 {
-    boxed(alloc, copy_query(alloc, query.get()))
+    in_box(alloc, copy_query(alloc, query.get()))
 }
 
 #[cycle(copy_tree)]
@@ -360,7 +360,7 @@ fn copy_set(alloc: Global, set: &SetTree) -> Result<SetTree, NoMemory>
 fn copy_boxed_set(alloc: Global, set: &Boxed<SetTree>) -> Result<Boxed<SetTree>, NoMemory>
     ensures { IfOk result (λ copy. copy ≡ set.now) }
 {
-    boxed(alloc, copy_set(alloc, set.get()))
+    in_box(alloc, copy_set(alloc, set.get()))
 }
 
 #[cycle(copy_tree)]
@@ -390,7 +390,7 @@ fn copy_set_steps(alloc: Global, steps: &[SetStep]) -> Result<List<SetStep>, NoM
 fn copy_boxed_core(alloc: Global, core: &Boxed<Core>) -> Result<Boxed<Core>, NoMemory>
     ensures { IfOk result (λ copy. copy ≡ core.now) }
 {
-    boxed(alloc, copy_core(alloc, core.get()))
+    in_box(alloc, copy_core(alloc, core.get()))
 }
 
 #[cycle(copy_tree)]
