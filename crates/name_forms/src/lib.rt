@@ -4,6 +4,7 @@
 mod laws;
 
 pub use laws::{
-    expressions_are_well_formed, outermost_queries_are_closed, queries_are_answers,
-    queries_are_well_formed, queries_have_a_column,
+    closed_queries_are_well_formed_alone, expressions_are_well_formed,
+    outermost_queries_are_closed, queries_are_answers, queries_are_well_formed,
+    queries_have_a_column,
 };

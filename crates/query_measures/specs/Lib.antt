@@ -1,4 +1,3 @@
-pub mod BuiltClosed
 pub mod BuiltFaultFree
 pub mod BuiltMeasures
 pub mod BuiltScopes

@@ -1,11 +1,10 @@
-//! How large a query is, of which kinds its columns are, and the tests of queries: plain, closed, scoped, free of faults.
+//! How large a query is, of which kinds its columns are, and the tests of queries: plain, scoped, free of faults.
 #![tactic(auto)]
 
 mod faults;
 mod kinds;
 mod laws;
 mod measures;
-mod reach;
 mod scopes;
 
 pub use faults::{fault_free, faultless};
@@ -16,5 +15,4 @@ pub use laws::{
     well_formed_queries_read_their_outer_rows_alone,
 };
 pub use measures::{height, size};
-pub use reach::is_closed;
 pub use scopes::{is_plain, is_scoped, over_tables, traceable};
