@@ -1,10 +1,4 @@
-pub mod Attributed
-pub mod KnownNames
-pub mod Labels
 pub mod Named
-pub mod NamedColumns
 pub mod Placed
 pub mod Plain
-pub mod Scoping
-pub mod Settled
 pub mod Sourced

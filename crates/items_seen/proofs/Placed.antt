@@ -18,7 +18,9 @@ use Rattle.name_seen.specs.declared.refusal.Refusal.{Refusal}
 use Rattle.name_seen.specs.declared.refusal.Refusal.TheVariants.{Break as Broken}
 use Rattle.query_facts.specs.Added.{facts_in}
 use Rattle.items_seen.specs.Marks.{IsMarked}
-use Rattle.items_seen.specs.Readings.{IsRead, ItemAdded, ItemSeen, item_scope, known_names, scope_beside}
+use Rattle.from_columns.specs.Columns.{known_names}
+use Rattle.from_columns.specs.Scopes.{item_scope, scope_beside}
+use Rattle.items_seen.specs.Readings.{IsRead, ItemAdded, ItemSeen}
 use Rattle.query_facts.specs.declared.facts.Facts.{Facts as Gathered}
 use Rattle.items_seen.specs.declared.reading.Reading.{Reading}
 use Rattle.clauses_seen.proofs.Firsts.{both-none, first-behind, none-broken}

@@ -22,8 +22,9 @@ use Rattle.query_facts.specs.Added.{facts_in}
 use Rattle.query_facts.specs.Queried.{QueryWhole}
 use Rattle.query_facts.specs.declared.facts.Facts.{Facts as Gathered}
 use Rattle.query_facts.specs.declared.shown.QueryShown.{QueryShown}
-use Rattle.items_seen.specs.Readings.{external_facts, known_names, relation_facts}
-use Rattle.items_seen.proofs.KnownNames.{length-known}
+use Rattle.from_columns.specs.Columns.{known_names}
+use Rattle.items_seen.specs.Readings.{external_facts, relation_facts}
+use Rattle.from_columns.proofs.KnownNames.{length-known}
 use Rattle.items_seen.proofs.Sourced.{facts-based}
 
 pub facts-so : (result : Result Gathered NoMemory) (a b : Facts) → a ≡ b → IfOk result (λ facts. facts_in facts ≡ a) → IfOk result (λ facts. facts_in facts ≡ b)

@@ -21,13 +21,16 @@ use Rattle.name_laws.specs.Facts.{Facts, facts_of, both_facts, source_facts}
 use Rattle.name_laws.proofs.FactsOf.{facts-Base, facts-Join_alone, both_facts-assoc, both_facts-none}
 use Rattle.name_seen.specs.Seen.{first_or}
 use Rattle.query_facts.specs.Added.{facts_in}
-use Rattle.items_seen.specs.Marks.{marked_facts, places_of}
+use Rattle.from_columns.specs.Marks.{places_of}
+use Rattle.items_seen.specs.Marks.{marked_facts}
 use Rattle.query_facts.specs.Queried.{FromWhole}
-use Rattle.items_seen.specs.Readings.{IsRead, known_names, scope_beside}
+use Rattle.from_columns.specs.Columns.{known_names}
+use Rattle.from_columns.specs.Scopes.{scope_beside}
+use Rattle.items_seen.specs.Readings.{IsRead}
 use Rattle.query_facts.specs.declared.facts.Facts.{Facts as Gathered}
 use Rattle.items_seen.specs.declared.reading.Reading.{Reading}
 use Rattle.clauses_seen.proofs.Firsts.{first-stays, first-behind, both-none}
-use Rattle.items_seen.proofs.Scoping.{scope-beside-is, all-behind}
+use Rattle.from_columns.proofs.Scoping.{scope-beside-is, all-behind}
 
 -- ---- marks
 

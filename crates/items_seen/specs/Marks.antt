@@ -1,34 +1,17 @@
--- Words on marks of FROM, as the code goes through them.
-use Rattle.std.specs.Prelude.{◌≡◌, ℕ, Bool, List, ◌++◌, map, Option, position}
-use Rattle.std.specs.List.{list_any}
+-- The facts of an item of FROM with a mark.
+use Rattle.std.specs.Prelude.{◌≡◌, ℕ, Bool, List}
 use Rattle.bag_algebra.specs.Kinds.{kinds_in}
 use Rattle.bag_algebra.specs.declared.query.Label.TheVariants.{External}
-use Rattle.perm_catalog.specs.declared.column.Column.{Column}
 use Rattle.perm_values.specs.declared.kind.Kind.{Kind}
-use Rattle.sql_tree.specs.declared.name.Name.{Name}
 use Rattle.sql_tree.specs.declared.source.ScopeMark.{ScopeMark}
 use Rattle.sql_tree.specs.declared.source.ScopeMark.TheVariants as mark
-use Rattle.name_words.specs.Froms.{named_so, place_of, column_breaks, texts_of}
-use Rattle.name_words.specs.Meanings.{broken_if}
-use Rattle.name_words.specs.declared.answer.Break.{Break}
+use Rattle.name_words.specs.Froms.{texts_of}
 use Rattle.name_laws.specs.Facts.{Facts, source_facts}
 use Rattle.query_facts.specs.Added.{facts_in}
-use Rattle.items_seen.specs.Readings.{relation_facts, known_names}
+use Rattle.from_columns.specs.Columns.{known_names}
+use Rattle.from_columns.specs.Marks.{places_of}
+use Rattle.items_seen.specs.Readings.{relation_facts}
 use Rattle.items_seen.specs.declared.reading.Reading.{Reading}
-
-abbrev pub is_among : List Name → List ℕ → Bool
-is_among names name = list_any (λ (other : Name). named_so name other.text) names
-
--- what one attribute breaks, behind others
-abbrev pub attribute_break : List (List ℕ) → List Name → Name → List Break
-attribute_break names earlier attribute = column_breaks attribute names ++ broken_if (is_among earlier attribute.text) 14 attribute.at
-
--- the first column of this name
-abbrev pub first_named : List Column → List ℕ → Option ℕ
-first_named columns name = position (λ (column : Column). named_so name column.name) columns
-
-abbrev pub places_of : List (List ℕ) → List Name → List ℕ
-places_of names attributes = map (place_of names) (texts_of attributes)
 
 -- the facts of an item with a mark
 abbrev pub marked_facts : ScopeMark → List ℕ → List (List ℕ) → List Kind → Bool → Facts → Facts

@@ -1,26 +1,22 @@
 -- What the code finds of an item of FROM: what it reads, and the facts of that.
-use Rattle.std.specs.Prelude.{◌≡◌, ℕ, ◌+◌, Bool, List, [], ◌∷◌, ◌++◌, length, map, Some, None, Result, Ok, Err}
+use Rattle.std.specs.Prelude.{◌≡◌, ℕ, Bool, List, [], Some, Result, Ok, Err}
 use Rattle.perm_catalog.specs.declared.column.Column.{Column}
 use Rattle.perm_values.specs.declared.kind.Kind.{Kind}
 use Rattle.bag_algebra.specs.Kinds.{kinds_of, kinds_in}
 use Rattle.bag_algebra.specs.Scoped.{is_table}
 use Rattle.bag_algebra.specs.declared.query.Label.TheVariants.{Relation, External}
-use Rattle.name_words.specs.Froms.{Read, ItemMeant, table_columns, names_of, names_at, all_places}
-use Rattle.name_words.specs.Scopes.{scope_of}
+use Rattle.name_words.specs.Froms.{Read, ItemMeant, table_columns, names_at, all_places}
 use Rattle.name_words.specs.declared.scope.Scope.{Scope}
-use Rattle.name_words.specs.declared.scope.ScopeColumn.{ScopeColumn}
 use Rattle.name_laws.specs.Facts.{Facts, facts_of, both_facts, source_facts}
 use Rattle.name_seen.specs.Seen.{first_or}
 use Rattle.name_seen.specs.declared.refusal.Refusal.{Refusal}
 use Rattle.name_seen.specs.declared.refusal.Refusal.TheVariants.{Break as Broken, NoMemory}
 use Rattle.query_facts.specs.Added.{facts_in}
 use Rattle.query_facts.specs.declared.facts.Facts.{Facts as Gathered}
+use Rattle.from_columns.specs.Scopes.{item_scope, scope_beside}
 use Rattle.items_seen.specs.declared.reading.Reading.{Reading}
 
 -- ---- what is read
-
-abbrev pub known_names : List Column → List (List ℕ)
-known_names columns = names_of (table_columns columns)
 
 pub record IsRead (read : Read) (reading : Reading) : Type 0 where
   pub whole : read.breaks ≡ []
@@ -48,20 +44,6 @@ relation_facts label names kinds reads_table =
     source_facts (record { label = Relation label names; kinds = kinds_in kinds (all_places names) }) reads_table
 
 -- ---- items in scope
-
-abbrev pub moved_by : ℕ → ScopeColumn → ScopeColumn
-moved_by count column = record column { item = count + column.item }
-
--- the items of one scope behind those of another, whose rows aren't grouped
-abbrev pub scope_beside : Scope → Scope → Scope
-scope_beside left right = record {
-  items = left.items ++ right.items;
-  columns = left.columns ++ map (moved_by (length left.items)) right.columns;
-  groups = None;
-}
-
-abbrev pub item_scope : List ℕ → List Column → Scope
-item_scope name columns = scope_of (record { name = name; columns = table_columns columns } ∷ [])
 
 -- one more item of FROM in scope: its columns are known, and its facts come behind those so far
 pub record ItemAdded (m : ItemMeant) (scope : Scope) (old new : Gathered) (wider : Scope) : Type 0 where

@@ -1,81 +1,22 @@
 //! Items of FROM in scope.
-ghost use Rattle.std.specs.Prelude.{◌≡◌, ◌++◌, [], Some, IfOk, OnOk, map};
-ghost use Rattle.std.specs.List.{list_any};
-ghost use Rattle.name_seen.specs.Seen.{first_or};
-ghost use Rattle.name_words.specs.Froms.{Read, item_meant, label_of, mark_breaks, named_so, scope_name, table_columns};
-ghost use Rattle.name_words.specs.Meanings.{broken_if};
-ghost use Rattle.name_words.specs.Scopes.{numbered_columns, scope_of};
+ghost use Rattle.std.specs.Prelude.{◌≡◌, ◌++◌, OnOk};
+ghost use Rattle.name_words.specs.Froms.{Read, item_meant, label_of, scope_name};
 ghost use Rattle.name_words.specs.Trees.{source_of};
 ghost use Rattle.name_laws.specs.Facts.{both_facts};
 ghost use Rattle.perm_catalog.specs.Contents.{Contents};
 ghost use Rattle.query_facts.specs.Added.{facts_in};
-ghost use Rattle.items_seen.specs.Readings.{IsRead, ItemSeen, item_scope, known_names, moved_by, scope_beside};
+ghost use Rattle.from_columns.specs.Scopes.{item_scope, scope_beside};
+ghost use Rattle.items_seen.specs.Readings.{IsRead, ItemSeen};
 
-use crate::marks::{label_of, mark_break, scope_break, with_mark};
+use crate::marks::{scope_break, with_mark};
 use crate::reading::Reading;
+use from_columns::{add_item, item_break, scope_name};
 use name_seen::{Around, Refusal};
-use name_words::{Break, Scope, ScopeColumn};
-use perm_catalog::Column;
-use perm_values::{Chars, Copyable, List, NoMemory};
+use name_words::Scope;
+use perm_values::{Chars, NoMemory};
 use query_facts::Facts;
 use sql_tree::FromItem;
 use std::alloc::Global;
-
-/// The scope of no items. It takes no memory.
-pub fn no_items(alloc: Global) -> Scope
-    ensures { result ≡ scope_of [] }
-{
-    Scope {
-        items: List::new(alloc),
-        columns: List::new(alloc),
-        groups: None,
-    }
-}
-
-/// Adds the items of another scope behind those of this one. It fails only for want of memory.
-pub fn add_items(alloc: Global, left: &mut Scope, right: Scope) -> Result<(), NoMemory>
-    ensures { OnOk result (left.new ≡ scope_beside left.old right) }
-{
-    let count = left.items.len();
-    let columns = moved(alloc, right.columns.as_slice(), count)?;
-    left.columns.append(columns)?;
-    let Scope {
-        items,
-        columns: _columns,
-        groups: _groups,
-    } = right;
-    left.items.append(items)?;
-    left.groups = None;
-    Ok(())
-}
-
-/// The columns, with as many items before theirs.
-fn moved(
-    alloc: Global,
-    columns: &[ScopeColumn],
-    count: usize,
-) -> Result<List<ScopeColumn>, NoMemory>
-    ensures { IfOk result (λ moved. moved ≡ map (moved_by count) columns.now) }
-{
-    let mut moved = List::new(alloc);
-    for column in columns {
-        moved.push(moved_column(alloc, column, count)?)?;
-    }
-    Ok(moved)
-}
-
-fn moved_column(alloc: Global, column: &ScopeColumn, count: usize) -> Result<ScopeColumn, NoMemory>
-    ensures { IfOk result (λ moved. moved ≡ moved_by count column.now) }
-{
-    match count.checked_add(column.item) {
-        None => Err(NoMemory),
-        Some(item) => Ok(ScopeColumn {
-            item,
-            name: column.name.copy(alloc)?,
-            kind: column.kind,
-        }),
-    }
-}
 
 /// Puts an item with what it reads in scope, behind items of these names and those in scope, and its facts behind those
 /// so far. A break is the item's first one; otherwise it fails only for want of memory.
@@ -105,42 +46,6 @@ pub fn put_item(
     Ok(())
 }
 
-/// The alias, or else the table's or view's name.
-fn scope_name(alloc: Global, item: &FromItem) -> Result<Chars, NoMemory>
-    ensures { (c : Contents) → IfOk result (λ name. name ≡ scope_name (source_of c item.now.source) item.now.alias) }
-{
-    match &item.alias {
-        Some(alias) => alias.text.copy(alloc),
-        None => label_of(alloc, item),
-    }
-}
-
-/// That an item of this name stands before, or what its mark breaks.
-fn item_break(
-    item: &FromItem,
-    name: &Chars,
-    earlier: &[Chars],
-    items: &[Chars],
-    columns: &[Column],
-) -> Result<(), Break>
-    ensures { result ≡ first_or (broken_if (list_any (named_so name.now) (earlier.now ++ items.now)) 15 item.now.at
-        ++ mark_breaks item.now.mark (Some (known_names columns.now))) tt }
-{
-    if is_among(name, earlier) || is_among(name, items) {
-        return Err(Break {
-            code: 15,
-            at: item.at,
-        });
-    }
-    mark_break(&item.mark, columns)
-}
-
-fn is_among(name: &Chars, names: &[Chars]) -> bool
-    ensures { result ≡ list_any (named_so name.now) names.now }
-{
-    names.iter().any(|other| name == other)
-}
-
 /// One more item in scope, whose facts come behind those so far.
 fn put_read(
     alloc: Global,
@@ -161,37 +66,4 @@ fn put_read(
     } = reading;
     facts.add(plain)?;
     add_item(alloc, scope, name, columns.as_slice())
-}
-
-fn add_item(
-    alloc: Global,
-    scope: &mut Scope,
-    name: Chars,
-    columns: &[Column],
-) -> Result<(), NoMemory>
-    ensures { OnOk result (scope.new ≡ scope_beside scope.old (item_scope name columns.now)) }
-{
-    let number = scope.items.len();
-    add_columns(alloc, &mut scope.columns, columns, number)?;
-    scope.items.push(name)?;
-    scope.groups = None;
-    Ok(())
-}
-
-fn add_columns(
-    alloc: Global,
-    found: &mut List<ScopeColumn>,
-    columns: &[Column],
-    number: usize,
-) -> Result<(), NoMemory>
-    ensures { OnOk result (found.new ≡ found.old ++ numbered_columns number (table_columns columns.now)) }
-{
-    for column in columns {
-        found.push(ScopeColumn {
-            item: number,
-            name: column.name.copy(alloc)?,
-            kind: column.kind,
-        })?;
-    }
-    Ok(())
 }

@@ -6,6 +6,6 @@ mod items;
 mod marks;
 mod reading;
 
-pub use items::{add_items, no_items, put_item};
+pub use items::put_item;
 pub use marks::trace_under;
 pub use reading::{Reading, read_named, read_shown};

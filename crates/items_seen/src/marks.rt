@@ -1,26 +1,27 @@
 //! Marks of FROM: how far the provenance of an item is followed.
-ghost use Rattle.std.specs.Prelude.{◌≡◌, [], Some, IfOk, count_by};
+ghost use Rattle.std.specs.Prelude.{◌≡◌, IfOk};
 ghost use Rattle.bag_algebra.specs.Kinds.{kinds_in};
 ghost use Rattle.bag_algebra.specs.declared.query.Label.TheVariants.{External};
 ghost use Rattle.bag_algebra.specs.declared.query.Query.{Query};
 ghost use Rattle.name_laws.specs.Facts.{facts_of, source_facts};
 ghost use Rattle.name_seen.specs.Seen.{first_or};
-ghost use Rattle.name_words.specs.Froms.{attribute_breaks, is_out_of_scope, label_of, mark_breaks, named_so, place_of, texts_of, trace_under};
+ghost use Rattle.name_words.specs.Froms.{is_out_of_scope, label_of, texts_of, trace_under};
 ghost use Rattle.name_words.specs.Meanings.{broken_if};
 ghost use Rattle.name_words.specs.Trees.{source_of};
 ghost use Rattle.perm_catalog.specs.Contents.{Contents};
 ghost use Rattle.query_facts.specs.Added.{facts_in};
-ghost use Rattle.items_seen.specs.Marks.{IsMarked, attribute_break, first_named, is_among, places_of};
-ghost use Rattle.items_seen.specs.Readings.{known_names, relation_facts};
+ghost use Rattle.from_columns.specs.Columns.{known_names};
+ghost use Rattle.from_columns.specs.Marks.{places_of};
+ghost use Rattle.items_seen.specs.Marks.{IsMarked};
+ghost use Rattle.items_seen.specs.Readings.{relation_facts};
 
-use crate::reading::{Reading, names_of, relation};
+use crate::reading::{Reading, relation};
 use bag_algebra::{Label, Place};
-use clauses_seen::count_break;
+use from_columns::{label_of, names_of, places_of, texts_of};
 use name_words::{Break, Trace};
-use perm_catalog::Column;
-use perm_values::{Chars, Copyable, List, NoMemory};
+use perm_values::NoMemory;
 use query_facts::{Facts, kinds_at};
-use sql_tree::{FromItem, FromSource, Name, ScopeMark};
+use sql_tree::{FromItem, Name, ScopeMark};
 use std::alloc::Global;
 
 /// Nothing under a mark is traced.
@@ -32,54 +33,6 @@ pub fn trace_under(mark: &ScopeMark, trace: Trace) -> Trace
         ScopeMark::BaseRelation => Trace::Untraced,
         ScopeMark::External { .. } => Trace::Untraced,
     }
-}
-
-/// The first attribute that is no column or more than one, or stands twice.
-pub(crate) fn mark_break(mark: &ScopeMark, columns: &[Column]) -> Result<(), Break>
-    ensures { result ≡ first_or (mark_breaks mark.now (Some (known_names columns.now))) tt }
-{
-    match mark {
-        ScopeMark::Plain => Ok(()),
-        ScopeMark::BaseRelation => Ok(()),
-        ScopeMark::External { attributes } => attributes_break(attributes.as_slice(), columns),
-    }
-}
-
-fn attributes_break(attributes: &[Name], columns: &[Column]) -> Result<(), Break>
-    ensures { result ≡ first_or (attribute_breaks (Some (known_names columns.now)) [] attributes.now) tt }
-{
-    for at in 0..attributes.len() {
-        match attribute_break(&attributes[at], &attributes[..at], columns) {
-            Ok(()) => {}
-            Err(first) => return Err(first),
-        }
-    }
-    Ok(())
-}
-
-fn attribute_break(attribute: &Name, earlier: &[Name], columns: &[Column]) -> Result<(), Break>
-    ensures { result ≡ first_or (attribute_break (known_names columns.now) earlier.now attribute.now) tt }
-{
-    count_break(count_named(columns, &attribute.text), attribute.at)?;
-    if is_among(earlier, &attribute.text) {
-        return Err(Break {
-            code: 14,
-            at: attribute.at,
-        });
-    }
-    Ok(())
-}
-
-fn count_named(columns: &[Column], name: &Chars) -> usize
-    ensures { result ≡ count_by (named_so name.now) (known_names columns.now) }
-{
-    columns.iter().filter(|column| *name == column.name).count()
-}
-
-fn is_among(names: &[Name], name: &Chars) -> bool
-    ensures { result ≡ is_among names.now name.now }
-{
-    names.iter().any(|other| *name == other.text)
 }
 
 /// What an item gives of what it reads: its facts are those of its mark.
@@ -100,19 +53,6 @@ pub(crate) fn with_mark(
             let own = attributed(alloc, attributes.as_slice(), &reading)?;
             Ok(reading.with(own))
         }
-    }
-}
-
-/// The table's or view's name, or the subquery's alias.
-pub(crate) fn label_of(alloc: Global, item: &FromItem) -> Result<Chars, NoMemory>
-    ensures { (c : Contents) → IfOk result (λ label. label ≡ label_of (source_of c item.now.source) item.now.alias) }
-{
-    match &item.source {
-        FromSource::Named(name) => name.text.copy(alloc),
-        FromSource::Inner(_) => match &item.alias {
-            Some(alias) => alias.text.copy(alloc),
-            None => Chars::from_text(alloc, ""),
-        },
     }
 }
 
@@ -144,41 +84,6 @@ fn attributed(alloc: Global, attributes: &[Name], reading: &Reading) -> Result<F
         columns: texts_of(alloc, attributes)?,
     };
     Facts::of_source(alloc, Place { label, kinds }, reading.is_table)
-}
-
-fn texts_of(alloc: Global, names: &[Name]) -> Result<List<Chars>, NoMemory>
-    ensures { IfOk result (λ texts. texts ≡ texts_of names.now) }
-{
-    let mut texts = List::new(alloc);
-    for name in names {
-        texts.push(name.text.copy(alloc)?)?;
-    }
-    Ok(texts)
-}
-
-fn places_of(alloc: Global, names: &[Name], columns: &[Column]) -> Result<List<usize>, NoMemory>
-    ensures { IfOk result (λ places. places ≡ places_of (known_names columns.now) names.now) }
-{
-    let mut places = List::new(alloc);
-    for name in names {
-        places.push(place_of(columns, &name.text))?;
-    }
-    Ok(places)
-}
-
-fn place_of(columns: &[Column], name: &Chars) -> usize
-    ensures { result ≡ place_of (known_names columns.now) name.now }
-{
-    match first_named(columns, name) {
-        Some(place) => place,
-        None => 0,
-    }
-}
-
-fn first_named(columns: &[Column], name: &Chars) -> Option<usize>
-    ensures { result ≡ first_named columns.now name.now }
-{
-    columns.iter().position(|column| *name == column.name)
 }
 
 /// That an item with these facts is out of the scope of the provenance that is asked for.

@@ -1,20 +1,21 @@
 //! What an item of FROM reads: a table, a view or a subquery.
-ghost use Rattle.std.specs.Prelude.{◌≡◌, ℕ, false, List as Items, [], IfOk, slice_index_or};
-ghost use Rattle.std.specs.List.{range_with_len};
+ghost use Rattle.std.specs.Prelude.{◌≡◌, ℕ, false, List as Items, IfOk};
 ghost use Rattle.std.specs.Option.{option_map_or};
 ghost use Rattle.bag_algebra.specs.Kinds.{kinds_of};
 ghost use Rattle.name_laws.specs.Facts.{facts_of};
-ghost use Rattle.name_words.specs.Froms.{named_columns, names_at, read_named, read_query, read_table, read_view, settled_columns, table_columns, table_plain};
+ghost use Rattle.name_words.specs.Froms.{read_named, read_query, read_table, read_view, table_plain};
 ghost use Rattle.name_words.specs.Meanings.{QueryMeant};
 ghost use Rattle.perm_catalog.specs.Columns.{column_kinds};
 ghost use Rattle.query_facts.specs.Added.{facts_in};
-ghost use Rattle.clauses_seen.specs.Columns.{columns_of};
 ghost use Rattle.query_facts.specs.Queried.{QueryWhole};
-ghost use Rattle.items_seen.specs.Readings.{IsRead, ReadSeen, known_names, external_facts, relation_facts};
+ghost use Rattle.from_columns.specs.Columns.{known_names};
+ghost use Rattle.items_seen.specs.Readings.{IsRead, ReadSeen, external_facts, relation_facts};
 
 use bag_algebra::{Label, Place};
-use clauses_seen::ShownColumn;
 use contribution::kinds;
+use from_columns::{
+    all_places, kinds_of_columns, named_columns, names_at, names_of, settled_columns,
+};
 use name_seen::Refusal;
 use name_words::Break;
 use perm_catalog::{Catalog, Column, TableEntry, ViewEntry};
@@ -88,27 +89,6 @@ fn read_table(alloc: Global, name: &Chars, table: &TableEntry) -> Result<Reading
     })
 }
 
-fn kinds_of_columns(alloc: Global, columns: &[Column]) -> Result<List<Kind>, NoMemory>
-    ensures { IfOk result (λ kinds. kinds ≡ column_kinds columns.now) }
-{
-    let mut kinds = List::new(alloc);
-    for column in columns {
-        kinds.push(column.kind)?;
-    }
-    Ok(kinds)
-}
-
-/// The names of these columns.
-pub(crate) fn names_of(alloc: Global, columns: &[Column]) -> Result<List<Chars>, NoMemory>
-    ensures { IfOk result (λ names. names ≡ known_names columns.now) }
-{
-    let mut names = List::new(alloc);
-    for column in columns {
-        names.push(column.name.copy(alloc)?)?;
-    }
-    Ok(names)
-}
-
 /// The facts of a table of these kinds without a mark of FROM.
 fn table_plain(
     alloc: Global,
@@ -164,35 +144,6 @@ pub(crate) fn relation(
     Facts::of_source(alloc, place, reads_table)
 }
 
-fn names_at(alloc: Global, names: &[Chars], places: &[usize]) -> Result<List<Chars>, NoMemory>
-    ensures { IfOk result (λ found. found ≡ names_at names.now places.now) }
-{
-    let mut found = List::new(alloc);
-    for place in places {
-        found.push(name_at(alloc, names, *place)?)?;
-    }
-    Ok(found)
-}
-
-fn name_at(alloc: Global, names: &[Chars], place: usize) -> Result<Chars, NoMemory>
-    ensures { IfOk result (λ name. name ≡ slice_index_or names.now place []) }
-{
-    match names.get(place) {
-        Some(name) => name.copy(alloc),
-        None => Chars::from_text(alloc, ""),
-    }
-}
-
-fn all_places(alloc: Global, count: usize) -> Result<List<usize>, NoMemory>
-    ensures { IfOk result (λ places. places ≡ range_with_len 0 count) }
-{
-    let mut places = List::new(alloc);
-    for place in 0..count {
-        places.push(place)?;
-    }
-    Ok(places)
-}
-
 fn read_view(alloc: Global, view: &ViewEntry) -> Result<Reading, NoMemory>
     ensures { (name : Items ℕ) → IfOk result (IsRead (read_view name view.now)) }
 {
@@ -220,20 +171,6 @@ fn view_plain(alloc: Global, view: &ViewEntry, kinds: &[Kind]) -> Result<Facts, 
     }
 }
 
-/// The columns of these names and kinds, as many as there are of both.
-fn named_columns(alloc: Global, names: &[Chars], kinds: &[Kind]) -> Result<List<Column>, NoMemory>
-    ensures { IfOk result (λ columns. table_columns columns ≡ named_columns names.now kinds.now) }
-{
-    let mut columns = List::new(alloc);
-    for at in 0..names.len().min(kinds.len()) {
-        columns.push(Column {
-            name: names[at].copy(alloc)?,
-            kind: kinds[at],
-        })?;
-    }
-    Ok(columns)
-}
-
 /// What a subquery gives to FROM. It fails only for want of memory.
 pub fn read_shown(alloc: Global, shown: QueryShown) -> Result<Reading, NoMemory>
     ensures { (m : QueryMeant) → QueryWhole m shown → IfOk result (IsRead (read_query m)) }
@@ -248,20 +185,6 @@ pub fn read_shown(alloc: Global, shown: QueryShown) -> Result<Reading, NoMemory>
         viewed: false,
         plain,
     })
-}
-
-/// The columns, where those of any kind are Text.
-fn settled_columns(alloc: Global, columns: &[ShownColumn]) -> Result<List<Column>, NoMemory>
-    ensures { IfOk result (λ settled. table_columns settled ≡ settled_columns (columns_of columns.now)) }
-{
-    let mut settled = List::new(alloc);
-    for column in columns {
-        settled.push(Column {
-            name: column.name.copy(alloc)?,
-            kind: column.kind.unwrap_or(Kind::Text),
-        })?;
-    }
-    Ok(settled)
 }
 
 /// The facts of a subquery with these columns without a mark of FROM.

@@ -38,8 +38,8 @@ use Rattle.name_nodes.specs.declared.cores.Condition.{Condition}
 use Rattle.name_nodes.specs.declared.within.Within.{Within}
 use Rattle.name_nodes.proofs.ItemLists.{more-listed}
 use Rattle.name_nodes.proofs.Parts.{none-first, none-second}
-use Rattle.made_parts.specs.Cored.{AreKept, Keeps, MakesClauses, MakesList, MakesSelected, condition_of, condition_part, core_over_items, having_part, in_groups, in_rows, items_meant, kept_of, own_breaks, select_parts, source_parts, sources_meant}
-use Rattle.made_parts.specs.Sources.{IsScope}
+use Rattle.made_parts.specs.Cored.{AreKept, Keeps, MakesClauses, MakesList, MakesSelected, condition_of, condition_part, core_over_items, having_part, in_groups, in_rows, items_meant, kept_of, select_parts, source_parts, sources_meant}
+use Rattle.made_sources.specs.Sources.{IsScope, own_breaks}
 use Rattle.made_parts.specs.declared.cores.Kept.{Kept}
 use Rattle.made_parts.proofs.Settling.{list-settles, settled-list}
 

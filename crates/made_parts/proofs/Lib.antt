@@ -1,10 +1,5 @@
 pub mod Coring
 pub mod FirstPass
 pub mod Listing
-pub mod Opened
 pub mod Querying
-pub mod Segmented
 pub mod Settling
-pub mod Sourcing
-pub mod Starred
-pub mod Viewed

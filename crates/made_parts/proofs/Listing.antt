@@ -1,7 +1,6 @@
 -- Lists gone through one after the other.
-use Rattle.std.specs.Prelude.{◌≡◌, ℕ, ◌+◌, ◌<◌, ◌≤◌, cond, not, nat_lt, List, [], ◌∷◌, ◌++◌, length, map, flat_map, position, slice_index_or, Option, Some, None, Result, Ok, Err, IfOk}
-use Rattle.std.specs.List.{prefix_len}
-use Rattle.std.proofs.Common.{refl, ap, sym, ◌∙◌, arith, take, get_or}
+use Rattle.std.specs.Prelude.{◌≡◌, ℕ, ◌+◌, ◌<◌, ◌≤◌, List, [], ◌∷◌, ◌++◌, length, map, flat_map, slice_index_or, Option, None, Result, Ok, Err, IfOk}
+use Rattle.std.proofs.Common.{ap, sym, ◌∙◌, arith, take, get_or}
 use Rattle.std.proofs.lemmas.Grind.{flat_map-append}
 use Rattle.std.proofs.lemmas.List.{append-nil, length-map, length-take-le, map-append, take_more}
 use Rattle.perm_catalog.specs.Contents.{Contents}
@@ -13,7 +12,6 @@ use Rattle.name_words.specs.Cores.{settle}
 use Rattle.name_words.specs.Expressions.{ArmPart, arm_operands}
 use Rattle.name_words.specs.Meanings.{OutColumn, Part, Surroundings, means_at, seen_kind, settled, united_kind}
 use Rattle.name_words.specs.Operands.{Operand, operand, united}
-use Rattle.name_words.specs.Queries.{is_named}
 use Rattle.name_words.specs.Trees.{arm_of, part_of}
 use Rattle.name_words.specs.declared.need.Need.{Need}
 use Rattle.name_words.specs.declared.need.Need.TheVariants.{Alike}
@@ -22,7 +20,6 @@ use Rattle.clauses_seen.specs.declared.column.ShownColumn.{ShownColumn}
 use Rattle.name_nodes.proofs.Chains.{settle-more}
 use Rattle.name_nodes.proofs.FormsMade.{arm-is}
 use Rattle.name_nodes.proofs.United.{arm-alike, next-alike, one-alike, united-append}
-use Rattle.made_parts.specs.Shown.{is_shown_as}
 
 pub taken : {X : Type 0} (xs : List X) (i : ℕ) (x : X) → i < length xs → x ≡ get_or xs i x → take (i + 1) xs ≡ take i xs ++ x ∷ []
 taken xs i x within is = take_more xs i x within ∙ ap (λ y. take i xs ++ y ∷ []) (sym is)
@@ -30,17 +27,6 @@ taken xs i x within is = take_more xs i x within ∙ ap (λ y. take i xs ++ y �
 pub mapped : {X Y : Type 0} (f : X → Y) (xs : List X) (i : ℕ) (x : X) → i < length xs → x ≡ get_or xs i x
     → map f (take (i + 1) xs) ≡ map f (take i xs) ++ f x ∷ []
 mapped f xs i x within is = ap (map f) (taken xs i x within is) ∙ map-append f (take i xs) (x ∷ [])
-
--- ---- names of columns
-
-before-named : (name : List ℕ) (columns : List ShownColumn)
-    → prefix_len (λ (column : ShownColumn). not (is_shown_as name column)) columns ≡ prefix_len (λ (column : OutColumn). not (is_named name column)) (columns_of columns)
-before-named name [] = refl
-before-named name (column ∷ columns) = ap (λ (n : ℕ). cond (not (is_shown_as name column)) (1 + n) 0) (before-named name columns)
-
-pub position-mapped : (name : List ℕ) (columns : List ShownColumn) → position (is_shown_as name) columns ≡ position (is_named name) (columns_of columns)
-position-mapped name columns = λ i.
-    cond (nat_lt (before-named name columns i) (sym (length-map columns column_of) i)) (Some (before-named name columns i)) None
 
 -- ---- what operands are united to
 

@@ -20,7 +20,7 @@ use Rattle.name_words.specs.declared.scope.Scope.{Scope}
 use Rattle.name_words.proofs.Equations.{SelectItemFrame}
 use Rattle.name_nodes.proofs.Parts.{none-first, none-second}
 use Rattle.made_parts.specs.Cored.{items_meant}
-use Rattle.made_parts.proofs.Opened.{shown_item, opened_item}
+use Rattle.made_sources.proofs.Opened.{shown_item, opened_item}
 
 -- ---- columns at the wanted kinds
 

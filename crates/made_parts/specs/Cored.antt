@@ -1,5 +1,5 @@
 -- What the second pass makes of the clauses of a core.
-use Rattle.std.specs.Prelude.{◌≡◌, Bool, true, false, List, [], map, Option, Some, None, option_map}
+use Rattle.std.specs.Prelude.{◌≡◌, Bool, true, false, List, [], map, Option, Some, option_map}
 use Rattle.bag_algebra.specs.declared.expr.Expr.{Expr}
 use Rattle.bag_algebra.specs.declared.query.Aggr.{Aggr}
 use Rattle.perm_catalog.specs.Contents.{Contents}
@@ -20,6 +20,7 @@ use Rattle.name_nodes.specs.declared.cores.Condition.{Condition}
 use Rattle.name_nodes.specs.declared.cores.Listed.{Listed}
 use Rattle.name_nodes.specs.declared.within.Within.{Within}
 use Rattle.name_seen.specs.Named.{here_only}
+use Rattle.made_sources.specs.Sources.{own_breaks}
 use Rattle.made_parts.specs.declared.cores.Kept.{Kept}
 
 -- ---- the parts of a core
@@ -61,10 +62,6 @@ condition_of m = record { expr = (optional_built (Some m)).expr; subs = (optiona
 
 abbrev pub kept_of : Expr → Within → Kept
 kept_of expr found = record { condition = Some (record { expr = expr; subs = found.subs }); aggregates = found.aggregates }
-
-abbrev pub own_breaks : Option Meant → List Break
-own_breaks None = []
-own_breaks (Some m) = m.breaks
 
 -- a condition with its sublinks, and its aggregates
 pub record AreKept (meant : Option Meant) (kept : Kept) : Type 0 where

@@ -1,4 +1,2 @@
 pub mod Cored
-pub mod Segments
 pub mod Shown
-pub mod Sources

@@ -1,8 +1,7 @@
 -- What the first pass shows of a query, as the second takes it.
-use Rattle.std.specs.Prelude.{◌≡◌, ℕ, Bool, List, [], ◌∷◌, Option, None}
+use Rattle.std.specs.Prelude.{◌≡◌, List, [], ◌∷◌, Option, None}
 use Rattle.perm_values.specs.declared.kind.Kind.{Kind}
 use Rattle.name_words.specs.Cores.{settle_known}
-use Rattle.name_words.specs.Froms.{named_so}
 use Rattle.name_words.specs.Meanings.{QueryMeant}
 use Rattle.name_nodes.specs.Chained.{Serves}
 use Rattle.clauses_seen.specs.declared.column.ShownColumn.{ShownColumn}
@@ -10,9 +9,6 @@ use Rattle.clauses_seen.specs.declared.column.ShownColumn.{ShownColumn}
 abbrev pub kind_of_first : List ShownColumn → Option Kind
 kind_of_first [] = None
 kind_of_first (column ∷ columns) = column.kind
-
-abbrev pub is_shown_as : List ℕ → ShownColumn → Bool
-is_shown_as name column = named_so name column.name
 
 -- the kinds of its columns, where those of any take the wanted ones
 pub record Settles (m : QueryMeant) (wanted kinds : List Kind) : Type 0 where

@@ -8,7 +8,7 @@ ghost use Rattle.name_words.specs.Meanings.{Around as Place};
 ghost use Rattle.name_words.specs.Trees.{from_of};
 ghost use Rattle.name_seen.specs.Named.{scopes_of};
 ghost use Rattle.made_parts.specs.Cored.{core_groups, having_part, kept_of, select_parts};
-ghost use Rattle.made_parts.specs.Sources.{IsScopeOf};
+ghost use Rattle.made_sources.specs.Sources.{IsScopeOf};
 
 use bag_algebra::{Aggr, Expr, Item};
 use clauses_seen::group_places;

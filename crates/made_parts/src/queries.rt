@@ -12,8 +12,8 @@ ghost use Rattle.name_seen.specs.Standing.{around_of};
 ghost use Rattle.clauses_seen.specs.Columns.{columns_of};
 ghost use Rattle.made_parts.specs.Shown.{Settles};
 
-use crate::keys::keys_of;
 use clauses_seen::ShownColumn;
+use made_sources::keys_of;
 use name_seen::{Around, Refusal};
 use name_words::Trace;
 use perm_values::{Key, Kind, List, NoMemory};

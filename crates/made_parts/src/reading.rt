@@ -6,22 +6,15 @@ ghost use Rattle.name_words.specs.Meanings.{query_means_at};
 ghost use Rattle.name_words.specs.Trees.{query_of};
 ghost use Rattle.name_seen.specs.Standing.{around_of};
 ghost use Rattle.clauses_seen.specs.Columns.{columns_of};
-ghost use Rattle.made_parts.specs.Sources.{Shows};
+ghost use Rattle.made_sources.specs.Sources.{Shows};
 
-use clauses_seen::ShownColumn;
+use made_sources::{ShownNames, column_names};
 use name_seen::{Around, Refusal};
-use perm_values::{Chars, Copyable, List, NoMemory};
+use perm_values::{List, NoMemory};
 use query_facts::QueryShown;
 use query_seen::query_seen;
 use sql_tree::QueryTree;
 use std::alloc::Global;
-
-/// The names of a query's columns, and the places of its provenance columns where it asks for provenance.
-#[derive(Drop)]
-pub struct ShownNames {
-    pub names: List<Chars>,
-    pub places: Option<List<usize>>,
-}
 
 /// The names that a query shows; none, where it breaks.
 pub fn shown_names(query: &QueryTree, around: &Around) -> Result<ShownNames, NoMemory>
@@ -44,14 +37,4 @@ fn names_shown(alloc: Global, shown: QueryShown) -> Result<ShownNames, NoMemory>
     let names = column_names(alloc, shown.columns.as_slice())?;
     let QueryShown { places, .. } = shown;
     Ok(ShownNames { names, places })
-}
-
-fn column_names(alloc: Global, columns: &[ShownColumn]) -> Result<List<Chars>, NoMemory>
-    ensures { IfOk result (λ names. names ≡ names_of (settled_columns (columns_of columns.now))) }
-{
-    let mut names = List::new(alloc);
-    for column in columns {
-        names.push(column.name.copy(alloc)?)?;
-    }
-    Ok(names)
 }

@@ -1,3 +1,1 @@
-pub mod Own
-pub mod Resolves
 pub mod Stands

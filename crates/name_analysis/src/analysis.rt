@@ -2,17 +2,17 @@
 ghost use Rattle.std.specs.Prelude.{◌≡◌, []};
 ghost use Rattle.name_words.specs.Statements.{breaks, resolved};
 ghost use Rattle.perm_catalog.specs.Sound.{IsSound};
-ghost use Rattle.name_analysis.specs.Own.{TellsFirst, own_breaks};
-ghost use Rattle.name_analysis.specs.Resolves.{Resolves};
+ghost use Rattle.statement_parts.specs.Own.{TellsFirst, own_breaks};
+ghost use Rattle.statement_parts.specs.Resolves.{Resolves};
 
-use crate::own::own_break;
+use crate::conditions::delete;
 use crate::queries::{create_table_as, create_view, explain, select};
 use crate::rows::insert;
-use crate::tables::{copy, create_table, delete, text_of};
 use name_seen::Refusal;
 use name_words::Resolved;
 use perm_catalog::Catalog;
 use sql_tree::{Statement, StatementBody};
+use statement_parts::{copy, create_table, let_statement_go, own_break, text_of};
 use std::alloc::Global;
 
 /// The statement with its names looked up and its kinds settled, exactly where it breaks no rule of names and kinds and
@@ -26,7 +26,7 @@ pub fn resolve(alloc: Global, catalog: &Catalog, statement: Statement) -> Result
     match own_break(catalog, &statement.body) {
         Ok(()) => behind_names(alloc, catalog, statement),
         Err(first) => {
-            drop(statement);
+            let_statement_go(statement);
             Err(Refusal::Break(first))
         }
     }

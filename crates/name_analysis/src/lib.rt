@@ -2,13 +2,10 @@
 #![tactic(auto)]
 
 mod analysis;
-mod answers;
+mod conditions;
 mod laws;
-mod limits;
-mod own;
 mod queries;
 mod rows;
-mod tables;
 
 pub use analysis::resolve;
 pub use laws::resolved_queries_stand;

@@ -6,10 +6,10 @@ ghost use Rattle.name_words.specs.Statements as words;
 ghost use Rattle.name_words.specs.Trees.{part_of};
 ghost use Rattle.perm_catalog.specs.Columns.{column_kinds};
 ghost use Rattle.perm_catalog.specs.Sound.{IsSound};
+ghost use Rattle.name_words.specs.declared.answer.Resolved.TheVariants as answered;
 ghost use Rattle.sql_tree.specs.declared.statement.StatementBody.TheVariants as asked;
-ghost use Rattle.name_analysis.specs.Resolves.{ResolvesBody};
+ghost use Rattle.statement_parts.specs.Resolves.{ResolvesBody, ResolvesBy};
 
-use crate::tables::text_of;
 use bag_algebra::Expr;
 use name_made::made;
 use name_nodes::Within;
@@ -18,9 +18,11 @@ use name_words::{Break, Resolved};
 use perm_catalog::{Catalog, Column};
 use perm_values::{List, NoMemory};
 use sql_tree::{ExprTree, Name, ValuesRow};
+use statement_parts::{insert_of, let_found_go, let_rows_go, with_row, with_value};
 use statements_seen::{alone, rows_break};
 use std::alloc::Global;
 
+/// INSERT.
 pub(crate) fn insert(
     alloc: Global,
     catalog: &Catalog,
@@ -30,19 +32,20 @@ pub(crate) fn insert(
     requires { IsSound catalog.now }
     ensures { ResolvesBody catalog.now (asked.Insert table rows) result }
 {
-    let resolved = inserted(alloc, catalog, table, rows.as_slice());
-    drop(rows);
-    resolved
+    let made = inserted(alloc, catalog, &table, rows.as_slice());
+    let_rows_go(rows);
+    insert_of(table, made)
 }
 
+/// The rows that are inserted, or their first break.
 fn inserted(
     alloc: Global,
     catalog: &Catalog,
-    table: Name,
+    table: &Name,
     rows: &[ValuesRow],
-) -> Result<Resolved, Refusal>
+) -> Result<List<List<Expr>>, Refusal>
     requires { IsSound catalog.now }
-    ensures { ResolvesBody catalog.now (asked.Insert table rows.now) result }
+    ensures { ResolvesBy catalog.now (asked.Insert table.now rows.now) (answered.Insert table.now.text) result }
 {
     match catalog.table(&table.text) {
         None => Err(Refusal::Break(Break {
@@ -52,11 +55,7 @@ fn inserted(
         Some(entry) => {
             let columns = entry.columns.as_slice();
             rows_break(alloc, catalog, columns, rows)?;
-            let rows = rows_made(alloc, catalog, columns, rows)?;
-            Ok(Resolved::Insert {
-                name: text_of(table),
-                rows,
-            })
+            Ok(rows_made(alloc, catalog, columns, rows)?)
         }
     }
 }
@@ -80,14 +79,7 @@ fn rows_made(
     };
     let mut made = List::new(alloc);
     for row in rows {
-        let Ok(values) = row_made(&here, columns, row) else {
-            drop(made);
-            return Err(NoMemory);
-        };
-        let Ok(()) = made.push(values) else {
-            drop(made);
-            return Err(NoMemory);
-        };
+        made = with_row(made, row_made(&here, columns, row))?;
     }
     Ok(made)
 }
@@ -109,14 +101,7 @@ fn values_made(here: &Here, columns: &[Column], values: &[ExprTree]) -> Result<L
 {
     let mut made = List::new(here.alloc);
     for at in 0..values.len().min(columns.len()) {
-        let Ok(value) = value_made(here, &columns[at], &values[at]) else {
-            drop(made);
-            return Err(NoMemory);
-        };
-        let Ok(()) = made.push(value) else {
-            drop(made);
-            return Err(NoMemory);
-        };
+        made = with_value(made, value_made(here, &columns[at], &values[at]))?;
     }
     Ok(made)
 }
@@ -129,6 +114,6 @@ fn value_made(here: &Here, column: &Column, tree: &ExprTree) -> Result<Expr, NoM
 {
     let mut found = Within::nothing(here.alloc);
     let value = made(tree, column.kind, here, &mut found);
-    drop(found);
+    let_found_go(found);
     value
 }

@@ -21,10 +21,10 @@ use Rattle.bag_algebra.specs.declared.query.Query.TheVariants.{Join}
 use Rattle.name_nodes.specs.Listed.{MakesItems}
 use Rattle.name_nodes.specs.declared.within.Within.{Within}
 use Rattle.made_parts.specs.Cored.{items_meant}
-use Rattle.made_parts.specs.Sources.{IsScope, JoinsMade, MakesJoin, MakesOn, MakesSource, StandsIn, join_count}
+use Rattle.made_sources.specs.Sources.{IsScope, JoinsMade, MakesJoin, MakesOn, MakesSource, StandsIn, join_count}
 use Rattle.made_parts.proofs.Coring.{next-listed}
 use Rattle.made_parts.proofs.Listing.{mapped}
-use Rattle.made_parts.proofs.Sourcing.{both-count, from-fields, join-fields, join-made, join-more, joins-append}
+use Rattle.made_sources.proofs.Sourcing.{both-count, from-fields, join-fields, join-made, join-more, joins-append}
 
 pub of-on : {X E : Type 0} (P Q : Type 0) (result : Result X E) → (P → Q) → OnOk result P → OnOk result Q
 of-on P Q (Ok x) f p = f p

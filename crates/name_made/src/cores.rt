@@ -11,19 +11,16 @@ ghost use Rattle.name_words.specs.declared.answer.Break.{Break as Broken};
 ghost use Rattle.name_seen.specs.Named.{here_only, scopes_of};
 ghost use Rattle.name_seen.specs.Standing.{around_of as standing_of, surroundings};
 ghost use Rattle.made_parts.specs.Cored.{Keeps, MakesClauses, MakesList, MakesSelected, core_over_items, having_part, items_meant, select_parts, sources_meant};
-ghost use Rattle.made_parts.specs.Sources.{IsScope};
+ghost use Rattle.made_sources.specs.Sources.{IsScope};
 
-use crate::expression_results::add_value;
 use crate::expressions::made;
-use crate::query_results::{clauses_of, core_of, kept_of, listed_of, scope_grouped};
+use crate::query_results::{clauses_of, kept_of, listed_of, scope_grouped};
 use crate::sources::sources_made;
-use crate::together::beside;
 use bag_algebra::{Aggr, Item, Query};
 use cores_seen::in_clause;
-use made_parts::{
-    Kept, add_star, add_table_star, behind_aggregates, core_trace, groups_of, item_kind,
-    scope_or_none,
-};
+use made_parts::{Kept, behind_aggregates, core_trace, groups_of, item_kind, scope_or_none};
+use made_results::{add_value, beside, core_of};
+use made_sources::{add_star, add_table_star};
 use name_nodes::{Clauses, Condition, Listed, Within};
 use name_seen::{Around, Here, inside};
 use name_words::Scope;

@@ -12,18 +12,18 @@ ghost use Rattle.name_words.specs.Trees.{arm_of, part_of, query_of, step_of};
 ghost use Rattle.name_nodes.specs.Makes.{Links, Makes, MakesArms, MakesMore, MakesSteps};
 ghost use Rattle.name_seen.specs.Standing.{surroundings};
 
-use crate::expression_results::{
-    aggregate_of, arm_of, between, case, chained, in_list, like, null_tested, on_parts, on_two,
-    repeated, same_tested, step_of, sublink_of, truth_tested,
-};
 use crate::queries::query_made;
-use crate::together::with_more;
 use bag_algebra::{Arm, ChainStep, Expr, SubKind};
 use expression_seen::{in_argument, in_tested, trace_below};
 use made_parts::{
     alike_behind, alike_of_all, alike_of_arms, alike_of_case, alike_of_three, alike_of_two,
-    group_count, kind_or_any, scalar_kind, tested_kind,
+    kind_or_any, scalar_kind, tested_kind,
 };
+use made_results::{
+    aggregate_of, arm_of, between, case, chained, in_list, like, null_tested, on_parts, on_two,
+    repeated, same_tested, step_of, sublink_of, truth_tested, with_more,
+};
+use made_sources::group_count;
 use name_nodes::{
     Within, argument_wanted, chain_start, column_made, count_made, in_kind, in_list_kind,
     integer_value, null_at, text_value, truth_value, wanted_of,

@@ -2,12 +2,10 @@
 #![tactic(auto)]
 
 mod cores;
-mod expression_results;
 mod expressions;
 mod queries;
 mod query_results;
 mod sources;
-mod together;
 
 pub use expressions::made;
 pub use queries::query_made;

@@ -9,10 +9,10 @@ ghost use Rattle.name_nodes.specs.Makes.{MakesQuery};
 ghost use Rattle.name_seen.specs.Standing.{around_of as standing_of};
 
 use crate::cores::core_made;
-use crate::query_results::{finished_of, with_operand};
 use bag_algebra::Query;
 use cores_seen::is_proving;
 use made_parts::{chain_kinds, limit_keys, trace_inside};
+use made_results::{finished_of, with_operand};
 use name_seen::Around;
 use perm_values::{Kind, NoMemory};
 use sql_tree::{QueryTree, SetStep, SetTree};

@@ -1,56 +1,25 @@
-//! Queries and clauses of parts as they were made. Each part comes as a result, so that what is there is let go here where
+//! Clauses and FROM of parts as they were made. Each part comes as a result, so that what is there is let go here where
 //! another part is wanting, and not in the functions that go through a tree.
-ghost use Rattle.std.specs.Prelude.{◌≡◌, [], cond, IfOk, IsOkAnd};
+ghost use Rattle.std.specs.Prelude.{◌≡◌, [], IfOk, IsOkAnd};
 ghost use Rattle.std.specs.Option.{option_map_or};
-ghost use Rattle.bag_algebra.specs.declared.query.Query.TheVariants.{Join as Paired, Prov as Proved};
+ghost use Rattle.bag_algebra.specs.declared.query.Query.TheVariants.{Join as Paired};
 ghost use Rattle.perm_catalog.specs.Contents.{Contents as Held};
 ghost use Rattle.name_words.specs.Cores.{group_scope};
 ghost use Rattle.name_words.specs.Froms.{marked, read_names, read_query};
 ghost use Rattle.name_words.specs.Meanings.{QueryMeant};
-ghost use Rattle.name_words.specs.Queries.{limited, set_of};
-ghost use Rattle.name_nodes.specs.Cored.{clauses_over};
 ghost use Rattle.made_parts.specs.Cored.{core_groups, having_part, kept_of, select_parts};
-ghost use Rattle.made_parts.specs.Sources.{Shows, beside_left, text_of};
+ghost use Rattle.made_sources.specs.Sources.{Shows, beside_left, text_of};
 
-use crate::together::beside;
 use bag_algebra::{Expr, Item, JoinKind, Query};
 use clauses_seen::grouped;
-use made_parts::{
-    Kept, ShownNames, beside_from, condition_found, groups_made, joined, listed_with, marked_query,
-};
-use name_nodes::{Clauses, Condition, Listed, Within, core_query, finished, set_joined};
+use made_parts::{Kept, condition_found, groups_made, listed_with};
+use made_results::beside;
+use made_sources::{ShownNames, beside_from, joined, marked_query};
+use name_nodes::{Clauses, Condition, Listed, Within};
 use name_words::Scope;
-use perm_values::{Key, List, NoMemory, both};
-use sql_tree::{Core, Name, ScopeMark, SetWord};
+use perm_values::{List, NoMemory, both};
+use sql_tree::{Core, Name, ScopeMark};
 use std::alloc::Global;
-
-/// The query of this body, cut by the keys if there is a limit, and with its provenance if it is asked for.
-pub(crate) fn finished_of(
-    alloc: Global,
-    body: Result<Query, NoMemory>,
-    keys: List<Key>,
-    limit: Option<i64>,
-    proving: bool,
-) -> Result<Query, NoMemory>
-    ensures { IfOk result (λ made. IsOkAnd body (λ body. made ≡ cond proving (Proved (limited limit keys body)) (limited limit keys body))) }
-{
-    let (keys, body) = beside(keys, body)?;
-    finished(alloc, body, keys, limit, proving)
-}
-
-/// A set operation on what stands before it.
-pub(crate) fn with_operand(
-    alloc: Global,
-    word: SetWord,
-    all: bool,
-    whole: Query,
-    operand: Result<Query, NoMemory>,
-) -> Result<Query, NoMemory>
-    ensures { IfOk result (λ made. IsOkAnd operand (λ operand. made ≡ set_of word all whole operand)) }
-{
-    let (whole, operand) = beside(whole, operand)?;
-    set_joined(alloc, word, all, whole, operand)
-}
 
 /// A join with what stands before it.
 pub(crate) fn with_right(
@@ -102,18 +71,6 @@ pub(crate) fn scope_grouped(alloc: Global, own: Scope, core: &Core) -> Result<Sc
     let groups = groups_made(alloc, &own, core);
     let (own, groups) = beside(own, groups)?;
     Ok(grouped(own, groups))
-}
-
-/// The core of these clauses over the rows of its FROM.
-pub(crate) fn core_of(
-    alloc: Global,
-    input: Result<Query, NoMemory>,
-    clauses: Result<Clauses, NoMemory>,
-) -> Result<Query, NoMemory>
-    ensures { IfOk result (λ made. IsOkAnd input (λ input. IsOkAnd clauses (λ clauses. made ≡ clauses_over input clauses))) }
-{
-    let (input, clauses) = both(input, clauses)?;
-    core_query(alloc, input, clauses)
 }
 
 /// What a core does with the rows of its FROM.

@@ -6,7 +6,7 @@ ghost use Rattle.name_words.specs.Meanings.{means_at};
 ghost use Rattle.name_words.specs.Scopes.{ScopeItem, scope_of};
 ghost use Rattle.name_words.specs.Trees.{from_item_of, from_of, join_of, part_of};
 ghost use Rattle.name_seen.specs.Named.{scopes_of};
-ghost use Rattle.made_parts.specs.Sources.{MakesFrom, MakesJoin, MakesOn, MakesSource};
+ghost use Rattle.made_sources.specs.Sources.{MakesFrom, MakesJoin, MakesOn, MakesSource};
 
 use crate::expressions::made;
 use crate::queries::query_made;
@@ -14,7 +14,8 @@ use crate::query_results::{marked_of, with_next, with_right};
 use bag_algebra::{Expr, Query};
 use cores_seen::in_on;
 use items_seen::trace_under;
-use made_parts::{behind, input_or_single, join_kind, named_item, segment, shown_names};
+use made_parts::shown_names;
+use made_sources::{behind, input_or_single, join_kind, named_item, segment};
 use name_nodes::{Within, truth_value};
 use name_seen::{Around, Here, inside};
 use name_words::Scope;

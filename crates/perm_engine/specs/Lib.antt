@@ -1,7 +1,2 @@
-pub mod Ends
-pub mod Resolving
-pub mod Run
-pub mod Scripts
+pub mod Due
 pub mod Sessions
-pub mod Statuses
-pub mod Stops

@@ -5,21 +5,17 @@ ghost use Rattle.perm_io.specs.Found.{CanBe};
 ghost use Rattle.sql_tree.specs.Regular.{RegularStatement, Each};
 ghost use Rattle.statement_words.specs.Answers.{can_be, file_limit};
 ghost use Rattle.statement_words.specs.Answers.{over as seen};
-ghost use Rattle.perm_engine.specs.Ends.{Completes, EndsBroken, EndsFaulty, EndsOne, EndsSome, IsBadFile, IsBadScript, over};
-ghost use Rattle.perm_engine.specs.Run.{Runs, RunsFrom, RunsScript, is_one, IsWhole, IsSteady, IsOfScript};
+ghost use Rattle.run_ends.specs.Ends.{Completes, EndsBroken, EndsFaulty, EndsOne, EndsSome, IsBadFile, IsBadScript, over};
+ghost use Rattle.run_ends.specs.Run.{Runs, RunsFrom, RunsScript, is_one, IsWhole, IsSteady, IsOfScript};
 
-use crate::script::script_of;
 use crate::session::Session;
-use crate::status::Status;
-use crate::stopping::{finish, refuse, stop};
 use perm_io::{Files, ReadError, Sink, read_all, write_all};
 use perm_values::{Chars, List};
+use run_ends::{SCRIPT_LIMIT, Status, finish, refuse, script_of, stop};
+use run_steps::let_statements_go;
 use sql_parser::a_spelled_script_is_regular;
 use sql_tree::Statement;
 use std::alloc::Global;
-
-/// The greatest length of a script, in bytes.
-pub(crate) const SCRIPT_LIMIT: usize = 1 << 20;
 
 /// Runs the statements in order from an empty catalog, and writes their texts; the first that is refused ends the run.
 fn run_statements<F: Files, K: Sink>(
@@ -38,22 +34,27 @@ fn run_statements<F: Files, K: Sink>(
     ensures held { F.held files.new ≡ F.held files.old }
 {
     let mut session = Session::new(alloc);
-    for statement in statements.into_vec() {
+    // What is left is let go in a call: a loop that owned it would drop trees here.
+    let mut left = statements.into_vec().into_iter();
+    while let Some(statement) = left.next() {
         match session.step(statement, files) {
             Ok(text) => match write_all(out, text.as_slice()) {
                 Ok(()) => {}
                 Err(_) => {
-                    drop(session);
+                    let_statements_go(left);
+                    session.let_go();
                     return Status::WriteFault;
                 }
             },
             Err(refusal) => {
-                drop(session);
+                let_statements_go(left);
+                session.let_go();
                 return stop(refusal, out);
             }
         }
     }
-    drop(session);
+    let_statements_go(left);
+    session.let_go();
     finish(out, b"", Status::Done)
 }
 

@@ -4,14 +4,13 @@ ghost use Rattle.perm_catalog.specs.Sound.{IsSound};
 ghost use Rattle.perm_io.specs.Counts.{next_count, CountsFault};
 ghost use Rattle.sql_tree.specs.Regular.{RegularStatement};
 ghost use Rattle.statement_words.specs.Answers.{begins, can_be, has_failed, over, IsBacked, TakesTurn};
-ghost use Rattle.statement_laws.specs.Sounder.{KeepsSound};
-ghost use Rattle.statement_words.specs.Asking.{asked, asks};
-ghost use Rattle.statement_words.specs.Ready.{IsReady};
+ghost use Rattle.statement_words.specs.Asking.{asked};
 ghost use Rattle.statement_words.specs.declared.refusal.StepRefusal.TheVariants.{NoMemory as OutOfMemory};
-ghost use Rattle.name_analysis.specs.Own.{own_breaks};
+ghost use Rattle.statement_parts.specs.Own.{own_breaks};
 ghost use Rattle.name_words.specs.Statements.{resolved};
 ghost use Rattle.resolved_steps.specs.Running.{KeepsRun};
-ghost use Rattle.perm_engine.specs.Resolving.{IsCarriedOut, IsDue, Resolves, ResolvesBuilt, due_breaks};
+ghost use Rattle.run_steps.specs.Resolving.{IsDue, Resolves, ResolvesBuilt};
+ghost use Rattle.perm_engine.specs.Due.{due_breaks};
 ghost use Rattle.perm_engine.specs.Sessions.{begun_with};
 
 use name_analysis::resolve;
@@ -21,11 +20,13 @@ use perm_catalog::{Catalog, catalogs_stay_sound};
 use perm_io::Files;
 use perm_values::Bytes;
 use query_answers::Runner;
-use resolved_steps::{is_unbuilt, step};
+use resolved_steps::is_unbuilt;
+use run_steps::{carried_out, let_held_go, let_resolved_go};
 use sql_tree::Statement;
 use statement_laws::{
     statements_keep_catalogs_sound, whole_statements_add_soundly, whole_statements_are_ready,
 };
+use statement_parts::let_statement_go;
 use statement_words::StepRefusal;
 use std::alloc::Global;
 use std::marker::Model;
@@ -94,6 +95,11 @@ impl Session {
         &self.runner
     }
 
+    /// Lets the catalog and the last run go.
+    pub(crate) fn let_go(self) {
+        let_held_go(self.catalog, self.runner);
+    }
+
     /// Runs a statement and gives its text. A statement of a form that isn't run is refused with 29 at its offset, before
     /// all else; then the first rule that it breaks refuses it, and then what it meets while it runs. A COPY that breaks no
     /// rule begins its file, and no other statement begins any. After a refusal the catalog is as before.
@@ -130,7 +136,7 @@ impl Session {
         let resolved = resolved_statement(self.alloc, &self.catalog, statement)?;
         let runner = &mut self.runner;
         let told = carried_out(self.alloc, &mut self.catalog, files, at, &resolved, runner);
-        drop(resolved);
+        let_resolved_go(resolved);
         told
     }
 }
@@ -149,7 +155,7 @@ fn resolved_statement(
 {
     let at = statement.at;
     if is_unbuilt(&statement) {
-        drop(statement);
+        let_statement_go(statement);
         Err(StepRefusal::Break(Break { code: 29, at }))
     } else {
         looked_up(alloc, catalog, statement)
@@ -175,23 +181,4 @@ fn looked_up(
         Err(Refusal::Break(found)) => Err(StepRefusal::Break(found)),
         Err(Refusal::NoMemory) => Err(StepRefusal::NoMemory),
     }
-}
-
-/// Carries out a resolved statement at an offset over a sound catalog, which stays sound.
-fn carried_out<F: Files>(
-    alloc: Global,
-    catalog: &mut Catalog,
-    files: &mut F,
-    at: usize,
-    resolved: &Resolved,
-    runner: &mut Runner,
-) -> Result<Bytes, StepRefusal>
-    requires before { IsSound catalog.old }
-    requires ready { IsReady catalog.old resolved.now }
-    requires sound { KeepsSound (asks catalog.old at resolved.now) }
-    ensures done { IsCarriedOut (asks catalog.old at resolved.now) catalog.old catalog.new result (over F.held F.faults F.begun F.absent F.taken files.old files.new)
-        (files.new ≡ files.old) }
-    ensures ran { KeepsRun catalog.old resolved.now result runner.old runner.new }
-{
-    step(alloc, catalog, files, at, resolved, runner)
 }

@@ -6,7 +6,6 @@ use Rattle.sql_tree.specs.declared.query.Core.{Core, out-Core}
 use Rattle.sql_tree.specs.declared.source.FromTree.{FromTree}
 use Rattle.name_words.specs.Cores.{BodyPart, core_seen, core_trace, group_break, group_scope, has_some, in_clause, optional_breaks, optional_meant, word_breaks}
 use Rattle.name_words.specs.Froms.{FromMeant, from_all}
-use Rattle.name_words.specs.Items.{items_breaks}
 use Rattle.name_words.specs.Meanings.{Around, QueryMeant}
 use Rattle.name_words.specs.Scopes.{ScopeItem, scope_of}
 use Rattle.name_words.specs.Trees.{core_of, from_of, item_of}
@@ -25,7 +24,7 @@ use Rattle.cores_seen.specs.Behind.{ConditionSeen, ConditionWhole, GroupsSeen, G
 use Rattle.cores_seen.specs.Listed.{ListSeen, seen_at}
 use Rattle.cores_seen.proofs.Cored.{core-whole, groups-break, having-breaks, list-breaks, looked, trace-kept, unlooked-breaks, where-breaks, word-breaks, word-fine}
 use Rattle.cores_seen.proofs.Opened.{core-is}
-use Rattle.query_seen.specs.Joining.{CoreScoped, input_of}
+use Rattle.query_seen.specs.Joining.{input_of}
 
 module _ (c : Contents) (tree : Core) (around : Around) where
   -- the core over a FROM that is traced so
@@ -144,13 +143,3 @@ has-from c tree empty there back = by-sources (out-Core tree).sources there back
     by-empty : (empty : Bool) → (empty ≡ true → source ∷ sources ≡ []) → not empty ≡ true
     by-empty true there = absurd (cc (there refl))
     by-empty false there = refl
-
--- ---- the scope of a core
-
-pub core-scoped : (c : Contents) (tree : Core) (around : Around) (old new : Gathered) (own : Scope) (result : Result Scope Refusal) → FromWhole (input_of c tree around) [] old new own
-    → GroupsSeen own (out-Core tree).groups (optional_part c (out-Core tree).having) (map (item_of c) (out-Core tree).items) result → CoreScoped c tree around result
-core-scoped c tree around old new own (Ok scope) input groups =
-    let is : GroupsWhole (scope_of input.items) (out-Core tree).groups (optional_part c (out-Core tree).having) (map (item_of c) (out-Core tree).items) scope =
-    subst (λ (s : Scope). GroupsWhole s (out-Core tree).groups (optional_part c (out-Core tree).having) (map (item_of c) (out-Core tree).items) scope) input.scope_is groups in
-    record { whole = input.whole; items = input.items; known = input.known; groups_whole = is.whole; scope_is = is.scope_is }
-core-scoped c tree around old new own (Err refusal) input groups = tt

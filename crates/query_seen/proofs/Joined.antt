@@ -17,10 +17,11 @@ use Rattle.name_seen.proofs.Arms.{means-is}
 use Rattle.clauses_seen.specs.Told.{Tells}
 use Rattle.query_facts.specs.Added.{facts_in}
 use Rattle.query_facts.specs.Queried.{FromSeen, FromWhole}
-use Rattle.items_seen.specs.Readings.{ItemAdded, ItemSeen, item_scope, scope_beside}
+use Rattle.from_columns.specs.Scopes.{item_scope, scope_beside}
+use Rattle.items_seen.specs.Readings.{ItemAdded, ItemSeen}
 use Rattle.query_facts.specs.declared.facts.Facts.{Facts as Gathered}
 use Rattle.clauses_seen.proofs.Firsts.{all-none, first-behind_two, first-stays_first, first-stays_second, none-broken}
-use Rattle.items_seen.proofs.Scoping.{scope-beside-is}
+use Rattle.from_columns.proofs.Scoping.{scope-beside-is}
 use Rattle.query_seen.specs.Joining.{JoinSeen}
 use Rattle.items_seen.proofs.Sourced.{beside-known, both-add, source-breaks}
 

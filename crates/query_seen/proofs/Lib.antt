@@ -3,6 +3,7 @@ mod CoreSteps
 mod FromTrees
 mod Joined
 mod ListItems
+mod Nodes
 mod QuerySteps
 mod Rows
 mod WhereSeen

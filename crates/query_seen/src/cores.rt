@@ -15,7 +15,6 @@ ghost use Rattle.query_facts.specs.declared.facts.Facts.{Facts as Gathered};
 ghost use Rattle.cores_seen.specs.Behind.{ConditionSeen, core_behind, optional_part};
 ghost use Rattle.cores_seen.specs.Listed.{ItemSeen, ListSeen, seen_at};
 ghost use Rattle.expression_seen.specs.Expressed.{ExpressionSeen};
-ghost use Rattle.query_seen.specs.Joining.{CoreScoped};
 
 use crate::expressions::expression_seen;
 use crate::sources::from_scope;
@@ -152,14 +151,4 @@ fn list_item(
             Ok(add_value(around.alloc, expr, name, kind, columns)?)
         }
     }
-}
-
-/// The scope of a core behind its GROUP BY, or the first break of its FROM or of its GROUP BY.
-pub fn core_scope(core: &Core, around: &Around) -> Result<Scope, Refusal>
-    requires { IsSound around.now.catalog.now }
-    ensures { CoreScoped around.now.catalog.now core.now (around_of around.now) result }
-{
-    let mut facts = Facts::none(around.alloc);
-    let own = from_scope(core.sources.as_slice(), around, &mut facts)?;
-    grouped_scope(around.alloc, core, own)
 }

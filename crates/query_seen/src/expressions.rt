@@ -1,16 +1,19 @@
 //! The kinds of expressions where they stand.
 ghost use Rattle.std.specs.Prelude.{[], ◌∷◌, map, flat_map};
 ghost use Rattle.perm_catalog.specs.Sound.{IsSound};
-ghost use Rattle.name_words.specs.Expressions.{step_operand, arm_operands};
+ghost use Rattle.name_words.specs.Expressions.{arm_operands, chain_gives, else_operand, step_operand};
 ghost use Rattle.name_words.specs.Meanings.{means_at, query_means_at};
 ghost use Rattle.name_words.specs.Operands.{operand};
-ghost use Rattle.name_words.specs.Sublinks.{around_of, in_argument, in_tested};
+ghost use Rattle.name_words.specs.Sublinks.{aggregate_meant, around_of, in_tested};
 ghost use Rattle.name_words.specs.Trees.{part_of, step_of, arm_of, query_of};
+ghost use Rattle.name_words.specs.declared.need.Gives.TheVariants.{Common as common};
 ghost use Rattle.name_seen.specs.Seen.{seen};
 ghost use Rattle.name_seen.specs.Standing.{surroundings};
-ghost use Rattle.expression_seen.specs.Inner.{InnerLooked, InnerSeen};
+ghost use Rattle.expression_seen.specs.Inner.{InnerLooked};
 ghost use Rattle.clauses_seen.specs.Told.{Tells};
+ghost use Rattle.cores_seen.specs.Behind.{optional_part};
 ghost use Rattle.expression_seen.specs.Expressed.{ExpressionSeen, OperandsBehind};
+ghost use Rattle.query_seen.specs.Nodes.{NodeBehind};
 
 use crate::queries::query_seen;
 use expression_seen::{
@@ -20,9 +23,9 @@ use expression_seen::{
 use name_seen::{Around, Here, Operands, Refusal, count_kind, gives_of, need_of, ungrouped};
 use name_words::{Break, Gives, Need};
 use null_logic::Operator;
-use perm_values::Kind;
+use perm_values::{Boxed, Kind};
 use query_facts::Facts;
-use sql_tree::{ArmTree, ExprBody, ExprStep, ExprTree, QueryTree};
+use sql_tree::{AggWord, ArmTree, ExprBody, ExprStep, ExprTree, QueryTree};
 
 /// The kind of an expression where it stands, none where it may be any, or its first break. The facts of its sublinks
 /// come behind those so far.
@@ -35,6 +38,7 @@ pub fn expression_seen(
     requires { IsSound here.now.catalog.now }
     ensures { ExpressionSeen (means_at (part_of here.now.catalog.now tree.now) (surroundings here.now)) facts.old facts.new result }
 {
+    let none = Ok(Operands::none());
     match &tree.body {
         ExprBody::Null => Ok(None),
         ExprBody::NullOf(kind) => Ok(Some(*kind)),
@@ -45,36 +49,35 @@ pub fn expression_seen(
         ExprBody::Paren(part) => expression_seen(part.get(), here, facts),
         ExprBody::Nots { part, .. } => {
             let need = need_of(Operator::Not, true);
-            let seen = operand(part.get(), need, Ok(Operands::none()), here, facts);
-            kind_over(gives_of(Operator::Not, true), seen)
+            let gives = gives_of(Operator::Not, true);
+            over_last(part.get(), need, gives, none, here, facts)
         }
         ExprBody::Signs { part, .. } => {
             let need = need_of(Operator::Negate, true);
-            let seen = operand(part.get(), need, Ok(Operands::none()), here, facts);
-            kind_over(gives_of(Operator::Negate, true), seen)
+            let gives = gives_of(Operator::Negate, true);
+            over_last(part.get(), need, gives, none, here, facts)
         }
         ExprBody::Logic { op, parts } => {
             let need = need_of(*op, false);
-            let seen = operands(parts.as_slice(), need, Ok(Operands::none()), here, facts);
-            kind_over(gives_of(*op, false), seen)
+            let gives = gives_of(*op, false);
+            over_rest(parts.as_slice(), need, gives, none, here, facts)
         }
         ExprBody::Chain { first, steps } => {
             let need = first_need(steps.as_slice());
-            let seen = operand(first.get(), need, Ok(Operands::none()), here, facts);
-            let seen = operands_of_steps(steps.as_slice(), seen, here, facts);
-            kind_over(chain_gives(steps.as_slice()), seen)
+            let seen = operand(first.get(), need, none, here, facts);
+            over_steps(steps.as_slice(), seen, here, facts)
         }
         ExprBody::Compared { op, first, second } => {
             let need = need_of(Operator::Compare(*op), false);
-            let seen = operand(first.get(), need, Ok(Operands::none()), here, facts);
-            let seen = operand(second.get(), need, seen, here, facts);
-            kind_over(gives_of(Operator::Compare(*op), false), seen)
+            let gives = gives_of(Operator::Compare(*op), false);
+            let seen = operand(first.get(), need, none, here, facts);
+            over_last(second.get(), need, gives, seen, here, facts)
         }
         ExprBody::Like { text, pattern, .. } => {
             let need = need_of(Operator::Like, false);
-            let seen = operand(text.get(), need, Ok(Operands::none()), here, facts);
-            let seen = operand(pattern.get(), need, seen, here, facts);
-            kind_over(gives_of(Operator::Like, false), seen)
+            let gives = gives_of(Operator::Like, false);
+            let seen = operand(text.get(), need, none, here, facts);
+            over_last(pattern.get(), need, gives, seen, here, facts)
         }
         ExprBody::Between {
             part,
@@ -83,16 +86,16 @@ pub fn expression_seen(
             ..
         } => {
             let need = need_of(Operator::Between, false);
-            let seen = operand(part.get(), need, Ok(Operands::none()), here, facts);
+            let gives = gives_of(Operator::Between, false);
+            let seen = operand(part.get(), need, none, here, facts);
             let seen = operand(low.get(), need, seen, here, facts);
-            let seen = operand(high.get(), need, seen, here, facts);
-            kind_over(gives_of(Operator::Between, false), seen)
+            over_last(high.get(), need, gives, seen, here, facts)
         }
         ExprBody::InList { part, list, .. } => {
             let need = need_of(Operator::InList, false);
-            let seen = operand(part.get(), need, Ok(Operands::none()), here, facts);
-            let seen = operands(list.as_slice(), need, seen, here, facts);
-            kind_over(gives_of(Operator::InList, false), seen)
+            let gives = gives_of(Operator::InList, false);
+            let seen = operand(part.get(), need, none, here, facts);
+            over_rest(list.as_slice(), need, gives, seen, here, facts)
         }
         ExprBody::InQuery { part, query, .. } => {
             let tested = tested_kind(part.get(), here);
@@ -105,50 +108,132 @@ pub fn expression_seen(
             tested_over(tested, query.get().at, inner)
         }
         ExprBody::IsNull { part, .. } => {
-            let seen = operand(part.get(), Need::Free, Ok(Operands::none()), here, facts);
-            kind_over(Gives::Always(Kind::Boolean), seen)
+            let gives = Gives::Always(Kind::Boolean);
+            over_last(part.get(), Need::Free, gives, none, here, facts)
         }
         ExprBody::IsTruth { part, .. } => {
             let need = Need::OfKind(Kind::Boolean);
-            let seen = operand(part.get(), need, Ok(Operands::none()), here, facts);
-            kind_over(Gives::Always(Kind::Boolean), seen)
+            let gives = Gives::Always(Kind::Boolean);
+            over_last(part.get(), need, gives, none, here, facts)
         }
         ExprBody::IsDistinct { first, second, .. } => {
-            let seen = operand(first.get(), Need::Alike, Ok(Operands::none()), here, facts);
-            let seen = operand(second.get(), Need::Alike, seen, here, facts);
-            kind_over(Gives::Always(Kind::Boolean), seen)
+            let gives = Gives::Always(Kind::Boolean);
+            let seen = operand(first.get(), Need::Alike, none, here, facts);
+            over_last(second.get(), Need::Alike, gives, seen, here, facts)
         }
         ExprBody::Case { arms, otherwise } => {
-            let seen = operands_of_arms(arms.as_slice(), Ok(Operands::none()), here, facts);
-            match otherwise {
-                None => kind_over(Gives::Common, seen),
-                Some(tree) => {
-                    let seen = operand(tree.get(), Need::Alike, seen, here, facts);
-                    kind_over(Gives::Common, seen)
-                }
-            }
+            let seen = operands_of_arms(arms.as_slice(), none, here, facts);
+            over_else(otherwise, seen, here, facts)
         }
         ExprBody::Coalesce(list) => {
-            let none = Ok(Operands::none());
-            let seen = operands(list.as_slice(), Need::Alike, none, here, facts);
-            kind_over(Gives::Common, seen)
+            let need = Need::Alike;
+            over_rest(list.as_slice(), need, Gives::Common, none, here, facts)
         }
         ExprBody::NullIf { first, second } => {
-            let seen = operand(first.get(), Need::Alike, Ok(Operands::none()), here, facts);
-            let seen = operand(second.get(), Need::Alike, seen, here, facts);
-            kind_over(Gives::Common, seen)
+            let seen = operand(first.get(), Need::Alike, none, here, facts);
+            over_last(second.get(), Need::Alike, Gives::Common, seen, here, facts)
         }
-        ExprBody::Aggregate { function, argument } => match argument {
-            None => answered(count_kind(here.standing.aggregates, tree.at, *function)),
-            Some(argument) => {
-                let kind = argument_kind(argument.get(), here);
-                aggregated(here, tree.at, *function, argument.get().at, kind)
-            }
-        },
+        ExprBody::Aggregate { function, argument } => {
+            aggregate_seen(*function, argument, tree.at, here)
+        }
         ExprBody::Exists(query) => { exists_over(inner_seen(query.get(), tree.at, here, facts)) }
         ExprBody::Scalar(query) => {
             let inner = inner_seen(query.get(), tree.at, here, facts);
             scalar_over(query.get().at, inner)
+        }
+    }
+}
+
+/// The kind of a node whose last operand this is, behind those so far, which were answered or refused.
+#[cycle(seen)]
+fn over_last(
+    tree: &ExprTree,
+    need: Need,
+    gives: Gives,
+    so_far: Result<Operands, Refusal>,
+    here: &Here,
+    facts: &mut Facts,
+) -> Result<Option<Kind>, Refusal>
+    requires { IsSound here.now.catalog.now }
+    ensures { NodeBehind gives (operand (surroundings here.now) need (part_of here.now.catalog.now tree.now) ∷ []) so_far facts.old facts.new result }
+{
+    let seen = operand(tree, need, so_far, here, facts);
+    kind_over(gives, seen)
+}
+
+/// The kind of a node whose last operands these are, of one need, behind those so far.
+#[cycle(seen)]
+fn over_rest(
+    trees: &[ExprTree],
+    need: Need,
+    gives: Gives,
+    so_far: Result<Operands, Refusal>,
+    here: &Here,
+    facts: &mut Facts,
+) -> Result<Option<Kind>, Refusal>
+    requires { IsSound here.now.catalog.now }
+    ensures { NodeBehind gives (map (operand (surroundings here.now) need) (map (part_of here.now.catalog.now) trees.now)) so_far facts.old facts.new result }
+{
+    let seen = operands(trees, need, so_far, here, facts);
+    kind_over(gives, seen)
+}
+
+/// The kind of a chain of these steps, behind its operand so far.
+#[cycle(seen)]
+fn over_steps(
+    steps: &[ExprStep],
+    so_far: Result<Operands, Refusal>,
+    here: &Here,
+    facts: &mut Facts,
+) -> Result<Option<Kind>, Refusal>
+    requires { IsSound here.now.catalog.now }
+    ensures { NodeBehind (chain_gives (map (step_of here.now.catalog.now) steps.now)) (map (step_operand (surroundings here.now)) (map (step_of here.now.catalog.now) steps.now))
+        so_far facts.old facts.new result }
+{
+    let seen = operands_of_steps(steps, so_far, here, facts);
+    kind_over(chain_gives(steps), seen)
+}
+
+/// The kind of a CASE with this ELSE, if it has one, behind the operands of its arms.
+#[cycle(seen)]
+fn over_else(
+    otherwise: &Option<Boxed<ExprTree>>,
+    so_far: Result<Operands, Refusal>,
+    here: &Here,
+    facts: &mut Facts,
+) -> Result<Option<Kind>, Refusal>
+    requires { IsSound here.now.catalog.now }
+    ensures { NodeBehind common (else_operand (surroundings here.now) (optional_part here.now.catalog.now otherwise.now) ∷ []) so_far facts.old facts.new result }
+{
+    match otherwise {
+        None => kind_over(Gives::Common, so_far),
+        Some(tree) => over_last(tree.get(), Need::Alike, Gives::Common, so_far, here, facts),
+    }
+}
+
+/// The kind of an aggregate at this offset: of rows, or of its argument.
+#[cycle(seen)]
+fn aggregate_seen(
+    function: AggWord,
+    argument: &Option<Boxed<ExprTree>>,
+    at: usize,
+    here: &Here,
+) -> Result<Option<Kind>, Refusal>
+    requires { IsSound here.now.catalog.now }
+    ensures { Tells (seen (aggregate_meant (surroundings here.now) at function (optional_part here.now.catalog.now argument.now))) result }
+{
+    match argument {
+        None => answered(count_kind(here.standing.aggregates, at, function)),
+        Some(argument) => {
+            let scopes = ungrouped(&*here.scopes);
+            let inner = Here {
+                alloc: here.alloc,
+                catalog: &*here.catalog,
+                scopes: &scopes,
+                standing: in_argument(here.standing),
+            };
+            let kind = kind_of(argument.get(), &inner);
+            aggregated(here, at, function, argument.get().at, kind)
         }
     }
 }
@@ -178,26 +263,10 @@ fn tested_kind(tree: &ExprTree, here: &Here) -> Result<Option<Kind>, Refusal>
     kind_of(tree, &inner)
 }
 
-/// The kind of the argument of an aggregate.
-#[cycle(seen)]
-fn argument_kind(tree: &ExprTree, here: &Here) -> Result<Option<Kind>, Refusal>
-    requires { IsSound here.now.catalog.now }
-    ensures { Tells (seen (means_at (part_of here.now.catalog.now tree.now) (in_argument (surroundings here.now)))) result }
-{
-    let scopes = ungrouped(&*here.scopes);
-    let inner = Here {
-        alloc: here.alloc,
-        catalog: &*here.catalog,
-        scopes: &scopes,
-        standing: in_argument(here.standing),
-    };
-    kind_of(tree, &inner)
-}
-
 /// The columns of the query of a sublink at this offset, or that no sublink stands here. Its facts come behind those so
 /// far.
 #[cycle(seen)]
-#[tactic(auto, using(expression_seen::proofs::Sublinked::looked_so, expression_seen::proofs::Sublinked::looked_not))]
+#[tactic(auto, using(expression_seen::proofs::Sublinked::looked_not))]
 fn inner_seen(
     query: &QueryTree,
     at: usize,
@@ -210,15 +279,6 @@ fn inner_seen(
     if !here.standing.sublinks {
         return Err(Refusal::Break(Break { code: 24, at }));
     }
-    inner_looked(query, here, facts)
-}
-
-/// The columns of the query of a sublink. Its facts come behind those so far.
-#[cycle(seen)]
-fn inner_looked(query: &QueryTree, here: &Here, facts: &mut Facts) -> Result<InnerColumns, Refusal>
-    requires { IsSound here.now.catalog.now }
-    ensures { InnerSeen (query_means_at (query_of here.now.catalog.now query.now) (around_of (surroundings here.now))) facts.old facts.new result }
-{
     let around = Around {
         alloc: here.alloc,
         catalog: &*here.catalog,

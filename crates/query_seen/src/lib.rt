@@ -8,7 +8,6 @@ mod queries;
 mod sets;
 mod sources;
 
-pub use cores::core_scope;
 pub use expressions::{
     expression_seen, kind_of, operand, operands, operands_of_arms, operands_of_steps,
 };

@@ -1,9 +1,9 @@
 //! The columns of trees of set operations.
 ghost use Rattle.std.specs.Prelude.{map};
 ghost use Rattle.perm_catalog.specs.Sound.{IsSound};
-ghost use Rattle.name_words.specs.Meanings.{QueryMeant, query_means_at};
+ghost use Rattle.name_words.specs.Meanings.{QueryMeant};
 ghost use Rattle.name_words.specs.Queries.{set_chain, set_joined, unprovable};
-ghost use Rattle.name_words.specs.Trees.{query_of, set_of_tree, set_step_of};
+ghost use Rattle.name_words.specs.Trees.{set_of_tree, set_step_of};
 ghost use Rattle.name_seen.specs.Standing.{around_of};
 ghost use Rattle.query_facts.specs.Queried.{ColumnsSeen};
 ghost use Rattle.query_facts.specs.declared.facts.Facts.{Facts as Gathered};
@@ -15,7 +15,7 @@ use cores_seen::{add_operand, add_shown, unprovable};
 use name_seen::{Around, Refusal};
 use perm_values::List;
 use query_facts::Facts;
-use sql_tree::{QueryTree, SetStep, SetTree};
+use sql_tree::{SetStep, SetTree};
 
 /// The columns of a tree of set operations, or its first break. Its facts come behind those so far.
 #[cycle(seen)]
@@ -29,27 +29,14 @@ pub fn set_seen(
 {
     match tree {
         SetTree::Core(core) => core_seen(core.get(), around, facts),
-        SetTree::Paren(query) => paren_seen(query.get(), around, facts),
+        SetTree::Paren(query) => match query_seen(query.get(), &unprovable(around)) {
+            Ok(shown) => add_shown(shown, facts),
+            Err(refusal) => Err(refusal),
+        },
         SetTree::Chain { first, steps } => {
             let first = set_seen(first.get(), around, facts);
             operands_seen(steps.as_slice(), first, around, facts)
         }
-    }
-}
-
-/// The columns of a query in parentheses.
-#[cycle(seen)]
-fn paren_seen(
-    query: &QueryTree,
-    around: &Around,
-    facts: &mut Facts,
-) -> Result<List<ShownColumn>, Refusal>
-    requires { IsSound around.now.catalog.now }
-    ensures { ColumnsSeen (query_means_at (query_of around.now.catalog.now query.now) (unprovable (around_of around.now))) facts.old facts.new result }
-{
-    match query_seen(query, &unprovable(around)) {
-        Ok(shown) => add_shown(shown, facts),
-        Err(refusal) => Err(refusal),
     }
 }
 

@@ -8,7 +8,7 @@ use Rattle.sql_parser.specs.Nesting as nesting
 use Rattle.sql_parser.specs.Spells.{Spells, IsUnexpected}
 use Rattle.sql_tree.specs.declared.statement.Script.{Script}
 use Rattle.name_words.specs.declared.answer.Break.{Break}
-use Rattle.perm_engine.specs.Scripts.{IsScriptOf, IsMisspelled, break_at, not_utf8, bad_character, unterminated, number_range, unexpected, too_deep}
+use Rattle.run_ends.specs.Scripts.{IsScriptOf, IsMisspelled, break_at, not_utf8, bad_character, unterminated, number_range, unexpected, too_deep}
 
 -- the break of a refusal of tokens
 abbrev code_of : LexError → ℕ

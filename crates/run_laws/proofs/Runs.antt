@@ -17,10 +17,10 @@ use Rattle.statement_words.specs.Turns as cause
 use Rattle.statement_words.specs.declared.refusal.StepRefusal.{StepRefusal}
 use Rattle.statement_words.specs.declared.refusal.StepRefusal.TheVariants as refusal
 use Rattle.catalog_steps.proofs.SomeFound.{some_found}
-use Rattle.perm_engine.proofs.Turns.{some_run}
-use Rattle.perm_engine.specs.Run.{Ran, Runs, RunsNamed, RunsFile, RunsScript, RunsFrom, Asks, GoesOn, ended, after_text, after_files}
-use Rattle.perm_engine.specs.Scripts.{IsScriptOf, IsMisspelled}
-use Rattle.perm_engine.specs.Stops.{Stop, ToTheEnd, Misused, NoFile, LongFile, NoScript, At, script_limit}
+use Rattle.run_steps.proofs.Turns.{some_run}
+use Rattle.run_ends.specs.Run.{Ran, Runs, RunsNamed, RunsFile, RunsScript, RunsFrom, Asks, GoesOn, ended, after_text, after_files}
+use Rattle.run_ends.specs.Scripts.{IsScriptOf, IsMisspelled}
+use Rattle.run_ends.specs.Stops.{Stop, ToTheEnd, Misused, NoFile, LongFile, NoScript, At, script_limit}
 use Rattle.run_laws.specs.Same.{MeetsFaults, SameStop, alike, by_faults, SameRun}
 use Rattle.run_laws.proofs.Breaks.{Spelled}
 

@@ -8,8 +8,8 @@ use Rattle.perm_io.specs.Found.{Found}
 use Rattle.statement_words.specs.Asking.{Asked, Settled, Begins, asked}
 use Rattle.statement_words.specs.Turns.{Refused, Meets}
 use Rattle.statement_words.specs.declared.refusal.StepRefusal.TheVariants as refusal
-use Rattle.perm_engine.specs.Run.{Ran}
-use Rattle.perm_engine.specs.Stops.{Stop, At}
+use Rattle.run_ends.specs.Run.{Ran}
+use Rattle.run_ends.specs.Stops.{Stop, At}
 
 -- a statement that asks for this meets these faults, by something that became of its file where it begins one
 abbrev pub MeetsFaults : Asked → Faults → ℕ → Type 0

@@ -1,13 +1,13 @@
 //! Each law is the contract of a function that does nothing.
 ghost use Rattle.std.specs.Prelude.{◌≡◌, ◌⊎◌, ℕ, List, Some};
 ghost use Rattle.name_words.specs.declared.answer.Break.{Break};
-ghost use Rattle.perm_engine.specs.Run.{Ran, Runs};
-ghost use Rattle.perm_engine.specs.Scripts.{IsScriptOf, IsMisspelled};
+ghost use Rattle.run_ends.specs.Run.{Ran, Runs};
+ghost use Rattle.run_ends.specs.Scripts.{IsScriptOf, IsMisspelled};
 ghost use Rattle.perm_io.specs.declared.named_file.NamedFile.{NamedFile};
 ghost use Rattle.sql_tree.specs.declared.statement.Script.{Script};
 ghost use Rattle.run_laws.specs.Same.{SameRun};
 
-use perm_engine::bytes_are_one_script;
+use run_ends::bytes_are_one_script;
 use sql_lexer::lexing_is_unique;
 use sql_parser::{an_unexpected_token_has_one_offset, tokens_spell_a_script_or_one_is_unexpected};
 

@@ -40,8 +40,8 @@ use Rattle.sql_tree.specs.declared.source.JoinStep.{JoinStep}
 use Rattle.name_nodes.specs.Cored.{clauses_over}
 use Rattle.name_nodes.proofs.ItemLists.{value-listed}
 use Rattle.made_parts.specs.Cored.{MakesClauses, MakesList, having_part, kept_of, select_parts, sources_meant}
-use Rattle.made_parts.specs.Sources.{JoinsMade, SourcesMade, join_count}
-use Rattle.made_parts.proofs.Sourcing.{first-made, from-fields, item-inner, item-named, no-sources, source-more, sources-made}
+use Rattle.made_sources.specs.Sources.{JoinsMade, SourcesMade, join_count}
+use Rattle.made_sources.proofs.Sourcing.{first-made, from-fields, item-inner, item-named, no-sources, source-more, sources-made}
 use Rattle.bag_algebra.specs.declared.query.Query.{Query}
 use Rattle.name_made.proofs.Chaining.{ChainMade, chain-step}
 use Rattle.name_made.proofs.Standing.{from-count, items-more, of-on, own-stands, step-more, tree-join}

@@ -11,7 +11,7 @@ use Rattle.name_words.specs.Queries.{set_chain}
 use Rattle.sql_tree.specs.declared.source.FromTree.{out-FromTree}
 use Rattle.name_seen.specs.Named.{scopes_of}
 use Rattle.name_nodes.specs.Chained.{Serves}
-use Rattle.made_parts.specs.Sources.{JoinsMade, SourcesMade}
+use Rattle.made_sources.specs.Sources.{JoinsMade, SourcesMade}
 use Rattle.name_nodes.specs.Listed.{MakesItems}
 use Rattle.made_parts.specs.Cored.{items_meant}
 use Rattle.name_made.proofs.+made.Given as goal

@@ -4,36 +4,34 @@ use Rattle.perm_values.specs.declared.kind.Kind.TheVariants as kind
 use Rattle.perm_values.specs.declared.value.Value.TheVariants as v
 use Rattle.bag_algebra.specs.declared.expr.Expr.{Expr}
 use Rattle.bag_algebra.specs.declared.expr.Expr.TheVariants.{Lit, Op, IsNull, IsTruth, Same}
-use Rattle.sql_tree.specs.declared.expression.ExprStep.{ExprStep}
 use Rattle.sql_tree.specs.declared.query.QueryTree.{QueryTree}
 use Rattle.null_logic.specs.declared.compare.Compare.TheVariants.{Equal, NotEqual}
 use Rattle.std.proofs.Common.{ap, refl, sym, subst, ◌∙◌}
 use Rattle.std.proofs.lemmas.List.{take_all}
-use Rattle.sql_tree.specs.declared.expression.ExprBody.TheVariants as e
 use Rattle.name_words.specs.Expressions.{arm_operands, case_made, chain_gives, chain_made, else_operand, first_need, in_kind, first_of, negated_if, second_of, step_operand, times}
 use Rattle.name_words.specs.Meanings.{means_at, query_means_at}
 use Rattle.name_words.specs.Scopes.{look_up}
-use Rattle.name_words.specs.Sublinks.{in_argument, null_at}
-use Rattle.name_words.specs.declared.trace.Trace.{Trace}
+use Rattle.name_words.specs.Sublinks.{aggregate_meant, around_of as inner_around, in_argument, null_at}
 use Rattle.name_seen.specs.declared.operands.Operands.{Operands}
 use Rattle.name_seen.specs.declared.refusal.Refusal.{Refusal}
 use Rattle.sql_tree.specs.declared.expression.ExprTree.{ExprTree}
-use Rattle.name_seen.specs.Seen.{no_operand}
-use Rattle.name_words.specs.Operands.{Operand, gives_of, need_of, operand}
+use Rattle.name_seen.specs.Seen.{no_operand, seen}
+use Rattle.name_words.specs.Operands.{Operand, gives_of, need_of, node, operand}
 use Rattle.name_words.specs.Trees.{part_of, step_of, arm_of, query_of}
+use Rattle.name_words.specs.declared.trace.Trace.{Trace}
 use Rattle.name_words.specs.declared.need.Gives.{Gives}
-use Rattle.name_words.specs.declared.need.Gives.TheVariants.{Always as always, Common as common}
-use Rattle.name_words.specs.declared.need.Need.TheVariants.{Alike as alike, Free as free, OfKind as of_kind}
-use Rattle.name_words.proofs.Forms.{means-aggregate-none, means-aggregate-some, means-null, means-nullof, means-integer, means-text, means-truth, means-column, means-paren, means-nots, means-signs, means-logic, means-chain, means-compared, means-like, means-between, means-inlist, means-isnull, means-istruth, means-isdistinct, means-case-none, means-case-some, means-coalesce, means-exists, means-inquery, means-nullif, means-quantified, means-scalar}
+use Rattle.name_words.specs.declared.need.Gives.TheVariants.{Common as common}
+use Rattle.name_words.specs.declared.need.Need.TheVariants.{Alike as alike, OfKind as of_kind}
+use Rattle.name_words.proofs.Forms.{means-null, means-nullof, means-integer, means-text, means-truth, means-column, means-paren, means-nots, means-signs, means-logic, means-chain, means-compared, means-like, means-between, means-inlist, means-isnull, means-istruth, means-isdistinct, means-coalesce, means-exists, means-inquery, means-nullif, means-quantified, means-scalar}
 use Rattle.name_seen.specs.Named.{scopes_of}
 use Rattle.name_seen.specs.Standing.{surroundings}
-use Rattle.expression_seen.specs.Expressed.{OperandsBehind, kind_over}
+use Rattle.expression_seen.specs.Expressed.{ExpressionSeen, OperandsBehind, kind_over}
 use Rattle.expression_seen.specs.Inner.{InnerSeen, exists_over, scalar_over, tested_over}
 use Rattle.expression_seen.proofs.Alone.{null-alone, known-alone, column-alone, told-by, told-so}
 use Rattle.name_seen.proofs.Arms.{means-is, part-at}
-use Rattle.expression_seen.proofs.Behind.{behind-both, behind-nothing, meant-so, node-over, node-over_more, operand-seen}
+use Rattle.expression_seen.proofs.Behind.{behind-both, behind-nothing, meant-so, operand-seen}
 use Rattle.expression_seen.proofs.Forms.{mapped-more, flat-more, step-is, arm-is, without-else}
-use Rattle.expression_seen.proofs.Sublinked.{aggregate-seen, exists-looked, inner-refused, query-at, result-so, rows-seen, scalar-looked, tested-seen}
+use Rattle.expression_seen.proofs.Sublinked.{exists-looked, inner-refused, looked_so, query-at, result-so, scalar-looked, tested-seen}
 use Rattle.query_seen.proofs.WhereSeen.{meant_here, operand_here, operands_here}
 use Rattle.std.specs.Prelude.{◌+◌, Bool, Option}
 use Rattle.std.proofs.Common.{take, drop}
@@ -65,6 +63,7 @@ use Rattle.query_seen.proofs.FromTrees.{from-means, inner-read, item-refused, it
 use Rattle.query_seen.proofs.Joined.{first-refused, first-whole, join-crossed, join-on, join-refused, joins-behind, none-held, source-refused, step-refused}
 use Rattle.query_seen.specs.Joining.{JoinSeen}
 use Rattle.items_seen.proofs.Sourced.{source-behind}
+use Rattle.query_seen.proofs.Nodes.{aggregate-alone, aggregate-means, argument-told, case-means, node-behind, none-first, rest-so, steps-so}
 use Rattle.query_seen.proofs.ListItems.{list-refused, star-seen, table_star-seen, value-refused, value-seen}
 use Rattle.query_seen.proofs.QuerySteps.{body_meant, kinds-known, paren-refused, query-answered, query-refused}
 use Rattle.query_seen.proofs.Rows.{mapped-at, mapped-more as row-more, same-refused, twice-at, twice-more}
@@ -115,155 +114,169 @@ expressions::expression_seen-returns-in-Paren t c =
 pub expressions::expression_seen-returns-in-Nots : goal.expressions::expression_seen-returns-in-Nots
 expressions::expression_seen-returns-in-Nots t c =
     let here = c.args.here.now in
-    node-over (gives_of x.Not true) (λ (es : List Expr). times x.Not c.in-Nots.count (first_of es))
-    (operand_here here (need_of x.Not true) c.in-Nots.part ∷ []) (meant_here here c.args.tree.now) c.args.facts.now c.operand-seen.new.facts c.operand-seen.result c.kind_over.result
+    meant-so (meant_here here c.args.tree.now) _ c.args.facts.now c.over_last.new.facts c.over_last.result
     (means-nots here.catalog.now (surroundings here) c.args.tree.now c.in-Nots.count c.in-Nots.part c.in-Nots.is)
-    (rw (c.need_of-need.ensures, c.get-in-Nots.ensures, c.none.ensures) at c.operand-seen.ensures)
-    (c.kind_over.ensures ∙ ap (λ (g : Gives). kind_over g c.operand-seen.result) c.gives_of.ensures)
+    (rw (c.need_of-need.ensures, c.gives_of-gives.ensures, c.get-in-Nots.ensures) at (c.over_last.ensures c.args.facts.now [] (λ (es : List Expr). times x.Not c.in-Nots.count (first_of es))
+    (none-first _ c.args.facts.now c.none.ensures)))
 
 pub expressions::expression_seen-returns-in-Signs : goal.expressions::expression_seen-returns-in-Signs
 expressions::expression_seen-returns-in-Signs t c =
     let here = c.args.here.now in
-    node-over (gives_of x.Negate true) (λ (es : List Expr). times x.Negate c.in-Signs.count (first_of es))
-    (operand_here here (need_of x.Negate true) c.in-Signs.part ∷ []) (meant_here here c.args.tree.now) c.args.facts.now c.operand-seen-in-Signs.new.facts c.operand-seen-in-Signs.result c.kind_over-in-Signs.result
+    meant-so (meant_here here c.args.tree.now) _ c.args.facts.now c.over_last-in-Signs.new.facts c.over_last-in-Signs.result
     (means-signs here.catalog.now (surroundings here) c.args.tree.now c.in-Signs.count c.in-Signs.part c.in-Signs.is)
-    (rw (c.need_of-need-in-Signs.ensures, c.get-in-Signs.ensures, c.none-in-Signs.ensures) at c.operand-seen-in-Signs.ensures)
-    (c.kind_over-in-Signs.ensures ∙ ap (λ (g : Gives). kind_over g c.operand-seen-in-Signs.result) c.gives_of-in-Signs.ensures)
+    (rw (c.need_of-need-in-Signs.ensures, c.gives_of-gives-in-Signs.ensures, c.get-in-Signs.ensures) at (c.over_last-in-Signs.ensures c.args.facts.now [] (λ (es : List Expr). times x.Negate c.in-Signs.count (first_of es))
+    (none-first _ c.args.facts.now c.none.ensures)))
 
 pub expressions::expression_seen-returns-in-Logic : goal.expressions::expression_seen-returns-in-Logic
 expressions::expression_seen-returns-in-Logic t c =
     let here = c.args.here.now in
-    node-over (gives_of c.in-Logic.op false) (Op c.in-Logic.op)
-    (operands_here here (need_of c.in-Logic.op false) c.in-Logic.parts) (meant_here here c.args.tree.now) c.args.facts.now c.operands-seen.new.facts c.operands-seen.result c.kind_over-in-Logic.result
+    meant-so (meant_here here c.args.tree.now) _ c.args.facts.now c.over_rest.new.facts c.over_rest.result
     (means-logic here.catalog.now (surroundings here) c.args.tree.now c.in-Logic.op c.in-Logic.parts c.in-Logic.is)
-    (rw (c.need_of-need-in-Logic.ensures, c.as_slice.ensures, c.none-in-Logic.ensures) at c.operands-seen.ensures)
-    (c.kind_over-in-Logic.ensures ∙ ap (λ (g : Gives). kind_over g c.operands-seen.result) c.gives_of-in-Logic.ensures)
+    (rw (c.need_of-need-in-Logic.ensures, c.gives_of-gives-in-Logic.ensures, c.as_slice.ensures) at (c.over_rest.ensures c.args.facts.now [] (Op c.in-Logic.op)
+    (none-first _ c.args.facts.now c.none.ensures)))
 
 pub expressions::expression_seen-returns-in-Chain : goal.expressions::expression_seen-returns-in-Chain
 expressions::expression_seen-returns-in-Chain t c =
     let here = c.args.here.now in
-    node-over_more (chain_gives (map (step_of here.catalog.now) c.in-Chain.steps)) (chain_made (map (step_of here.catalog.now) c.in-Chain.steps))
-    (operand_here here (first_need (map (step_of here.catalog.now) c.in-Chain.steps)) c.in-Chain.first)
-    (map (step_operand (surroundings here)) (map (step_of here.catalog.now) c.in-Chain.steps)) (meant_here here c.args.tree.now) c.args.facts.now c.operand-seen-in-Chain.new.facts c.operands_of_steps-seen.new.facts c.operand-seen-in-Chain.result c.operands_of_steps-seen.result c.kind_over-in-Chain.result
+    let steps = map (step_of here.catalog.now) c.in-Chain.steps in
+    steps-so here.catalog.now (surroundings here) _ c.in-Chain.steps (operand_here here (first_need steps) c.in-Chain.first) (chain_made steps)
+    (meant_here here c.args.tree.now) c.args.facts.now c.over_steps.new.facts c.over_steps.result c.as_slice-in-Chain-2.ensures
     (means-chain here.catalog.now (surroundings here) c.args.tree.now c.in-Chain.first c.in-Chain.steps c.in-Chain.is)
-    (rw (c.first_need-need.ensures here.catalog.now, c.as_slice-in-Chain.ensures, c.get-in-Chain.ensures, c.none-in-Chain.ensures) at c.operand-seen-in-Chain.ensures)
-    (rw c.as_slice-in-Chain-2.ensures at c.operands_of_steps-seen.ensures)
-    (c.kind_over-in-Chain.ensures ∙ ap (λ (g : Gives). kind_over g c.operands_of_steps-seen.result) (c.chain_gives.ensures here.catalog.now ∙ ap (λ (ss : List ExprStep). chain_gives (map (step_of here.catalog.now) ss)) c.as_slice-in-Chain-3.ensures))
+    (c.over_steps.ensures c.args.facts.now (operand_here here (first_need steps) c.in-Chain.first ∷ []) (chain_made steps)
+    (rw (c.first_need-need.ensures here.catalog.now, c.as_slice-in-Chain.ensures, c.get-in-Chain.ensures, c.none.ensures) at c.operand-seen.ensures))
 
 pub expressions::expression_seen-returns-in-Compared : goal.expressions::expression_seen-returns-in-Compared
 expressions::expression_seen-returns-in-Compared t c =
     let here = c.args.here.now in
-    node-over_more (gives_of (x.Compare c.in-Compared.op) false) (Op (x.Compare c.in-Compared.op))
-    (operand_here here (need_of (x.Compare c.in-Compared.op) false) c.in-Compared.first)
-    (operand_here here (need_of (x.Compare c.in-Compared.op) false) c.in-Compared.second ∷ []) (meant_here here c.args.tree.now) c.args.facts.now c.operand-seen-in-Compared.new.facts c.operand-seen-in-Compared-2.new.facts c.operand-seen-in-Compared.result c.operand-seen-in-Compared-2.result c.kind_over-in-Compared.result
+    meant-so (meant_here here c.args.tree.now) _ c.args.facts.now c.over_last-in-Compared.new.facts c.over_last-in-Compared.result
     (means-compared here.catalog.now (surroundings here) c.args.tree.now c.in-Compared.op c.in-Compared.first c.in-Compared.second c.in-Compared.is)
-    (rw (c.need_of-need-in-Compared.ensures, c.get-in-Compared.ensures, c.none-in-Compared.ensures) at c.operand-seen-in-Compared.ensures)
-    (rw (c.need_of-need-in-Compared.ensures, c.get-in-Compared-2.ensures) at c.operand-seen-in-Compared-2.ensures)
-    (c.kind_over-in-Compared.ensures ∙ ap (λ (g : Gives). kind_over g c.operand-seen-in-Compared-2.result) c.gives_of-in-Compared.ensures)
+    (rw (c.need_of-need-in-Compared.ensures, c.gives_of-gives-in-Compared.ensures, c.get-in-Compared-2.ensures) at (c.over_last-in-Compared.ensures c.args.facts.now (operand_here here (need_of (x.Compare c.in-Compared.op) false) c.in-Compared.first ∷ []) (Op (x.Compare c.in-Compared.op))
+    (rw (c.need_of-need-in-Compared.ensures, c.get-in-Compared.ensures, c.none.ensures) at c.operand-seen-in-Compared.ensures)))
 
 pub expressions::expression_seen-returns-in-Like : goal.expressions::expression_seen-returns-in-Like
 expressions::expression_seen-returns-in-Like t c =
     let here = c.args.here.now in
-    node-over_more (gives_of x.Like false) (λ (es : List Expr). negated_if c.in-Like.negated (Op x.Like es))
-    (operand_here here (need_of x.Like false) c.in-Like.text)
-    (operand_here here (need_of x.Like false) c.in-Like.pattern ∷ []) (meant_here here c.args.tree.now) c.args.facts.now c.operand-seen-in-Like.new.facts c.operand-seen-in-Like-2.new.facts c.operand-seen-in-Like.result c.operand-seen-in-Like-2.result c.kind_over-in-Like.result
+    meant-so (meant_here here c.args.tree.now) _ c.args.facts.now c.over_last-in-Like.new.facts c.over_last-in-Like.result
     (means-like here.catalog.now (surroundings here) c.args.tree.now c.in-Like.negated c.in-Like.text c.in-Like.pattern c.in-Like.is)
-    (rw (c.need_of-need-in-Like.ensures, c.get-in-Like.ensures, c.none-in-Like.ensures) at c.operand-seen-in-Like.ensures)
-    (rw (c.need_of-need-in-Like.ensures, c.get-in-Like-2.ensures) at c.operand-seen-in-Like-2.ensures)
-    (c.kind_over-in-Like.ensures ∙ ap (λ (g : Gives). kind_over g c.operand-seen-in-Like-2.result) c.gives_of-in-Like.ensures)
+    (rw (c.need_of-need-in-Like.ensures, c.gives_of-gives-in-Like.ensures, c.get-in-Like-2.ensures) at (c.over_last-in-Like.ensures c.args.facts.now (operand_here here (need_of x.Like false) c.in-Like.text ∷ []) (λ (es : List Expr). negated_if c.in-Like.negated (Op x.Like es))
+    (rw (c.need_of-need-in-Like.ensures, c.get-in-Like.ensures, c.none.ensures) at c.operand-seen-in-Like.ensures)))
 
 pub expressions::expression_seen-returns-in-Between : goal.expressions::expression_seen-returns-in-Between
 expressions::expression_seen-returns-in-Between t c =
     let here = c.args.here.now in
-    node-over_more (gives_of x.Between false) (λ (es : List Expr). negated_if c.in-Between.negated (Op x.Between es))
-    (operand_here here (need_of x.Between false) c.in-Between.part)
-    (operand_here here (need_of x.Between false) c.in-Between.low ∷ operand_here here (need_of x.Between false) c.in-Between.high ∷ []) (meant_here here c.args.tree.now) c.args.facts.now c.operand-seen-in-Between.new.facts c.operand-seen-in-Between-3.new.facts c.operand-seen-in-Between.result c.operand-seen-in-Between-3.result c.kind_over-in-Between.result
+    meant-so (meant_here here c.args.tree.now) _ c.args.facts.now c.over_last-in-Between.new.facts c.over_last-in-Between.result
     (means-between here.catalog.now (surroundings here) c.args.tree.now c.in-Between.negated c.in-Between.part c.in-Between.low c.in-Between.high c.in-Between.is)
-    (rw (c.need_of-need-in-Between.ensures, c.get-in-Between.ensures, c.none-in-Between.ensures) at c.operand-seen-in-Between.ensures)
-    (behind-both (operand_here here (need_of x.Between false) c.in-Between.low ∷ []) (operand_here here (need_of x.Between false) c.in-Between.high ∷ []) c.operand-seen-in-Between.result c.operand-seen-in-Between-2.result c.operand-seen-in-Between-3.result c.operand-seen-in-Between.new.facts c.operand-seen-in-Between-2.new.facts c.operand-seen-in-Between-3.new.facts (rw (c.need_of-need-in-Between.ensures, c.get-in-Between-2.ensures) at c.operand-seen-in-Between-2.ensures) (rw (c.need_of-need-in-Between.ensures, c.get-in-Between-3.ensures) at c.operand-seen-in-Between-3.ensures))
-    (c.kind_over-in-Between.ensures ∙ ap (λ (g : Gives). kind_over g c.operand-seen-in-Between-3.result) c.gives_of-in-Between.ensures)
+    (rw (c.need_of-need-in-Between.ensures, c.gives_of-gives-in-Between.ensures, c.get-in-Between-3.ensures) at (c.over_last-in-Between.ensures c.args.facts.now (operand_here here (need_of x.Between false) c.in-Between.part ∷ operand_here here (need_of x.Between false) c.in-Between.low ∷ []) (λ (es : List Expr). negated_if c.in-Between.negated (Op x.Between es))
+    (behind-both (operand_here here (need_of x.Between false) c.in-Between.part ∷ []) (operand_here here (need_of x.Between false) c.in-Between.low ∷ []) (Ok no_operand)
+    c.operand-seen-in-Between.result c.operand-seen-in-Between-2.result c.args.facts.now c.operand-seen-in-Between.new.facts c.operand-seen-in-Between-2.new.facts
+    (rw (c.need_of-need-in-Between.ensures, c.get-in-Between.ensures, c.none.ensures) at c.operand-seen-in-Between.ensures)
+    (rw (c.need_of-need-in-Between.ensures, c.get-in-Between-2.ensures) at c.operand-seen-in-Between-2.ensures))))
 
 pub expressions::expression_seen-returns-in-InList : goal.expressions::expression_seen-returns-in-InList
 expressions::expression_seen-returns-in-InList t c =
     let here = c.args.here.now in
-    node-over_more (gives_of x.InList false) (λ (es : List Expr). negated_if c.in-InList.negated (Op x.InList es))
-    (operand_here here (need_of x.InList false) c.in-InList.part)
-    (operands_here here (need_of x.InList false) c.in-InList.list) (meant_here here c.args.tree.now) c.args.facts.now c.operand-seen-in-InList.new.facts c.operands-seen-in-InList.new.facts c.operand-seen-in-InList.result c.operands-seen-in-InList.result c.kind_over-in-InList.result
+    rest-so _ (gives_of x.InList false) _ (need_of x.InList false) _ c.in-InList.list here (operand_here here (need_of x.InList false) c.in-InList.part)
+    (λ (es : List Expr). negated_if c.in-InList.negated (Op x.InList es)) (meant_here here c.args.tree.now) c.args.facts.now c.over_rest-in-InList.new.facts c.over_rest-in-InList.result
+    c.gives_of-gives-in-InList.ensures c.need_of-need-in-InList.ensures c.as_slice-in-InList.ensures
     (means-inlist here.catalog.now (surroundings here) c.args.tree.now c.in-InList.negated c.in-InList.part c.in-InList.list c.in-InList.is)
-    (rw (c.need_of-need-in-InList.ensures, c.get-in-InList.ensures, c.none-in-InList.ensures) at c.operand-seen-in-InList.ensures)
-    (rw (c.need_of-need-in-InList.ensures, c.as_slice-in-InList.ensures) at c.operands-seen-in-InList.ensures)
-    (c.kind_over-in-InList.ensures ∙ ap (λ (g : Gives). kind_over g c.operands-seen-in-InList.result) c.gives_of-in-InList.ensures)
+    (c.over_rest-in-InList.ensures c.args.facts.now (operand_here here (need_of x.InList false) c.in-InList.part ∷ []) (λ (es : List Expr). negated_if c.in-InList.negated (Op x.InList es))
+    (rw (c.need_of-need-in-InList.ensures, c.get-in-InList.ensures, c.none.ensures) at c.operand-seen-in-InList.ensures))
 
 pub expressions::expression_seen-returns-in-IsNull : goal.expressions::expression_seen-returns-in-IsNull
 expressions::expression_seen-returns-in-IsNull t c =
     let here = c.args.here.now in
-    node-over (always kind.Boolean) (λ (es : List Expr). negated_if c.in-IsNull.negated (IsNull (first_of es)))
-    (operand_here here free c.in-IsNull.part ∷ []) (meant_here here c.args.tree.now) c.args.facts.now c.operand-seen-in-IsNull.new.facts c.operand-seen-in-IsNull.result c.kind_over-in-IsNull.result
+    meant-so (meant_here here c.args.tree.now) _ c.args.facts.now c.over_last-in-IsNull.new.facts c.over_last-in-IsNull.result
     (means-isnull here.catalog.now (surroundings here) c.args.tree.now c.in-IsNull.negated c.in-IsNull.part c.in-IsNull.is)
-    (rw (c.get-in-IsNull.ensures, c.none-in-IsNull.ensures) at c.operand-seen-in-IsNull.ensures)
-    c.kind_over-in-IsNull.ensures
+    (rw c.get-in-IsNull.ensures at (c.over_last-in-IsNull.ensures c.args.facts.now [] (λ (es : List Expr). negated_if c.in-IsNull.negated (IsNull (first_of es)))
+    (none-first _ c.args.facts.now c.none.ensures)))
 
 pub expressions::expression_seen-returns-in-IsTruth : goal.expressions::expression_seen-returns-in-IsTruth
 expressions::expression_seen-returns-in-IsTruth t c =
     let here = c.args.here.now in
-    node-over (always kind.Boolean) (λ (es : List Expr). negated_if c.in-IsTruth.negated (IsTruth c.in-IsTruth.truth (first_of es)))
-    (operand_here here (of_kind kind.Boolean) c.in-IsTruth.part ∷ []) (meant_here here c.args.tree.now) c.args.facts.now c.operand-seen-in-IsTruth.new.facts c.operand-seen-in-IsTruth.result c.kind_over-in-IsTruth.result
+    meant-so (meant_here here c.args.tree.now) _ c.args.facts.now c.over_last-in-IsTruth.new.facts c.over_last-in-IsTruth.result
     (means-istruth here.catalog.now (surroundings here) c.args.tree.now c.in-IsTruth.negated c.in-IsTruth.truth c.in-IsTruth.part c.in-IsTruth.is)
-    (rw (c.get-in-IsTruth.ensures, c.none-in-IsTruth.ensures) at c.operand-seen-in-IsTruth.ensures)
-    c.kind_over-in-IsTruth.ensures
+    (rw c.get-in-IsTruth.ensures at (c.over_last-in-IsTruth.ensures c.args.facts.now [] (λ (es : List Expr). negated_if c.in-IsTruth.negated (IsTruth c.in-IsTruth.truth (first_of es)))
+    (none-first _ c.args.facts.now c.none.ensures)))
 
 pub expressions::expression_seen-returns-in-IsDistinct : goal.expressions::expression_seen-returns-in-IsDistinct
 expressions::expression_seen-returns-in-IsDistinct t c =
     let here = c.args.here.now in
-    node-over_more (always kind.Boolean) (λ (es : List Expr). negated_if (not c.in-IsDistinct.negated) (Same (first_of es) (second_of es)))
-    (operand_here here alike c.in-IsDistinct.first)
-    (operand_here here alike c.in-IsDistinct.second ∷ []) (meant_here here c.args.tree.now) c.args.facts.now c.operand-seen-in-IsDistinct.new.facts c.operand-seen-in-IsDistinct-2.new.facts c.operand-seen-in-IsDistinct.result c.operand-seen-in-IsDistinct-2.result c.kind_over-in-IsDistinct.result
+    meant-so (meant_here here c.args.tree.now) _ c.args.facts.now c.over_last-in-IsDistinct.new.facts c.over_last-in-IsDistinct.result
     (means-isdistinct here.catalog.now (surroundings here) c.args.tree.now c.in-IsDistinct.negated c.in-IsDistinct.first c.in-IsDistinct.second c.in-IsDistinct.is)
-    (rw (c.get-in-IsDistinct.ensures, c.none-in-IsDistinct.ensures) at c.operand-seen-in-IsDistinct.ensures)
-    (rw c.get-in-IsDistinct-2.ensures at c.operand-seen-in-IsDistinct-2.ensures)
-    c.kind_over-in-IsDistinct.ensures
+    (rw c.get-in-IsDistinct-2.ensures at (c.over_last-in-IsDistinct.ensures c.args.facts.now (operand_here here alike c.in-IsDistinct.first ∷ []) (λ (es : List Expr). negated_if (not c.in-IsDistinct.negated) (Same (first_of es) (second_of es)))
+    (rw (c.get-in-IsDistinct.ensures, c.none.ensures) at c.operand-seen-in-IsDistinct.ensures)))
 
 pub expressions::expression_seen-returns-in-Coalesce : goal.expressions::expression_seen-returns-in-Coalesce
 expressions::expression_seen-returns-in-Coalesce t c =
     let here = c.args.here.now in
-    node-over common (Op x.Coalesce)
-    (operands_here here alike c.in-Coalesce.list) (meant_here here c.args.tree.now) c.args.facts.now c.operands-seen-in-Coalesce.new.facts c.operands-seen-in-Coalesce.result c.kind_over-in-Coalesce.result
+    meant-so (meant_here here c.args.tree.now) _ c.args.facts.now c.over_rest-in-Coalesce.new.facts c.over_rest-in-Coalesce.result
     (means-coalesce here.catalog.now (surroundings here) c.args.tree.now c.in-Coalesce.list c.in-Coalesce.is)
-    (rw (c.as_slice-in-Coalesce.ensures, c.none-in-Coalesce.ensures) at c.operands-seen-in-Coalesce.ensures)
-    c.kind_over-in-Coalesce.ensures
+    (rw c.as_slice-in-Coalesce.ensures at (c.over_rest-in-Coalesce.ensures c.args.facts.now [] (Op x.Coalesce)
+    (none-first _ c.args.facts.now c.none.ensures)))
 
 pub expressions::expression_seen-returns-in-NullIf : goal.expressions::expression_seen-returns-in-NullIf
 expressions::expression_seen-returns-in-NullIf t c =
     let here = c.args.here.now in
-    node-over_more common (Op x.NullIf)
-    (operand_here here alike c.in-NullIf.first)
-    (operand_here here alike c.in-NullIf.second ∷ []) (meant_here here c.args.tree.now) c.args.facts.now c.operand-seen-in-NullIf.new.facts c.operand-seen-in-NullIf-2.new.facts c.operand-seen-in-NullIf.result c.operand-seen-in-NullIf-2.result c.kind_over-in-NullIf.result
+    meant-so (meant_here here c.args.tree.now) _ c.args.facts.now c.over_last-in-NullIf.new.facts c.over_last-in-NullIf.result
     (means-nullif here.catalog.now (surroundings here) c.args.tree.now c.in-NullIf.first c.in-NullIf.second c.in-NullIf.is)
-    (rw (c.get-in-NullIf.ensures, c.none-in-NullIf.ensures) at c.operand-seen-in-NullIf.ensures)
-    (rw c.get-in-NullIf-2.ensures at c.operand-seen-in-NullIf-2.ensures)
-    c.kind_over-in-NullIf.ensures
+    (rw c.get-in-NullIf-2.ensures at (c.over_last-in-NullIf.ensures c.args.facts.now (operand_here here alike c.in-NullIf.first ∷ []) (Op x.NullIf)
+    (rw (c.get-in-NullIf.ensures, c.none.ensures) at c.operand-seen-in-NullIf.ensures)))
 
-pub expressions::expression_seen-returns-in-None : goal.expressions::expression_seen-returns-in-None
-expressions::expression_seen-returns-in-None t c =
+pub expressions::expression_seen-returns-in-Case : goal.expressions::expression_seen-returns-in-Case
+expressions::expression_seen-returns-in-Case t c =
     let here = c.args.here.now in
-    node-over common (case_made (map (arm_of here.catalog.now) c.in-Case.arms))
-    (flat_map (arm_operands (surroundings here)) (map (arm_of here.catalog.now) c.in-Case.arms) ++ else_operand (surroundings here) None ∷ [])
-    (meant_here here c.args.tree.now) c.args.facts.now c.operands_of_arms-seen.new.facts c.operands_of_arms-seen.result c.kind_over-in-None.result
-    (means-case-none here.catalog.now (surroundings here) c.args.tree.now c.in-Case.arms (c.in-Case.is ∙ ap (λ o. e.Case c.in-Case.arms o) c.in-None.is))
-    (behind-both (flat_map (arm_operands (surroundings here)) (map (arm_of here.catalog.now) c.in-Case.arms)) (else_operand (surroundings here) None ∷ []) (Ok no_operand) c.operands_of_arms-seen.result c.operands_of_arms-seen.result c.args.facts.now c.operands_of_arms-seen.new.facts c.operands_of_arms-seen.new.facts
-    (rw (c.as_slice-in-Case.ensures, c.none-in-Case.ensures) at c.operands_of_arms-seen.ensures) (without-else (surroundings here) c.operands_of_arms-seen.result c.operands_of_arms-seen.new.facts))
-    c.kind_over-in-None.ensures
+    let arms = map (arm_of here.catalog.now) c.in-Case.arms in
+    meant-so (meant_here here c.args.tree.now) _ c.args.facts.now c.over_else.new.facts c.over_else.result
+    (case-means here.catalog.now (surroundings here) c.args.tree.now c.in-Case.arms c.in-Case.otherwise c.in-Case.is)
+    (c.over_else.ensures c.args.facts.now (flat_map (arm_operands (surroundings here)) arms) (case_made arms)
+    (rw (c.as_slice-in-Case.ensures, c.none.ensures) at c.operands_of_arms-seen.ensures))
 
-pub expressions::expression_seen-returns-in-Some : goal.expressions::expression_seen-returns-in-Some
-expressions::expression_seen-returns-in-Some t c =
+pub expressions::over_last-returns : goal.expressions::over_last-returns
+expressions::over_last-returns t c = λ before first assembled answered.
+    node-behind c.args.gives assembled first (operand_here c.args.here.now c.args.need c.args.tree.now ∷ []) before c.args.facts.now c.operand-seen.new.facts c.args.so_far c.operand-seen.result c.kind_over.result
+    answered c.operand-seen.ensures c.kind_over.ensures
+
+pub expressions::over_rest-returns : goal.expressions::over_rest-returns
+expressions::over_rest-returns t c = λ before first assembled answered.
+    node-behind c.args.gives assembled first (operands_here c.args.here.now c.args.need c.args.trees.now) before c.args.facts.now c.operands-seen.new.facts c.args.so_far c.operands-seen.result c.kind_over.result
+    answered c.operands-seen.ensures c.kind_over.ensures
+
+pub expressions::over_steps-returns : goal.expressions::over_steps-returns
+expressions::over_steps-returns t c = λ before first assembled answered.
+    let catalog = c.args.here.now.catalog.now in
+    let steps = map (step_of catalog) c.args.steps.now in
+    node-behind (chain_gives steps) assembled first (map (step_operand (surroundings c.args.here.now)) steps) before c.args.facts.now c.operands_of_steps-seen.new.facts c.args.so_far c.operands_of_steps-seen.result c.kind_over.result
+    answered c.operands_of_steps-seen.ensures (c.kind_over.ensures ∙ ap (λ (g : Gives). kind_over g c.operands_of_steps-seen.result) (c.chain_gives.ensures catalog))
+
+pub expressions::over_else-returns-in-None : goal.expressions::over_else-returns-in-None
+expressions::over_else-returns-in-None t c = λ before first assembled answered.
     let here = c.args.here.now in
-    node-over common (case_made (map (arm_of here.catalog.now) c.in-Case.arms))
-    (flat_map (arm_operands (surroundings here)) (map (arm_of here.catalog.now) c.in-Case.arms) ++ operand_here here alike c.in-Some.tree ∷ [])
-    (meant_here here c.args.tree.now) c.args.facts.now c.operand-seen-in-Some.new.facts c.operand-seen-in-Some.result c.kind_over-in-Some.result
-    (means-case-some here.catalog.now (surroundings here) c.args.tree.now c.in-Case.arms c.in-Some.tree (c.in-Case.is ∙ ap (λ o. e.Case c.in-Case.arms o) c.in-Some.is))
-    (behind-both (flat_map (arm_operands (surroundings here)) (map (arm_of here.catalog.now) c.in-Case.arms)) (operand_here here alike c.in-Some.tree ∷ []) (Ok no_operand) c.operands_of_arms-seen.result c.operand-seen-in-Some.result c.args.facts.now c.operands_of_arms-seen.new.facts c.operand-seen-in-Some.new.facts
-    (rw (c.as_slice-in-Case.ensures, c.none-in-Case.ensures) at c.operands_of_arms-seen.ensures) (rw c.get-in-Some.ensures at c.operand-seen-in-Some.ensures))
-    c.kind_over-in-Some.ensures
+    subst (λ (o : Option ExprTree). ExpressionSeen (node common assembled (first ++ else_operand (surroundings here) (optional_part here.catalog.now o) ∷ [])) before c.args.facts.now c.kind_over.result) (sym c.in-None.is)
+    (node-behind common assembled first (else_operand (surroundings here) None ∷ []) before c.args.facts.now c.args.facts.now c.args.so_far c.args.so_far c.kind_over.result
+    answered (without-else (surroundings here) c.args.so_far c.args.facts.now) c.kind_over.ensures)
+
+pub expressions::over_else-returns-in-Some : goal.expressions::over_else-returns-in-Some
+expressions::over_else-returns-in-Some t c = λ before first assembled answered.
+    let here = c.args.here.now in
+    subst (λ (o : Option ExprTree). ExpressionSeen (node common assembled (first ++ else_operand (surroundings here) (optional_part here.catalog.now o) ∷ [])) before c.over_last.new.facts c.over_last.result) (sym c.in-Some.is)
+    (rw c.get.ensures at (c.over_last.ensures before first assembled answered))
+
+pub expressions::aggregate_seen-returns-in-None : goal.expressions::aggregate_seen-returns-in-None
+expressions::aggregate_seen-returns-in-None t c =
+    let here = surroundings c.args.here.now in
+    subst (λ (o : Option ExprTree). Tells (seen (aggregate_meant here c.args.at c.args.function (optional_part c.args.here.now.catalog.now o))) c.answered.result) (sym c.in-None.is)
+    (told-by _ c.count_kind.result c.answered.result (c.count_kind.ensures here refl) c.answered.ensures)
+
+pub expressions::aggregate_seen-returns-in-Some : goal.expressions::aggregate_seen-returns-in-Some
+expressions::aggregate_seen-returns-in-Some t c =
+    let here = surroundings c.args.here.now in
+    let catalog = c.args.here.now.catalog.now in
+    let part = part_of catalog c.in-Some.argument in
+    subst (λ (o : Option ExprTree). Tells (seen (aggregate_meant here c.args.at c.args.function (optional_part catalog o))) c.aggregated.result) (sym c.in-Some.is)
+    (argument-told here c.args.at c.args.function part c.get-in-Some.result.now.at c.aggregated.result
+    (ap (λ (tree : ExprTree). tree.at) c.get-in-Some.ensures ∙ sym (part-at catalog c.in-Some.argument))
+    (c.aggregated.ensures (means_at part (in_argument here))
+    (rw (c.ungrouped-scopes.ensures, c.in_argument.ensures (scopes_of c.args.here.now.scopes.now), c.get.ensures) at c.kind_of-kind.ensures)))
 
 pub expressions::operand-returns-in-Ok : goal.expressions::operand-returns-in-Ok
 expressions::operand-returns-in-Ok t c =
@@ -316,11 +329,6 @@ expressions::kind_of-returns t c = told-so (means_at (part_of c.args.here.now.ca
 pub expressions::tested_kind-returns : goal.expressions::tested_kind-returns
 expressions::tested_kind-returns t c = rw (c.in_tested.ensures (scopes_of c.args.here.now.scopes.now)) at c.kind_of.ensures
 
-pub expressions::argument_kind-returns : goal.expressions::argument_kind-returns
-expressions::argument_kind-returns t c =
-    let here = c.args.here.now in
-    rw (c.ungrouped-scopes.ensures, c.in_argument.ensures (scopes_of here.scopes.now)) at c.kind_of.ensures
-
 pub expressions::expression_seen-returns-in-Exists : goal.expressions::expression_seen-returns-in-Exists
 expressions::expression_seen-returns-in-Exists t c =
     let here = c.args.here.now in
@@ -358,32 +366,28 @@ expressions::expression_seen-returns-in-Quantified t c =
     c.args.facts.now c.inner_seen-inner-in-Quantified.new.facts c.tested_kind-tested-in-Quantified.result c.inner_seen-inner-in-Quantified.result
     (rw c.get-in-Quantified.ensures at c.tested_kind-tested-in-Quantified.ensures) (rw c.get-in-Quantified-2.ensures at c.inner_seen-inner-in-Quantified.ensures)))
 
-pub expressions::inner_looked-returns-in-Ok : goal.expressions::inner_looked-returns-in-Ok
-expressions::inner_looked-returns-in-Ok t c = c.add_inner.ensures _ (rw c.trace_below.ensures at c.in-Ok.ensures)
-
-pub expressions::inner_looked-returns-in-Err : goal.expressions::inner_looked-returns-in-Err
-expressions::inner_looked-returns-in-Err t c =
+pub expressions::inner_seen-returns-in-Ok : goal.expressions::inner_seen-returns-in-Ok
+expressions::inner_seen-returns-in-Ok t c =
     let here = c.args.here.now in
-    subst (λ (trace : Trace). InnerSeen (query_means_at (query_of here.catalog.now c.args.query.now) (record { outer = scopes_of here.scopes.now; trace = trace; provable = false })) c.args.facts.now c.args.facts.now (Err c.in-Err.refusal))
-    c.trace_below.ensures (inner-refused (query_means_at (query_of here.catalog.now c.args.query.now) (record { outer = scopes_of here.scopes.now; trace = c.trace_below.result; provable = false })) c.args.facts.now c.args.facts.now c.in-Err.refusal c.in-Err.ensures)
+    let query = query_means_at (query_of here.catalog.now c.args.query.now) (inner_around (surroundings here)) in
+    looked_so here.standing.sublinks query c.args.at c.args.facts.now c.add_inner.new.facts c.add_inner.result c.if-not-here.false
+    (c.add_inner.ensures query (rw c.trace_below.ensures at c.in-Ok.ensures))
 
-pub expressions::expression_seen-returns-in-None-argument : goal.expressions::expression_seen-returns-in-None-argument
-expressions::expression_seen-returns-in-None-argument t c =
-    let here = surroundings c.args.here.now in
-    meant-so (means_at (part_of c.args.here.now.catalog.now c.args.tree.now) here) _ c.args.facts.now c.args.facts.now c.answered.result
-    (means-aggregate-none c.args.here.now.catalog.now here c.args.tree.now c.in-Aggregate.function (c.in-Aggregate.is ∙ ap (λ o. e.Aggregate c.in-Aggregate.function o) c.in-None-argument.is))
-    (rows-seen here c.args.tree.now.at c.in-Aggregate.function c.args.facts.now c.answered.result
-    (told-by _ c.count_kind.result c.answered.result (c.count_kind.ensures here refl) c.answered.ensures))
+pub expressions::inner_seen-returns-in-Err : goal.expressions::inner_seen-returns-in-Err
+expressions::inner_seen-returns-in-Err t c =
+    let here = c.args.here.now in
+    let query = query_of here.catalog.now c.args.query.now in
+    looked_so here.standing.sublinks (query_means_at query (inner_around (surroundings here))) c.args.at c.args.facts.now c.args.facts.now (Err c.in-Err.refusal) c.if-not-here.false
+    (subst (λ (trace : Trace). InnerSeen (query_means_at query (record { outer = scopes_of here.scopes.now; trace = trace; provable = false })) c.args.facts.now c.args.facts.now (Err c.in-Err.refusal))
+    c.trace_below.ensures (inner-refused (query_means_at query (record { outer = scopes_of here.scopes.now; trace = c.trace_below.result; provable = false })) c.args.facts.now c.args.facts.now c.in-Err.refusal c.in-Err.ensures))
 
-pub expressions::expression_seen-returns-in-Some-argument : goal.expressions::expression_seen-returns-in-Some-argument
-expressions::expression_seen-returns-in-Some-argument t c =
-    let here = surroundings c.args.here.now in
-    let part = part_of c.args.here.now.catalog.now c.in-Some-argument.argument in
-    meant-so (means_at (part_of c.args.here.now.catalog.now c.args.tree.now) here) _ c.args.facts.now c.args.facts.now c.aggregated.result
-    (means-aggregate-some c.args.here.now.catalog.now here c.args.tree.now c.in-Aggregate.function c.in-Some-argument.argument (c.in-Aggregate.is ∙ ap (λ o. e.Aggregate c.in-Aggregate.function o) c.in-Some-argument.is))
-    (aggregate-seen here c.args.tree.now.at c.in-Aggregate.function part c.get-in-Some-argument-2.result.now.at c.args.facts.now c.aggregated.result
-    (ap (λ (tree : ExprTree). tree.at) c.get-in-Some-argument-2.ensures ∙ sym (part-at c.args.here.now.catalog.now c.in-Some-argument.argument))
-    (c.aggregated.ensures (means_at part (in_argument here)) (rw c.get-in-Some-argument.ensures at c.argument_kind-kind.ensures)))
+pub expressions::expression_seen-returns-in-Aggregate : goal.expressions::expression_seen-returns-in-Aggregate
+expressions::expression_seen-returns-in-Aggregate t c =
+    let here = c.args.here.now in
+    meant-so (meant_here here c.args.tree.now) _ c.args.facts.now c.args.facts.now c.aggregate_seen.result
+    (aggregate-means here.catalog.now (surroundings here) c.args.tree.now c.in-Aggregate.function c.in-Aggregate.argument c.in-Aggregate.is)
+    (aggregate-alone (surroundings here) c.args.tree.now.at c.in-Aggregate.function (optional_part here.catalog.now c.in-Aggregate.argument) c.args.facts.now c.aggregate_seen.result
+    c.aggregate_seen.ensures)
 
 -- ---- cores
 
@@ -487,12 +491,6 @@ sets::set_seen-returns-in-Core t c =
     subst (λ (body : BodyPart). ColumnsSeen (body.means (around_of around)) c.args.facts.now c.core_seen.new.facts c.core_seen.result)
     (sym (set-is around.catalog.now c.args.tree.now c.in-Core.core c.in-Core.is)) (rw c.get.ensures at c.core_seen.ensures)
 
-pub sets::set_seen-returns-in-Paren : goal.sets::set_seen-returns-in-Paren
-sets::set_seen-returns-in-Paren t c =
-    let around = c.args.around.now in
-    subst (λ (m : QueryMeant). ColumnsSeen m c.args.facts.now c.paren_seen.new.facts c.paren_seen.result)
-    (sym (paren-means around.catalog.now c.args.tree.now c.in-Paren.query (around_of around) c.in-Paren.is)) (rw c.get-in-Paren.ensures at c.paren_seen.ensures)
-
 pub sets::set_seen-returns-in-Chain : goal.sets::set_seen-returns-in-Chain
 sets::set_seen-returns-in-Chain t c =
     let around = c.args.around.now in
@@ -501,19 +499,24 @@ sets::set_seen-returns-in-Chain t c =
     (rw c.as_slice.ensures at (c.operands_seen.ensures ((set_of_tree around.catalog.now c.in-Chain.first).means (around_of around)) c.args.facts.now
     (rw c.get-in-Chain.ensures at c.set_seen-first.ensures)))
 
-pub sets::paren_seen-returns-in-Ok : goal.sets::paren_seen-returns-in-Ok
-sets::paren_seen-returns-in-Ok t c =
-    c.add_shown.ensures (query_means_at (query_of c.args.around.now.catalog.now c.args.query.now) (unprovable (around_of c.args.around.now)))
-    (rw (c.unprovable.ensures.place, c.unprovable.ensures.catalog) at c.in-Ok.ensures)
+pub sets::set_seen-returns-in-Ok : goal.sets::set_seen-returns-in-Ok
+sets::set_seen-returns-in-Ok t c =
+    let around = c.args.around.now in
+    subst (λ (m : QueryMeant). ColumnsSeen m c.args.facts.now c.add_shown.new.facts c.add_shown.result)
+    (sym (paren-means around.catalog.now c.args.tree.now c.in-Paren.query (around_of around) c.in-Paren.is))
+    (c.add_shown.ensures (query_means_at (query_of around.catalog.now c.in-Paren.query) (unprovable (around_of around)))
+    (rw (c.unprovable.ensures.place, c.unprovable.ensures.catalog, c.get-in-Paren.ensures) at c.in-Ok.ensures))
 
-pub sets::paren_seen-returns-in-Err : goal.sets::paren_seen-returns-in-Err
-sets::paren_seen-returns-in-Err t c =
-    let catalog = c.args.around.now.catalog.now in
-    let query = c.args.query.now in
-    let place = unprovable (around_of c.args.around.now) in
-    paren-refused (query_means_at (query_of catalog query) place) c.args.facts.now c.args.facts.now c.in-Err.refusal
-    (subst (λ (around : Around). QuerySeen (query_means_at (query_of catalog query) around) (Err c.in-Err.refusal)) c.unprovable.ensures.place
-    (subst (λ (held : Contents). QuerySeen (query_means_at (query_of held query) (around_of c.unprovable.result)) (Err c.in-Err.refusal)) c.unprovable.ensures.catalog c.in-Err.ensures))
+pub sets::set_seen-returns-in-Err : goal.sets::set_seen-returns-in-Err
+sets::set_seen-returns-in-Err t c =
+    let around = c.args.around.now in
+    let place = unprovable (around_of around) in
+    subst (λ (m : QueryMeant). ColumnsSeen m c.args.facts.now c.args.facts.now (Err c.in-Err.refusal))
+    (sym (paren-means around.catalog.now c.args.tree.now c.in-Paren.query (around_of around) c.in-Paren.is))
+    (paren-refused (query_means_at (query_of around.catalog.now c.in-Paren.query) place) c.args.facts.now c.args.facts.now c.in-Err.refusal
+    (subst (λ (query : QueryTree). QuerySeen (query_means_at (query_of around.catalog.now query) place) (Err c.in-Err.refusal)) c.get-in-Paren.ensures
+    (subst (λ (place : Around). QuerySeen (query_means_at (query_of around.catalog.now c.get-in-Paren.result.now) place) (Err c.in-Err.refusal)) c.unprovable.ensures.place
+    (subst (λ (held : Contents). QuerySeen (query_means_at (query_of held c.get-in-Paren.result.now) (around_of c.unprovable.result)) (Err c.in-Err.refusal)) c.unprovable.ensures.catalog c.in-Err.ensures))))
 
 pub sets::operands_seen-loop-step-init : goal.sets::operands_seen-loop-step-init
 sets::operands_seen-loop-step-init t c = λ left before first. first

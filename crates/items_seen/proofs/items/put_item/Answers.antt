@@ -4,7 +4,7 @@ use Rattle.name_words.specs.Froms.{is_out_of_scope, item_meant, label_of, marked
 use Rattle.name_words.specs.Meanings.{broken_if}
 use Rattle.name_words.specs.Trees.{source_of}
 use Rattle.clauses_seen.proofs.Firsts.{none-broken}
-use Rattle.items_seen.specs.Readings.{item_scope, scope_beside}
+use Rattle.from_columns.specs.Scopes.{item_scope, scope_beside}
 use Rattle.items_seen.proofs.Placed.{early-none, item-scoped, item-whole, refused, scope-told}
 use Rattle.items_seen.proofs.items.put_item.Goals as goal
 

@@ -7,9 +7,10 @@ use Rattle.name_words.specs.Froms.{names_of, settled_columns, table_columns}
 use Rattle.clauses_seen.specs.Columns.{columns_of}
 use Rattle.clauses_seen.specs.declared.column.ShownColumn.{ShownColumn}
 use Rattle.query_facts.specs.Added.{facts_in}
-use Rattle.items_seen.specs.Readings.{external_facts, known_names}
+use Rattle.from_columns.specs.Columns.{known_names}
+use Rattle.items_seen.specs.Readings.{external_facts}
 use Rattle.items_seen.proofs.Plain.{shown-plain}
-use Rattle.items_seen.proofs.Settled.{kinds-settled}
+use Rattle.from_columns.proofs.Settled.{kinds-settled}
 use Rattle.items_seen.proofs.reading.read_shown.Goals as goal
 
 pub returns : goal.returns

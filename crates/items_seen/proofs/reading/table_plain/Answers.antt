@@ -1,5 +1,5 @@
 use Rattle.std.proofs.Common.{ap, ◌∙◌}
-use Rattle.items_seen.specs.Readings.{known_names}
+use Rattle.from_columns.specs.Columns.{known_names}
 use Rattle.items_seen.proofs.Plain.{facts-so, table-source, table-whole}
 use Rattle.items_seen.proofs.reading.table_plain.Goals as goal
 

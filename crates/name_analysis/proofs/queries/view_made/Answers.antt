@@ -1,57 +1,66 @@
-use Rattle.std.specs.Prelude.{◌≡◌, [], Ok, Err}
-use Rattle.std.proofs.Common.{refl, sym}
+use Rattle.std.proofs.Common.{refl, sym, subst, ◌∙◌}
 use Rattle.clauses_seen.proofs.Firsts.{none-broken}
 use Rattle.name_seen.specs.Standing.{around_of}
-use Rattle.name_seen.specs.declared.refusal.Refusal.TheVariants.{Break as Broken}
 use Rattle.name_words.specs.Froms.{names_of}
-use Rattle.name_words.specs.Meanings.{broken_if}
+use Rattle.name_words.specs.Meanings.{broken_if, query_means_at}
 use Rattle.name_words.specs.Statements as words
+use Rattle.name_words.specs.Trees.{query_of}
+use Rattle.name_words.specs.declared.answer.Resolved.TheVariants as r
+use Rattle.query_facts.specs.Queried.{QueryWhole}
 use Rattle.sql_tree.specs.declared.statement.StatementBody.TheVariants as st
-use Rattle.name_analysis.specs.Resolves.{ResolvesBody}
-use Rattle.name_analysis.proofs.Queried.{view-limited, view-made, view-repeats, view-seen}
-use Rattle.name_analysis.proofs.Refused.{is-whole, limits-refused, query-refused, query-whole, repeats-told, same-refused}
+use Rattle.statement_parts.specs.Resolves.{ResolvesBy}
+use Rattle.statement_parts.proofs.Queried.{view-limited, view-made, view-repeats, view-seen}
+use Rattle.statement_parts.proofs.Refused.{by-limit, is-whole, limits-refused, query-refused, query-whole, repeats-told, same-refused}
 use Rattle.name_analysis.proofs.queries.view_made.Goals as goal
 
+pub whole_of-requires-clause-seen : goal.whole_of-requires-clause-seen
+whole_of-requires-clause-seen c =
+    subst (QueryWhole (query_means_at (query_of c.around_alone-around.result.catalog.now c.args.query.now) (around_of c.around_alone-around.result)))
+    (sym c.in_ok-named.ensures.kept.0) c.in_ok-shown.ensures
+
 pub returns-in_err-shown : goal.returns-in_err-shown
-returns-in_err-shown c =
+returns-in_err-shown c = λ view free.
     let held = c.args.catalog.now in
     let tree = c.args.query.now in
     let place = c.around_alone-around in
-    same-refused (ResolvesBody held (st.CreateView c.args.view tree)) c.from_residual.result c.in_err-shown.field-0.0 c.from_residual.ensures.1
-    (view-seen held tree c.args.view c.in_err-shown.field-0.0 c.requires.free
+    same-refused (ResolvesBy held (st.CreateView view tree) (r.CreateView view.text)) c.from_residual.result c.in_err-shown.field-0.0 c.from_residual.ensures.1
+    (view-seen held tree view c.in_err-shown.field-0.0 free
     (query-refused held place.result.catalog.now tree (around_of place.result) (place.ensures.place refl) place.ensures.catalog c.in_err-shown.field-0.0 c.in_err-shown.ensures))
 
-pub returns-in_err-repeats_break : goal.returns-in_err-repeats_break
-returns-in_err-repeats_break c =
+pub returns-in_err-named : goal.returns-in_err-named
+returns-in_err-named c = λ view free.
     let held = c.args.catalog.now in
     let tree = c.args.query.now in
     let place = c.around_alone-around in
     let seen = query-whole held place.result.catalog.now tree (around_of place.result) (place.ensures.place refl) place.ensures.catalog c.in_ok-shown.shown c.in_ok-shown.ensures in
-    same-refused (ResolvesBody held (st.CreateView c.args.view tree)) c.from_residual-in_err-repeats_break.result (Broken c.in_err-repeats_break.field-0.0) c.from_residual-in_err-repeats_break.ensures.1
-    (view-repeats held tree c.args.view (Broken c.in_err-repeats_break.field-0.0) c.requires.free seen.whole
-    (repeats-told (words.query_meant held tree) c.in_ok-shown.shown c.as_slice.result.now tree.at (Err c.in_err-repeats_break.field-0.0) seen c.as_slice.ensures c.in_err-repeats_break.ensures))
+    same-refused (ResolvesBy held (st.CreateView view tree) (r.CreateView view.text)) c.from_residual-in_err-named.result c.in_err-named.field-0.0 c.from_residual-in_err-named.ensures.1
+    (view-repeats held tree view c.in_err-named.field-0.0 free seen.whole
+    (by-limit _ c.repeats_break-repeats.result c.in_err-named.field-0.0 c.in_err-named.ensures.broken
+    (repeats-told (words.query_meant held tree) c.in_ok-shown.shown c.as_slice.result.now tree.at c.repeats_break-repeats.result seen c.as_slice.ensures c.repeats_break-repeats.ensures)))
 
 pub returns-in_err-whole : goal.returns-in_err-whole
-returns-in_err-whole c =
+returns-in_err-whole c = λ view free.
     let held = c.args.catalog.now in
     let tree = c.args.query.now in
     let place = c.around_alone-around in
     let seen = query-whole held place.result.catalog.now tree (around_of place.result) (place.ensures.place refl) place.ensures.catalog c.in_ok-shown.shown c.in_ok-shown.ensures in
-    same-refused (ResolvesBody held (st.CreateView c.args.view tree)) c.from_residual-in_err-whole.result c.in_err-whole.field-0.0 c.from_residual-in_err-whole.ensures.1
-    (view-limited held tree c.args.view c.in_err-whole.field-0.0 c.requires.free seen.whole
+    same-refused (ResolvesBy held (st.CreateView view tree) (r.CreateView view.text)) c.from_residual-in_err-whole.result c.in_err-whole.field-0.0 c.from_residual-in_err-whole.ensures.1
+    (view-limited held tree view c.in_err-whole.field-0.0 free seen.whole
     (none-broken (broken_if (words.repeats (names_of (words.columns_of (words.query_meant held tree)))) 14 tree.at) (tt {0}) (tt {0})
-    (repeats-told (words.query_meant held tree) c.in_ok-shown.shown c.as_slice.result.now tree.at (Ok (tt {0})) seen c.as_slice.ensures c.in_ok-repeats_break.ensures))
+    (repeats-told (words.query_meant held tree) c.in_ok-shown.shown c.as_slice.result.now tree.at c.repeats_break-repeats.result seen c.as_slice.ensures c.repeats_break-repeats.ensures
+    ∙ c.in_ok-named.ensures.kept.1))
     (limits-refused held place.result.catalog.now tree (around_of place.result) (place.ensures.place refl) place.ensures.catalog c.in_err-whole.field-0.0 c.in_err-whole.ensures))
 
 pub returns : goal.returns
-returns c =
+returns c = λ view free.
     let held = c.args.catalog.now in
     let tree = c.args.query.now in
     let place = c.around_alone-around in
     let seen = query-whole held place.result.catalog.now tree (around_of place.result) (place.ensures.place refl) place.ensures.catalog c.in_ok-shown.shown c.in_ok-shown.ensures in
-    view-made held tree c.args.view c.in_ok-whole.whole c.in_ok-entry.entry c.text_of.result
-    c.requires.free seen.whole
+    view-made held tree view c.in_ok-whole.whole c.in_ok-entry.entry view.text
+    free seen.whole
     (none-broken (broken_if (words.repeats (names_of (words.columns_of (words.query_meant held tree)))) 14 tree.at) (tt {0}) (tt {0})
-    (repeats-told (words.query_meant held tree) c.in_ok-shown.shown c.as_slice.result.now tree.at (Ok (tt {0})) seen c.as_slice.ensures c.in_ok-repeats_break.ensures))
+    (repeats-told (words.query_meant held tree) c.in_ok-shown.shown c.as_slice.result.now tree.at c.repeats_break-repeats.result seen c.as_slice.ensures c.repeats_break-repeats.ensures
+    ∙ c.in_ok-named.ensures.kept.1))
     (is-whole held place.result.catalog.now tree (around_of place.result) (place.ensures.place refl) place.ensures.catalog c.in_ok-whole.whole c.in_ok-whole.ensures)
-    c.in_ok-entry.ensures c.text_of.ensures
+    c.in_ok-entry.ensures refl

@@ -6,17 +6,17 @@ use Rattle.clauses_seen.specs.Told.{Tells}
 use Rattle.name_seen.specs.Seen.{first_or}
 use Rattle.name_words.specs.Statements.{row_breaks}
 use Rattle.perm_catalog.specs.Columns.{column_kinds}
-use Rattle.name_seen.specs.declared.refusal.Refusal.{Refusal}
-use Rattle.std.specs.Prelude.{Err, Result}
-use Rattle.name_analysis.specs.Resolves.{ResolvesBody}
-use Rattle.name_analysis.proofs.Refused.{same-refused}
-use Rattle.name_analysis.proofs.Tabled.{insert-refused}
+use Rattle.std.specs.Prelude.{Err}
+use Rattle.statement_parts.specs.Resolves.{ResolvesBy}
+use Rattle.name_words.specs.declared.answer.Resolved.TheVariants as r
+use Rattle.statement_parts.proofs.Refused.{same-refused}
+use Rattle.statement_parts.proofs.Tabled.{insert-refused}
 use Rattle.name_analysis.proofs.rows.inserted.Goals as goal
 
 pub returns-in_err-rows_break-in-Some : goal.returns-in_err-rows_break-in-Some
 returns-in_err-rows_break-in-Some c =
     let held = c.args.catalog.now in
-    same-refused (ResolvesBody held (st.Insert c.args.table c.args.rows.now)) c.from_residual.result c.in_err-rows_break-in-Some.field-0.0 c.from_residual.ensures.1
-    (insert-refused held c.args.table c.in-Some.entry.now (sym c.in-Some.ensures) c.args.rows.now c.in_err-rows_break-in-Some.field-0.0
+    same-refused (ResolvesBy held (st.Insert c.args.table.now c.args.rows.now) (r.Insert c.args.table.now.text)) c.from_residual.result c.in_err-rows_break-in-Some.field-0.0 c.from_residual.ensures.1
+    (insert-refused held c.args.table.now c.in-Some.entry.now (sym c.in-Some.ensures) c.args.rows.now c.in_err-rows_break-in-Some.field-0.0
     (subst (λ (columns : List Column). Tells (first_or (flat_map (row_breaks held (column_kinds columns)) c.args.rows.now) (tt {0})) (Err c.in_err-rows_break-in-Some.field-0.0))
     c.as_slice-columns.ensures c.in_err-rows_break-in-Some.ensures))

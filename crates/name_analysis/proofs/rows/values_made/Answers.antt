@@ -1,6 +1,6 @@
 use Rattle.std.proofs.Common.{arith}
 use Rattle.name_seen.specs.Standing.{surroundings}
-use Rattle.name_analysis.proofs.Values.{row-end, row-start, row-step, value-whole}
+use Rattle.statement_parts.proofs.Values.{row-end, row-more, row-start, value-whole}
 use Rattle.name_analysis.proofs.rows.values_made.Goals as goal
 
 pub loop-at-init : goal.loop-at-init
@@ -14,10 +14,10 @@ value_made-requires-clause-whole c =
 
 pub loop-at-preserved : goal.loop-at-preserved
 loop-at-preserved c =
-    row-step c.args.here.now.catalog.now c.args.columns.now c.args.values.now c.loop-at.at c.index-columns-at.result c.index-values-at.result (surroundings c.args.here.now)
-    c.loop-at.made c.push.new.self c.in-Ok.value c.requires.alone
+    row-more c.args.here.now.catalog.now c.args.columns.now c.args.values.now c.loop-at.at c.index-columns-at.result c.index-values-at.result (surroundings c.args.here.now)
+    c.loop-at.made c.in_ok-made.made c.value_made.result c.requires.alone
     (omega (arith, c.loop-at-test.true, c.min-at-end.ensures)) c.index-columns-at.is (omega (arith, c.loop-at-test.true, c.min-at-end.ensures)) c.index-values-at.is
-    c.loop-at.invariant c.in-Ok.ensures c.in-Ok-push.ensures.ok
+    c.loop-at.invariant c.value_made.ensures c.in_ok-made.ensures
 
 pub returns : goal.returns
 returns c =

@@ -10,22 +10,22 @@ use Rattle.sql_tree.specs.declared.statement.Statement.{Statement}
 use Rattle.statement_words.specs.Answers.{can_be, file_limit, has_failed, over}
 use Rattle.statement_words.specs.Asking.{asked}
 use Rattle.perm_engine.specs.Sessions.{SessionState}
-use Rattle.perm_engine.specs.Stops.{ToTheEnd}
-use Rattle.perm_engine.specs.declared.status.Status.TheVariants as status
-use Rattle.perm_engine.proofs.Ending.{HasRun, HasRun-nothing, HasRun-more, HasRun-cut, HasRun-stopped, HasRun-done}
-use Rattle.perm_engine.proofs.Firsts.{next-after}
-use Rattle.perm_engine.proofs.Looping.{next-regular, left-regular, text≢memory, stopped-of_script, stopped-read_fault, stopped-steady, other_end}
-use Rattle.perm_engine.proofs.Running.{of_script}
-use Rattle.perm_engine.proofs.Turns.{begun-told, still_risen}
-use Rattle.perm_engine.proofs.Widening.{CanBe-moved, takes-wider, rests-moved}
+use Rattle.run_ends.specs.Stops.{ToTheEnd}
+use Rattle.run_ends.specs.declared.status.Status.TheVariants as status
+use Rattle.run_steps.proofs.Ending.{HasRun, HasRun-nothing, HasRun-more, HasRun-cut, HasRun-stopped, HasRun-done}
+use Rattle.run_steps.proofs.Firsts.{next-after}
+use Rattle.run_steps.proofs.Looping.{next-regular, left-regular, text≢memory, stopped-of_script, stopped-read_fault, stopped-steady, other_end}
+use Rattle.run_steps.proofs.Running.{of_script}
+use Rattle.run_steps.proofs.Turns.{begun-told, still_risen}
+use Rattle.run_ends.proofs.Widening.{CanBe-moved, takes-wider, rests-moved}
 use Rattle.perm_engine.proofs.run.run_statements.Goals as goal
 
 pub loop-statement-init : goal.loop-statement-init
 loop-statement-init g c =
-    let items = into_iter_items c.into_iter-statement-iterator.result in
-    let whole : c.args.statements ≡ items = sym (c.into_iter-statement-iterator.ensures.into_iter_gives.0 ∙ c.into_vec-statement-items.ensures) in
+    let items = into_iter_items c.into_iter-left.result in
+    let whole : c.args.statements ≡ items = sym (c.into_iter-left.ensures.rest ∙ c.into_vec.ensures) in
     let fresh : nothing_held 1 ≡ c.new-session.result.contents = sym (ap (λ (session : SessionState). session.contents) c.new-session.ensures) in
-    let vec = c.into_vec-statement-items.result in
+    let vec = c.into_vec.result in
     let files = c.args.files.now in
     let out = c.args.out.now in record {
       has_run = subst (λ (p : List Statement × Contents). HasRun (g.F.Files.held files) (g.F.Files.faults files) c.args.statements (nothing_held 1) p.0 p.1 (g.K.Sink.written out) (g.K.Sink.written out)
@@ -35,14 +35,14 @@ loop-statement-init g c =
       held = refl;
       regular = subst (Each RegularStatement) whole c.requires;
       drawn = omega (arith, ap (λ (session : SessionState). session.contents.next) c.new-session.ensures, ap length whole);
-      few = omega (arith, vec.ok.0, vec.ok.1, vec.small, ap length c.into_vec-statement-items.ensures);
+      few = omega (arith, vec.ok.0, vec.ok.1, vec.small, ap length c.into_vec.ensures);
     }
 
 pub step-requires : goal.step-requires
 step-requires g c =
     let statement = c.in-Some.statement in
     let left = into_iter_items c.next.new.self in
-    let taken : into_iter_items c.loop-statement.statement-iterator ≡ statement ∷ left = c.in-Some.ensures.steps.0 in
+    let taken : into_iter_items c.loop-statement.left ≡ statement ∷ left = c.in-Some.ensures.items in
     record { regular = next-regular statement left (subst (Each RegularStatement) taken c.loop-statement.invariant.regular) }
 
 pub returns-in-Err-write_all : goal.returns-in-Err-write_all
@@ -50,7 +50,7 @@ returns-in-Err-write_all g c =
     let kept = c.loop-statement.invariant in
     let statement = c.in-Some.statement in
     let left = into_iter_items c.next.new.self in
-    let taken : into_iter_items c.loop-statement.statement-iterator ≡ statement ∷ left = c.in-Some.ensures.steps.0 in
+    let taken : into_iter_items c.loop-statement.left ≡ statement ∷ left = c.in-Some.ensures.items in
     let now = c.loop-statement.session.contents in
     let next = c.step.new.self.contents in
     let text = c.in-Ok.text in
@@ -83,7 +83,7 @@ returns-in-Err g c =
     let kept = c.loop-statement.invariant in
     let statement = c.in-Some.statement in
     let left = into_iter_items c.next.new.self in
-    let taken : into_iter_items c.loop-statement.statement-iterator ≡ statement ∷ left = c.in-Some.ensures.steps.0 in
+    let taken : into_iter_items c.loop-statement.left ≡ statement ∷ left = c.in-Some.ensures.items in
     let now = c.loop-statement.session.contents in
     let next = c.step.new.self.contents in
     let refused = c.in-Err.refusal in
@@ -113,7 +113,7 @@ loop-statement-preserved g c =
     let kept = c.loop-statement.invariant in
     let statement = c.in-Some.statement in
     let left = into_iter_items c.next.new.self in
-    let taken : into_iter_items c.loop-statement.statement-iterator ≡ statement ∷ left = c.in-Some.ensures.steps.0 in
+    let taken : into_iter_items c.loop-statement.left ≡ statement ∷ left = c.in-Some.ensures.items in
     let now = c.loop-statement.session.contents in
     let next = c.step.new.self.contents in
     let text = c.in-Ok.text in
@@ -143,12 +143,12 @@ loop-statement-preserved g c =
 pub returns : goal.returns
 returns g c =
     let kept = c.loop-statement.invariant in
-    let iterator = c.loop-statement.statement-iterator in
+    let iterator = c.loop-statement.left in
     let before = c.args.out.now in
     let old = c.loop-statement.out in
     let new = c.finish.new.out in
     let files = over g.F.Files.held g.F.Files.faults g.F.Files.begun g.F.Files.absent g.F.Files.taken c.args.files.now c.loop-statement.files in
-    let none = nil_from_length (into_iter_items iterator) (omega (arith, iterator.rest.ok.0, c.in-None.ensures.steps.0)) in record {
+    let none = nil_from_length (into_iter_items iterator) (omega (arith, iterator.rest.ok.0, c.in_default.ensures.cases)) in record {
       ends = HasRun-done c.args.statements (nothing_held 1) (into_iter_items iterator) c.loop-statement.session.contents (g.K.Sink.written before) (g.K.Sink.written old) (g.K.Sink.faults before) (g.K.Sink.faults old)
           files.begun_after files kept.has_run (still_risen files.faults files.faults_after false kept.calm) (g.K.Sink.written new) (g.K.Sink.faults new) (g.K.Sink.unflushed new) c.finish.result none refl
           (c.finish.ensures.ends ToTheEnd refl refl);

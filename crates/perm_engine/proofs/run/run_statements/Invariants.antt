@@ -2,16 +2,19 @@ use Rattle.std.proofs.Common.{◌≡◌, ◌+◌, ◌≤◌, ◌<◌, ◌^◌, l
 use Rattle.std.specs.Vec.Iter.{into_iter_items}
 use Rattle.perm_catalog.specs.Changes.{nothing_held}
 use Rattle.sql_tree.specs.Regular.{Each, RegularStatement}
-use Rattle.perm_engine.proofs.Ending.{HasRun}
+use Rattle.run_steps.proofs.Ending.{HasRun}
 use Rattle.perm_engine.proofs.run.run_statements.Given as goal
 
 abbrev pub invariant-loop-statement : goal.invariant-loop-statement
 invariant-loop-statement g l = record {
-  has_run : HasRun (g.F.Files.held l.fn.files) (g.F.Files.faults l.fn.files) l.fn.statements (nothing_held 1) (into_iter_items l.statement-iterator) l.session.contents (g.K.Sink.written l.fn.out) (g.K.Sink.written l.out)
+  has_run : HasRun (g.F.Files.held l.fn.files) (g.F.Files.faults l.fn.files) l.fn.statements (nothing_held 1) (into_iter_items l.left) l.session.contents (g.K.Sink.written l.fn.out) (g.K.Sink.written l.out)
       (g.K.Sink.faults l.fn.out) (g.K.Sink.faults l.out) (g.F.Files.begun l.fn.files) (g.F.Files.begun l.files);
   calm : g.F.Files.faults l.files ≡ g.F.Files.faults l.fn.files;
   held : g.F.Files.held l.files ≡ g.F.Files.held l.fn.files;
-  regular : Each RegularStatement (into_iter_items l.statement-iterator);
-  drawn : l.session.contents.next + length (into_iter_items l.statement-iterator) ≤ length l.fn.statements + 1;
+  regular : Each RegularStatement (into_iter_items l.left);
+  drawn : l.session.contents.next + length (into_iter_items l.left) ≤ length l.fn.statements + 1;
   few : length l.fn.statements < 2 ^ 63;
 }
+
+abbrev pub decreases-loop-statement : goal.decreases-loop-statement
+decreases-loop-statement g l = length (into_iter_items l.left)

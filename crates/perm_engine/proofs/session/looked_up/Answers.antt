@@ -1,7 +1,8 @@
 use Rattle.std.specs.Prelude.{Ok}
-use Rattle.name_analysis.specs.Own.{own_breaks}
+use Rattle.statement_parts.specs.Own.{own_breaks}
 use Rattle.name_words.specs.Statements.{resolved}
-use Rattle.perm_engine.proofs.Stepping.{due-whole, made-whole}
+use Rattle.run_steps.proofs.Stepping.{made-whole}
+use Rattle.perm_engine.proofs.Due.{due-whole}
 use Rattle.perm_engine.proofs.session.looked_up.Goals as goal
 
 pub returns-in-Ok : goal.returns-in-Ok

@@ -1,5 +1,6 @@
 use Rattle.std.proofs.Common.{sym, ◌∙◌}
-use Rattle.perm_engine.proofs.Stepping.{due-built, due-unbuilt, resolves-unbuilt, resolves-built}
+use Rattle.run_steps.proofs.Stepping.{resolves-unbuilt, resolves-built}
+use Rattle.perm_engine.proofs.Due.{due-built, due-unbuilt}
 use Rattle.perm_engine.proofs.session.resolved_statement.Goals as goal
 
 pub returns-then-is_unbuilt : goal.returns-then-is_unbuilt

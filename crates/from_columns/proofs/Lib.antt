@@ -1,0 +1,6 @@
+pub mod Attributed
+pub mod KnownNames
+pub mod Labels
+pub mod NamedColumns
+pub mod Scoping
+pub mod Settled

@@ -1,0 +1,22 @@
+use Rattle.std.specs.Prelude.{List, [], ◌∷◌}
+use Rattle.std.proofs.Common.{ap, ◌∙◌}
+use Rattle.name_nodes.proofs.Arms.{of-ok}
+use Rattle.name_seen.specs.Named.{scopes_of}
+use Rattle.name_seen.specs.Standing.{standing_in}
+use Rattle.name_words.specs.Froms.{table_columns}
+use Rattle.name_words.specs.Scopes.{scope_of}
+use Rattle.name_words.specs.Statements.{bare}
+use Rattle.name_words.specs.declared.scope.Scope.{Scope}
+use Rattle.perm_catalog.specs.declared.column.Column.{Column}
+use Rattle.statement_parts.proofs.Values.{condition-alone}
+use Rattle.name_analysis.proofs.conditions.condition_made.Goals as goal
+
+pub returns : goal.returns
+returns c =
+    let here = standing_in (scopes_of c.in-Ok.scopes) c.alone.result in
+    let same = ap (λ (scopes : List Scope). standing_in scopes c.alone.result) c.in-Ok.ensures ∙ c.alone.ensures (c.in_ok-scope.scope ∷ [])
+    ∙ ap (λ (scope : Scope). bare (scope ∷ [])) (c.in_ok-scope.ensures
+    ∙ ap (λ (columns : List Column). scope_of (record { name = c.args.table.now.text; columns = table_columns columns } ∷ [])) c.as_slice.ensures) in
+    of-ok _ _ c.made-condition.result
+    (λ e makes. condition-alone c.args.catalog.now c.args.table.now c.args.tree.now c.args.entry.now here _ e _ _ makes c.nothing-found.ensures same c.requires.whole)
+    c.made-condition.ensures

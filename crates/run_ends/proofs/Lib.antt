@@ -1,0 +1,4 @@
+pub mod Completing
+pub mod Lines
+pub mod Misspelling
+pub mod Widening

@@ -1,0 +1,5 @@
+pub mod Ends
+pub mod Run
+pub mod Scripts
+pub mod Statuses
+pub mod Stops
