@@ -9,10 +9,10 @@ ghost use Rattle.run_ends.specs.Ends.{Completes, EndsBroken, EndsFaulty, EndsOne
 ghost use Rattle.run_ends.specs.Run.{Runs, RunsFrom, RunsScript, is_one, IsWhole, IsSteady, IsOfScript};
 
 use crate::session::Session;
+use letting_go::let_statements_go;
 use perm_io::{Files, ReadError, Sink, read_all, write_all};
 use perm_values::{Chars, List};
 use run_ends::{SCRIPT_LIMIT, Status, finish, refuse, script_of, stop};
-use run_steps::let_statements_go;
 use sql_parser::a_spelled_script_is_regular;
 use sql_tree::Statement;
 use std::alloc::Global;

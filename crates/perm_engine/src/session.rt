@@ -13,6 +13,7 @@ ghost use Rattle.run_steps.specs.Resolving.{IsDue, Resolves, ResolvesBuilt};
 ghost use Rattle.perm_engine.specs.Due.{due_breaks};
 ghost use Rattle.perm_engine.specs.Sessions.{begun_with};
 
+use letting_go::{let_held_go, let_resolved_go};
 use name_analysis::resolve;
 use name_seen::Refusal;
 use name_words::{Break, Resolved};
@@ -21,7 +22,7 @@ use perm_io::Files;
 use perm_values::Bytes;
 use query_answers::Runner;
 use resolved_steps::is_unbuilt;
-use run_steps::{carried_out, let_held_go, let_resolved_go};
+use run_steps::carried_out;
 use sql_tree::Statement;
 use statement_laws::{
     statements_keep_catalogs_sound, whole_statements_add_soundly, whole_statements_are_ready,

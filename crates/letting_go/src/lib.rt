@@ -1,5 +1,7 @@
-//! What is let go here isn't taken apart in the crate that calls: how trees and queries are dropped is proved again in each
+//! What a run lets go. It isn't taken apart in the crate that calls: how trees and queries are dropped is proved again in each
 //! crate that drops one.
+#![tactic(auto)]
+
 use name_words::Resolved;
 use perm_catalog::Catalog;
 use query_answers::Runner;
