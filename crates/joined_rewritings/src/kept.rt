@@ -1,5 +1,5 @@
 //! Joins of which some columns are left out.
-ghost use Rattle.std.specs.Prelude.{◌≡◌, ◌+◌, ◌-◌, ◌≤◌, ◌++◌, IfOk};
+ghost use Rattle.std.specs.Prelude.{◌≡◌, ◌+◌, ◌-◌, ◌^◌, ◌≤◌, ◌++◌, IfOk, IfErr};
 ghost use Rattle.std.specs.List.{range_with_len};
 ghost use Rattle.bag_algebra.specs.Kinds.{width_of};
 ghost use Rattle.bag_algebra.specs.declared.query.JoinKind.TheVariants.{Inner};
@@ -12,9 +12,10 @@ use query_measures::width;
 use query_parts::{joined, regroup, same_columns};
 use std::alloc::Global;
 
-/// The sum of two numbers of columns. One that no `usize` holds is want of memory.
+/// The sum of two numbers of columns. Want of memory comes exactly where no `usize` holds it.
 pub fn sum(first: usize, second: usize) -> Result<usize, NoMemory>
-    ensures { IfOk result (λ total. total ≡ first + second) }
+    ensures total { IfOk result (λ total. total ≡ first + second) }
+    ensures lacking { IfErr result (λ _. 2 ^ 64 ≤ first + second) }
 {
     match first.checked_add(second) {
         Some(total) => Ok(total),
@@ -22,9 +23,10 @@ pub fn sum(first: usize, second: usize) -> Result<usize, NoMemory>
     }
 }
 
-/// The number of columns. One that `width` can't tell from a greater one is want of memory.
+/// The number of columns. Want of memory comes only where it isn't below `usize::MAX`, at which `width` stays.
 pub fn exact_width(query: &Query) -> Result<usize, NoMemory>
-    ensures { IfOk result (λ count. count ≡ width_of query.now) }
+    ensures columns { IfOk result (λ count. count ≡ width_of query.now) }
+    ensures lacking { IfErr result (λ _. 2 ^ 64 - 1 ≤ width_of query.now) }
 {
     let count = width(query);
     if count == usize::MAX {

@@ -1,6 +1,6 @@
 //! Expressions of parts as they were made. Each part comes as a result, so that what is there is let go here where another
 //! part is wanting, and not in the functions that go through a tree.
-ghost use Rattle.std.specs.Prelude.{◌≡◌, ℕ, ◌<◌, ◌^◌, ◌∷◌, [], ◌++◌, cond, length, Some, IfOk, IsOkAnd, OnOk};
+ghost use Rattle.std.specs.Prelude.{◌≡◌, ◌⊎◌, ℕ, ◌<◌, ◌^◌, ◌∷◌, [], ◌++◌, cond, length, Some, Err, IfOk, IfErr, IsOkAnd, OnOk};
 ghost use Rattle.bag_algebra.specs.declared.expr.Expr.TheVariants.{Case as Chosen, Chain as Chained, IsNull as TestedNull, IsTruth as Tested, Op as Operated, Same as Compared, Sub as Numbered};
 ghost use Rattle.null_logic.specs.declared.operator.Operator.TheVariants.{Between as Ranged, InList as Listed, Like as Matched};
 ghost use Rattle.name_words.specs.Expressions.{negated_if, times};
@@ -74,7 +74,8 @@ pub fn same_tested(
 
 /// The operator on these parts.
 pub fn on_parts(op: Operator, parts: Result<List<Expr>, NoMemory>) -> Result<Expr, NoMemory>
-    ensures { IfOk result (λ made. IsOkAnd parts (λ parts. made ≡ Operated op parts)) }
+    ensures made { IfOk result (λ made. IsOkAnd parts (λ parts. made ≡ Operated op parts)) }
+    ensures lacking { IfErr result (λ lack. parts ≡ Err lack) }
 {
     let parts = parts?;
     Ok(Expr::Op { op, parts })
@@ -153,7 +154,8 @@ pub fn chained(
 
 /// A step of a chain.
 pub fn step_of(op: Arith, part: Result<Expr, NoMemory>) -> Result<ChainStep, NoMemory>
-    ensures { IfOk result (λ step. IsOkAnd part (λ part. step ≡ record { op = op; part = part })) }
+    ensures made { IfOk result (λ step. IsOkAnd part (λ part. step ≡ record { op = op; part = part })) }
+    ensures lacking { IfErr result (λ lack. part ≡ Err lack) }
 {
     let part = part?;
     Ok(ChainStep { op, part })
@@ -177,7 +179,8 @@ pub fn arm_of(
     condition: Result<Expr, NoMemory>,
     value: Result<Expr, NoMemory>,
 ) -> Result<Arm, NoMemory>
-    ensures { IfOk result (λ arm. IsOkAnd condition (λ condition. IsOkAnd value (λ value. arm ≡ record { condition = condition; value = value }))) }
+    ensures made { IfOk result (λ arm. IsOkAnd condition (λ condition. IsOkAnd value (λ value. arm ≡ record { condition = condition; value = value }))) }
+    ensures lacking { IfErr result (λ lack. (condition ≡ Err lack) ⊎ (value ≡ Err lack)) }
 {
     let (condition, value) = both(condition, value)?;
     Ok(Arm { condition, value })

@@ -1,6 +1,6 @@
 //! Results taken together. The functions are generic, so that what is let go where one of several is wanting isn't taken
 //! apart in each function that needs them.
-ghost use Rattle.std.specs.Prelude.{◌≡◌, ◌∷◌, [], ◌++◌, Ok, IfOk, IsOkAnd};
+ghost use Rattle.std.specs.Prelude.{◌≡◌, ◌∷◌, [], ◌++◌, Ok, Err, IfOk, IfErr, IsOkAnd};
 
 use perm_values::{List, NoMemory, both};
 use std::alloc::Global;
@@ -9,6 +9,7 @@ use std::alloc::Global;
 pub fn beside<A: Drop, B: Drop>(first: A, second: Result<B, NoMemory>) -> Result<(A, B), NoMemory>
     ensures first_kept { IfOk result (λ pair. pair.0 ≡ first) }
     ensures second_was { IfOk result (λ pair. second ≡ Ok pair.1) }
+    ensures lacking { IfErr result (λ lack. second ≡ Err lack) }
 {
     let second = second?;
     Ok((first, second))

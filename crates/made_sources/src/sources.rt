@@ -1,5 +1,5 @@
 //! Items of FROM, and what joins them.
-ghost use Rattle.std.specs.Prelude.{◌≡◌, ℕ, ◌+◌, suc, List as Items, [], length, IfOk};
+ghost use Rattle.std.specs.Prelude.{◌≡◌, ◌≤◌, ℕ, ◌+◌, ◌^◌, suc, List as Items, [], length, IfOk, IfErr};
 ghost use Rattle.std.specs.Option.{option_map_or};
 ghost use Rattle.bag_algebra.specs.Kinds.{width_of};
 ghost use Rattle.bag_algebra.specs.declared.query.Query.TheVariants.{Join as Paired, Single as Lone};
@@ -223,10 +223,10 @@ pub fn input_or_single(whole: Option<Query>) -> Query
     }
 }
 
-/// How many items stand before what comes behind this part of FROM. It fails only where their number is none that can
-/// be counted.
+/// How many items stand before what comes behind this part of FROM. It fails exactly where no `usize` holds their number.
 pub fn behind(first: usize, source: &FromTree) -> Result<usize, NoMemory>
-    ensures { IfOk result (λ next. next ≡ first + suc (join_count source.now)) }
+    ensures next { IfOk result (λ next. next ≡ first + suc (join_count source.now)) }
+    ensures lacking { IfErr result (λ _. 2 ^ 64 ≤ first + suc (join_count source.now)) }
 {
     match first.checked_add(source.joins.len() + 1) {
         Some(next) => Ok(next),

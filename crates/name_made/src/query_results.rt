@@ -1,6 +1,6 @@
 //! Clauses and FROM of parts as they were made. Each part comes as a result, so that what is there is let go here where
 //! another part is wanting, and not in the functions that go through a tree.
-ghost use Rattle.std.specs.Prelude.{◌≡◌, [], IfOk, IsOkAnd};
+ghost use Rattle.std.specs.Prelude.{◌≡◌, ◌⊎◌, [], Err, IfOk, IfErr, IsOkAnd};
 ghost use Rattle.std.specs.Option.{option_map_or};
 ghost use Rattle.bag_algebra.specs.declared.query.Query.TheVariants.{Join as Paired};
 ghost use Rattle.perm_catalog.specs.Contents.{Contents as Held};
@@ -80,8 +80,9 @@ pub(crate) fn clauses_of(
     selected: Result<(Option<Condition>, Listed), NoMemory>,
     distinct: bool,
 ) -> Result<Clauses, NoMemory>
-    ensures { IfOk result (λ made. IsOkAnd groups (λ groups. IsOkAnd kept (λ kept. IsOkAnd selected (λ selected.
+    ensures made { IfOk result (λ made. IsOkAnd groups (λ groups. IsOkAnd kept (λ kept. IsOkAnd selected (λ selected.
         made ≡ record { condition = kept.condition; groups = groups; having = selected.0; list = selected.1; distinct = distinct })))) }
+    ensures lacking { IfErr result (λ lack. ((groups ≡ Err lack) ⊎ (kept ≡ Err lack)) ⊎ (selected ≡ Err lack)) }
 {
     let before = both(groups, kept);
     let (before, selected) = both(before, selected)?;
@@ -108,7 +109,8 @@ fn condition_of(kept: Kept) -> Option<Condition>
 
 /// A condition, with what was found in it.
 pub(crate) fn kept_of(expr: Result<Expr, NoMemory>, found: Within) -> Result<Kept, NoMemory>
-    ensures { IfOk result (λ kept. IsOkAnd expr (λ expr. kept ≡ kept_of expr found)) }
+    ensures made { IfOk result (λ kept. IsOkAnd expr (λ expr. kept ≡ kept_of expr found)) }
+    ensures lacking { IfErr result (λ lack. expr ≡ Err lack) }
 {
     let (found, expr) = beside(found, expr)?;
     Ok(condition_found(expr, found))
@@ -119,7 +121,8 @@ pub(crate) fn listed_of(
     items: Result<List<Item>, NoMemory>,
     found: Within,
 ) -> Result<Listed, NoMemory>
-    ensures { IfOk result (λ listed. IsOkAnd items (λ items. listed ≡ record { items = items; subs = found.subs; aggregates = found.aggregates })) }
+    ensures made { IfOk result (λ listed. IsOkAnd items (λ items. listed ≡ record { items = items; subs = found.subs; aggregates = found.aggregates })) }
+    ensures lacking { IfErr result (λ lack. items ≡ Err lack) }
 {
     let (found, items) = beside(found, items)?;
     Ok(listed_with(items, found))

@@ -1,5 +1,5 @@
 //! The rules of nodes over one input.
-ghost use Rattle.std.specs.Prelude.{◌≡◌, ◌++◌, [], IfOk, IsTrue};
+ghost use Rattle.std.specs.Prelude.{◌≡◌, ◌++◌, [], Ok, IfOk, IsTrue};
 ghost use Rattle.bag_algebra.specs.EveryNode.{no_open_sublink};
 ghost use Rattle.bag_algebra.specs.Rewriting.{IsRewrite};
 ghost use Rattle.bag_algebra.specs.declared.query.Query.TheVariants.{Distinct, Filter, Project};
@@ -16,7 +16,7 @@ use std::alloc::Global;
 pub fn distinct(input: &Query, rewriting: Query) -> Result<Query, NoMemory>
     requires { IsRewrite input.now rewriting }
     ensures rewrites { IfOk result (λ p. IsRewrite (Distinct input.now) p) }
-    ensures itself { IfOk result (λ p. p ≡ rewriting) }
+    ensures itself { result ≡ Ok rewriting }
     ensures closed { IsTrue (no_open_sublink rewriting) → IfOk result (λ p. IsTrue (no_open_sublink p)) }
 {
     Ok(rewriting)

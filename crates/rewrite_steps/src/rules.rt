@@ -1,5 +1,5 @@
 //! The rules of nodes over the results of the calls that make what they take.
-ghost use Rattle.std.specs.Prelude.{[], IfOk, IsTrue};
+ghost use Rattle.std.specs.Prelude.{◌≡◌, [], Err, IfErr, IfOk, IsTrue};
 ghost use Rattle.bag_algebra.specs.Rewriting.{IsRewrite, Stands};
 ghost use Rattle.bag_algebra.specs.declared.query.Label.{Label as Named};
 ghost use Rattle.bag_algebra.specs.declared.query.Query.TheVariants.{Base, Filter, Project, Join, Union, Intersect, Except, Distinct, Aggregate, Limit};
@@ -166,7 +166,8 @@ pub fn except_rule(
 /// A rewriting of a DISTINCT, which is one of its input. It fails where that failed.
 pub fn distinct_rule(input: &Query, rewriting: Result<Query, NoMemory>) -> Result<Query, NoMemory>
     requires { IfOk rewriting (λ r. IsRewrite input.now r) }
-    ensures { IfOk result (λ p. IsRewrite (Distinct input.now) p) }
+    ensures rewrites { IfOk result (λ p. IsRewrite (Distinct input.now) p) }
+    ensures lacking { IfErr result (λ lack. rewriting ≡ Err lack) }
 {
     let rewriting = rewriting?;
     distinct(input, rewriting)

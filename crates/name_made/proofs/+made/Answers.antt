@@ -135,7 +135,7 @@ expressions::operands_made-loop-tree-preserved t c =
 pub expressions::operator_made-returns : goal.expressions::operator_made-returns
 expressions::operator_made-returns t c =
     let here = c.args.here.now in
-    of-one-is _ (Op c.args.op) _ c.operands_made-parts.result c.on_parts.result c.operands_made-parts.ensures c.on_parts.ensures
+    of-one-is _ (Op c.args.op) _ c.operands_made-parts.result c.on_parts.result c.operands_made-parts.ensures c.on_parts.ensures.made
     (λ parts makes. node-made here.standing.sublinks c.args.gives (Op c.args.op) (map (operand (surroundings here) c.args.need) (map (part_of here.catalog.now) c.args.trees.now)) c.args.wanted parts c.args.found.now c.operands_made-parts.new.found
     (rw c.in_ok-alike.ensures at makes))
 
@@ -145,7 +145,7 @@ expressions::steps_made-loop-step-preserved t c =
     let steps = map (step_of here.catalog.now) (take c.loop-step.step-index c.args.steps.now) in
     let step : StepPart = record { op = c.step-item.result.op; part = part_of here.catalog.now c.step-item.result.part } in
     λ alike.
-    from-one _ _ _ c.step_of.result c.step_of.ensures c.in_ok-made_steps.ensures
+    from-one _ _ _ c.step_of.result c.step_of.ensures.made c.in_ok-made_steps.ensures
     (λ item made_of all_is. from-one _ _ _ c.made-part.result c.made-part.ensures made_of
     (λ part makes item_is.
     subst (λ (parts : List StepPart). MakesSteps here.standing.sublinks alike (surroundings here) parts c.in_ok-made_steps.made_steps c.args.found.now c.made-part.new.found)
@@ -164,7 +164,7 @@ expressions::arms_made-loop-arm-preserved t c =
     let alike = c.args.alike in
     let arms = map (arm_of here.catalog.now) (take c.loop-arm.arm-index c.args.arms.now) in
     let arm : ArmPart = record { condition = part_of here.catalog.now c.arm-item.result.condition; value = part_of here.catalog.now c.arm-item.result.value } in
-    from-one _ _ _ c.arm_of.result c.arm_of.ensures c.in_ok-made_arms.ensures
+    from-one _ _ _ c.arm_of.result c.arm_of.ensures.made c.in_ok-made_arms.ensures
     (λ item made_of all_is. from-one _ _ _ c.made-condition.result c.made-condition.ensures made_of
     (λ condition tests rest. from-one _ _ _ c.made-value.result c.made-value.ensures rest
     (λ value makes item_is.
@@ -382,7 +382,7 @@ cores::clauses_made-returns t c =
     let around = c.args.around.now in
     of-three-is _ _ _ (λ groups kept selected. record { condition = kept.condition; groups = groups; having = selected.0; list = selected.1; distinct = (out-Core c.args.core.now).distinct })
     (MakesClauses around.catalog.now (standing_of around) c.args.core.now c.args.scope.now c.args.wanted.now) c.groups_of-groups.result c.condition_made-kept.result c.selected_made-selected.result c.clauses_of.result
-    c.groups_of-groups.ensures c.condition_made-kept.ensures c.selected_made-selected.ensures c.clauses_of.ensures
+    c.groups_of-groups.ensures c.condition_made-kept.ensures c.selected_made-selected.ensures c.clauses_of.ensures.made
     (λ groups kept selected of_groups of_kept of_selected. record {
       kept = λ whole. (of_kept whole).condition;
       groups = of_groups;
@@ -407,7 +407,7 @@ cores::kept_made-returns t c =
     let scope = here_only (not c.args.in_groups) c.args.scope.now in
     let outer = scopes_of around.outer.now in
     let m = means_at (part_of around.catalog.now c.args.tree.now) (in_clause scope outer around.trace c.args.in_groups) in
-    of-one-is _ (λ e. kept_of e c.made-expr.new.found) _ c.made-expr.result c.kept_of.result (rw (c.in_ok-scopes.ensures, c.in_clause.ensures scope outer, c.nothing-found.ensures) at c.made-expr.ensures) c.kept_of.ensures
+    of-one-is _ (λ e. kept_of e c.made-expr.new.found) _ c.made-expr.result c.kept_of.result (rw (c.in_ok-scopes.ensures, c.in_clause.ensures scope outer, c.nothing-found.ensures) at c.made-expr.ensures) c.kept_of.ensures.made
     (λ e makes. some-kept _ m e c.made-expr.new.found makes)
 
 pub cores::list_made-returns : goal.cores::list_made-returns
@@ -416,7 +416,7 @@ cores::list_made-returns t c =
     let scope = c.args.scope.now in
     let outer = scopes_of around.outer.now in
     let links : c.in_clause.result.sublinks ≡ true = ap (λ (s : Surroundings). s.sublinks) (c.in_clause.ensures scope outer) in
-    of-one-is _ (λ items. record { items = items; subs = c.items_made-made_items.new.found.subs; aggregates = c.items_made-made_items.new.found.aggregates }) _ c.items_made-made_items.result c.listed_of.result c.items_made-made_items.ensures c.listed_of.ensures
+    of-one-is _ (λ items. record { items = items; subs = c.items_made-made_items.new.found.subs; aggregates = c.items_made-made_items.new.found.aggregates }) _ c.items_made-made_items.result c.listed_of.result c.items_made-made_items.ensures c.listed_of.ensures.made
     (λ items makes has_from. rw (c.in-Ok.ensures, c.in_clause.ensures scope outer, links, c.behind_aggregates-found.ensures) at (makes has_from))
 
 pub cores::items_made-loop-item-preserved : goal.cores::items_made-loop-item-preserved
@@ -467,7 +467,7 @@ sources::sources_made-loop-source-preserved t c =
     let part = from_of around.catalog.now in
     let tree = c.source-item.result in
     from-one _ _ _ c.source_made-next.result c.source_made-next.ensures c.in_ok-with_next.ensures
-    (λ next makes is. rw c.in-Ok.ensures
+    (λ next makes is. rw c.in-Ok.ensures.next
     (subst (λ (parts : List FromPart). SourcesMade outer around.trace parts c.args.scope.now (Some c.in_ok-with_next.field-0) (c.loop-source.first + suc (join_count tree)))
     (sym (mapped part c.args.sources.now c.loop-source.source-index tree c.loop-source-test.true c.source-item.is))
     (source-more outer around.trace (map part (take c.loop-source.source-index c.args.sources.now)) (part tree) c.args.scope.now c.loop-source.whole next c.in_ok-with_next.field-0 c.loop-source.first (join_count tree)

@@ -324,7 +324,7 @@ by_rule-distinct_rule-requires t c =
 
 pub by_rule-returns-in-Distinct : goal.by_rule-returns-in-Distinct
 by_rule-returns-in-Distinct t c =
-    rewrites_where _ _ c.distinct_rule.result c.in-Distinct.is _ (λ p r. r) (rw c.get-in-Distinct-2.ensures at c.distinct_rule.ensures)
+    rewrites_where _ _ c.distinct_rule.result c.in-Distinct.is _ (λ p r. r) (rw c.get-in-Distinct-2.ensures at c.distinct_rule.ensures.rewrites)
 
 pub by_rule-stand-plain_rows-requires : goal.by_rule-stand-plain_rows-requires
 by_rule-stand-plain_rows-requires t c =

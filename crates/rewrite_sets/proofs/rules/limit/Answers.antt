@@ -15,14 +15,14 @@ use Rattle.rewrite_sets.proofs.rules.limit.Goals as goal
 
 pub matched-requires : goal.matched-requires
 matched-requires c =
-    omega (arith, c.in-Ok.ensures, ap (λ q. width_of q) c.in-Ok-limited.ensures, ap length (kinds_of-Limit c.args.input.now c.args.keys.now c.args.count))
+    omega (arith, c.in-Ok.ensures.columns, ap (λ q. width_of q) c.in-Ok-limited.ensures, ap length (kinds_of-Limit c.args.input.now c.args.keys.now c.args.count))
 
 pub returns-clause-rewrites : goal.returns-clause-rewrites
 returns-clause-rewrites c =
     of_made (λ p. (q : Query) → Stands q c.args.input.now → IsRewrite q c.args.rewriting → IsRewrite (Limit q c.args.keys.now c.args.count) p) c.matched.result _ c.matched.ensures
     (λ q s r.
     subst₂ (λ plain n. IsRewrite (Limit q c.args.keys.now c.args.count) (columns_kept (pairs_of Inner plain c.args.rewriting (same_as_first n n)) n n))
-    (sym c.in-Ok-limited.ensures) (sym c.in-Ok.ensures) (limit-made q c.args.input.now c.args.rewriting c.args.keys.now c.args.count s r))
+    (sym c.in-Ok-limited.ensures) (sym c.in-Ok.ensures.columns) (limit-made q c.args.input.now c.args.rewriting c.args.keys.now c.args.count s r))
 
 pub returns-clause-closed : goal.returns-clause-closed
 returns-clause-closed c = λ i r.

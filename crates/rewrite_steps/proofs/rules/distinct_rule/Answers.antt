@@ -6,6 +6,6 @@ pub distinct-requires : goal.distinct-requires
 distinct-requires c =
     opened (λ r. IsRewrite c.args.input.now r) c.args.rewriting _ c.in_ok-rewriting.was c.requires
 
-pub returns : goal.returns
-returns c =
+pub returns-clause-rewrites : goal.returns-clause-rewrites
+returns-clause-rewrites c =
     c.distinct.ensures.rewrites

@@ -14,4 +14,4 @@ pub returns : goal.returns
 returns c =
     let whole = c.in_ok-whole.ensures ∙ (λ j. all_contributed (c.in_ok-rows.ensures j) c.args.subs.now c.args.standing.now c.args.rewritings.now) in
     subst (λ (p : Query). IfOk c.answer_columns.result (λ q. q ≡ p))
-    (λ i. answer_columns (whole i) (c.in-Ok.ensures i) (c.in-Ok-exact_width.ensures i) (length c.args.items.now)) c.answer_columns.ensures
+    (λ i. answer_columns (whole i) (c.in-Ok.ensures.columns i) (c.in-Ok-exact_width.ensures.columns i) (length c.args.items.now)) c.answer_columns.ensures
