@@ -8,11 +8,12 @@ ghost use Rattle.statement_parts.specs.Resolves.{Resolves};
 use crate::conditions::delete;
 use crate::queries::{create_table_as, create_view, explain, select};
 use crate::rows::insert;
+use letting_go::let_statement_go;
 use name_seen::Refusal;
 use name_words::Resolved;
 use perm_catalog::Catalog;
 use sql_tree::{Statement, StatementBody};
-use statement_parts::{copy, create_table, let_statement_go, own_break, text_of};
+use statement_parts::{copy, create_table, own_break, text_of};
 use std::alloc::Global;
 
 /// The statement with its names looked up and its kinds settled, exactly where it breaks no rule of names and kinds and

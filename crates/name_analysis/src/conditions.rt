@@ -8,6 +8,7 @@ ghost use Rattle.sql_tree.specs.declared.statement.StatementBody.TheVariants as 
 ghost use Rattle.statement_parts.specs.Resolves.{ConditionSeen, ResolvesBody, ResolvesBy};
 
 use bag_algebra::Expr;
+use letting_go::{let_condition_go, let_found_go};
 use name_made::made;
 use name_nodes::Within;
 use name_seen::{Here, Refusal, Scopes, inside};
@@ -15,7 +16,7 @@ use name_words::{Break, Resolved};
 use perm_catalog::{Catalog, TableEntry};
 use perm_values::{Kind, NoMemory};
 use sql_tree::{ExprTree, Name};
-use statement_parts::{delete_of, let_condition_go, let_found_go};
+use statement_parts::delete_of;
 use statements_seen::{alone, delete_break, table_scope};
 use std::alloc::Global;
 

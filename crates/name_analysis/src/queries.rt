@@ -11,6 +11,7 @@ ghost use Rattle.sql_tree.specs.declared.name.Name.{Name as Called};
 ghost use Rattle.sql_tree.specs.declared.statement.StatementBody.TheVariants as asked;
 ghost use Rattle.statement_parts.specs.Resolves.{ResolvesBody, ResolvesBy, WholeSeen};
 
+use letting_go::let_query_go;
 use made_sources::keys_of;
 use name_made::query_made;
 use name_seen::{Around, Refusal, Scopes};
@@ -20,8 +21,8 @@ use query_facts::QueryShown;
 use query_seen::query_seen;
 use sql_tree::{Name, QueryTree};
 use statement_parts::{
-    Whole, answer_of, around_alone, entry_of, gathered_within, let_query_go, stored_break,
-    table_of, view_of, whole_with, within,
+    Whole, answer_of, around_alone, entry_of, gathered_within, stored_break, table_of, view_of,
+    whole_with, within,
 };
 use statements_seen::repeats_break;
 use std::alloc::Global;

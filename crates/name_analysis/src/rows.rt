@@ -11,6 +11,7 @@ ghost use Rattle.sql_tree.specs.declared.statement.StatementBody.TheVariants as 
 ghost use Rattle.statement_parts.specs.Resolves.{ResolvesBody, ResolvesBy};
 
 use bag_algebra::Expr;
+use letting_go::{let_found_go, let_rows_go};
 use name_made::made;
 use name_nodes::Within;
 use name_seen::{Here, Refusal, Scopes};
@@ -18,7 +19,7 @@ use name_words::{Break, Resolved};
 use perm_catalog::{Catalog, Column};
 use perm_values::{List, NoMemory};
 use sql_tree::{ExprTree, Name, ValuesRow};
-use statement_parts::{insert_of, let_found_go, let_rows_go, with_row, with_value};
+use statement_parts::{insert_of, with_row, with_value};
 use statements_seen::{alone, rows_break};
 use std::alloc::Global;
 

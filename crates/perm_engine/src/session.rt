@@ -13,7 +13,7 @@ ghost use Rattle.run_steps.specs.Resolving.{IsDue, Resolves, ResolvesBuilt};
 ghost use Rattle.perm_engine.specs.Due.{due_breaks};
 ghost use Rattle.perm_engine.specs.Sessions.{begun_with};
 
-use letting_go::{let_held_go, let_resolved_go};
+use letting_go::{let_catalog_go, let_resolved_go, let_statement_go};
 use name_analysis::resolve;
 use name_seen::Refusal;
 use name_words::{Break, Resolved};
@@ -27,7 +27,6 @@ use sql_tree::Statement;
 use statement_laws::{
     statements_keep_catalogs_sound, whole_statements_add_soundly, whole_statements_are_ready,
 };
-use statement_parts::let_statement_go;
 use statement_words::StepRefusal;
 use std::alloc::Global;
 use std::marker::Model;
@@ -98,7 +97,8 @@ impl Session {
 
     /// Lets the catalog and the last run go.
     pub(crate) fn let_go(self) {
-        let_held_go(self.catalog, self.runner);
+        let_catalog_go(self.catalog);
+        self.runner.let_go();
     }
 
     /// Runs a statement and gives its text. A statement of a form that isn't run is refused with 29 at its offset, before

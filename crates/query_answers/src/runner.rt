@@ -52,6 +52,11 @@ impl Runner {
         self.last.as_ref()
     }
 
+    /// Lets the last run go.
+    pub fn let_go(self) {
+        drop(self.last);
+    }
+
     /// Runs a query without PROVENANCE under no outer rows, and keeps it with its rows in the order of the keys, then of all
     /// columns. The run before is let go first.
     ///

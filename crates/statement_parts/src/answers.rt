@@ -1,26 +1,15 @@
-//! The answer of a query: its names, and the keys by which its rows are sorted.
-ghost use Rattle.std.specs.Prelude.{◌≡◌, IfOk, map};
+//! The columns of a query as a table has them.
+ghost use Rattle.std.specs.Prelude.{◌≡◌, IfOk};
 ghost use Rattle.clauses_seen.specs.Columns.{columns_of};
-ghost use Rattle.name_words.specs.Froms.{names_of, settled_columns};
+ghost use Rattle.name_words.specs.Froms.{settled_columns};
 ghost use Rattle.name_words.specs.Meanings.{settled};
 ghost use Rattle.name_words.specs.Statements.{stored_columns};
 ghost use Rattle.perm_values.specs.declared.kind.Kind.TheVariants.{Text as Words};
 
 use clauses_seen::ShownColumn;
 use perm_catalog::Column;
-use perm_values::{Chars, Copyable, Kind, List, NoMemory};
+use perm_values::{Copyable, Kind, List, NoMemory};
 use std::alloc::Global;
-
-/// The names of the columns.
-pub(crate) fn names_of(alloc: Global, columns: &[ShownColumn]) -> Result<List<Chars>, NoMemory>
-    ensures { IfOk result (λ names. names ≡ names_of (settled_columns (columns_of columns.now))) }
-{
-    let mut names = List::new(alloc);
-    for column in columns {
-        names.push(column.name.copy(alloc)?)?;
-    }
-    Ok(names)
-}
 
 /// The columns as a table has them, those of any kind as Text.
 pub(crate) fn stored_columns(

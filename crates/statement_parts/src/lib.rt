@@ -3,7 +3,6 @@
 #![tactic(auto)]
 
 mod answers;
-mod letting_go;
 mod limits;
 mod made;
 mod own;
@@ -11,7 +10,6 @@ mod queries;
 mod tables;
 mod whole_queries;
 
-pub use letting_go::{let_condition_go, let_found_go, let_query_go, let_rows_go, let_statement_go};
 pub use limits::within;
 pub use made::{delete_of, insert_of, table_of, view_of, with_row, with_value};
 pub use own::own_break;

@@ -1,15 +1,15 @@
 //! Statements without a query and without values: CREATE TABLE and COPY.
 ghost use Rattle.std.specs.Prelude.{◌≡◌, [], IfOk};
 ghost use Rattle.name_words.specs.Statements as words;
-ghost use Rattle.perm_catalog.specs.Columns.{column_kinds};
 ghost use Rattle.perm_catalog.specs.Contents.{Contents};
 ghost use Rattle.sql_tree.specs.declared.statement.StatementBody.TheVariants as asked;
 ghost use Rattle.statement_parts.specs.Resolves.{ResolvesBody, body_breaks};
 
+use from_columns::kinds_of_columns;
 use name_seen::Refusal;
 use name_words::{Break, Resolved};
 use perm_catalog::{Catalog, Column};
-use perm_values::{Chars, Kind, List, NoMemory};
+use perm_values::{Chars, List, NoMemory};
 use sql_tree::{ColumnDef, Name};
 use std::alloc::Global;
 
@@ -73,7 +73,7 @@ pub fn copy(
             at: table.at,
         })),
         Some(entry) => {
-            let kinds = kinds_of(alloc, entry.columns.as_slice())?;
+            let kinds = kinds_of_columns(alloc, entry.columns.as_slice())?;
             Ok(Resolved::Copy {
                 name: text_of(table),
                 kinds,
@@ -83,14 +83,4 @@ pub fn copy(
             })
         }
     }
-}
-
-fn kinds_of(alloc: Global, columns: &[Column]) -> Result<List<Kind>, NoMemory>
-    ensures { IfOk result (λ kinds. kinds ≡ column_kinds columns.now) }
-{
-    let mut kinds = List::new(alloc);
-    for column in columns {
-        kinds.push(column.kind)?;
-    }
-    Ok(kinds)
 }

@@ -12,11 +12,12 @@ ghost use Rattle.perm_catalog.specs.Sound.{IsSound};
 ghost use Rattle.query_facts.specs.Queried.{QueryWhole};
 ghost use Rattle.statement_parts.specs.Resolves.{InsideSeen, IsInside, WholeSeen, WithinSeen};
 
-use crate::answers::{names_of, stored_columns};
+use crate::answers::stored_columns;
 use crate::limits::{size_break, within};
 use crate::queries::{Whole, gathered_in, names_in, places_of};
 use bag_algebra::{Answer, Query};
 use clauses_seen::ShownColumn;
+use made_sources::column_names;
 use name_seen::{Around, Refusal};
 use perm_catalog::Column;
 use perm_values::{Chars, Key, List, NoMemory};
@@ -123,7 +124,7 @@ fn shown_parts(
     ensures keys { IfOk result (λ parts. keys ≡ Ok parts.2) }
 {
     let stored = stored_columns(alloc, columns)?;
-    let names = names_of(alloc, columns)?;
+    let names = column_names(alloc, columns)?;
     let keys = keys?;
     Ok((stored, names, keys))
 }
