@@ -10,3 +10,4 @@ pub mod SortedBags
 pub mod TablesRead
 pub mod Truths
 pub mod Widths
+pub mod measures

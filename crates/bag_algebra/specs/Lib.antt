@@ -21,3 +21,4 @@ pub mod Scoped
 pub mod TableRows
 pub mod TablesRead
 pub mod WellFormed
+pub mod measures

@@ -32,3 +32,4 @@ pub mod TablesRead
 pub mod TruthKept
 pub mod ValueKinds
 pub mod WhereGood
+pub mod parts

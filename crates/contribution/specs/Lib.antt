@@ -9,3 +9,4 @@ pub mod NullRow
 pub mod SameColumns
 pub mod SameMeaning
 pub mod SublinkValues
+pub mod parts

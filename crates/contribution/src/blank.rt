@@ -9,9 +9,9 @@ ghost use Rattle.bag_algebra.specs.WellFormed.{WellFormed};
 ghost use Rattle.contribution.specs.NullRow.{null_row_of};
 ghost use Rattle.perm_values.specs.declared.kind.Kind.{Kind as Sort};
 
+use crate::parts::{null_items, projection};
 use bag_algebra::Query;
 use perm_values::{Kind, NoMemory};
-use query_parts::{null_items, projection};
 use std::alloc::Global;
 
 /// A query of these kinds that is never bad and has exactly one row, of NULLs: a projection of the empty row, without

@@ -20,10 +20,10 @@ ghost use Rattle.contribution.specs.HeldRows.{held_rows, StandAt};
 ghost use Rattle.perm_values.specs.declared.kind.Kind.{Kind as Sort};
 
 use crate::blank::null_row;
+use crate::parts::{column_items, joined, projection};
 use crate::places::add_picked;
 use bag_algebra::{Expr, JoinKind, Query, Sublink};
 use perm_values::{Copyable, Kind, List, NoMemory, Value, both, boxes};
-use query_parts::{column_items, joined, projection};
 use std::alloc::Global;
 
 /// A source over a table: the table, and the places of the source.

@@ -6,8 +6,10 @@ mod blank;
 mod cross;
 mod laws;
 mod names;
+mod parts;
 mod places;
 
+pub use crate::parts::regroup;
 pub use blank::null_row;
 pub use cross::{TableSource, cross_base};
 pub use laws::{
@@ -18,5 +20,8 @@ pub use laws::{
     values_added_to_outer_rows_change_nothing, values_have_their_kinds,
 };
 pub use names::prov_names;
+pub use parts::{
+    column_items, filtered, joined, kind_or_text, moved, null_items, padded, projection,
+    same_columns,
+};
 pub use places::{PlaceList, kinds, shape};
-pub use query_parts::regroup;

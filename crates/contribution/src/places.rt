@@ -16,9 +16,9 @@ ghost use Rattle.contribution.specs.Longer.{Longer};
 ghost use Rattle.contribution.specs.SublinkValues.{contributing_value};
 ghost use Rattle.perm_values.specs.declared.kind.Kind.{Kind as Sort};
 
+use crate::parts::kind_or_text;
 use bag_algebra::{Aggr, Item, Label, Place, Query, Sublink};
 use perm_values::{Copyable, Kind, List, NoMemory};
-use query_parts::kind_or_text;
 use std::alloc::Global;
 
 /// The places of a query's witness lists, in order.

@@ -1,7 +1,7 @@
-pub mod Joining
 pub mod Fields
+pub mod Fitting
+pub mod InLoop
+pub mod Joining
+pub mod ReadBack
 pub mod Records
 pub mod Rules
-pub mod InLoop
-pub mod ReadBack
-pub mod Fitting

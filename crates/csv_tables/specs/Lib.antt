@@ -1,3 +1,4 @@
 pub mod AnswerText
 pub mod Loading
 pub mod ReadBack
+pub mod errors

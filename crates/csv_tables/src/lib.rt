@@ -3,10 +3,12 @@
 
 mod answer;
 mod data_error;
+mod errors;
 mod laws;
 mod loading;
 
 pub use answer::answer_text;
 pub use data_error::DataError;
+pub use errors::{Line, data_line, error_line};
 pub use laws::answers_read_back;
 pub use loading::load;

@@ -16,17 +16,17 @@ use Rattle.sql_tree.specs.declared.query.QueryTree.{QueryTree}
 use Rattle.sql_tree.specs.declared.statement.Statement.{Statement}
 use Rattle.sql_tree.specs.declared.statement.StatementBody.{StatementBody}
 use Rattle.sql_tree.specs.declared.statement.StatementBody.TheVariants as st
-use Rattle.name_words.specs.Cores.{settle}
-use Rattle.name_words.specs.Froms.{names_of, settled_columns}
-use Rattle.name_words.specs.Meanings.{OutColumn, QueryMeant, broken_if, is_whole, settled}
-use Rattle.name_words.specs.Scopes.{KnownColumn}
-use Rattle.name_words.specs.Statements as words
-use Rattle.name_words.specs.declared.answer.Break.{Break}
+use Rattle.name_meaning.specs.Cores.{settle}
+use Rattle.name_meaning.specs.Froms.{names_of, settled_columns}
+use Rattle.name_meaning.specs.Meanings.{OutColumn, QueryMeant, broken_if, is_whole, settled}
+use Rattle.name_meaning.specs.Scopes.{KnownColumn}
+use Rattle.name_meaning.specs.Statements as words
+use Rattle.name_meaning.specs.declared.answer.Break.{Break}
 use Rattle.name_laws.proofs.Every.{back-none, front-none}
 use Rattle.name_laws.proofs.Trees.{query-in_scope, query-known}
-use Rattle.name_forms.specs.Formed.{IsAnswer}
-use Rattle.name_forms.proofs.TreeLaws.{query-answer, query-closed}
-use Rattle.name_tables.proofs.Named.{view-reads}
+use Rattle.name_laws.specs.forms.Formed.{IsAnswer}
+use Rattle.name_laws.proofs.forms.TreeLaws.{query-answer, query-closed}
+use Rattle.name_laws.proofs.tables.Named.{view-reads}
 use Rattle.name_analysis.specs.Stands.{AnswerStands, BodyStands, IsHeldTable, shown_kinds}
 
 abbrev known_kinds : List KnownColumn → List Kind

@@ -14,10 +14,10 @@ use Rattle.perm_catalog.specs.declared.entries.TableEntry.{TableEntry}
 use Rattle.sql_tree.specs.declared.query.QueryTree.{QueryTree}
 use Rattle.sql_tree.specs.declared.statement.StatementBody.{StatementBody}
 use Rattle.sql_tree.specs.declared.statement.StatementBody.TheVariants as st
-use Rattle.name_words.specs.Scopes.{KnownColumn}
-use Rattle.name_words.specs.Statements.{columns_of, query_meant}
-use Rattle.name_words.specs.declared.answer.Resolved.{Resolved}
-use Rattle.name_words.specs.declared.answer.Resolved.TheVariants as r
+use Rattle.name_meaning.specs.Scopes.{KnownColumn}
+use Rattle.name_meaning.specs.Statements.{columns_of, query_meant}
+use Rattle.name_meaning.specs.declared.answer.Resolved.{Resolved}
+use Rattle.name_meaning.specs.declared.answer.Resolved.TheVariants as r
 
 -- a table of the catalog has this number, and columns of these kinds
 pub record IsHeldTable (c : Contents) (id : ℕ) (kinds : List Kind) : Type 0 where

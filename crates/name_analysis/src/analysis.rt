@@ -1,19 +1,18 @@
 //! The statement resolved.
 ghost use Rattle.std.specs.Prelude.{◌≡◌, []};
-ghost use Rattle.name_words.specs.Statements.{breaks, resolved};
+ghost use Rattle.name_meaning.specs.Statements.{breaks, resolved};
 ghost use Rattle.perm_catalog.specs.Sound.{IsSound};
-ghost use Rattle.statement_parts.specs.Own.{TellsFirst, own_breaks};
-ghost use Rattle.statement_parts.specs.Resolves.{Resolves};
+ghost use Rattle.name_statements.specs.Own.{TellsFirst, own_breaks};
+ghost use Rattle.name_statements.specs.Resolves.{Resolves};
 
 use crate::conditions::delete;
 use crate::queries::{create_table_as, create_view, explain, select};
 use crate::rows::insert;
-use letting_go::let_statement_go;
-use name_seen::Refusal;
-use name_words::Resolved;
+use name_meaning::Resolved;
+use name_seen_parts::Refusal;
+use name_statements::{copy, create_table, let_statement_go, own_break, text_of};
 use perm_catalog::Catalog;
 use sql_tree::{Statement, StatementBody};
-use statement_parts::{copy, create_table, own_break, text_of};
 use std::alloc::Global;
 
 /// The statement with its names looked up and its kinds settled, exactly where it breaks no rule of names and kinds and

@@ -1,23 +1,23 @@
 //! DELETE.
 ghost use Rattle.std.specs.Prelude.{◌≡◌, [], IfOk, Some};
-ghost use Rattle.name_words.specs.Statements as words;
+ghost use Rattle.name_meaning.specs.Statements as words;
 ghost use Rattle.perm_catalog.specs.Changes.{table_named};
 ghost use Rattle.perm_catalog.specs.Sound.{IsSound};
-ghost use Rattle.name_words.specs.declared.answer.Resolved.TheVariants as answered;
+ghost use Rattle.name_meaning.specs.declared.answer.Resolved.TheVariants as answered;
 ghost use Rattle.sql_tree.specs.declared.statement.StatementBody.TheVariants as asked;
-ghost use Rattle.statement_parts.specs.Resolves.{ConditionSeen, ResolvesBody, ResolvesBy};
+ghost use Rattle.name_statements.specs.Resolves.{ConditionSeen, ResolvesBody, ResolvesBy};
 
 use bag_algebra::Expr;
-use letting_go::{let_condition_go, let_found_go};
 use name_made::made;
-use name_nodes::Within;
-use name_seen::{Here, Refusal, Scopes, inside};
-use name_words::{Break, Resolved};
+use name_made_nodes::Within;
+use name_meaning::{Break, Resolved};
+use name_seen_parts::{Here, Refusal, Scopes, inside};
+use name_statements::{
+    alone, delete_break, delete_of, let_condition_go, let_found_go, table_scope,
+};
 use perm_catalog::{Catalog, TableEntry};
 use perm_values::{Kind, NoMemory};
 use sql_tree::{ExprTree, Name};
-use statement_parts::delete_of;
-use statements_seen::{alone, delete_break, table_scope};
 use std::alloc::Global;
 
 /// DELETE.

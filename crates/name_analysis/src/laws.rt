@@ -1,7 +1,7 @@
 //! Each law is the contract of a function that does nothing.
 ghost use Rattle.std.specs.Prelude.{◌≡◌, []};
 ghost use Rattle.name_analysis.specs.Stands.{BodyStands};
-ghost use Rattle.name_words.specs.Statements.{breaks, resolved};
+ghost use Rattle.name_meaning.specs.Statements.{breaks, resolved};
 ghost use Rattle.perm_catalog.specs.Contents.{Contents};
 ghost use Rattle.perm_catalog.specs.Sound.{IsSound};
 ghost use Rattle.sql_tree.specs.Regular.{RegularStatement};

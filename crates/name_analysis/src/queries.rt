@@ -1,30 +1,28 @@
 //! Statements over a query.
 ghost use Rattle.std.specs.Prelude.{◌≡◌, []};
-ghost use Rattle.name_seen.specs.Standing.{around_of};
-ghost use Rattle.name_words.specs.Meanings.{query_means_at};
-ghost use Rattle.name_words.specs.Statements as words;
-ghost use Rattle.name_words.specs.Trees.{query_of};
-ghost use Rattle.name_words.specs.declared.answer.Resolved.TheVariants as answered;
+ghost use Rattle.name_seen_parts.specs.Standing.{around_of};
+ghost use Rattle.name_meaning.specs.Meanings.{query_means_at};
+ghost use Rattle.name_meaning.specs.Statements as words;
+ghost use Rattle.name_meaning.specs.Trees.{query_of};
+ghost use Rattle.name_meaning.specs.declared.answer.Resolved.TheVariants as answered;
 ghost use Rattle.perm_catalog.specs.Sound.{IsSound};
-ghost use Rattle.query_facts.specs.Queried.{QueryWhole};
+ghost use Rattle.name_seen_from.specs.Queried.{QueryWhole};
 ghost use Rattle.sql_tree.specs.declared.name.Name.{Name as Called};
 ghost use Rattle.sql_tree.specs.declared.statement.StatementBody.TheVariants as asked;
-ghost use Rattle.statement_parts.specs.Resolves.{ResolvesBody, ResolvesBy, WholeSeen};
+ghost use Rattle.name_statements.specs.Resolves.{ResolvesBody, ResolvesBy, WholeSeen};
 
-use letting_go::let_query_go;
-use made_sources::keys_of;
 use name_made::query_made;
-use name_seen::{Around, Refusal, Scopes};
-use name_words::Resolved;
-use perm_catalog::{Catalog, ViewEntry};
-use query_facts::QueryShown;
-use query_seen::query_seen;
-use sql_tree::{Name, QueryTree};
-use statement_parts::{
-    Whole, answer_of, around_alone, entry_of, gathered_within, stored_break, table_of, view_of,
-    whole_with, within,
+use name_made_parts::keys_of;
+use name_meaning::Resolved;
+use name_seen::query_seen;
+use name_seen_from::QueryShown;
+use name_seen_parts::{Around, Refusal, Scopes};
+use name_statements::{
+    Whole, answer_of, around_alone, entry_of, gathered_within, let_query_go, repeats_break,
+    stored_break, table_of, view_of, whole_with, within,
 };
-use statements_seen::repeats_break;
+use perm_catalog::{Catalog, ViewEntry};
+use sql_tree::{Name, QueryTree};
 use std::alloc::Global;
 
 /// SELECT.

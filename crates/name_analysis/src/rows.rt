@@ -1,26 +1,26 @@
 //! INSERT.
 ghost use Rattle.std.specs.Prelude.{◌≡◌, [], IfOk, flat_map, length};
-ghost use Rattle.name_seen.specs.Standing.{surroundings};
-ghost use Rattle.name_words.specs.Meanings.{means_at};
-ghost use Rattle.name_words.specs.Statements as words;
-ghost use Rattle.name_words.specs.Trees.{part_of};
+ghost use Rattle.name_seen_parts.specs.Standing.{surroundings};
+ghost use Rattle.name_meaning.specs.Meanings.{means_at};
+ghost use Rattle.name_meaning.specs.Statements as words;
+ghost use Rattle.name_meaning.specs.Trees.{part_of};
 ghost use Rattle.perm_catalog.specs.Columns.{column_kinds};
 ghost use Rattle.perm_catalog.specs.Sound.{IsSound};
-ghost use Rattle.name_words.specs.declared.answer.Resolved.TheVariants as answered;
+ghost use Rattle.name_meaning.specs.declared.answer.Resolved.TheVariants as answered;
 ghost use Rattle.sql_tree.specs.declared.statement.StatementBody.TheVariants as asked;
-ghost use Rattle.statement_parts.specs.Resolves.{ResolvesBody, ResolvesBy};
+ghost use Rattle.name_statements.specs.Resolves.{ResolvesBody, ResolvesBy};
 
 use bag_algebra::Expr;
-use letting_go::{let_found_go, let_rows_go};
 use name_made::made;
-use name_nodes::Within;
-use name_seen::{Here, Refusal, Scopes};
-use name_words::{Break, Resolved};
+use name_made_nodes::Within;
+use name_meaning::{Break, Resolved};
+use name_seen_parts::{Here, Refusal, Scopes};
+use name_statements::{
+    alone, insert_of, let_found_go, let_rows_go, rows_break, with_row, with_value,
+};
 use perm_catalog::{Catalog, Column};
 use perm_values::{List, NoMemory};
 use sql_tree::{ExprTree, Name, ValuesRow};
-use statement_parts::{insert_of, with_row, with_value};
-use statements_seen::{alone, rows_break};
 use std::alloc::Global;
 
 /// INSERT.

@@ -1,7 +1,7 @@
 -- What a query keeps, whatever is wanted of its columns.
 use Rattle.std.specs.Prelude.{◌≡◌, List, []}
 use Rattle.perm_values.specs.declared.kind.Kind.{Kind}
-use Rattle.name_words.specs.Meanings.{Around, QueryMeant, QueryPart}
+use Rattle.name_meaning.specs.Meanings.{Around, QueryMeant, QueryPart}
 use Rattle.name_laws.specs.Facts.{facts_of}
 use Rattle.name_laws.specs.Known.{HasItsKinds}
 use Rattle.name_laws.proofs.NamedPlaces.{AreNamed}

@@ -10,15 +10,15 @@ use Rattle.bag_algebra.specs.declared.query.Aggr.{Aggr}
 use Rattle.bag_algebra.specs.declared.query.Query.{Query}
 use Rattle.bag_algebra.specs.declared.query.Query.TheVariants.{Project}
 use Rattle.sql_tree.specs.declared.name.ColRef.{ColRef}
-use Rattle.name_words.specs.Cores.{settle, settle_known, in_clause, optional_meant, optional_built, optional_breaks, group_break, group_scope, filtered, aggregated_input, distinct_if, core_query, Clauses, list_columns, before_list, clauses_query, core_meant, core_unlooked, core_clauses, clause_breaks, core_over, word_breaks, core_trace, core_seen}
-use Rattle.name_words.specs.Froms.{FromMeant}
-use Rattle.name_words.specs.Items.{Made, SelectPart, made_items, named_from, items_breaks}
-use Rattle.name_words.specs.Meanings.{Surroundings, Meant, Part, Around, OutColumn, is_whole}
-use Rattle.name_words.specs.Scopes.{ScopeItem, scope_of}
-use Rattle.name_words.specs.Sublinks.{nothing_before}
-use Rattle.name_words.specs.declared.answer.Break.{Break}
-use Rattle.name_words.specs.declared.scope.Scope.{Scope}
-use Rattle.name_words.specs.declared.trace.Trace.{Trace}
+use Rattle.name_meaning.specs.Cores.{settle, settle_known, in_clause, optional_meant, optional_built, optional_breaks, group_break, group_scope, filtered, aggregated_input, distinct_if, core_query, Clauses, list_columns, before_list, clauses_query, core_meant, core_unlooked, core_clauses, clause_breaks, core_over, word_breaks, core_trace, core_seen}
+use Rattle.name_meaning.specs.Froms.{FromMeant}
+use Rattle.name_meaning.specs.Items.{Made, SelectPart, made_items, named_from, items_breaks}
+use Rattle.name_meaning.specs.Meanings.{Surroundings, Meant, Part, Around, OutColumn, is_whole}
+use Rattle.name_meaning.specs.Scopes.{ScopeItem, scope_of}
+use Rattle.name_meaning.specs.Sublinks.{nothing_before}
+use Rattle.name_meaning.specs.declared.answer.Break.{Break}
+use Rattle.name_meaning.specs.declared.scope.Scope.{Scope}
+use Rattle.name_meaning.specs.declared.trace.Trace.{Trace}
 use Rattle.name_laws.specs.Facts.{Facts, facts_of, both_facts, sub_facts}
 use Rattle.name_laws.specs.Known.{item_kinds}
 use Rattle.name_laws.proofs.Every.{Every, every-append, every-map, back-none}

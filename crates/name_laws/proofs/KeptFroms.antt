@@ -27,13 +27,13 @@ use Rattle.sql_tree.specs.declared.name.Name.{Name}
 use Rattle.sql_tree.specs.declared.source.JoinWord.{JoinWord}
 use Rattle.sql_tree.specs.declared.source.ScopeMark.{ScopeMark}
 use Rattle.sql_tree.specs.declared.source.ScopeMark.TheVariants as mark
-use Rattle.name_words.specs.Cores.{settle}
-use Rattle.name_words.specs.Froms.{names_of, names_at, all_places, table_columns, settled_columns, named_columns, Read, external, read_table, read_view, read_nothing, read_named, read_query, named_so, place_of, texts_of, marked, mark_breaks, trace_under, SourcePart, named as named_source, inner as inner_source, ItemMeant, FromItemPart, read_of, read_names, scope_break, item_meant, FromMeant, JoinPart, FromPart, join_kind, scope_items, both_known, first_item, on_meant, on_breaks, on_made, joined, join_item, join_all, beside_from, from_more, from_all, yes}
-use Rattle.name_words.specs.Meanings.{Around, Meant, Part, OutColumn, QueryMeant, broken_if, settled}
-use Rattle.name_words.specs.Scopes.{KnownColumn, ScopeItem}
-use Rattle.name_words.specs.declared.answer.Break.{Break}
-use Rattle.name_words.specs.declared.scope.Scope.{Scope}
-use Rattle.name_words.specs.declared.trace.Trace.{Trace}
+use Rattle.name_meaning.specs.Cores.{settle}
+use Rattle.name_meaning.specs.Froms.{names_of, names_at, all_places, table_columns, settled_columns, named_columns, Read, external, read_table, read_view, read_nothing, read_named, read_query, named_so, place_of, texts_of, marked, mark_breaks, trace_under, SourcePart, named as named_source, inner as inner_source, ItemMeant, FromItemPart, read_of, read_names, scope_break, item_meant, FromMeant, JoinPart, FromPart, join_kind, scope_items, both_known, first_item, on_meant, on_breaks, on_made, joined, join_item, join_all, beside_from, from_more, from_all, yes}
+use Rattle.name_meaning.specs.Meanings.{Around, Meant, Part, OutColumn, QueryMeant, broken_if, settled}
+use Rattle.name_meaning.specs.Scopes.{KnownColumn, ScopeItem}
+use Rattle.name_meaning.specs.declared.answer.Break.{Break}
+use Rattle.name_meaning.specs.declared.scope.Scope.{Scope}
+use Rattle.name_meaning.specs.declared.trace.Trace.{Trace}
 use Rattle.name_laws.specs.Facts.{Facts}
 use Rattle.name_laws.specs.Known.{ReadIsKnown, ItemIsKnown, FromIsKnown, column_kinds_of, items_kinds}
 use Rattle.name_laws.proofs.Every.{Every, every-append, front-none, back-none}

@@ -7,12 +7,12 @@ use Rattle.perm_values.specs.declared.kind.Kind.{Kind}
 use Rattle.perm_values.specs.declared.kind.Kind.TheVariants as kind
 use Rattle.bag_algebra.specs.declared.expr.Item.{Item}
 use Rattle.sql_tree.specs.declared.name.Name.{Name}
-use Rattle.name_words.specs.Items.{Titled, Made, SelectMeant, SelectPart, titled, column_item, columns_meant, no_columns, star_meant, table_star_meant, first_wanted, value_meant, all_known, width_of_item, made_items, items_breaks}
-use Rattle.name_words.specs.Meanings.{Surroundings, Before, Meant, is_whole, seen_kind, settled}
-use Rattle.name_words.specs.Operands.{behind}
-use Rattle.name_words.specs.Scopes.{Placed, placed, item_columns}
-use Rattle.name_words.specs.declared.answer.Break.{Break}
-use Rattle.name_words.specs.declared.scope.Scope.{Scope}
+use Rattle.name_meaning.specs.Items.{Titled, Made, SelectMeant, SelectPart, titled, column_item, columns_meant, no_columns, star_meant, table_star_meant, first_wanted, value_meant, all_known, width_of_item, made_items, items_breaks}
+use Rattle.name_meaning.specs.Meanings.{Surroundings, Before, Meant, is_whole, seen_kind, settled}
+use Rattle.name_meaning.specs.Operands.{behind}
+use Rattle.name_meaning.specs.Scopes.{Placed, placed, item_columns}
+use Rattle.name_meaning.specs.declared.answer.Break.{Break}
+use Rattle.name_meaning.specs.declared.scope.Scope.{Scope}
 use Rattle.name_laws.specs.Facts.{both_facts, sub_facts}
 use Rattle.name_laws.specs.Known.{item_kinds}
 use Rattle.name_laws.proofs.Every.{Every, front-none, back-none}

@@ -11,12 +11,12 @@ use Rattle.bag_algebra.specs.declared.query.Query.{Query}
 use Rattle.sql_tree.specs.declared.query.OrderTree.{OrderTree}
 use Rattle.sql_tree.specs.declared.query.SetWord.{SetWord}
 use Rattle.sql_tree.specs.declared.query.SetWord.TheVariants as word
-use Rattle.name_words.specs.Cores.{BodyPart, settle, settle_known}
-use Rattle.name_words.specs.Froms.{named_columns}
-use Rattle.name_words.specs.Meanings.{Around, OutColumn, QueryMeant, is_whole}
-use Rattle.name_words.specs.Queries.{SetStepPart, set_of, united_columns, columns_so_far, operand_breaks, set_joined, unprovable, set_chain, keys_of, keys_breaks, limited, out_column, provenance_columns, plain_query, proved_columns, proved_query, is_proving, query_seen}
-use Rattle.name_words.specs.declared.answer.Break.{Break}
-use Rattle.name_words.specs.declared.trace.Trace.TheVariants.{InProvenance as in_provenance}
+use Rattle.name_meaning.specs.Cores.{BodyPart, settle, settle_known}
+use Rattle.name_meaning.specs.Froms.{named_columns}
+use Rattle.name_meaning.specs.Meanings.{Around, OutColumn, QueryMeant, is_whole}
+use Rattle.name_meaning.specs.Queries.{SetStepPart, set_of, united_columns, columns_so_far, operand_breaks, set_joined, unprovable, set_chain, keys_of, keys_breaks, limited, out_column, provenance_columns, plain_query, proved_columns, proved_query, is_proving, query_seen}
+use Rattle.name_meaning.specs.declared.answer.Break.{Break}
+use Rattle.name_meaning.specs.declared.trace.Trace.TheVariants.{InProvenance as in_provenance}
 use Rattle.name_laws.specs.Facts.{Facts, facts_of, both_facts, proved_facts}
 use Rattle.name_laws.specs.Known.{HasItsKinds}
 use Rattle.name_laws.proofs.Every.{Every, every-append, front-none, back-none}

@@ -16,3 +16,5 @@ mod Scopes
 mod Settled
 mod SteadyMeant
 pub mod Trees
+pub mod forms
+pub mod tables

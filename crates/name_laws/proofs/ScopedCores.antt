@@ -12,17 +12,17 @@ use Rattle.sql_tree.specs.declared.name.ColRef.{ColRef}
 use Rattle.sql_tree.specs.declared.query.OrderTree.{OrderTree}
 use Rattle.sql_tree.specs.declared.query.SetWord.{SetWord}
 use Rattle.sql_tree.specs.declared.query.SetWord.TheVariants as word
-use Rattle.name_words.specs.Cores.{BodyPart, settle_known, in_clause, optional_meant, optional_built, optional_breaks, group_break, group_scope, filtered, aggregated_input, distinct_if, Clauses, list_columns, before_list, core_unlooked, core_clauses, clause_breaks, core_over, word_breaks, core_trace, core_seen}
-use Rattle.name_words.specs.Froms.{FromMeant}
-use Rattle.name_words.specs.Items.{Made, SelectPart, made_items, items_breaks}
-use Rattle.name_words.specs.Meanings.{Surroundings, Part, Around, QueryMeant, is_whole, broken, broken_if, seen_kind, unites}
-use Rattle.name_words.specs.Queries.{SetStepPart, set_of, columns_so_far, operand_breaks, set_joined, unprovable, set_chain, keys_of, keys_breaks, limited, plain_query, proved_query, is_proving, query_seen}
-use Rattle.name_words.specs.Scopes.{ScopeItem, scope_of}
-use Rattle.name_words.specs.Sublinks.{nothing_before}
-use Rattle.name_words.specs.declared.answer.Break.{Break}
-use Rattle.name_words.specs.declared.scope.Scope.{Scope}
-use Rattle.name_words.specs.declared.trace.Trace.{Trace}
-use Rattle.name_words.specs.declared.trace.Trace.TheVariants.{Untraced as untraced, InProvenance as in_provenance}
+use Rattle.name_meaning.specs.Cores.{BodyPart, settle_known, in_clause, optional_meant, optional_built, optional_breaks, group_break, group_scope, filtered, aggregated_input, distinct_if, Clauses, list_columns, before_list, core_unlooked, core_clauses, clause_breaks, core_over, word_breaks, core_trace, core_seen}
+use Rattle.name_meaning.specs.Froms.{FromMeant}
+use Rattle.name_meaning.specs.Items.{Made, SelectPart, made_items, items_breaks}
+use Rattle.name_meaning.specs.Meanings.{Surroundings, Part, Around, QueryMeant, is_whole, broken, broken_if, seen_kind, unites}
+use Rattle.name_meaning.specs.Queries.{SetStepPart, set_of, columns_so_far, operand_breaks, set_joined, unprovable, set_chain, keys_of, keys_breaks, limited, plain_query, proved_query, is_proving, query_seen}
+use Rattle.name_meaning.specs.Scopes.{ScopeItem, scope_of}
+use Rattle.name_meaning.specs.Sublinks.{nothing_before}
+use Rattle.name_meaning.specs.declared.answer.Break.{Break}
+use Rattle.name_meaning.specs.declared.scope.Scope.{Scope}
+use Rattle.name_meaning.specs.declared.trace.Trace.{Trace}
+use Rattle.name_meaning.specs.declared.trace.Trace.TheVariants.{Untraced as untraced, InProvenance as in_provenance}
 use Rattle.name_laws.specs.Traced.{IsInScope}
 use Rattle.name_laws.proofs.Every.{Every, every-map, front-none, back-none}
 use Rattle.name_laws.proofs.KeptCores.{never-whole}

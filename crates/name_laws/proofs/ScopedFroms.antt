@@ -15,16 +15,16 @@ use Rattle.perm_catalog.specs.Sound.{IsSound, IsSoundView}
 use Rattle.perm_catalog.specs.declared.entries.Mark.{Mark}
 use Rattle.perm_catalog.specs.declared.entries.TableEntry.{TableEntry}
 use Rattle.perm_catalog.specs.declared.entries.ViewEntry.{ViewEntry}
-use Rattle.query_measures.specs.BuiltScopes.{is_scoped-Base, traceable-Base}
+use Rattle.bag_algebra.specs.measures.BuiltScopes.{is_scoped-Base, traceable-Base}
 use Rattle.sql_tree.specs.declared.name.Name.{Name}
 use Rattle.sql_tree.specs.declared.source.JoinWord.{JoinWord}
 use Rattle.sql_tree.specs.declared.source.ScopeMark.{ScopeMark}
 use Rattle.sql_tree.specs.declared.source.ScopeMark.TheVariants as mark
-use Rattle.name_words.specs.Froms.{names_of, names_at, all_places, table_columns, Read, external, read_table, read_view, read_nothing, read_named, read_query, named_so, place_of, texts_of, marked, mark_breaks, trace_under, is_out_of_scope, SourcePart, named as named_source, inner as inner_source, ItemMeant, FromItemPart, read_of, read_names, scope_break, item_meant, FromMeant, JoinPart, FromPart, join_kind, both_known, scope_items, on_meant, on_breaks, on_made, joined, join_item, join_all, beside_from, from_more, from_all, yes}
-use Rattle.name_words.specs.Meanings.{Meant, Part, QueryMeant, broken_if, is_whole}
-use Rattle.name_words.specs.declared.answer.Break.{Break}
-use Rattle.name_words.specs.declared.scope.Scope.{Scope}
-use Rattle.name_words.specs.declared.trace.Trace.{Trace}
+use Rattle.name_meaning.specs.Froms.{names_of, names_at, all_places, table_columns, Read, external, read_table, read_view, read_nothing, read_named, read_query, named_so, place_of, texts_of, marked, mark_breaks, trace_under, is_out_of_scope, SourcePart, named as named_source, inner as inner_source, ItemMeant, FromItemPart, read_of, read_names, scope_break, item_meant, FromMeant, JoinPart, FromPart, join_kind, both_known, scope_items, on_meant, on_breaks, on_made, joined, join_item, join_all, beside_from, from_more, from_all, yes}
+use Rattle.name_meaning.specs.Meanings.{Meant, Part, QueryMeant, broken_if, is_whole}
+use Rattle.name_meaning.specs.declared.answer.Break.{Break}
+use Rattle.name_meaning.specs.declared.scope.Scope.{Scope}
+use Rattle.name_meaning.specs.declared.trace.Trace.{Trace}
 use Rattle.name_laws.specs.Facts.{facts_of}
 use Rattle.name_laws.specs.Traced.{MayBeTraced, IsInScope}
 use Rattle.name_laws.proofs.Every.{Every, front-none, back-none}

@@ -7,19 +7,19 @@ use Rattle.bag_algebra.specs.declared.expr.Expr.{Expr}
 use Rattle.bag_algebra.specs.declared.query.SubKind.{SubKind}
 use Rattle.sql_tree.specs.declared.expression.AggWord.{AggWord}
 use Rattle.sql_tree.specs.declared.name.Name.{Name}
-use Rattle.name_words.specs.Expressions.{known, null_meant, StepPart, ArmPart, step_operand, arm_operands, else_operand, case_made, case_meant}
-use Rattle.name_words.specs.Items.{Made, SelectMeant, SelectPart, columns_meant, no_columns, star_meant, table_star_meant, first_wanted, value_meant, width_of_item, made_items, items_breaks}
-use Rattle.name_words.specs.Meanings.{Surroundings, Before, Built, Meant, Part, Around, QueryMeant, QueryPart, seen_kind, settled, trace_below, broken, broken_if}
-use Rattle.name_words.specs.Operands.{Operand, operand, node, need_of, gives_of, operated, made_parts, behind, wanted_of, alike_wanted, united, parts_breaks, unfit_break, first_unfit}
-use Rattle.name_words.specs.Scopes.{Placed, item_columns}
-use Rattle.name_words.specs.Sublinks.{column_meant, breaking, aggregate_meant, around_of, exists_meant, scalar_meant, in_tested, is_one_column, first_kind, tested_kind, tested_meant, tested_looked, tested_unlooked, tested_break, if_standing}
-use Rattle.name_words.specs.declared.need.Gives.{Gives}
-use Rattle.name_words.specs.declared.need.Gives.TheVariants.{Common as common}
-use Rattle.name_words.specs.declared.need.Need.{Need}
-use Rattle.name_words.specs.declared.scope.Found.{Found}
-use Rattle.name_words.specs.declared.scope.Found.TheVariants.{Absent as absent, Ambiguous as ambiguous, Column as found}
-use Rattle.name_words.specs.declared.scope.Scope.{Scope}
-use Rattle.name_words.specs.declared.trace.Trace.{Trace}
+use Rattle.name_meaning.specs.Expressions.{known, null_meant, StepPart, ArmPart, step_operand, arm_operands, else_operand, case_made, case_meant}
+use Rattle.name_meaning.specs.Items.{Made, SelectMeant, SelectPart, columns_meant, no_columns, star_meant, table_star_meant, first_wanted, value_meant, width_of_item, made_items, items_breaks}
+use Rattle.name_meaning.specs.Meanings.{Surroundings, Before, Built, Meant, Part, Around, QueryMeant, QueryPart, seen_kind, settled, trace_below, broken, broken_if}
+use Rattle.name_meaning.specs.Operands.{Operand, operand, node, need_of, gives_of, operated, made_parts, behind, wanted_of, alike_wanted, united, parts_breaks, unfit_break, first_unfit}
+use Rattle.name_meaning.specs.Scopes.{Placed, item_columns}
+use Rattle.name_meaning.specs.Sublinks.{column_meant, breaking, aggregate_meant, around_of, exists_meant, scalar_meant, in_tested, is_one_column, first_kind, tested_kind, tested_meant, tested_looked, tested_unlooked, tested_break, if_standing}
+use Rattle.name_meaning.specs.declared.need.Gives.{Gives}
+use Rattle.name_meaning.specs.declared.need.Gives.TheVariants.{Common as common}
+use Rattle.name_meaning.specs.declared.need.Need.{Need}
+use Rattle.name_meaning.specs.declared.scope.Found.{Found}
+use Rattle.name_meaning.specs.declared.scope.Found.TheVariants.{Absent as absent, Ambiguous as ambiguous, Column as found}
+use Rattle.name_meaning.specs.declared.scope.Scope.{Scope}
+use Rattle.name_meaning.specs.declared.trace.Trace.{Trace}
 use Rattle.name_laws.specs.Traced.{IsInScope, AreInScope}
 use Rattle.name_laws.proofs.Every.{Every, every-append, every-map, every-flat_map, front-none, back-none}
 use Rattle.name_laws.proofs.Scopes.{scope-none, scope-append, scope-sub}

@@ -15,19 +15,19 @@ use Rattle.sql_tree.specs.declared.query.SelectItem.{SelectItem}
 use Rattle.sql_tree.specs.declared.query.SetTree.{SetTree}
 use Rattle.sql_tree.specs.declared.source.FromItem.{FromItem}
 use Rattle.sql_tree.specs.declared.source.FromTree.{FromTree}
-use Rattle.name_words.proofs.Equations.{ExprBodyFrame, SelectItemFrame, SetTreeFrame, FromSourceFrame, CoreFrame}
-use Rattle.name_words.specs.Cores.{core_step, core_trace, has_some}
-use Rattle.name_words.specs.Expressions.{Body, body_step, first_of, second_of, negated_if, times, chain_made, step_operand, first_need, chain_gives, in_kind}
-use Rattle.name_words.specs.Froms.{source_step, from_all, first_item, label_of, scope_name, read_of}
-use Rattle.name_words.specs.Items.{item_step, title}
-use Rattle.name_words.specs.Meanings.{Surroundings, Part}
-use Rattle.name_words.specs.Operands.{operand}
-use Rattle.name_words.specs.Queries.{set_step, unprovable}
-use Rattle.name_words.specs.Scopes.{look_up}
-use Rattle.name_words.specs.Sublinks.{null_at, around_of, exists_meant, scalar_meant}
-use Rattle.name_words.specs.declared.need.Gives.TheVariants.{Always as always, Common as common}
-use Rattle.name_words.specs.declared.need.Need.TheVariants.{OfKind as of_kind, Alike as alike, Free as free}
-use Rattle.name_words.specs.Trees.{part_of, query_of, set_of_tree, core_of, item_of, from_item_of, from_of}
+use Rattle.name_meaning.proofs.Equations.{ExprBodyFrame, SelectItemFrame, SetTreeFrame, FromSourceFrame, CoreFrame}
+use Rattle.name_meaning.specs.Cores.{core_step, core_trace, has_some}
+use Rattle.name_meaning.specs.Expressions.{Body, body_step, first_of, second_of, negated_if, times, chain_made, step_operand, first_need, chain_gives, in_kind}
+use Rattle.name_meaning.specs.Froms.{source_step, from_all, first_item, label_of, scope_name, read_of}
+use Rattle.name_meaning.specs.Items.{item_step, title}
+use Rattle.name_meaning.specs.Meanings.{Surroundings, Part}
+use Rattle.name_meaning.specs.Operands.{operand}
+use Rattle.name_meaning.specs.Queries.{set_step, unprovable}
+use Rattle.name_meaning.specs.Scopes.{look_up}
+use Rattle.name_meaning.specs.Sublinks.{null_at, around_of, exists_meant, scalar_meant}
+use Rattle.name_meaning.specs.declared.need.Gives.TheVariants.{Always as always, Common as common}
+use Rattle.name_meaning.specs.declared.need.Need.TheVariants.{OfKind as of_kind, Alike as alike, Free as free}
+use Rattle.name_meaning.specs.Trees.{part_of, query_of, set_of_tree, core_of, item_of, from_item_of, from_of}
 use Rattle.name_laws.proofs.Induction.{BodyParts, ItemParts, SetParts, SourceParts, CoreParts, Optional, AreKept, kept-part, kept-query, kept-set, kept-core, kept-item, kept-from_item, kept-from}
 use Rattle.name_laws.proofs.ScopedCores.{OptionalFits, BodyFits, SetStepFits, fits-core_seen, fits-chain, fits-query_seen}
 use Rattle.name_laws.proofs.ScopedFroms.{SourceFits, FromItemFits, FromPartFits, JoinFits, fits-read_of, fits-item_meant, fits-join_all, fits-from_all}

@@ -11,11 +11,11 @@ use Rattle.bag_algebra.specs.declared.query.Query.{Query}
 use Rattle.bag_algebra.specs.declared.query.Query.TheVariants.{Filter, Project, Join, Union, Intersect, Except, Distinct, Aggregate, Limit, Prov}
 use Rattle.bag_algebra.specs.declared.query.Sublink.{Sublink}
 use Rattle.perm_values.specs.declared.key.Key.{Key}
-use Rattle.query_measures.specs.BuiltScopes.{all_scoped, is_scoped-Filter, is_scoped-Project, is_scoped-Join, is_scoped-Union, is_scoped-Intersect, is_scoped-Except, is_scoped-Distinct, is_scoped-Aggregate, is_scoped-Limit, is_scoped-Prov}
-use Rattle.name_words.specs.Froms.{is_out_of_scope}
-use Rattle.name_words.specs.Meanings.{trace_below}
-use Rattle.name_words.specs.declared.trace.Trace.{Trace}
-use Rattle.name_words.specs.declared.trace.Trace.TheVariants.{Untraced as untraced, InProvenance as in_provenance, TracedSublink as traced_sublink}
+use Rattle.bag_algebra.specs.measures.BuiltScopes.{all_scoped, is_scoped-Filter, is_scoped-Project, is_scoped-Join, is_scoped-Union, is_scoped-Intersect, is_scoped-Except, is_scoped-Distinct, is_scoped-Aggregate, is_scoped-Limit, is_scoped-Prov}
+use Rattle.name_meaning.specs.Froms.{is_out_of_scope}
+use Rattle.name_meaning.specs.Meanings.{trace_below}
+use Rattle.name_meaning.specs.declared.trace.Trace.{Trace}
+use Rattle.name_meaning.specs.declared.trace.Trace.TheVariants.{Untraced as untraced, InProvenance as in_provenance, TracedSublink as traced_sublink}
 use Rattle.name_laws.specs.Facts.{Facts, facts_of, no_facts, both_facts, as_sublink, sub_facts, proved_facts}
 use Rattle.name_laws.specs.Traced.{MayBeTraced, IsInScope, AreInScope}
 use Rattle.name_laws.proofs.FactsOf.{sub_facts-append, facts-Filter, facts-Project, facts-Join_alone, facts-Union, facts-Intersect, facts-Except, facts-Distinct, facts-Aggregate, facts-Limit, facts-Prov}

@@ -3,12 +3,12 @@ use Rattle.std.specs.Prelude.{◌≡◌, ℕ, suc, pred, List, [], ◌∷◌, �
 use Rattle.std.proofs.Common.{refl, ap, ◌∙◌, arith}
 use Rattle.perm_values.specs.declared.kind.Kind.{Kind}
 use Rattle.perm_values.specs.declared.kind.Kind.TheVariants as kind
-use Rattle.name_words.specs.Cores.{settle}
-use Rattle.name_words.specs.Froms.{named_columns}
-use Rattle.name_words.specs.Items.{Titled, named_from}
-use Rattle.name_words.specs.Meanings.{OutColumn, settled, united_kind}
-use Rattle.name_words.specs.Queries.{out_column, united_columns}
-use Rattle.name_words.specs.Scopes.{KnownColumn}
+use Rattle.name_meaning.specs.Cores.{settle}
+use Rattle.name_meaning.specs.Froms.{named_columns}
+use Rattle.name_meaning.specs.Items.{Titled, named_from}
+use Rattle.name_meaning.specs.Meanings.{OutColumn, settled, united_kind}
+use Rattle.name_meaning.specs.Queries.{out_column, united_columns}
+use Rattle.name_meaning.specs.Scopes.{KnownColumn}
 
 pub settled-twice : (k : Option Kind) (wanted : Kind) → settled k (settled k wanted) ≡ settled k wanted
 settled-twice None wanted = refl

@@ -8,15 +8,15 @@ use Rattle.bag_algebra.specs.declared.query.SubKind.{SubKind}
 use Rattle.bag_algebra.specs.declared.query.SubKind.TheVariants.{Exists, Scalar}
 use Rattle.bag_algebra.specs.declared.query.Sublink.{Sublink}
 use Rattle.sql_tree.specs.declared.expression.AggWord.{AggWord}
-use Rattle.name_words.specs.Meanings.{Surroundings, Before, Built, Meant, Part, QueryMeant, QueryPart, settled}
-use Rattle.name_words.specs.Operands.{Operand, operand, node, need_of, gives_of, operated, made_parts, behind, wanted_of, alike_wanted, united}
-use Rattle.name_words.specs.Expressions.{known, null_meant, StepPart, ArmPart, step_operand, arm_operands, else_operand, case_made, case_meant}
-use Rattle.name_words.specs.Sublinks.{column_meant, breaking, aggregate_meant, around_of, exists_meant, scalar_meant, first_kind, in_tested, tested_kind, tested_meant, tested_looked, tested_unlooked, if_standing}
-use Rattle.name_words.specs.declared.need.Gives.{Gives}
-use Rattle.name_words.specs.declared.need.Gives.TheVariants.{Common as common}
-use Rattle.name_words.specs.declared.need.Need.{Need}
-use Rattle.name_words.specs.declared.scope.Found.{Found}
-use Rattle.name_words.specs.declared.scope.Found.TheVariants.{Absent as absent, Ambiguous as ambiguous, Column as found}
+use Rattle.name_meaning.specs.Meanings.{Surroundings, Before, Built, Meant, Part, QueryMeant, QueryPart, settled}
+use Rattle.name_meaning.specs.Operands.{Operand, operand, node, need_of, gives_of, operated, made_parts, behind, wanted_of, alike_wanted, united}
+use Rattle.name_meaning.specs.Expressions.{known, null_meant, StepPart, ArmPart, step_operand, arm_operands, else_operand, case_made, case_meant}
+use Rattle.name_meaning.specs.Sublinks.{column_meant, breaking, aggregate_meant, around_of, exists_meant, scalar_meant, first_kind, in_tested, tested_kind, tested_meant, tested_looked, tested_unlooked, if_standing}
+use Rattle.name_meaning.specs.declared.need.Gives.{Gives}
+use Rattle.name_meaning.specs.declared.need.Gives.TheVariants.{Common as common}
+use Rattle.name_meaning.specs.declared.need.Need.{Need}
+use Rattle.name_meaning.specs.declared.scope.Found.{Found}
+use Rattle.name_meaning.specs.declared.scope.Found.TheVariants.{Absent as absent, Ambiguous as ambiguous, Column as found}
 use Rattle.name_laws.specs.Facts.{Facts, facts_of, no_facts, both_facts, as_sublink, sub_facts}
 use Rattle.name_laws.proofs.Every.{Every, every-append, every-map, every-flat_map}
 use Rattle.name_laws.proofs.FactsOf.{sub_facts-append}

@@ -9,10 +9,10 @@ use Rattle.sql_tree.specs.declared.query.QueryTree.{QueryTree}
 use Rattle.sql_tree.specs.declared.query.SetTree.{SetTree}
 use Rattle.sql_tree.specs.declared.source.FromItem.{FromItem}
 use Rattle.sql_tree.specs.declared.source.FromTree.{FromTree}
-use Rattle.name_words.specs.Meanings.{Surroundings, Before, Around, means_at, query_means_at}
-use Rattle.name_words.specs.Trees.{part_of, query_of, set_of_tree, core_of, from_item_of, from_of}
-use Rattle.name_words.specs.declared.scope.Scope.{Scope}
-use Rattle.name_words.specs.declared.trace.Trace.{Trace}
+use Rattle.name_meaning.specs.Meanings.{Surroundings, Before, Around, means_at, query_means_at}
+use Rattle.name_meaning.specs.Trees.{part_of, query_of, set_of_tree, core_of, from_item_of, from_of}
+use Rattle.name_meaning.specs.declared.scope.Scope.{Scope}
+use Rattle.name_meaning.specs.declared.trace.Trace.{Trace}
 use Rattle.name_laws.specs.Facts.{facts_of, sub_facts}
 use Rattle.name_laws.specs.Known.{HasItsKinds, ItemIsKnown, FromIsKnown}
 use Rattle.name_laws.specs.Traced.{IsInScope, AreInScope}

@@ -3,10 +3,10 @@ use Rattle.std.specs.Prelude.{◌≡◌, List, [], ◌∷◌, ◌++◌, map, Som
 use Rattle.perm_values.specs.declared.kind.Kind.{Kind}
 use Rattle.bag_algebra.specs.Kinds.{kinds_of}
 use Rattle.bag_algebra.specs.declared.expr.Item.{Item}
-use Rattle.name_words.specs.Cores.{settle}
-use Rattle.name_words.specs.Froms.{Read, ItemMeant, FromMeant}
-use Rattle.name_words.specs.Meanings.{OutColumn, QueryMeant}
-use Rattle.name_words.specs.Scopes.{KnownColumn, ScopeItem}
+use Rattle.name_meaning.specs.Cores.{settle}
+use Rattle.name_meaning.specs.Froms.{Read, ItemMeant, FromMeant}
+use Rattle.name_meaning.specs.Meanings.{OutColumn, QueryMeant}
+use Rattle.name_meaning.specs.Scopes.{KnownColumn, ScopeItem}
 
 -- the kinds of a SELECT list's columns
 abbrev pub item_kinds : List Item → List Kind

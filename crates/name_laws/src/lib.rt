@@ -1,9 +1,17 @@
 //! Laws of what a statement means: its kinds, the facts that its provenance rests on, and what of it may be traced.
 #![tactic(auto)]
 
+mod forms;
 mod laws;
+mod tables;
 
+pub use forms::{
+    closed_queries_are_well_formed_alone, expressions_are_well_formed,
+    outermost_queries_are_closed, queries_are_answers, queries_are_well_formed,
+    queries_have_a_column,
+};
 pub use laws::{
     expressions_keep_their_facts, from_is_known, queries_are_in_scope, queries_have_their_kinds,
     queries_keep_their_facts, sublinks_are_in_scope,
 };
+pub use tables::{tables_fit_queries, views_name_what_they_read};

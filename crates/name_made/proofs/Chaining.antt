@@ -6,14 +6,14 @@ use Rattle.bag_algebra.specs.declared.query.Query.{Query}
 use Rattle.perm_catalog.specs.Contents.{Contents}
 use Rattle.perm_values.specs.declared.kind.Kind.{Kind}
 use Rattle.sql_tree.specs.declared.query.SetStep.{SetStep}
-use Rattle.name_words.specs.Meanings.{Around, QueryMeant}
-use Rattle.name_words.specs.Queries.{SetStepPart, set_chain, set_joined, set_of, unprovable}
-use Rattle.name_words.specs.Trees.{set_of_tree, set_step_of}
-use Rattle.name_nodes.specs.Chained.{Serves}
-use Rattle.name_nodes.specs.Makes.{MakesQuery}
-use Rattle.name_nodes.proofs.Chains.{chain-append, joined-made, serves-so-far}
-use Rattle.made_parts.proofs.Listing.{mapped}
-use Rattle.made_parts.proofs.Querying.{step-is}
+use Rattle.name_meaning.specs.Meanings.{Around, QueryMeant}
+use Rattle.name_meaning.specs.Queries.{SetStepPart, set_chain, set_joined, set_of, unprovable}
+use Rattle.name_meaning.specs.Trees.{set_of_tree, set_step_of}
+use Rattle.name_made_nodes.specs.Chained.{Serves}
+use Rattle.name_made_nodes.specs.Makes.{MakesQuery}
+use Rattle.name_made_nodes.proofs.Chains.{chain-append, joined-made, serves-so-far}
+use Rattle.name_made_parts.proofs.asked.Listing.{mapped}
+use Rattle.name_made_parts.proofs.asked.Querying.{step-is}
 
 -- a chain made on what stands before it, where these kinds serve the whole
 abbrev pub ChainMade : Contents → Around → List SetStep → List Kind → Query → Query → Type 0

@@ -10,21 +10,21 @@ use Rattle.perm_values.specs.declared.kind.Kind.{Kind}
 use Rattle.sql_tree.specs.declared.query.SelectItem.{SelectItem}
 use Rattle.sql_tree.specs.declared.source.FromTree.{FromTree, out-FromTree}
 use Rattle.sql_tree.specs.declared.source.JoinStep.{JoinStep, out-JoinStep}
-use Rattle.name_words.specs.Froms.{FromMeant, ItemMeant, JoinPart, first_item, join_all, join_item, join_kind, scope_items}
-use Rattle.name_words.specs.Items.{SelectMeant, SelectPart}
-use Rattle.name_words.specs.Meanings.{Surroundings}
-use Rattle.name_words.specs.Scopes.{ScopeItem, scope_of}
-use Rattle.name_words.specs.Trees.{from_item_of, from_of, item_of, join_of, part_of}
-use Rattle.name_words.specs.declared.scope.Scope.{Scope}
-use Rattle.name_words.specs.declared.trace.Trace.{Trace}
+use Rattle.name_meaning.specs.Froms.{FromMeant, ItemMeant, JoinPart, first_item, join_all, join_item, join_kind, scope_items}
+use Rattle.name_meaning.specs.Items.{SelectMeant, SelectPart}
+use Rattle.name_meaning.specs.Meanings.{Surroundings}
+use Rattle.name_meaning.specs.Scopes.{ScopeItem, scope_of}
+use Rattle.name_meaning.specs.Trees.{from_item_of, from_of, item_of, join_of, part_of}
+use Rattle.name_meaning.specs.declared.scope.Scope.{Scope}
+use Rattle.name_meaning.specs.declared.trace.Trace.{Trace}
 use Rattle.bag_algebra.specs.declared.query.Query.TheVariants.{Join}
-use Rattle.name_nodes.specs.Listed.{MakesItems}
-use Rattle.name_nodes.specs.declared.within.Within.{Within}
-use Rattle.made_parts.specs.Cored.{items_meant}
-use Rattle.made_sources.specs.Sources.{IsScope, JoinsMade, MakesJoin, MakesOn, MakesSource, StandsIn, join_count}
-use Rattle.made_parts.proofs.Coring.{next-listed}
-use Rattle.made_parts.proofs.Listing.{mapped}
-use Rattle.made_sources.proofs.Sourcing.{both-count, from-fields, join-fields, join-made, join-more, joins-append}
+use Rattle.name_made_nodes.specs.Listed.{MakesItems}
+use Rattle.name_made_nodes.specs.declared.within.Within.{Within}
+use Rattle.name_made_parts.specs.asked.Cored.{items_meant}
+use Rattle.name_made_parts.specs.Sources.{IsScope, JoinsMade, MakesJoin, MakesOn, MakesSource, StandsIn, join_count}
+use Rattle.name_made_parts.proofs.asked.Coring.{next-listed}
+use Rattle.name_made_parts.proofs.asked.Listing.{mapped}
+use Rattle.name_made_parts.proofs.Sourcing.{both-count, from-fields, join-fields, join-made, join-more, joins-append}
 
 pub of-on : {X E : Type 0} (P Q : Type 0) (result : Result X E) → (P → Q) → OnOk result P → OnOk result Q
 of-on P Q (Ok x) f p = f p

@@ -1,29 +1,30 @@
 //! Cores, with their clauses.
 ghost use Rattle.std.specs.Prelude.{◌≡◌, Bool, not, drop, length, ◌∷◌, [], List as Items, IfOk, OnOk, map, option_map};
 ghost use Rattle.perm_catalog.specs.Sound.{IsSound};
-ghost use Rattle.name_words.specs.Cores.{in_clause, optional_meant};
-ghost use Rattle.name_words.specs.Meanings.{means_at};
-ghost use Rattle.name_words.specs.Scopes.{ScopeItem, scope_of};
-ghost use Rattle.name_words.specs.Trees.{core_of, item_of, part_of};
-ghost use Rattle.name_nodes.specs.Listed.{MakesItems};
-ghost use Rattle.name_nodes.specs.Makes.{MakesQuery};
-ghost use Rattle.name_words.specs.declared.answer.Break.{Break as Broken};
-ghost use Rattle.name_seen.specs.Named.{here_only, scopes_of};
-ghost use Rattle.name_seen.specs.Standing.{around_of as standing_of, surroundings};
-ghost use Rattle.made_parts.specs.Cored.{Keeps, MakesClauses, MakesList, MakesSelected, core_over_items, having_part, items_meant, select_parts, sources_meant};
-ghost use Rattle.made_sources.specs.Sources.{IsScope};
+ghost use Rattle.name_meaning.specs.Cores.{in_clause, optional_meant};
+ghost use Rattle.name_meaning.specs.Meanings.{means_at};
+ghost use Rattle.name_meaning.specs.Scopes.{ScopeItem, scope_of};
+ghost use Rattle.name_meaning.specs.Trees.{core_of, item_of, part_of};
+ghost use Rattle.name_made_nodes.specs.Listed.{MakesItems};
+ghost use Rattle.name_made_nodes.specs.Makes.{MakesQuery};
+ghost use Rattle.name_meaning.specs.declared.answer.Break.{Break as Broken};
+ghost use Rattle.name_seen_parts.specs.Named.{here_only, scopes_of};
+ghost use Rattle.name_seen_parts.specs.Standing.{around_of as standing_of, surroundings};
+ghost use Rattle.name_made_parts.specs.asked.Cored.{Keeps, MakesClauses, MakesList, MakesSelected, core_over_items, having_part, items_meant, select_parts, sources_meant};
+ghost use Rattle.name_made_parts.specs.Sources.{IsScope};
 
 use crate::expressions::made;
 use crate::query_results::{clauses_of, kept_of, listed_of, scope_grouped};
 use crate::sources::sources_made;
 use bag_algebra::{Aggr, Item, Query};
-use cores_seen::in_clause;
-use made_parts::{Kept, behind_aggregates, core_trace, groups_of, item_kind, scope_or_none};
-use made_results::{add_value, beside, core_of};
-use made_sources::{add_star, add_table_star};
-use name_nodes::{Clauses, Condition, Listed, Within};
-use name_seen::{Around, Here, inside};
-use name_words::Scope;
+use name_made_nodes::{Clauses, Condition, Listed, Within, add_value, beside, core_of};
+use name_made_parts::{
+    Kept, add_star, add_table_star, behind_aggregates, core_trace, groups_of, item_kind,
+    scope_or_none,
+};
+use name_meaning::Scope;
+use name_seen_cores::in_clause;
+use name_seen_parts::{Around, Here, inside};
 use perm_values::{Kind, List, NoMemory};
 use sql_tree::{Core, ExprTree, SelectItem};
 

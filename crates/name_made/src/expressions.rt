@@ -5,31 +5,28 @@ ghost use Rattle.perm_catalog.specs.Sound.{IsSound};
 ghost use Rattle.perm_values.specs.declared.kind.Kind.{Kind as Sort};
 ghost use Rattle.perm_values.specs.declared.kind.Kind.TheVariants.{Boolean as Truths, Integer as Counts};
 ghost use Rattle.perm_values.specs.declared.value.Value.TheVariants.{Integer as Whole};
-ghost use Rattle.name_words.specs.Meanings.{means_at, query_means_at};
-ghost use Rattle.name_words.specs.Operands.{node, operand};
-ghost use Rattle.name_words.specs.Sublinks.{aggregated, around_of, exists_meant, if_standing, in_argument, in_tested, scalar_meant};
-ghost use Rattle.name_words.specs.Trees.{arm_of, part_of, query_of, step_of};
-ghost use Rattle.name_nodes.specs.Makes.{Links, Makes, MakesArms, MakesMore, MakesSteps};
-ghost use Rattle.name_seen.specs.Standing.{surroundings};
+ghost use Rattle.name_meaning.specs.Meanings.{means_at, query_means_at};
+ghost use Rattle.name_meaning.specs.Operands.{node, operand};
+ghost use Rattle.name_meaning.specs.Sublinks.{aggregated, around_of, exists_meant, if_standing, in_argument, in_tested, scalar_meant};
+ghost use Rattle.name_meaning.specs.Trees.{arm_of, part_of, query_of, step_of};
+ghost use Rattle.name_made_nodes.specs.Makes.{Links, Makes, MakesArms, MakesMore, MakesSteps};
+ghost use Rattle.name_seen_parts.specs.Standing.{surroundings};
 
 use crate::queries::query_made;
 use bag_algebra::{Arm, ChainStep, Expr, SubKind};
-use expression_seen::{in_argument, in_tested, trace_below};
-use made_parts::{
+use name_made_nodes::{
+    Within, aggregate_of, argument_wanted, arm_of, between, case, chain_start, chained,
+    column_made, count_made, in_kind, in_list, in_list_kind, integer_value, like, null_at,
+    null_tested, on_parts, on_two, repeated, same_tested, step_of, sublink_of, text_value,
+    truth_tested, truth_value, wanted_of, with_more,
+};
+use name_made_parts::{
     alike_behind, alike_of_all, alike_of_arms, alike_of_case, alike_of_three, alike_of_two,
-    kind_or_any, scalar_kind, tested_kind,
+    group_count, kind_or_any, scalar_kind, tested_kind,
 };
-use made_results::{
-    aggregate_of, arm_of, between, case, chained, in_list, like, null_tested, on_parts, on_two,
-    repeated, same_tested, step_of, sublink_of, truth_tested, with_more,
-};
-use made_sources::group_count;
-use name_nodes::{
-    Within, argument_wanted, chain_start, column_made, count_made, in_kind, in_list_kind,
-    integer_value, null_at, text_value, truth_value, wanted_of,
-};
-use name_seen::{Around, Here, gives_of, look_up, need_of, ungrouped};
-use name_words::{Gives, Need};
+use name_meaning::{Gives, Need};
+use name_seen_cores::{in_argument, in_tested, trace_below};
+use name_seen_parts::{Around, Here, gives_of, look_up, need_of, ungrouped};
 use null_logic::Operator;
 use perm_values::{Kind, List, NoMemory};
 use sql_tree::{AggWord, ArmTree, ExprBody, ExprStep, ExprTree, QueryTree};

@@ -1,19 +1,19 @@
 //! Queries and set operations, made at the kinds that are wanted of their columns.
 ghost use Rattle.std.specs.Prelude.{◌≡◌, IfOk, map};
 ghost use Rattle.perm_catalog.specs.Sound.{IsSound};
-ghost use Rattle.name_words.specs.Meanings.{QueryMeant as Meaning, query_means_at};
-ghost use Rattle.name_words.specs.Queries.{set_chain};
-ghost use Rattle.name_words.specs.Trees.{query_of, set_of_tree, set_step_of};
-ghost use Rattle.name_nodes.specs.Chained.{Serves};
-ghost use Rattle.name_nodes.specs.Makes.{MakesQuery};
-ghost use Rattle.name_seen.specs.Standing.{around_of as standing_of};
+ghost use Rattle.name_meaning.specs.Meanings.{QueryMeant as Meaning, query_means_at};
+ghost use Rattle.name_meaning.specs.Queries.{set_chain};
+ghost use Rattle.name_meaning.specs.Trees.{query_of, set_of_tree, set_step_of};
+ghost use Rattle.name_made_nodes.specs.Chained.{Serves};
+ghost use Rattle.name_made_nodes.specs.Makes.{MakesQuery};
+ghost use Rattle.name_seen_parts.specs.Standing.{around_of as standing_of};
 
 use crate::cores::core_made;
 use bag_algebra::Query;
-use cores_seen::is_proving;
-use made_parts::{chain_kinds, limit_keys, trace_inside};
-use made_results::{finished_of, with_operand};
-use name_seen::Around;
+use name_made_nodes::{finished_of, with_operand};
+use name_made_parts::{chain_kinds, limit_keys, trace_inside};
+use name_seen_cores::is_proving;
+use name_seen_parts::Around;
 use perm_values::{Kind, NoMemory};
 use sql_tree::{QueryTree, SetStep, SetTree};
 

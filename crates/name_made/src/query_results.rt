@@ -4,19 +4,19 @@ ghost use Rattle.std.specs.Prelude.{◌≡◌, ◌⊎◌, [], Err, IfOk, IfErr, 
 ghost use Rattle.std.specs.Option.{option_map_or};
 ghost use Rattle.bag_algebra.specs.declared.query.Query.TheVariants.{Join as Paired};
 ghost use Rattle.perm_catalog.specs.Contents.{Contents as Held};
-ghost use Rattle.name_words.specs.Cores.{group_scope};
-ghost use Rattle.name_words.specs.Froms.{marked, read_names, read_query};
-ghost use Rattle.name_words.specs.Meanings.{QueryMeant};
-ghost use Rattle.made_parts.specs.Cored.{core_groups, having_part, kept_of, select_parts};
-ghost use Rattle.made_sources.specs.Sources.{Shows, beside_left, text_of};
+ghost use Rattle.name_meaning.specs.Cores.{group_scope};
+ghost use Rattle.name_meaning.specs.Froms.{marked, read_names, read_query};
+ghost use Rattle.name_meaning.specs.Meanings.{QueryMeant};
+ghost use Rattle.name_made_parts.specs.asked.Cored.{core_groups, having_part, kept_of, select_parts};
+ghost use Rattle.name_made_parts.specs.Sources.{Shows, beside_left, text_of};
 
 use bag_algebra::{Expr, Item, JoinKind, Query};
-use clauses_seen::grouped;
-use made_parts::{Kept, condition_found, groups_made, listed_with};
-use made_results::beside;
-use made_sources::{ShownNames, beside_from, joined, marked_query};
-use name_nodes::{Clauses, Condition, Listed, Within};
-use name_words::Scope;
+use name_made_nodes::{Clauses, Condition, Listed, Within, beside};
+use name_made_parts::{
+    Kept, ShownNames, beside_from, condition_found, groups_made, joined, listed_with, marked_query,
+};
+use name_meaning::Scope;
+use name_seen_parts::grouped;
 use perm_values::{List, NoMemory, both};
 use sql_tree::{Core, Name, ScopeMark};
 use std::alloc::Global;

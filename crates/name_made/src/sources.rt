@@ -1,24 +1,23 @@
 //! What FROM reads, with its joins.
 ghost use Rattle.std.specs.Prelude.{◌≡◌, ℕ, [], List as Items, IfOk, map, option_map};
 ghost use Rattle.perm_catalog.specs.Sound.{IsSound};
-ghost use Rattle.name_words.specs.Froms.{from_all, in_on, on_made};
-ghost use Rattle.name_words.specs.Meanings.{means_at};
-ghost use Rattle.name_words.specs.Scopes.{ScopeItem, scope_of};
-ghost use Rattle.name_words.specs.Trees.{from_item_of, from_of, join_of, part_of};
-ghost use Rattle.name_seen.specs.Named.{scopes_of};
-ghost use Rattle.made_sources.specs.Sources.{MakesFrom, MakesJoin, MakesOn, MakesSource};
+ghost use Rattle.name_meaning.specs.Froms.{from_all, in_on, on_made};
+ghost use Rattle.name_meaning.specs.Meanings.{means_at};
+ghost use Rattle.name_meaning.specs.Scopes.{ScopeItem, scope_of};
+ghost use Rattle.name_meaning.specs.Trees.{from_item_of, from_of, join_of, part_of};
+ghost use Rattle.name_seen_parts.specs.Named.{scopes_of};
+ghost use Rattle.name_made_parts.specs.Sources.{MakesFrom, MakesJoin, MakesOn, MakesSource};
 
 use crate::expressions::made;
 use crate::queries::query_made;
 use crate::query_results::{marked_of, with_next, with_right};
 use bag_algebra::{Expr, Query};
-use cores_seen::in_on;
-use items_seen::trace_under;
-use made_parts::shown_names;
-use made_sources::{behind, input_or_single, join_kind, named_item, segment};
-use name_nodes::{Within, truth_value};
-use name_seen::{Around, Here, inside};
-use name_words::Scope;
+use name_made_nodes::{Within, truth_value};
+use name_made_parts::{behind, input_or_single, join_kind, named_item, segment, shown_names};
+use name_meaning::Scope;
+use name_seen_cores::in_on;
+use name_seen_from::trace_under;
+use name_seen_parts::{Around, Here, inside};
 use perm_values::{Kind, NoMemory};
 use sql_tree::{ExprTree, FromItem, FromSource, FromTree, JoinStep};
 

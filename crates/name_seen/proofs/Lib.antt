@@ -1,7 +1,9 @@
-mod AnyColumns
-pub mod Arms
-mod Levels
-mod Matches
-pub mod OperandLists
-mod OperatorRows
-pub mod SeenAs
+mod Conditions
+mod CoreSteps
+mod FromTrees
+mod Joined
+mod ListItems
+mod Nodes
+mod QuerySteps
+mod Rows
+mod WhereSeen

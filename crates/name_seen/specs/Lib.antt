@@ -1,4 +1,2 @@
-pub mod Named
-pub mod Seen
-pub mod Standing
-pub mod Stars
+pub mod Joining
+pub mod Nodes

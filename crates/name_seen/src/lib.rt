@@ -1,22 +1,16 @@
-//! What names mean and of which kinds expressions are: the first pass of name analysis, which answers the first break.
+//! What a query shows without being made: its first break, or its columns, its scopes and the facts that its provenance
+//! rests on.
 #![tactic(auto)]
 
-mod forms;
-mod kinds;
-mod named;
-mod needs;
-mod operands;
-mod refusal;
-mod scopes;
-mod standing;
-mod stars;
+mod cores;
+mod expressions;
+mod queries;
+mod sets;
+mod sources;
 
-pub use forms::{aggregated_kind, column_kind, condition_kind, count_kind};
-pub use kinds::{is_same_kind, united_kind, unites};
-pub use named::{Named, item_number, named_in};
-pub use needs::{gives_of, need_of};
-pub use operands::Operands;
-pub use refusal::Refusal;
-pub use scopes::{Scopes, inside, look_up, place_among, ungrouped};
-pub use standing::{Around, Here, Standing};
-pub use stars::{star, table_star};
+pub use expressions::{
+    expression_seen, kind_of, operand, operands, operands_of_arms, operands_of_steps,
+};
+pub use queries::query_seen;
+pub use sets::set_seen;
+pub use sources::from_scope;

@@ -3,7 +3,7 @@
 
 ghost use Rattle.std.specs.Prelude.{◌≡◌};
 ghost use Rattle.std.specs.Process.{exit_status};
-ghost use Rattle.run_ends.specs.Statuses.{number_of};
+ghost use Rattle.run_meaning.specs.Statuses.{number_of};
 ghost use Rattle.perm_cli.specs.declared.WordsError.TheVariants.{NoMemory as OutOfMemory};
 
 use perm_engine::{Status, perm};

@@ -2,16 +2,16 @@
 use Rattle.std.proofs.Common.{◌≡◌, true, false, cond, List, [], ◌∷◌, Result, Ok, Err, refl, sym, subst}
 use Rattle.perm_catalog.specs.Contents.{Contents}
 use Rattle.sql_tree.specs.declared.statement.Statement.{Statement}
-use Rattle.statement_parts.specs.Own.{TellsFirst, own_breaks}
-use Rattle.name_seen.specs.declared.refusal.Refusal.{Refusal}
-use Rattle.name_seen.specs.declared.refusal.Refusal.TheVariants as analysis
-use Rattle.name_words.specs.declared.answer.Break.{Break}
-use Rattle.name_words.specs.declared.answer.Resolved.{Resolved}
-use Rattle.statement_words.specs.Asking.{is_unbuilt, unbuilt}
-use Rattle.statement_words.specs.declared.refusal.StepRefusal.{StepRefusal}
-use Rattle.statement_words.specs.declared.refusal.StepRefusal.TheVariants as refusal
-use Rattle.run_steps.specs.Resolving.{IsDue}
-use Rattle.run_steps.proofs.Stepping.{only-due}
+use Rattle.name_statements.specs.Own.{TellsFirst, own_breaks}
+use Rattle.name_seen_parts.specs.declared.refusal.Refusal.{Refusal}
+use Rattle.name_seen_parts.specs.declared.refusal.Refusal.TheVariants as analysis
+use Rattle.name_meaning.specs.declared.answer.Break.{Break}
+use Rattle.name_meaning.specs.declared.answer.Resolved.{Resolved}
+use Rattle.statement_meaning.specs.Asking.{is_unbuilt, unbuilt}
+use Rattle.statement_meaning.specs.declared.refusal.StepRefusal.{StepRefusal}
+use Rattle.statement_meaning.specs.declared.refusal.StepRefusal.TheVariants as refusal
+use Rattle.run_meaning.specs.steps.Resolving.{IsDue}
+use Rattle.run_meaning.proofs.steps.Stepping.{only-due}
 use Rattle.perm_engine.specs.Due.{due_breaks}
 
 -- what is due of a form that is run, or of another one

@@ -2,7 +2,7 @@
 use Rattle.std.specs.Prelude.{◌≡◌, Option, None, refl}
 use Rattle.std.specs.Coded.{Coded, code_by, coded×}
 use Rattle.perm_catalog.specs.Contents.{Contents}
-use Rattle.query_answers.specs.declared.ran.Ran.{Ran}
+use Rattle.statement_steps.specs.declared.ran.Ran.{Ran}
 
 -- what its catalog holds, and the last run of its runner
 pub record SessionState : Type 0 where

@@ -5,6 +5,5 @@ mod run;
 mod session;
 
 pub use run::perm;
-pub use run_ends::{Status, bytes_are_one_script};
-pub use run_steps::a_run_has_numbers_left;
+pub use run_meaning::{Status, a_run_has_numbers_left, bytes_are_one_script};
 pub use session::Session;

@@ -3,31 +3,30 @@ ghost use Rattle.perm_catalog.specs.Changes.{nothing_held};
 ghost use Rattle.perm_catalog.specs.Sound.{IsSound};
 ghost use Rattle.perm_io.specs.Counts.{next_count, CountsFault};
 ghost use Rattle.sql_tree.specs.Regular.{RegularStatement};
-ghost use Rattle.statement_words.specs.Answers.{begins, can_be, has_failed, over, IsBacked, TakesTurn};
-ghost use Rattle.statement_words.specs.Asking.{asked};
-ghost use Rattle.statement_words.specs.declared.refusal.StepRefusal.TheVariants.{NoMemory as OutOfMemory};
-ghost use Rattle.statement_parts.specs.Own.{own_breaks};
-ghost use Rattle.name_words.specs.Statements.{resolved};
-ghost use Rattle.resolved_steps.specs.Running.{KeepsRun};
-ghost use Rattle.run_steps.specs.Resolving.{IsDue, Resolves, ResolvesBuilt};
+ghost use Rattle.statement_meaning.specs.Answers.{begins, can_be, has_failed, over, IsBacked, TakesTurn};
+ghost use Rattle.statement_meaning.specs.Asking.{asked};
+ghost use Rattle.statement_meaning.specs.declared.refusal.StepRefusal.TheVariants.{NoMemory as OutOfMemory};
+ghost use Rattle.name_statements.specs.Own.{own_breaks};
+ghost use Rattle.name_meaning.specs.Statements.{resolved};
+ghost use Rattle.statement_steps.specs.Running.{KeepsRun};
+ghost use Rattle.run_meaning.specs.steps.Resolving.{IsDue, Resolves, ResolvesBuilt};
 ghost use Rattle.perm_engine.specs.Due.{due_breaks};
 ghost use Rattle.perm_engine.specs.Sessions.{begun_with};
 
-use letting_go::{let_catalog_go, let_resolved_go, let_statement_go};
 use name_analysis::resolve;
-use name_seen::Refusal;
-use name_words::{Break, Resolved};
+use name_meaning::{Break, Resolved};
+use name_seen_parts::Refusal;
+use name_statements::{let_catalog_go, let_resolved_go, let_statement_go};
 use perm_catalog::{Catalog, catalogs_stay_sound};
 use perm_io::Files;
 use perm_values::Bytes;
-use query_answers::Runner;
-use resolved_steps::is_unbuilt;
-use run_steps::carried_out;
+use run_meaning::carried_out;
 use sql_tree::Statement;
 use statement_laws::{
     statements_keep_catalogs_sound, whole_statements_add_soundly, whole_statements_are_ready,
 };
-use statement_words::StepRefusal;
+use statement_meaning::StepRefusal;
+use statement_steps::{Runner, is_unbuilt};
 use std::alloc::Global;
 use std::marker::Model;
 
@@ -46,7 +45,7 @@ impl Model for Session {
     ghost use Rattle.perm_catalog.specs.contracts.entries.TableEntry as table;
     ghost use Rattle.perm_catalog.specs.contracts.entries.ViewEntry as view_entry;
     ghost use Rattle.perm_values.specs.contracts.value.Value as cell;
-    ghost use Rattle.query_answers.specs.contracts.ran.Ran as run;
+    ghost use Rattle.statement_steps.specs.contracts.ran.Ran as run;
     ghost use Rattle.perm_engine.specs.Sessions.{SessionState, session_code};
 
     ghost Value = { SessionState };

@@ -1,4 +1,3 @@
-pub mod formers
 pub mod Hashes
 pub mod Marked
 pub mod Numbers
@@ -7,3 +6,4 @@ pub mod Rows
 pub mod Texts
 pub mod ValueLaws
 pub mod Values
+pub mod formers

@@ -16,3 +16,5 @@ pub mod Provenance
 pub mod SameInputs
 pub mod SublinkValues
 pub mod Sums
+pub mod congruence
+pub mod witnesses

@@ -3,3 +3,5 @@ pub mod Evaluated
 pub mod Faults
 pub mod Holding
 pub mod Nodes
+pub mod congruence
+pub mod witnesses

@@ -1,9 +1,12 @@
 //! What each node of a query means, by the counts of rows.
 #![tactic(auto)]
 
+mod congruence;
 mod laws;
 mod sublinks;
+mod witnesses;
 
+pub use congruence::{nodes_over_what_stands_stand, nodes_see_rows_alone};
 pub use laws::{
     aggregate_has_a_row_for_each_class, aggregates_look_at_what_is_not_null,
     base_has_its_inputs_rows, distinct_has_each_row_once, every_bag_can_be_listed,
@@ -14,3 +17,9 @@ pub use laws::{
     what_is_bad_meets_a_fault,
 };
 pub use sublinks::{sublinks_come_first, sublinks_have_their_values};
+pub use witnesses::{
+    aggregate_lists_its_class, contributions_are_lists_of_chosen_rows,
+    distinct_and_limit_keep_lists, filter_and_project_add_contributions,
+    flattened_lists_stand_in_the_cross_base, join_lists_pairs_and_unmatched_rows,
+    set_operations_combine_lists, sources_list_their_rows,
+};

@@ -1,3 +1,4 @@
+pub mod AggregateRows
 pub mod BaseRows
 pub mod Closing
 pub mod DistinctRows
@@ -12,3 +13,4 @@ pub mod RuleRows
 pub mod UnionRows
 pub mod Unlinked
 pub mod Unprojected
+pub mod sets

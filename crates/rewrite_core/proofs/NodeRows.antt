@@ -9,7 +9,7 @@ use Rattle.bag_algebra.specs.Outcome.{Outcome, Good, Bad, and_then, both_then, u
 use Rattle.bag_algebra.specs.declared.query.Query.{Query}
 use Rattle.contribution.proofs.NoRowLost.{none_lost}
 use Rattle.rewrite_core.proofs.Faults.{SameFaults}
-use Rattle.rewritten.specs.Rewritten.{Beside, Rewritten}
+use Rattle.rewrite_base.specs.Rewritten.{Beside, Rewritten}
 use Rattle.bag_algebra.proofs.MembersByIndex.{contains-from_in}
 
 -- beside each of its lists each row is there, and nothing else is

@@ -29,21 +29,21 @@ use Rattle.contribution.proofs.AddedColumns.{columns-added, all_items-same}
 use Rattle.contribution.proofs.GoodRows.{from-each}
 use Rattle.contribution.proofs.LongerKinds.{all-kept, has_kind-longer}
 use Rattle.contribution.specs.Fitting.{Fitting}
-use Rattle.query_parts.proofs.ColumnQueries.{column_items-formed, column_items-kinds}
-use Rattle.query_parts.proofs.NodeQueries.{meaning-projected, formed-projected, plain-projected}
-use Rattle.query_parts.proofs.Padding.{items-append, kinds-append}
-use Rattle.query_parts.specs.ItemKinds.{item_kinds}
+use Rattle.contribution.proofs.parts.ColumnQueries.{column_items-formed, column_items-kinds}
+use Rattle.contribution.proofs.parts.NodeQueries.{meaning-projected, formed-projected, plain-projected}
+use Rattle.contribution.proofs.parts.Padding.{items-append, kinds-append}
+use Rattle.contribution.specs.parts.ItemKinds.{item_kinds}
 use Rattle.rewrite_core.proofs.Faults.{SameFaults, same_faults-made, each-bad_alike, good-mapped}
 use Rattle.rewrite_core.proofs.NodeRows.{Flattened, flattened, stands_beside, Made, rewritten-over}
 use Rattle.rewrite_core.proofs.RowColumns.{behind, names-more, places_in-range, row-begins, row-width, list-width, width-rewriting, width-provenance}
 use Rattle.rewrite_core.proofs.RuleRows.{beside-from_rewrite, rows-from_beside}
 use Rattle.rewrite_core.proofs.Unlinked.{listed-followed, followed-listed}
 use Rattle.rewrite_core.specs.ProvenanceColumns.{provenance_places, provenance_items}
-use Rattle.rewritten.specs.Rewritten.{Beside}
-use Rattle.witness_laws.proofs.AnswerRows.{answer-in, answer-from}
-use Rattle.witness_laws.proofs.NodeLists.{project-lists}
-use Rattle.witness_laws.specs.ListsOfNodes.{ProjectList}
-use Rattle.witness_laws.specs.SublinkLists.{InAnswer}
+use Rattle.rewrite_base.specs.Rewritten.{Beside}
+use Rattle.query_laws.proofs.witnesses.AnswerRows.{answer-in, answer-from}
+use Rattle.query_laws.proofs.witnesses.NodeLists.{project-lists}
+use Rattle.query_laws.specs.witnesses.ListsOfNodes.{ProjectList}
+use Rattle.query_laws.specs.witnesses.SublinkLists.{InAnswer}
 
 -- ---- items that give on each row what they make, and then more
 

@@ -1,3 +1,5 @@
 pub mod JoinColumns
 pub mod ProvenanceColumns
+pub mod SameGroups
 pub mod UnionColumns
+pub mod sets

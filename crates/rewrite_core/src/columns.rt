@@ -9,9 +9,8 @@ ghost use Rattle.bag_algebra.specs.Rewriting.{IsRewrite};
 ghost use Rattle.bag_algebra.specs.declared.query.Query.{Query as Whole, end_of-Sublink};
 
 use bag_algebra::{Item, Query};
-use contribution::kinds;
+use contribution::{column_items, kinds, projection};
 use perm_values::{List, NoMemory};
-use query_parts::{column_items, projection};
 use std::alloc::Global;
 
 /// Adds the places from `start` on and below `end`.

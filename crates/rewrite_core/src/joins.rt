@@ -5,13 +5,13 @@ ghost use Rattle.bag_algebra.specs.Kinds.{width_of};
 ghost use Rattle.bag_algebra.specs.Rewriting.{IsRewrite};
 ghost use Rattle.bag_algebra.specs.declared.query.Query.TheVariants.{Join};
 ghost use Rattle.bag_algebra.specs.declared.query.Query.{Query as Node};
-ghost use Rattle.query_parts.specs.MovedColumns.{IsMoved};
+ghost use Rattle.contribution.specs.parts.MovedColumns.{IsMoved};
 ghost use Rattle.rewrite_core.specs.JoinColumns.{own_places, added_places, IsPaired, IsLaidOut};
 
 use crate::columns::{add_places, column_count, laid};
 use bag_algebra::{Expr, JoinKind, Query};
+use contribution::{joined, moved};
 use perm_values::{List, NoMemory};
-use query_parts::{joined, moved};
 use std::alloc::Global;
 
 /// A rewriting of a join of any kind on a condition without sublinks: that join of the rewritings, on the condition with its

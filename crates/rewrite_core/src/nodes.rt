@@ -7,8 +7,8 @@ ghost use Rattle.rewrite_core.specs.ProvenanceColumns.{provenance_items};
 
 use crate::columns::{add_places, column_count, columns_at};
 use bag_algebra::{Expr, Item, Query};
+use contribution::{filtered, projection};
 use perm_values::{Copyable, List, NoMemory};
-use query_parts::{filtered, projection};
 use std::alloc::Global;
 
 /// A rewriting of the input's distinct rows: that of the input, since how often a row stands in a rewriting is free. It

@@ -8,15 +8,14 @@ ghost use Rattle.bag_algebra.specs.Patterns.{ProjectOf, UnionOf};
 ghost use Rattle.bag_algebra.specs.Rewriting.{IsRewrite};
 ghost use Rattle.bag_algebra.specs.declared.query.Query.TheVariants.{Union};
 ghost use Rattle.bag_algebra.specs.declared.query.Query.{end_of-Sublink};
-ghost use Rattle.joined_rewritings.specs.UnionSides.{before_nulls};
+ghost use Rattle.rewrite_base.specs.UnionSides.{before_nulls};
 ghost use Rattle.rewrite_core.specs.UnionColumns.{items_behind, padded_behind, provenance_kinds};
 
 use crate::columns::{add_places, column_count, columns_at};
 use bag_algebra::{Item, Query};
-use contribution::kinds;
-use joined_rewritings::{UnionSide, before_nulls};
+use contribution::{kind_or_text, kinds, null_items, projection};
 use perm_values::{Boxed, Kind, List, NoMemory};
-use query_parts::{kind_or_text, null_items, projection};
+use rewrite_base::{UnionSide, before_nulls};
 use std::alloc::Global;
 
 /// A rewriting of a union, with all rows or each once, since how often a row stands in a rewriting is free: the rows of both

@@ -1,1 +1,2 @@
 pub mod NoRowLost
+pub mod steps

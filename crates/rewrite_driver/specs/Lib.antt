@@ -1,1 +1,2 @@
 pub mod FirstColumns
+pub mod steps

@@ -4,19 +4,19 @@ ghost use Rattle.bag_algebra.specs.Rewriting.{IsRewrite, Stands};
 ghost use Rattle.bag_algebra.specs.Scoped.{is_scoped, traceable};
 ghost use Rattle.bag_algebra.specs.declared.query.Query.TheVariants.{Prov};
 ghost use Rattle.bag_algebra.specs.declared.query.Query.{Query as Node};
-ghost use Rattle.query_congruence.specs.Standing.{SubsStand};
-ghost use Rattle.query_measures.specs.BuiltScopes.{all_scoped, all_traceable};
+ghost use Rattle.query_laws.specs.congruence.Standing.{SubsStand};
+ghost use Rattle.bag_algebra.specs.measures.BuiltScopes.{all_scoped, all_traceable};
 ghost use Rattle.rewrite_driver.specs.FirstColumns.{KeepsRows};
-ghost use Rattle.sublink_laws.specs.SubRewritings.{SubsRewritten};
+ghost use Rattle.rewrite_sublink.specs.SubRewritings.{SubsRewritten};
 
-use bag_algebra::{Query, Sublink};
-use perm_values::{List, NoMemory};
-use rewrite_steps::{
+use crate::steps::{
     add_rewriting, add_standing, aggregate_rule, aggregate_standing, base_rule, distinct_rule,
     distinct_standing, except_rule, except_standing, filter_rule, filter_standing, has_places,
     intersect_rule, intersect_standing, join_rule, join_standing, limit_rule, limit_standing,
     project_rule, project_standing, provenance_standing, table, union_rule, union_standing,
 };
+use bag_algebra::{Query, Sublink};
+use perm_values::{List, NoMemory};
 use std::alloc::Global;
 
 /// A plain query that stands for the query, in whose place it may run: of the same kinds, well formed under all outer kinds

@@ -5,19 +5,18 @@ ghost use Rattle.bag_algebra.specs.Scoped.{over_tables};
 ghost use Rattle.bag_algebra.specs.declared.expr.Expr.TheVariants.{IsTruth, Sub};
 ghost use Rattle.bag_algebra.specs.declared.query.JoinKind.TheVariants.{Inner};
 ghost use Rattle.contribution.specs.CrossBase.{always, cross_base_of};
-ghost use Rattle.joined_rewritings.specs.KeptColumns.{pairs_of};
-ghost use Rattle.query_measures.specs.BuiltScopes.{all_over_tables};
-ghost use Rattle.sublink_laws.specs.Candidates.{all_contributed, contributed, deciding, deciding_arm, exists_in, matching, sub_over, test_condition, test_subs, tested};
+ghost use Rattle.rewrite_base.specs.KeptColumns.{pairs_of};
+ghost use Rattle.bag_algebra.specs.measures.BuiltScopes.{all_over_tables};
+ghost use Rattle.rewrite_sublink.specs.Candidates.{all_contributed, contributed, deciding, deciding_arm, exists_in, matching, sub_over, test_condition, test_subs, tested};
 
+use crate::decisions::deciding;
 use crate::matching::{Columns, always, first_column, matching};
 use bag_algebra::{Arm, Expr, JoinKind, Query, SubKind, Sublink};
-use contribution::cross_base;
-use joined_rewritings::exact_width;
+use contribution::{cross_base, joined};
 use null_logic::Truth;
 use perm_values::{Boxed, Copyable, List, NoMemory};
-use query_parts::joined;
+use rewrite_base::exact_width;
 use std::alloc::Global;
-use sublink_laws::deciding;
 
 /// The rows, and for each sublink in turn those rows of its cross base that are one of its contributions.
 pub(crate) fn with_contributions(

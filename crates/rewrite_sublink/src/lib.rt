@@ -1,9 +1,13 @@
-//! The rules that rewrite a node with sublinks to a plain query with the rows of its PROVENANCE (the strategy Gen: Glavic
-//! and Alonso, EDBT 2009).
+//! How a node with sublinks is rewritten to a plain query with the rows of its PROVENANCE (the strategy Gen: Glavic and
+//! Alonso, EDBT 2009): the rewriting as a definition, and the laws by which it is one.
 #![tactic(auto)]
 
 mod candidates;
+mod decisions;
+mod laws;
 mod matching;
 mod rules;
 
+pub use decisions::{candidate_column, deciding, outwards};
+pub use laws::{filters_over_candidates_rewrite, projects_over_candidates_rewrite};
 pub use rules::{filter_with, project_with};

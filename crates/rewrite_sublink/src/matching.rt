@@ -3,17 +3,16 @@ ghost use Rattle.std.specs.Prelude.{◌≡◌, [], IfOk, length};
 ghost use Rattle.bag_algebra.specs.ColumnItems.{column_items};
 ghost use Rattle.bag_algebra.specs.Kinds.{kinds_of};
 ghost use Rattle.contribution.specs.CrossBase.{always};
-ghost use Rattle.query_parts.specs.Conjunctions.{all_hold};
-ghost use Rattle.sublink_laws.specs.Candidates.{first_column, matching, or_nulls, outer_test, outer_tests, same_as_outer};
+ghost use Rattle.contribution.specs.parts.Conjunctions.{all_hold};
+ghost use Rattle.rewrite_sublink.specs.Candidates.{first_column, matching, or_nulls, outer_test, outer_tests, same_as_outer};
 
+use crate::decisions::{candidate_column, outwards};
 use bag_algebra::{Expr, Query};
-use contribution::kinds;
-use joined_rewritings::columns_from;
+use contribution::{column_items, filtered, joined, kinds, projection};
 use null_logic::Operator;
 use perm_values::{Boxed, Copyable, Kind, List, NoMemory, Value};
-use query_parts::{column_items, filtered, joined, projection};
+use rewrite_base::columns_from;
 use std::alloc::Global;
-use sublink_laws::{candidate_column, outwards};
 
 /// Where a candidate stands: as many columns, from a place on in the outer row, and from another place on in the rows of the
 /// rewriting.

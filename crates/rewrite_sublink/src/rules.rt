@@ -5,17 +5,16 @@ ghost use Rattle.bag_algebra.specs.ColumnItems.{column_items};
 ghost use Rattle.bag_algebra.specs.Kinds.{kinds_of, width_of};
 ghost use Rattle.bag_algebra.specs.Rewriting.{IsRewrite};
 ghost use Rattle.bag_algebra.specs.declared.query.Query.TheVariants.{Filter, Project};
-ghost use Rattle.query_congruence.specs.Standing.{SubsStand};
-ghost use Rattle.query_measures.specs.BuiltScopes.{all_over_tables};
-ghost use Rattle.sublink_laws.specs.Candidates.{all_contributed, answer_columns, answer_places, beside_row};
-ghost use Rattle.sublink_laws.specs.SubRewritings.{SubsRewritten};
+ghost use Rattle.query_laws.specs.congruence.Standing.{SubsStand};
+ghost use Rattle.bag_algebra.specs.measures.BuiltScopes.{all_over_tables};
+ghost use Rattle.rewrite_sublink.specs.Candidates.{all_contributed, answer_columns, answer_places, beside_row};
+ghost use Rattle.rewrite_sublink.specs.SubRewritings.{SubsRewritten};
 
 use crate::candidates::with_contributions;
 use bag_algebra::{Expr, Item, Query, Sublink};
-use contribution::kinds;
-use joined_rewritings::{columns_from, exact_width, sum};
+use contribution::{column_items, kinds, projection};
 use perm_values::{Boxed, Copyable, List, NoMemory};
-use query_parts::{column_items, projection};
+use rewrite_base::{columns_from, exact_width, sum};
 use std::alloc::Global;
 
 /// A rewriting of the input's rows on which the condition is true, where sublinks of any kind stand in it: the condition

@@ -3,5 +3,5 @@
 
 mod query;
 
-pub use expression_values::{ExecError, eval};
 pub use query::{run_hashed, run_plain};
+pub use row_values::{ExecError, eval};

@@ -1,7 +1,7 @@
-pub mod Undoubled
-pub mod Spelled
 pub mod Bytes
 pub mod Lexes
+pub mod Printing
 pub mod Reading
 pub mod Reserved
-pub mod Printing
+pub mod Spelled
+pub mod Undoubled

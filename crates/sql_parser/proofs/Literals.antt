@@ -18,10 +18,10 @@ use Rattle.sql_grammar.proofs.Listing.{all_of-done}
 use Rattle.sql_grammar.proofs.Steps.{reading_is}
 use Rattle.sql_grammar.proofs.TablesHold.{told}
 use Rattle.sql_parser.specs.Literals.{ends}
-use Rattle.sql_predicates.specs.Tails as tails
-use Rattle.sql_predicates.proofs.Comparing.{ranged_is}
-use Rattle.sql_operators.proofs.Connecting.{both_is, expr_is}
-use Rattle.sql_operators.proofs.Counts.{sign_is, negated_is}
+use Rattle.sql_levels.specs.Tails as tails
+use Rattle.sql_levels.proofs.Comparing.{ranged_is}
+use Rattle.sql_levels.proofs.Connecting.{both_is, expr_is}
+use Rattle.sql_levels.proofs.Counts.{sign_is, negated_is}
 use Rattle.sql_primaries.proofs.Primaries.{primary_is}
 
 -- the tokens are read as this expression by a symbol of one part

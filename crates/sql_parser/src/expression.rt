@@ -10,8 +10,7 @@ ghost use Rattle.sql_parser.specs.Literals.{ends};
 
 use perm_values::Boxed;
 use sql_grammar::{Cursor, Fault, Nest, Sort, node};
-use sql_operators::{Connectives, Sums};
-use sql_predicates::Predicates;
+use sql_levels::{Connectives, Predicates, Sums};
 use sql_primaries::{Grammar, LITERALS, literal};
 use sql_tree::{ExprTree, QueryTree};
 

@@ -26,18 +26,18 @@ use Rattle.sql_tree.specs.declared.statement.Statement.{Statement}
 use Rattle.sql_tree.specs.declared.statement.StatementBody.{StatementBody}
 use Rattle.sql_tree.specs.declared.statement.StatementBody.TheVariants as st
 use Rattle.sql_tree.specs.declared.statement.ValuesRow.{ValuesRow}
-use Rattle.name_words.specs.Froms.{named_so, names_of, settled_columns}
-use Rattle.name_words.specs.Meanings.{Meant, OutColumn, QueryMeant, means_at, broken, broken_if, is_whole, is_same_kind, seen_kind, settled, unites}
-use Rattle.name_words.specs.Statements.{alone, bare, breaks, columns_of, defined_columns, kinds_of_table, made_alone, name_breaks, named_query_breaks, on_table, query_meant, repeated_columns, repeats, resolved, resolved_body, row_breaks, row_made, rows_made, taken, value_breaks, values_breaks, view_entry}
-use Rattle.name_words.specs.Sublinks.{nothing_before}
-use Rattle.name_words.specs.Trees.{part_of}
-use Rattle.name_words.specs.declared.answer.Break.{Break}
+use Rattle.name_meaning.specs.Froms.{named_so, names_of, settled_columns}
+use Rattle.name_meaning.specs.Meanings.{Meant, OutColumn, QueryMeant, means_at, broken, broken_if, is_whole, is_same_kind, seen_kind, settled, unites}
+use Rattle.name_meaning.specs.Statements.{alone, bare, breaks, columns_of, defined_columns, kinds_of_table, made_alone, name_breaks, named_query_breaks, on_table, query_meant, repeated_columns, repeats, resolved, resolved_body, row_breaks, row_made, rows_made, taken, value_breaks, values_breaks, view_entry}
+use Rattle.name_meaning.specs.Sublinks.{nothing_before}
+use Rattle.name_meaning.specs.Trees.{part_of}
+use Rattle.name_meaning.specs.declared.answer.Break.{Break}
 use Rattle.name_laws.proofs.Every.{front-none, back-none}
 use Rattle.name_laws.proofs.Trees.{query-in_scope}
-use Rattle.name_forms.specs.Formed.{IsAnswer, IsFormedExpr}
-use Rattle.name_forms.specs.Standing.{StandAt, AggregatesStand}
-use Rattle.name_forms.proofs.TreeLaws.{expr-formed, query-answer, query-closed, query-wide}
-use Rattle.name_tables.proofs.Named.{view-reads}
+use Rattle.name_laws.specs.forms.Formed.{IsAnswer, IsFormedExpr}
+use Rattle.name_laws.specs.forms.Standing.{StandAt, AggregatesStand}
+use Rattle.name_laws.proofs.forms.TreeLaws.{expr-formed, query-answer, query-closed, query-wide}
+use Rattle.name_laws.proofs.tables.Named.{view-reads}
 use Rattle.statement_laws.proofs.Ready.{names-whole, unbroken, not-false}
 use Rattle.statement_laws.specs.Sounder.{AddsSoundly, HaveKinds, RowsHaveKinds}
 

@@ -5,7 +5,7 @@ use Rattle.bag_algebra.proofs.Outcomes.{both-is, same_good}
 use Rattle.bag_algebra.specs.Bags.{Row, Bag}
 use Rattle.bag_algebra.specs.Outcome.{Outcome, Good, each}
 use Rattle.bag_algebra.specs.declared.expr.Expr.{Expr}
-use Rattle.statement_words.specs.Turns.{goes}
+use Rattle.statement_meaning.specs.Turns.{goes}
 use Rattle.statement_laws.specs.Kept.{is_certain, rows_left}
 
 one_more : (f : Row → Outcome Bool) (row : Row) (rows : Bag) (flag : Bool) (flags : List Bool) → f row ≡ Good flag

@@ -3,3 +3,4 @@ pub mod Left
 pub mod Ready
 pub mod Sounder
 pub mod Unspent
+pub mod answers

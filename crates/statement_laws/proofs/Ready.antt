@@ -14,14 +14,14 @@ use Rattle.sql_tree.specs.declared.query.QueryTree.{QueryTree}
 use Rattle.sql_tree.specs.declared.statement.Statement.{Statement}
 use Rattle.sql_tree.specs.declared.statement.StatementBody.{StatementBody}
 use Rattle.sql_tree.specs.declared.statement.StatementBody.TheVariants as st
-use Rattle.name_words.specs.Meanings.{broken, broken_if, is_whole}
-use Rattle.name_words.specs.Statements.{alone, answer_of, query_meant, breaks, name_breaks, limit_breaks, named_query_breaks, on_table, repeated_columns, resolved, resolved_body, taken, unknown_table, unknown_view, used}
-use Rattle.name_words.specs.declared.answer.Break.{Break}
+use Rattle.name_meaning.specs.Meanings.{broken, broken_if, is_whole}
+use Rattle.name_meaning.specs.Statements.{alone, answer_of, query_meant, breaks, name_breaks, limit_breaks, named_query_breaks, on_table, repeated_columns, resolved, resolved_body, taken, unknown_table, unknown_view, used}
+use Rattle.name_meaning.specs.declared.answer.Break.{Break}
 use Rattle.name_laws.proofs.Every.{front-none, back-none}
 use Rattle.name_laws.proofs.Trees.{query-in_scope}
-use Rattle.name_forms.proofs.TreeLaws.{query-closed}
-use Rattle.name_tables.proofs.Tables.{tables-fit}
-use Rattle.statement_words.specs.Ready.{CanRun, IsReady}
+use Rattle.name_laws.proofs.forms.TreeLaws.{query-closed}
+use Rattle.name_laws.proofs.tables.Tables.{tables-fit}
+use Rattle.statement_meaning.specs.Ready.{CanRun, IsReady}
 
 -- the rules of names are looked at first
 pub names-whole : (c : Contents) (statement : Statement) → breaks c statement ≡ [] → name_breaks c statement.body ≡ []

@@ -26,12 +26,12 @@ use Rattle.perm_catalog.specs.Contents.{Contents}
 use Rattle.perm_catalog.specs.Sound.{IsSound}
 use Rattle.perm_catalog.specs.declared.entries.TableEntry.{TableEntry}
 use Rattle.perm_io.specs.Found.{Found, Read, Missing, TooLong, Failed}
-use Rattle.name_words.specs.Meanings.{broken}
-use Rattle.name_words.specs.declared.answer.Resolved.{Resolved}
-use Rattle.name_words.specs.declared.answer.Resolved.TheVariants as r
-use Rattle.statement_words.specs.Asking.{asks}
-use Rattle.statement_words.specs.Ready.{IsReady}
-use Rattle.statement_words.specs.Turns.{Turn, Stands, Refused, Broken, on_good, drawing, counting, identity_of, with_added, add_rows, add_unbroken, answered, copy, goes, row_value, rows_deleted}
+use Rattle.name_meaning.specs.Meanings.{broken}
+use Rattle.name_meaning.specs.declared.answer.Resolved.{Resolved}
+use Rattle.name_meaning.specs.declared.answer.Resolved.TheVariants as r
+use Rattle.statement_meaning.specs.Asking.{asks}
+use Rattle.statement_meaning.specs.Ready.{IsReady}
+use Rattle.statement_meaning.specs.Turns.{Turn, Stands, Refused, Broken, on_good, drawing, counting, identity_of, with_added, add_rows, add_unbroken, answered, copy, goes, row_value, rows_deleted}
 use Rattle.statement_laws.specs.Sounder.{HaveKinds, RowsHaveKinds, AddsSoundly, StandsSound, KeepsSound}
 
 -- ---- turns

@@ -3,7 +3,7 @@ use Rattle.std.specs.Prelude.{Bool, true, false, not, filter, Option}
 use Rattle.bag_algebra.specs.Bags.{Row, Bag}
 use Rattle.bag_algebra.specs.Outcome.{Outcome, Good, Bad}
 use Rattle.bag_algebra.specs.declared.expr.Expr.{Expr}
-use Rattle.statement_words.specs.Turns.{goes}
+use Rattle.statement_meaning.specs.Turns.{goes}
 
 abbrev pub is_certain : Outcome Bool → Bool
 is_certain (Good b) = b

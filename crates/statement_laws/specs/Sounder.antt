@@ -9,10 +9,10 @@ use Rattle.perm_catalog.specs.Contents.{Contents}
 use Rattle.perm_catalog.specs.Sound.{IsSound, IsSoundView}
 use Rattle.perm_catalog.specs.declared.entries.TableEntry.{TableEntry}
 use Rattle.perm_io.specs.Found.{Found}
-use Rattle.name_words.specs.declared.answer.Resolved.{Resolved}
-use Rattle.name_words.specs.declared.answer.Resolved.TheVariants as r
-use Rattle.statement_words.specs.Asking.{Asked, Settled, Begins}
-use Rattle.statement_words.specs.Turns.{Turn, Stands, Refused}
+use Rattle.name_meaning.specs.declared.answer.Resolved.{Resolved}
+use Rattle.name_meaning.specs.declared.answer.Resolved.TheVariants as r
+use Rattle.statement_meaning.specs.Asking.{Asked, Settled, Begins}
+use Rattle.statement_meaning.specs.Turns.{Turn, Stands, Refused}
 
 -- an expression for each of the kinds, which has it where no column is seen
 abbrev pub HaveKinds : List Expr → List Kind → Type 0

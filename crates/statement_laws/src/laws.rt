@@ -3,9 +3,9 @@ ghost use Rattle.std.specs.Prelude.{◌≡◌, ◌≢◌, ℕ, Bool, List, [], O
 ghost use Rattle.bag_algebra.specs.Bags.{Bag};
 ghost use Rattle.bag_algebra.specs.Outcome.{Good, each};
 ghost use Rattle.bag_algebra.specs.declared.expr.Expr.{Expr};
-ghost use Rattle.name_words.specs.Statements.{breaks, resolved};
-ghost use Rattle.name_words.specs.declared.answer.Break.{Break};
-ghost use Rattle.name_words.specs.declared.answer.Resolved.{Resolved};
+ghost use Rattle.name_meaning.specs.Statements.{breaks, resolved};
+ghost use Rattle.name_meaning.specs.declared.answer.Break.{Break};
+ghost use Rattle.name_meaning.specs.declared.answer.Resolved.{Resolved};
 ghost use Rattle.perm_catalog.specs.Contents.{Contents};
 ghost use Rattle.perm_catalog.specs.Sound.{IsSound};
 ghost use Rattle.perm_values.specs.Marked.{unmarked};
@@ -13,9 +13,9 @@ ghost use Rattle.sql_tree.specs.Regular.{RegularStatement};
 ghost use Rattle.sql_tree.specs.declared.statement.Statement.{Statement};
 ghost use Rattle.statement_laws.specs.Kept.{rows_left};
 ghost use Rattle.statement_laws.specs.Sounder.{AddsSoundly, KeepsSound};
-ghost use Rattle.statement_words.specs.Asking.{asks};
-ghost use Rattle.statement_words.specs.Ready.{IsReady};
-ghost use Rattle.statement_words.specs.Turns.{goes};
+ghost use Rattle.statement_meaning.specs.Asking.{asks};
+ghost use Rattle.statement_meaning.specs.Ready.{IsReady};
+ghost use Rattle.statement_meaning.specs.Turns.{goes};
 
 /// Over a sound catalog, a statement that breaks no rule of names and kinds can be carried out.
 pub fn whole_statements_are_ready()

@@ -7,41 +7,41 @@ use Rattle.bag_algebra.specs.declared.expr.ChainStep.{ChainStep}
 use Rattle.bag_algebra.specs.declared.expr.Expr.{Expr}
 use Rattle.bag_algebra.specs.declared.expr.Expr.TheVariants.{Lit, Op, Chain, Case, IsNull, IsTruth, Same}
 use Rattle.perm_values.specs.declared.kind.Kind.{Kind}
-use Rattle.name_words.specs.Expressions.{StepPart, ArmPart, in_kind, negated_if, times}
-use Rattle.name_words.specs.Meanings.{Surroundings, means_at, query_means_at}
-use Rattle.name_words.specs.Operands.{Operand, gives_of, need_of, node, operand, wanted_of}
-use Rattle.name_words.specs.Sublinks.{around_of, aggregate_made, aggregated, exists_meant, if_standing, in_argument, in_tested, null_at, rows_counted, scalar_meant}
-use Rattle.name_words.specs.Trees.{arm_of, part_of, query_of, step_of, core_of, set_of_tree, from_item_of, from_of, join_of}
-use Rattle.name_words.specs.declared.need.Gives.TheVariants.{Common}
-use Rattle.name_words.specs.declared.need.Need.TheVariants.{Alike, OfKind}
-use Rattle.name_seen.specs.Named.{scopes_of, here_only}
-use Rattle.name_seen.specs.Standing.{surroundings, around_of as standing_of}
-use Rattle.name_nodes.specs.Makes.{IsBuilt, Links, Makes, MakesArms, MakesMore, MakesSteps, before_of, with_sub, MakesQuery}
-use Rattle.name_nodes.proofs.Arms.{behind-others, next-arm-made, next-step-made, of-ok, operand-one}
-use Rattle.name_nodes.proofs.FormsMade.{aggregate-form, arm-is, between-form, case-else-form, case-form, chain-form, coalesce-form, column-form, compared-form, count-form, distinct-form, exists-form, in-list-form, in-query-form, integer-form, like-form, logic-form, nots-form, null-form, null-of-form, null-test-form, nullif-form, paren-form, quantified-form, scalar-form, signs-form, step-is, text-form, told, truth-form, truth-test-form}
-use Rattle.name_nodes.proofs.Linking.{aggregated-made, tested-made, untested-made}
-use Rattle.name_nodes.proofs.Parts.{more-more, node-made}
-use Rattle.made_parts.proofs.Listing.{mapped}
+use Rattle.name_meaning.specs.Expressions.{StepPart, ArmPart, in_kind, negated_if, times}
+use Rattle.name_meaning.specs.Meanings.{Surroundings, means_at, query_means_at}
+use Rattle.name_meaning.specs.Operands.{Operand, gives_of, need_of, node, operand, wanted_of}
+use Rattle.name_meaning.specs.Sublinks.{around_of, aggregate_made, aggregated, exists_meant, if_standing, in_argument, in_tested, null_at, rows_counted, scalar_meant}
+use Rattle.name_meaning.specs.Trees.{arm_of, part_of, query_of, step_of, core_of, set_of_tree, from_item_of, from_of, join_of}
+use Rattle.name_meaning.specs.declared.need.Gives.TheVariants.{Common}
+use Rattle.name_meaning.specs.declared.need.Need.TheVariants.{Alike, OfKind}
+use Rattle.name_seen_parts.specs.Named.{scopes_of, here_only}
+use Rattle.name_seen_parts.specs.Standing.{surroundings, around_of as standing_of}
+use Rattle.name_made_nodes.specs.Makes.{IsBuilt, Links, Makes, MakesArms, MakesMore, MakesSteps, before_of, with_sub, MakesQuery}
+use Rattle.name_made_nodes.proofs.Arms.{behind-others, next-arm-made, next-step-made, of-ok, operand-one}
+use Rattle.name_made_nodes.proofs.FormsMade.{aggregate-form, arm-is, between-form, case-else-form, case-form, chain-form, coalesce-form, column-form, compared-form, count-form, distinct-form, exists-form, in-list-form, in-query-form, integer-form, like-form, logic-form, nots-form, null-form, null-of-form, null-test-form, nullif-form, paren-form, quantified-form, scalar-form, signs-form, step-is, text-form, told, truth-form, truth-test-form}
+use Rattle.name_made_nodes.proofs.Linking.{aggregated-made, tested-made, untested-made}
+use Rattle.name_made_nodes.proofs.Parts.{more-more, node-made}
+use Rattle.name_made_parts.proofs.asked.Listing.{mapped}
 use Rattle.bag_algebra.specs.declared.query.Query.TheVariants.{Prov}
-use Rattle.name_words.specs.Queries.{limited, unprovable}
-use Rattle.made_parts.proofs.Coring.{core-none, core-some, clauses-made, item-so, some-kept, star-is, table-star-is, value-is}
-use Rattle.made_parts.proofs.Querying.{chain-made, chain-of-one, core-is, paren-is, query-is}
+use Rattle.name_meaning.specs.Queries.{limited, unprovable}
+use Rattle.name_made_parts.proofs.asked.Coring.{core-none, core-some, clauses-made, item-so, some-kept, star-is, table-star-is, value-is}
+use Rattle.name_made_parts.proofs.asked.Querying.{chain-made, chain-of-one, core-is, paren-is, query-is}
 use Rattle.null_logic.specs.declared.operator.Operator.TheVariants as x
 use Rattle.perm_values.specs.declared.kind.Kind.TheVariants as kind
 use Rattle.perm_values.specs.declared.value.Value.TheVariants as v
-use Rattle.name_words.specs.Cores.{group_scope, in_clause}
-use Rattle.name_words.specs.Froms.{first_item, in_on, join_all, trace_under, FromMeant, FromPart}
-use Rattle.name_words.specs.declared.scope.Scope.{Scope}
+use Rattle.name_meaning.specs.Cores.{group_scope, in_clause}
+use Rattle.name_meaning.specs.Froms.{first_item, in_on, join_all, trace_under, FromMeant, FromPart}
+use Rattle.name_meaning.specs.declared.scope.Scope.{Scope}
 use Rattle.bag_algebra.specs.declared.query.Aggr.{Aggr}
 use Rattle.sql_tree.specs.declared.query.Core.{out-Core}
 use Rattle.sql_tree.specs.declared.query.SetStep.{SetStep}
 use Rattle.sql_tree.specs.declared.source.FromTree.{out-FromTree}
 use Rattle.sql_tree.specs.declared.source.JoinStep.{JoinStep}
-use Rattle.name_nodes.specs.Cored.{clauses_over}
-use Rattle.name_nodes.proofs.ItemLists.{value-listed}
-use Rattle.made_parts.specs.Cored.{MakesClauses, MakesList, having_part, kept_of, select_parts, sources_meant}
-use Rattle.made_sources.specs.Sources.{JoinsMade, SourcesMade, join_count}
-use Rattle.made_sources.proofs.Sourcing.{first-made, from-fields, item-inner, item-named, no-sources, source-more, sources-made}
+use Rattle.name_made_nodes.specs.Cored.{clauses_over}
+use Rattle.name_made_nodes.proofs.ItemLists.{value-listed}
+use Rattle.name_made_parts.specs.asked.Cored.{MakesClauses, MakesList, having_part, kept_of, select_parts, sources_meant}
+use Rattle.name_made_parts.specs.Sources.{JoinsMade, SourcesMade, join_count}
+use Rattle.name_made_parts.proofs.Sourcing.{first-made, from-fields, item-inner, item-named, no-sources, source-more, sources-made}
 use Rattle.bag_algebra.specs.declared.query.Query.{Query}
 use Rattle.name_made.proofs.Chaining.{ChainMade, chain-step}
 use Rattle.name_made.proofs.Standing.{from-count, items-more, of-on, own-stands, step-more, tree-join}

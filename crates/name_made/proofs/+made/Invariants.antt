@@ -1,19 +1,19 @@
 use Rattle.std.proofs.Common.{take, ℕ, List, Bool, []}
 use Rattle.std.specs.Prelude.{map}
 use Rattle.perm_values.specs.declared.kind.Kind.{Kind}
-use Rattle.name_words.specs.Operands.{operand}
-use Rattle.name_words.specs.Trees.{arm_of, part_of, step_of, from_item_of, from_of, join_of, set_step_of, item_of}
-use Rattle.name_seen.specs.Standing.{surroundings, around_of}
-use Rattle.name_nodes.specs.Makes.{MakesArms, MakesMore, MakesSteps, MakesQuery}
-use Rattle.name_words.specs.Froms.{first_item, join_all}
-use Rattle.name_words.specs.Meanings.{QueryMeant}
-use Rattle.name_words.specs.Queries.{set_chain}
+use Rattle.name_meaning.specs.Operands.{operand}
+use Rattle.name_meaning.specs.Trees.{arm_of, part_of, step_of, from_item_of, from_of, join_of, set_step_of, item_of}
+use Rattle.name_seen_parts.specs.Standing.{surroundings, around_of}
+use Rattle.name_made_nodes.specs.Makes.{MakesArms, MakesMore, MakesSteps, MakesQuery}
+use Rattle.name_meaning.specs.Froms.{first_item, join_all}
+use Rattle.name_meaning.specs.Meanings.{QueryMeant}
+use Rattle.name_meaning.specs.Queries.{set_chain}
 use Rattle.sql_tree.specs.declared.source.FromTree.{out-FromTree}
-use Rattle.name_seen.specs.Named.{scopes_of}
-use Rattle.name_nodes.specs.Chained.{Serves}
-use Rattle.made_sources.specs.Sources.{JoinsMade, SourcesMade}
-use Rattle.name_nodes.specs.Listed.{MakesItems}
-use Rattle.made_parts.specs.Cored.{items_meant}
+use Rattle.name_seen_parts.specs.Named.{scopes_of}
+use Rattle.name_made_nodes.specs.Chained.{Serves}
+use Rattle.name_made_parts.specs.Sources.{JoinsMade, SourcesMade}
+use Rattle.name_made_nodes.specs.Listed.{MakesItems}
+use Rattle.name_made_parts.specs.asked.Cored.{items_meant}
 use Rattle.name_made.proofs.+made.Given as goal
 
 -- the operands so far are made

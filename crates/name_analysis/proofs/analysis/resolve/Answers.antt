@@ -1,7 +1,7 @@
 use Rattle.std.proofs.Common.{sym}
-use Rattle.clauses_seen.proofs.Firsts.{none-broken}
-use Rattle.statement_parts.specs.Own.{own_breaks}
-use Rattle.statement_parts.proofs.Owned.{first-told, none-told, own-first}
+use Rattle.name_seen_parts.proofs.clauses.Firsts.{none-broken}
+use Rattle.name_statements.specs.Own.{own_breaks}
+use Rattle.name_statements.proofs.Owned.{first-told, none-told, own-first}
 use Rattle.name_analysis.proofs.analysis.resolve.Goals as goal
 
 pub behind_names-requires : goal.behind_names-requires

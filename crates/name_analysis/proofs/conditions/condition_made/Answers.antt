@@ -1,14 +1,14 @@
 use Rattle.std.specs.Prelude.{List, [], ◌∷◌}
 use Rattle.std.proofs.Common.{ap, ◌∙◌}
-use Rattle.name_nodes.proofs.Arms.{of-ok}
-use Rattle.name_seen.specs.Named.{scopes_of}
-use Rattle.name_seen.specs.Standing.{standing_in}
-use Rattle.name_words.specs.Froms.{table_columns}
-use Rattle.name_words.specs.Scopes.{scope_of}
-use Rattle.name_words.specs.Statements.{bare}
-use Rattle.name_words.specs.declared.scope.Scope.{Scope}
+use Rattle.name_made_nodes.proofs.Arms.{of-ok}
+use Rattle.name_seen_parts.specs.Named.{scopes_of}
+use Rattle.name_seen_parts.specs.Standing.{standing_in}
+use Rattle.name_meaning.specs.Froms.{table_columns}
+use Rattle.name_meaning.specs.Scopes.{scope_of}
+use Rattle.name_meaning.specs.Statements.{bare}
+use Rattle.name_meaning.specs.declared.scope.Scope.{Scope}
 use Rattle.perm_catalog.specs.declared.column.Column.{Column}
-use Rattle.statement_parts.proofs.Values.{condition-alone}
+use Rattle.name_statements.proofs.Values.{condition-alone}
 use Rattle.name_analysis.proofs.conditions.condition_made.Goals as goal
 
 pub returns : goal.returns

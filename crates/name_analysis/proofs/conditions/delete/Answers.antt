@@ -1,6 +1,6 @@
-use Rattle.name_words.specs.declared.answer.Resolved.TheVariants as r
+use Rattle.name_meaning.specs.declared.answer.Resolved.TheVariants as r
 use Rattle.sql_tree.specs.declared.statement.StatementBody.TheVariants as st
-use Rattle.statement_parts.proofs.Refused.{made-so}
+use Rattle.name_statements.proofs.Refused.{made-so}
 use Rattle.name_analysis.proofs.conditions.delete.Goals as goal
 
 pub returns : goal.returns

@@ -1,5 +1,5 @@
 use Rattle.std.proofs.Common.{sym}
-use Rattle.statement_parts.proofs.Tabled.{delete-so}
+use Rattle.name_statements.proofs.Tabled.{delete-so}
 use Rattle.name_analysis.proofs.conditions.deleted.Goals as goal
 
 pub returns-in-Some : goal.returns-in-Some

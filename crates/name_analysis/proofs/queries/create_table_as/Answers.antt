@@ -1,7 +1,7 @@
-use Rattle.name_words.specs.declared.answer.Resolved.TheVariants as r
+use Rattle.name_meaning.specs.declared.answer.Resolved.TheVariants as r
 use Rattle.sql_tree.specs.declared.statement.StatementBody.TheVariants as st
-use Rattle.statement_parts.specs.declared.queries.Whole.{Whole}
-use Rattle.statement_parts.proofs.Refused.{made-so}
+use Rattle.name_statements.specs.declared.queries.Whole.{Whole}
+use Rattle.name_statements.proofs.Refused.{made-so}
 use Rattle.name_analysis.proofs.queries.create_table_as.Goals as goal
 
 pub returns : goal.returns

@@ -1,18 +1,18 @@
 use Rattle.std.proofs.Common.{refl, sym, subst, ◌∙◌}
-use Rattle.clauses_seen.proofs.Firsts.{none-broken}
-use Rattle.name_seen.specs.Standing.{around_of}
-use Rattle.clauses_seen.specs.Columns.{columns_of}
-use Rattle.name_words.specs.Froms.{settled_columns}
-use Rattle.name_words.specs.Meanings.{query_means_at}
-use Rattle.name_words.specs.Statements as words
-use Rattle.name_words.specs.Trees.{query_of}
-use Rattle.name_words.specs.declared.answer.Resolved.TheVariants as r
-use Rattle.query_facts.specs.Queried.{QueryWhole}
+use Rattle.name_seen_parts.proofs.clauses.Firsts.{none-broken}
+use Rattle.name_seen_parts.specs.Standing.{around_of}
+use Rattle.name_seen_parts.specs.clauses.Columns.{columns_of}
+use Rattle.name_meaning.specs.Froms.{settled_columns}
+use Rattle.name_meaning.specs.Meanings.{query_means_at}
+use Rattle.name_meaning.specs.Statements as words
+use Rattle.name_meaning.specs.Trees.{query_of}
+use Rattle.name_meaning.specs.declared.answer.Resolved.TheVariants as r
+use Rattle.name_seen_from.specs.Queried.{QueryWhole}
 use Rattle.sql_tree.specs.declared.statement.StatementBody.TheVariants as st
-use Rattle.statement_parts.specs.Resolves.{ResolvesBy, stored_breaks}
-use Rattle.statement_parts.specs.declared.queries.Whole.{Whole}
-use Rattle.statement_parts.proofs.Queried.{stored-seen, stored-so, stored-told}
-use Rattle.statement_parts.proofs.Refused.{known-here, query-refused, query-whole, same-refused, whole-so}
+use Rattle.name_statements.specs.Resolves.{ResolvesBy, stored_breaks}
+use Rattle.name_statements.specs.declared.queries.Whole.{Whole}
+use Rattle.name_statements.proofs.Queried.{stored-seen, stored-so, stored-told}
+use Rattle.name_statements.proofs.Refused.{known-here, query-refused, query-whole, same-refused, whole-so}
 use Rattle.name_analysis.proofs.queries.table_made.Goals as goal
 
 pub whole_of-requires-clause-seen : goal.whole_of-requires-clause-seen

@@ -1,16 +1,16 @@
 use Rattle.std.proofs.Common.{refl, sym, subst, ◌∙◌}
-use Rattle.clauses_seen.proofs.Firsts.{none-broken}
-use Rattle.name_seen.specs.Standing.{around_of}
-use Rattle.name_words.specs.Froms.{names_of}
-use Rattle.name_words.specs.Meanings.{broken_if, query_means_at}
-use Rattle.name_words.specs.Statements as words
-use Rattle.name_words.specs.Trees.{query_of}
-use Rattle.name_words.specs.declared.answer.Resolved.TheVariants as r
-use Rattle.query_facts.specs.Queried.{QueryWhole}
+use Rattle.name_seen_parts.proofs.clauses.Firsts.{none-broken}
+use Rattle.name_seen_parts.specs.Standing.{around_of}
+use Rattle.name_meaning.specs.Froms.{names_of}
+use Rattle.name_meaning.specs.Meanings.{broken_if, query_means_at}
+use Rattle.name_meaning.specs.Statements as words
+use Rattle.name_meaning.specs.Trees.{query_of}
+use Rattle.name_meaning.specs.declared.answer.Resolved.TheVariants as r
+use Rattle.name_seen_from.specs.Queried.{QueryWhole}
 use Rattle.sql_tree.specs.declared.statement.StatementBody.TheVariants as st
-use Rattle.statement_parts.specs.Resolves.{ResolvesBy}
-use Rattle.statement_parts.proofs.Queried.{view-limited, view-made, view-repeats, view-seen}
-use Rattle.statement_parts.proofs.Refused.{by-limit, is-whole, limits-refused, query-refused, query-whole, repeats-told, same-refused}
+use Rattle.name_statements.specs.Resolves.{ResolvesBy}
+use Rattle.name_statements.proofs.Queried.{view-limited, view-made, view-repeats, view-seen}
+use Rattle.name_statements.proofs.Refused.{by-limit, is-whole, limits-refused, query-refused, query-whole, repeats-told, same-refused}
 use Rattle.name_analysis.proofs.queries.view_made.Goals as goal
 
 pub whole_of-requires-clause-seen : goal.whole_of-requires-clause-seen

@@ -1,9 +1,9 @@
-use Rattle.name_words.specs.declared.answer.Resolved.TheVariants as r
+use Rattle.name_meaning.specs.declared.answer.Resolved.TheVariants as r
 use Rattle.sql_tree.specs.declared.statement.StatementBody.TheVariants as st
 use Rattle.sql_tree.specs.declared.statement.ValuesRow.{ValuesRow}
 use Rattle.std.proofs.Common.{List, subst}
-use Rattle.statement_parts.specs.Resolves.{ResolvesBy}
-use Rattle.statement_parts.proofs.Refused.{made-so}
+use Rattle.name_statements.specs.Resolves.{ResolvesBy}
+use Rattle.name_statements.proofs.Refused.{made-so}
 use Rattle.name_analysis.proofs.rows.insert.Goals as goal
 
 pub returns : goal.returns

@@ -2,15 +2,15 @@ use Rattle.std.proofs.Common.{subst, sym}
 use Rattle.perm_catalog.specs.declared.column.Column.{Column}
 use Rattle.sql_tree.specs.declared.statement.StatementBody.TheVariants as st
 use Rattle.std.specs.Prelude.{List, flat_map}
-use Rattle.clauses_seen.specs.Told.{Tells}
-use Rattle.name_seen.specs.Seen.{first_or}
-use Rattle.name_words.specs.Statements.{row_breaks}
+use Rattle.name_seen_parts.specs.clauses.Told.{Tells}
+use Rattle.name_seen_parts.specs.Seen.{first_or}
+use Rattle.name_meaning.specs.Statements.{row_breaks}
 use Rattle.perm_catalog.specs.Columns.{column_kinds}
 use Rattle.std.specs.Prelude.{Err}
-use Rattle.statement_parts.specs.Resolves.{ResolvesBy}
-use Rattle.name_words.specs.declared.answer.Resolved.TheVariants as r
-use Rattle.statement_parts.proofs.Refused.{same-refused}
-use Rattle.statement_parts.proofs.Tabled.{insert-refused}
+use Rattle.name_statements.specs.Resolves.{ResolvesBy}
+use Rattle.name_meaning.specs.declared.answer.Resolved.TheVariants as r
+use Rattle.name_statements.proofs.Refused.{same-refused}
+use Rattle.name_statements.proofs.Tabled.{insert-refused}
 use Rattle.name_analysis.proofs.rows.inserted.Goals as goal
 
 pub returns-in_err-rows_break-in-Some : goal.returns-in_err-rows_break-in-Some

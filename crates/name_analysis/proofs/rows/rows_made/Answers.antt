@@ -1,7 +1,7 @@
 use Rattle.std.specs.Prelude.{[]}
-use Rattle.name_words.specs.Statements.{row_breaks}
+use Rattle.name_meaning.specs.Statements.{row_breaks}
 use Rattle.perm_catalog.specs.Columns.{column_kinds}
-use Rattle.statement_parts.proofs.Values.{each-none}
+use Rattle.name_statements.proofs.Values.{each-none}
 use Rattle.name_analysis.proofs.rows.rows_made.Goals as goal
 
 pub row_made-requires-clause-alone : goal.row_made-requires-clause-alone

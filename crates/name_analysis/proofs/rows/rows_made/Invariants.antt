@@ -1,5 +1,5 @@
 use Rattle.std.proofs.Common.{◌≡◌, take}
-use Rattle.name_words.specs.Statements.{rows_made}
+use Rattle.name_meaning.specs.Statements.{rows_made}
 use Rattle.perm_catalog.specs.Columns.{column_kinds}
 use Rattle.name_analysis.proofs.rows.rows_made.Given as goal
 

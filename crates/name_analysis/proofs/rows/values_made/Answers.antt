@@ -1,6 +1,6 @@
 use Rattle.std.proofs.Common.{arith}
-use Rattle.name_seen.specs.Standing.{surroundings}
-use Rattle.statement_parts.proofs.Values.{row-end, row-more, row-start, value-whole}
+use Rattle.name_seen_parts.specs.Standing.{surroundings}
+use Rattle.name_statements.proofs.Values.{row-end, row-more, row-start, value-whole}
 use Rattle.name_analysis.proofs.rows.values_made.Goals as goal
 
 pub loop-at-init : goal.loop-at-init

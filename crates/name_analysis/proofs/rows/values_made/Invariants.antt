@@ -1,4 +1,4 @@
-use Rattle.statement_parts.proofs.Values.{RowSoFar}
+use Rattle.name_statements.proofs.Values.{RowSoFar}
 use Rattle.name_analysis.proofs.rows.values_made.Given as goal
 
 -- the values so far

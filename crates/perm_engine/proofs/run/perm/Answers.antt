@@ -2,15 +2,15 @@ use Rattle.std.proofs.Common.{◌≡◌, ◌⊎◌, ◌∙◌, List, ℕ, false,
 use Rattle.perm_io.specs.Answers.{is_fault}
 use Rattle.perm_io.specs.Counts.{CountsFault, HasRisen}
 use Rattle.perm_io.specs.Found.{Read, Missing, TooLong, Failed}
-use Rattle.statement_words.specs.Answers.{can_be, over}
-use Rattle.run_ends.specs.Ends.{EndsOne, over as output}
-use Rattle.run_ends.specs.Run.{Runs, ended, is_one}
-use Rattle.run_ends.specs.Stops.{Misused, NoFile, LongFile, FailedFile}
-use Rattle.run_ends.specs.declared.status.Status.TheVariants as status
-use Rattle.run_ends.proofs.Completing.{completes, steadied, whole-flushed, write_fault}
-use Rattle.run_steps.proofs.Looping.{other_end, failed-unsteady, used-of_script}
-use Rattle.run_steps.proofs.Reasons.{ends-broken, ends-faulty, ends-bad}
-use Rattle.run_steps.proofs.Running.{Runs-misused, Runs-found, Runs-read, Opens-none, one_word, none_or_more}
+use Rattle.statement_meaning.specs.Answers.{can_be, over}
+use Rattle.run_meaning.specs.Ends.{EndsOne, over as output}
+use Rattle.run_meaning.specs.Run.{Runs, ended, is_one}
+use Rattle.run_meaning.specs.Stops.{Misused, NoFile, LongFile, FailedFile}
+use Rattle.run_meaning.specs.declared.status.Status.TheVariants as status
+use Rattle.run_meaning.proofs.Completing.{completes, steadied, whole-flushed, write_fault}
+use Rattle.run_meaning.proofs.steps.Looping.{other_end, failed-unsteady, used-of_script}
+use Rattle.run_meaning.proofs.steps.Reasons.{ends-broken, ends-faulty, ends-bad}
+use Rattle.run_meaning.proofs.steps.Running.{Runs-misused, Runs-found, Runs-read, Opens-none, one_word, none_or_more}
 use Rattle.perm_engine.proofs.run.perm.Goals as goal
 
 pub returns-then-words-ne1 : goal.returns-then-words-ne1

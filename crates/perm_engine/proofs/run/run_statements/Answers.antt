@@ -7,17 +7,17 @@ use Rattle.perm_catalog.specs.Contents.{Contents}
 use Rattle.perm_io.specs.Counts.{CountsFault}
 use Rattle.sql_tree.specs.Regular.{Each, RegularStatement}
 use Rattle.sql_tree.specs.declared.statement.Statement.{Statement}
-use Rattle.statement_words.specs.Answers.{can_be, file_limit, has_failed, over}
-use Rattle.statement_words.specs.Asking.{asked}
+use Rattle.statement_meaning.specs.Answers.{can_be, file_limit, has_failed, over}
+use Rattle.statement_meaning.specs.Asking.{asked}
 use Rattle.perm_engine.specs.Sessions.{SessionState}
-use Rattle.run_ends.specs.Stops.{ToTheEnd}
-use Rattle.run_ends.specs.declared.status.Status.TheVariants as status
-use Rattle.run_steps.proofs.Ending.{HasRun, HasRun-nothing, HasRun-more, HasRun-cut, HasRun-stopped, HasRun-done}
-use Rattle.run_steps.proofs.Firsts.{next-after}
-use Rattle.run_steps.proofs.Looping.{next-regular, left-regular, text≢memory, stopped-of_script, stopped-read_fault, stopped-steady, other_end}
-use Rattle.run_steps.proofs.Running.{of_script}
-use Rattle.run_steps.proofs.Turns.{begun-told, still_risen}
-use Rattle.run_ends.proofs.Widening.{CanBe-moved, takes-wider, rests-moved}
+use Rattle.run_meaning.specs.Stops.{ToTheEnd}
+use Rattle.run_meaning.specs.declared.status.Status.TheVariants as status
+use Rattle.run_meaning.proofs.steps.Ending.{HasRun, HasRun-nothing, HasRun-more, HasRun-cut, HasRun-stopped, HasRun-done}
+use Rattle.run_meaning.proofs.steps.Firsts.{next-after}
+use Rattle.run_meaning.proofs.steps.Looping.{next-regular, left-regular, text≢memory, stopped-of_script, stopped-read_fault, stopped-steady, other_end}
+use Rattle.run_meaning.proofs.steps.Running.{of_script}
+use Rattle.run_meaning.proofs.steps.Turns.{begun-told, still_risen}
+use Rattle.run_meaning.proofs.Widening.{CanBe-moved, takes-wider, rests-moved}
 use Rattle.perm_engine.proofs.run.run_statements.Goals as goal
 
 pub loop-statement-init : goal.loop-statement-init

@@ -1,7 +1,7 @@
 use Rattle.std.proofs.Common.{take}
-use Rattle.query_congruence.specs.Standing.{SubsStand}
+use Rattle.query_laws.specs.congruence.Standing.{SubsStand}
 use Rattle.rewrite_driver.proofs.driver.+stand.Given as goal
-use Rattle.sublink_laws.specs.SubRewritings.{SubsRewritten}
+use Rattle.rewrite_sublink.specs.SubRewritings.{SubsRewritten}
 
 abbrev pub invariant-stand_subs-loop-sub : goal.invariant-stand_subs-loop-sub
 invariant-stand_subs-loop-sub l = SubsStand (take l.sub-index l.subs) l.others

@@ -1,6 +1,6 @@
 use Rattle.std.proofs.Common.{◌∙◌, sym}
 use Rattle.rewrite_sublink.proofs.candidates.test_of.Goals as goal
-use Rattle.sublink_laws.specs.Candidates.{test_condition, test_subs}
+use Rattle.rewrite_sublink.specs.Candidates.{test_condition, test_subs}
 
 pub returns-in_ok-subs-in-None-clause-condition : goal.returns-in_ok-subs-in-None-clause-condition
 returns-in_ok-subs-in-None-clause-condition c = λ i. test_condition ((sym c.in-None.is ∙ c.deciding.ensures) i)

@@ -1,7 +1,7 @@
 use Rattle.std.proofs.Common.{◌≡◌, ◌∙◌, IfOk, subst}
 use Rattle.bag_algebra.specs.declared.query.Query.{Query}
 use Rattle.rewrite_sublink.proofs.candidates.with_contribution.Goals as goal
-use Rattle.sublink_laws.specs.Candidates.{matching, tested}
+use Rattle.rewrite_sublink.specs.Candidates.{matching, tested}
 
 pub returns : goal.returns
 returns c =

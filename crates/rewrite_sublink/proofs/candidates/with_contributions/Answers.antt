@@ -1,7 +1,7 @@
 use Rattle.std.proofs.Common.{◌∙◌, ◌+◌, drop, sym, ap, arith}
 use Rattle.rewrite_sublink.proofs.Steps.{next, last, over-at}
 use Rattle.rewrite_sublink.proofs.candidates.with_contributions.Goals as goal
-use Rattle.sublink_laws.specs.Candidates.{all_contributed}
+use Rattle.rewrite_sublink.specs.Candidates.{all_contributed}
 
 pub with_contribution-requires : goal.with_contribution-requires
 with_contribution-requires c = over-at c.args.subs.now c.loop-at.at c.index-subs-at.result c.requires.over_tables c.loop-at-test.true c.index-subs-at.is

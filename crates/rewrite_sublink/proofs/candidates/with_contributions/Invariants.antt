@@ -1,6 +1,6 @@
 use Rattle.std.proofs.Common.{◌≡◌, drop}
 use Rattle.rewrite_sublink.proofs.candidates.with_contributions.Given as goal
-use Rattle.sublink_laws.specs.Candidates.{all_contributed}
+use Rattle.rewrite_sublink.specs.Candidates.{all_contributed}
 
 -- what is left to do gives the whole
 abbrev pub invariant-loop-at : goal.invariant-loop-at

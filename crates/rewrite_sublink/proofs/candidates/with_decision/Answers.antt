@@ -1,6 +1,6 @@
 use Rattle.std.proofs.Common.{◌∙◌, ◌++◌, ◌∷◌, [], ap}
 use Rattle.rewrite_sublink.proofs.candidates.with_decision.Goals as goal
-use Rattle.sublink_laws.specs.Candidates.{sub_over}
+use Rattle.rewrite_sublink.specs.Candidates.{sub_over}
 
 pub returns : goal.returns
 returns c =

@@ -1,7 +1,7 @@
 use Rattle.std.proofs.Common.{◌≡◌, suc, ◌+◌, ◌++◌, ◌∷◌, [], take, sym, subst, ◌∙◌, arith}
-use Rattle.sublink_laws.proofs.OuterTests.{outer_tests-next}
+use Rattle.rewrite_sublink.proofs.OuterTests.{outer_tests-next}
 use Rattle.rewrite_sublink.proofs.matching.outer_tests.Goals as goal
-use Rattle.sublink_laws.specs.Candidates.{outer_tests}
+use Rattle.rewrite_sublink.specs.Candidates.{outer_tests}
 
 pub loop-at-preserved : goal.loop-at-preserved
 loop-at-preserved c =

@@ -1,8 +1,8 @@
 use Rattle.std.proofs.Common.{length, sym, ap, ◌∙◌}
 use Rattle.std.proofs.lemmas.List.FromFn.{length-range_with_len}
-use Rattle.query_parts.specs.Conjunctions.{all_hold}
+use Rattle.contribution.specs.parts.Conjunctions.{all_hold}
 use Rattle.rewrite_sublink.proofs.matching.same_as_outer.Goals as goal
-use Rattle.sublink_laws.specs.Candidates.{outer_tests}
+use Rattle.rewrite_sublink.specs.Candidates.{outer_tests}
 
 pub outer_tests-requires : goal.outer_tests-requires
 outer_tests-requires c =

@@ -2,7 +2,7 @@ use Rattle.std.proofs.Common.{◌≡◌, ◌∙◌, List, IfOk, length, ap, subs
 use Rattle.bag_algebra.specs.ColumnItems.{column_items}
 use Rattle.bag_algebra.specs.declared.expr.Item.{Item}
 use Rattle.rewrite_sublink.proofs.rules.answer_items.Goals as goal
-use Rattle.sublink_laws.specs.Candidates.{answer_places}
+use Rattle.rewrite_sublink.specs.Candidates.{answer_places}
 
 pub returns : goal.returns
 returns c =

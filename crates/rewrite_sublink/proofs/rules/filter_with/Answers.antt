@@ -2,12 +2,12 @@ use Rattle.std.proofs.Common.{◌≡◌, ◌∙◌, IfOk, IsTrue, length, sym, a
 use Rattle.bag_algebra.specs.EveryNode.{no_open_sublink}
 use Rattle.bag_algebra.specs.Rewriting.{IsRewrite}
 use Rattle.bag_algebra.specs.declared.query.Query.TheVariants.{Filter}
-use Rattle.query_parts.proofs.NodeQueries.{of_made}
-use Rattle.sublink_laws.proofs.AllSublinks.{ready}
+use Rattle.contribution.proofs.parts.NodeQueries.{of_made}
+use Rattle.rewrite_sublink.proofs.AllSublinks.{ready}
 use Rattle.rewrite_sublink.proofs.Closing.{stand-length, rewritten-length, closed-filter}
-use Rattle.sublink_laws.proofs.FilterRows.{rewrite-Filter_with}
+use Rattle.rewrite_sublink.proofs.FilterRows.{rewrite-Filter_with}
 use Rattle.rewrite_sublink.proofs.rules.filter_with.Goals as goal
-use Rattle.sublink_laws.specs.Candidates.{all_contributed}
+use Rattle.rewrite_sublink.specs.Candidates.{all_contributed}
 
 pub with_contributions-requires : goal.with_contributions-requires
 with_contributions-requires c = record {

@@ -1,7 +1,7 @@
 use Rattle.std.proofs.Common.{◌≡◌, ◌∙◌, IfOk, length, subst}
 use Rattle.bag_algebra.specs.declared.query.Query.{Query}
 use Rattle.rewrite_sublink.proofs.rules.items_with.Goals as goal
-use Rattle.sublink_laws.specs.Candidates.{all_contributed, answer_columns}
+use Rattle.rewrite_sublink.specs.Candidates.{all_contributed, answer_columns}
 
 pub with_contributions-requires : goal.with_contributions-requires
 with_contributions-requires c = record {

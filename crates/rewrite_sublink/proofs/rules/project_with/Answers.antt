@@ -3,12 +3,12 @@ use Rattle.bag_algebra.specs.EveryNode.{no_open_sublink}
 use Rattle.bag_algebra.specs.Kinds.{width_of}
 use Rattle.bag_algebra.specs.Rewriting.{IsRewrite}
 use Rattle.bag_algebra.specs.declared.query.Query.TheVariants.{Project}
-use Rattle.query_parts.proofs.NodeQueries.{of_made}
-use Rattle.sublink_laws.proofs.AllSublinks.{ready}
-use Rattle.sublink_laws.proofs.ProjectRows.{rewrite-Project_with}
+use Rattle.contribution.proofs.parts.NodeQueries.{of_made}
+use Rattle.rewrite_sublink.proofs.AllSublinks.{ready}
+use Rattle.rewrite_sublink.proofs.ProjectRows.{rewrite-Project_with}
 use Rattle.rewrite_sublink.proofs.Closing.{stand-length, rewritten-length, closed-project}
 use Rattle.rewrite_sublink.proofs.rules.project_with.Goals as goal
-use Rattle.sublink_laws.specs.Candidates.{all_contributed, answer_columns, beside_row}
+use Rattle.rewrite_sublink.specs.Candidates.{all_contributed, answer_columns, beside_row}
 
 pub items_with-requires : goal.items_with-requires
 items_with-requires c = record {

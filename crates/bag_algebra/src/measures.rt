@@ -1,0 +1,17 @@
+//! How large a query is, of which kinds its columns are, and the tests of queries: plain, scoped, free of faults.
+
+mod faults;
+mod kinds;
+mod laws;
+mod scopes;
+mod sizes;
+
+pub use faults::{fault_free, faultless};
+pub use kinds::{kind_at, width};
+pub use laws::{
+    expressions_have_one_kind, fault_free_queries_meet_no_fault,
+    faultless_expressions_meet_no_fault, more_sublinks_change_nothing,
+    well_formed_queries_read_their_outer_rows_alone,
+};
+pub use scopes::{is_plain, is_scoped, over_tables, traceable};
+pub use sizes::{height, size};

@@ -1,9 +1,0 @@
-use Rattle.std.proofs.Common.{◌≡◌, drop}
-use Rattle.std.specs.Prelude.{Some, flat_map}
-use Rattle.name_words.specs.Queries.{key_break, keys_breaks}
-use Rattle.clauses_seen.specs.Columns.{columns_of}
-use Rattle.clauses_seen.proofs.keys.keys_break.Given as goal
-
--- the keys so far break nothing
-abbrev pub invariant-loop-tree : goal.invariant-loop-tree
-invariant-loop-tree l = keys_breaks (Some (columns_of l.columns)) l.order ≡ flat_map (key_break (columns_of l.columns)) (drop l.tree-index l.order)

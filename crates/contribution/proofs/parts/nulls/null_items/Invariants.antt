@@ -1,0 +1,6 @@
+use Rattle.std.proofs.Common.{◌≡◌, map, take}
+use Rattle.contribution.specs.parts.NullItems.{null_item}
+use Rattle.contribution.proofs.parts.nulls.null_items.Given as goal
+
+abbrev pub invariant-loop-kind : goal.invariant-loop-kind
+invariant-loop-kind l = l.items ≡ map null_item (take l.kind-index l.kinds)

@@ -1,0 +1,35 @@
+use Rattle.std.proofs.Common.{◌≡◌, List, ◌∷◌, IsTrue, length, sym, ap, subst, ◌∙◌}
+use Rattle.perm_values.specs.Rows.{picked, same_row}
+use Rattle.perm_values.specs.declared.kind.Kind.{Kind}
+use Rattle.perm_values.specs.declared.kind.Kind.TheVariants as kind
+use Rattle.perm_values.specs.declared.value.Value.{Value}
+use Rattle.perm_values.specs.declared.value.Value.TheVariants.{Boolean}
+use Rattle.bag_algebra.specs.Bags.{Row}
+use Rattle.bag_algebra.specs.Expressions.{value}
+use Rattle.bag_algebra.specs.FaultFree.{faultless}
+use Rattle.bag_algebra.specs.Kinds.{kinds_in}
+use Rattle.bag_algebra.specs.Outcome.{Good}
+use Rattle.bag_algebra.specs.WellFormed.{HasKind, PlacesIn}
+use Rattle.contribution.proofs.parts.SameTests.{tests-value, conjunction-formed, conjunction-faultless}
+use Rattle.contribution.specs.parts.Conjunctions.{all_hold}
+use Rattle.contribution.proofs.parts.same.same_columns.Goals as goal
+
+pub returns-clause-made : goal.returns-clause-made
+returns-clause-made c = c.conjunction.ensures ∙ ap all_hold c.in_ok-tests.ensures
+
+pub returns-clause-value : goal.returns-clause-value
+returns-clause-value c =
+    subst (λ test. (u : Row) (env : List Row) (subs : List Value) →
+    value test u env subs ≡ Good (Boolean (same_row (picked c.args.left.now u) (picked c.args.right.now u)))) (sym (returns-clause-made c))
+    (λ u env subs. tests-value u env subs c.args.left.now c.args.right.now c.requires)
+
+pub returns-clause-kind : goal.returns-clause-kind
+returns-clause-kind c =
+    subst (λ test. (kinds : List Kind) (outer : List (List Kind)) (subs : List Kind) →
+    PlacesIn (length kinds) c.args.left.now → PlacesIn (length kinds) c.args.right.now →
+    kinds_in kinds c.args.left.now ≡ kinds_in kinds c.args.right.now → HasKind (kinds ∷ outer) subs test kind.Boolean) (sym (returns-clause-made c))
+    (λ kinds outer subs. conjunction-formed kinds outer subs c.args.left.now c.args.right.now)
+
+pub returns-clause-faultless : goal.returns-clause-faultless
+returns-clause-faultless c =
+    subst (λ test. IsTrue (faultless test)) (sym (returns-clause-made c)) (conjunction-faultless c.args.left.now c.args.right.now)

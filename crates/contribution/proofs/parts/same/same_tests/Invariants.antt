@@ -1,0 +1,6 @@
+use Rattle.std.proofs.Common.{◌≡◌, take}
+use Rattle.contribution.specs.parts.Conjunctions.{same_tests}
+use Rattle.contribution.proofs.parts.same.same_tests.Given as goal
+
+abbrev pub invariant-loop-at : goal.invariant-loop-at
+invariant-loop-at l = l.tests ≡ same_tests (take l.at l.left) (take l.at l.right)

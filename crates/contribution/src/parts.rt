@@ -1,0 +1,14 @@
+//! The parts that rewritten queries are built of, each with what it means: projections, filters and joins without
+//! sublinks, columns in another order, rows of NULLs, and tests that columns are the same.
+
+mod columns;
+mod moving;
+mod nodes;
+mod nulls;
+mod same;
+
+pub use columns::{column_items, kind_or_text, regroup};
+pub use moving::moved;
+pub use nodes::{filtered, joined, projection};
+pub use nulls::{null_items, padded};
+pub use same::same_columns;

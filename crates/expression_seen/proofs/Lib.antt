@@ -1,5 +1,0 @@
-pub mod Adding
-pub mod Alone
-pub mod Behind
-pub mod Forms
-pub mod Sublinked

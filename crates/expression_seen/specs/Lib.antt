@@ -1,2 +1,0 @@
-pub mod Expressed
-pub mod Inner

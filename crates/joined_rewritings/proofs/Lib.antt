@@ -1,6 +1,0 @@
-pub mod JoinedOutcomes
-pub mod JoinedRows
-pub mod KeptRewriting
-pub mod KeptRows
-pub mod OpenSublinks
-pub mod Places

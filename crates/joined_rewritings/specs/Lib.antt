@@ -1,2 +1,0 @@
-pub mod KeptColumns
-pub mod UnionSides

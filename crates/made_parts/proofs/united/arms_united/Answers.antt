@@ -1,8 +1,0 @@
-use Rattle.name_seen.specs.Standing.{surroundings}
-use Rattle.made_parts.proofs.Listing.{arms-more}
-use Rattle.made_parts.proofs.united.arms_united.Goals as goal
-
-pub loop-arm-preserved : goal.loop-arm-preserved
-loop-arm-preserved c =
-    arms-more c.args.here.now.catalog.now (surroundings c.args.here.now) c.args.arms.now c.loop-arm.arm-index c.arm-item.result c.loop-arm.kind c.in_ok-kind.kind
-    c.loop-arm-test.true c.arm-item.is c.loop-arm.invariant c.in_ok-kind.ensures

@@ -1,6 +1,0 @@
-pub mod Listing
-pub mod Opened
-pub mod Segmented
-pub mod Sourcing
-pub mod Starred
-pub mod Viewed

@@ -1,7 +1,0 @@
-use Rattle.std.proofs.Common.{◌≡◌, take}
-use Rattle.name_words.specs.Froms.{names_of, settled_columns}
-use Rattle.clauses_seen.specs.Columns.{columns_of}
-use Rattle.made_sources.proofs.shown.column_names.Given as goal
-
-abbrev pub invariant-loop-column : goal.invariant-loop-column
-invariant-loop-column l = l.names ≡ names_of (settled_columns (columns_of (take l.column-index l.columns)))

@@ -1,5 +1,0 @@
-use Rattle.name_forms.proofs.TreeLaws.{query-closed}
-use Rattle.name_forms.proofs.laws.outermost_queries_are_closed.Goals as goal
-
-pub returns : goal.returns
-returns c catalog tree around sound regular whole none wanted = query-closed catalog tree around sound regular whole none wanted

@@ -1,5 +1,0 @@
-use Rattle.name_forms.proofs.TreeLaws.{query-answer}
-use Rattle.name_forms.proofs.laws.queries_are_answers.Goals as goal
-
-pub returns : goal.returns
-returns c catalog tree around sound regular whole = query-answer catalog tree around sound regular whole

@@ -1,0 +1,477 @@
+-- Over which parts queries, set operations, cores and FROM are.
+use Rattle.std.specs.Prelude.{◌≡◌, ⊤, ℕ, ℤ, Bool, true, false, cond, not, List, [], ◌∷◌, ◌++◌, map, flat_map, Option, Some, None, option_map, is_some}
+use Rattle.std.proofs.Common.{refl, ap, sym, subst, ◌∙◌, append-nil, true≢false}
+use Rattle.std.specs.List.{list_any}
+use Rattle.std.specs.Option.{option_map_or}
+use Rattle.bag_algebra.specs.declared.query.Query.{Query}
+use Rattle.perm_catalog.specs.Contents.{Contents}
+use Rattle.sql_tree.specs.declared.name.ColRef.{ColRef}
+use Rattle.sql_tree.specs.declared.name.Name.{Name}
+use Rattle.sql_tree.specs.declared.query.Core.{Core, out-Core}
+use Rattle.sql_tree.specs.declared.query.OrderTree.{OrderTree}
+use Rattle.sql_tree.specs.declared.query.QueryTree.{QueryTree}
+use Rattle.sql_tree.specs.declared.query.SelectItem.{SelectItem}
+use Rattle.sql_tree.specs.declared.query.SelectItem.TheVariants as i
+use Rattle.sql_tree.specs.declared.query.SetStep.{SetStep}
+use Rattle.sql_tree.specs.declared.query.SetTree.{SetTree}
+use Rattle.sql_tree.specs.declared.query.SetTree.TheVariants as set
+use Rattle.sql_tree.specs.declared.expression.ExprTree.{ExprTree}
+use Rattle.sql_tree.specs.declared.source.FromItem.{FromItem}
+use Rattle.sql_tree.specs.declared.source.FromSource.TheVariants as source
+use Rattle.sql_tree.specs.declared.source.FromTree.{FromTree, out-FromTree}
+use Rattle.sql_tree.specs.declared.source.JoinStep.{JoinStep, out-JoinStep}
+use Rattle.sql_tree.specs.declared.source.ScopeMark.{ScopeMark}
+use Rattle.name_meaning.proofs.Equations.{token, settree-core, settree-paren, settree-chain, setstep-record, querytree-record, selectitem-star, selectitem-tablestar, selectitem-value, fromitem-record, fromsource-named, fromsource-inner}
+use Rattle.name_meaning.specs.Cores.{BodyPart, Clauses, clause_breaks, core_clauses, core_over, core_seen, core_trace, core_unlooked, group_break, group_scope, has_some, in_clause, optional_breaks, optional_inside, optional_meant, word_breaks}
+use Rattle.name_meaning.specs.Froms.{FromMeant, FromPart, ItemMeant, JoinPart, Read, SourcePart, beside_from, both_known, condition_breaks, first_item, from_all, from_more, in_on, item_meant, join_all, join_item, label_of, mark_breaks, on_breaks, on_meant, read_named, read_of, scope_items, scope_name, trace_under}
+use Rattle.name_meaning.specs.Items.{SelectMeant, SelectPart, columns_meant, item_step, items_breaks, items_inside, no_columns, star_meant, table_star_meant}
+use Rattle.name_meaning.specs.Meanings.{Around, Inside, Meant, OutColumn, Part, QueryMeant, QueryPart, Surroundings, both_inside, broken_if, is_whole, means_at, nothing_inside, query_means_at}
+use Rattle.name_meaning.specs.Queries.{SetStepPart, count_columns, is_proving, keys_breaks, keys_of, limited, operand_breaks, plain_query, proved_query, query_seen, set_chain, set_joined, unprovable}
+use Rattle.name_meaning.specs.Scopes.{Placed, ScopeItem, item_columns, scope_of}
+use Rattle.name_meaning.specs.Trees.{core_of, from_item_of, from_of, item_of, join_of, part_of, query_of, set_of_tree, set_step_of, source_of}
+use Rattle.name_meaning.specs.declared.answer.Break.{Break}
+use Rattle.name_meaning.specs.declared.scope.Scope.{Scope}
+use Rattle.name_meaning.specs.declared.trace.Trace.{Trace}
+use Rattle.name_meaning.specs.declared.trace.Trace.TheVariants.{InProvenance as in_provenance}
+use Rattle.name_laws.proofs.Every.{Every, front-none, back-none}
+use Rattle.name_inside.proofs.Opened.{core-is, from-is, from_item-is, join-is}
+use Rattle.name_inside.specs.Held.{Adds, Held, all_breaks, all_inside, around_body, around_parts, clauses_of, condition_of, having_of, held, held_at, held_clauses, held_from, held_froms, held_item, held_items, held_joins, held_operand, held_optional, held_query, held_read, held_select, inside_in, items_of, query_alone, sources_of}
+use Rattle.name_inside.specs.Passed.{HasScope, HasWidth}
+use Rattle.name_inside.specs.declared.gathered.Gathered.{Gathered}
+use Rattle.name_inside.proofs.Bare.{bare-tree}
+use Rattle.name_inside.proofs.Forms.{BarePart, IsBare}
+use Rattle.name_inside.proofs.Over.{IsOver, adds-both, adds-broken, adds-nothing, adds-over, adds-this, breaks-append, breaks-one, both-nothing, inside-append, inside-one, over-alike, over-front, over-pair, over-self}
+
+-- ---- set operations
+
+joined-over : (left : QueryMeant) (step : SetStepPart) (right : QueryMeant) → IsOver (held_query (set_joined left step right)) (held_query left ∷ held_query right ∷ [])
+joined-over left step right = over-pair (held_query (set_joined left step right)) (held_query left) (held_query right)
+    (λ none. front-none (left.breaks ++ right.breaks) (operand_breaks step.at left.columns right.columns) none) (λ none. refl)
+
+chain-over : (around : Around) (left : QueryMeant) (steps : List SetStepPart)
+    → IsOver (held_query (set_chain around left steps)) (held_query left ∷ map (held_operand around) steps)
+chain-over around left [] = over-self (held_query left)
+chain-over around left (step ∷ steps) =
+    let right = step.operand.means (unprovable around) in
+    over-front (held_query left ∷ held_query right ∷ []) (map (held_operand around) steps)
+    (chain-over around (set_joined left step right) steps) (joined-over left step right)
+
+module _ (c : Contents) (around : Around) (tree : SetTree) where
+  pub core-stands : (core : Core) → tree ≡ set.Core core → held_query ((set_of_tree c tree).means around) ≡ held_query ((core_of c core).means around)
+  unfolding token
+  core-stands core is = ap (λ (t : SetTree). held_query ((set_of_tree c t).means around)) is
+      ∙ ap (λ (body : BodyPart). held_query (body.means around)) (settree-core c core)
+
+  pub paren-stands : (query : QueryTree) → tree ≡ set.Paren query
+      → held_query ((set_of_tree c tree).means around) ≡ held_query (query_means_at (query_of c query) (unprovable around))
+  unfolding token query_means_at
+  paren-stands query is = ap (λ (t : SetTree). held_query ((set_of_tree c t).means around)) is
+      ∙ ap (λ (body : BodyPart). held_query (body.means around)) (settree-paren c query)
+
+  pub chain-stands : (first : SetTree) (steps : List SetStep) → tree ≡ set.Chain first steps
+      → IsOver (held_query ((set_of_tree c tree).means around)) (held_query ((set_of_tree c first).means around) ∷ map (held_operand around) (map (set_step_of c) steps))
+  unfolding token
+  chain-stands first steps is = over-alike
+      (ap (λ (t : SetTree). held_query ((set_of_tree c t).means around)) is ∙ ap (λ (body : BodyPart). held_query (body.means around)) (settree-chain c first steps))
+      (chain-over around ((set_of_tree c first).means around) (map (set_step_of c) steps))
+
+-- whether PROVENANCE stands behind the first SELECT
+pub core-word : (c : Contents) (tree : SetTree) (core read : Core) → tree ≡ set.Core core → read ≡ core
+    → is_some (out-Core read).provenance ≡ is_some (set_of_tree c tree).word
+unfolding token
+core-word c tree core read is same = sym (ap (λ (t : SetTree). is_some (set_of_tree c t).word) is
+    ∙ ap (λ (body : BodyPart). is_some body.word) (settree-core c core) ∙ ap (λ (body : BodyPart). is_some body.word) (core-is c core)
+    ∙ ap (λ (k : Core). is_some (out-Core k).provenance) (sym same))
+
+pub paren-word : (c : Contents) (tree : SetTree) (query : QueryTree) → tree ≡ set.Paren query → false ≡ is_some (set_of_tree c tree).word
+unfolding token
+paren-word c tree query is = sym (ap (λ (t : SetTree). is_some (set_of_tree c t).word) is ∙ ap (λ (body : BodyPart). is_some body.word) (settree-paren c query))
+
+pub chain-word : (c : Contents) (tree first read : SetTree) (steps : List SetStep) (b : Bool) → tree ≡ set.Chain first steps → read ≡ first
+    → b ≡ is_some (set_of_tree c read).word → b ≡ is_some (set_of_tree c tree).word
+unfolding token
+chain-word c tree first read steps b is same e = e ∙ ap (λ (t : SetTree). is_some (set_of_tree c t).word) same
+    ∙ sym (ap (λ (t : SetTree). is_some (set_of_tree c t).word) is ∙ ap (λ (body : BodyPart). is_some body.word) (settree-chain c first steps))
+
+operand-stands : (c : Contents) (around : Around) (step : SetStep)
+    → held_operand around (set_step_of c step) ≡ held_query ((set_of_tree c step.operand).means (unprovable around))
+unfolding token
+operand-stands c around step = ap (held_operand around) (setstep-record c step.word step.all step.at step.operand)
+
+pub operand-adds : (c : Contents) (around : Around) (step : SetStep) {old new : Gathered}
+    → Adds (held_query ((set_of_tree c step.operand).means (unprovable around)) ∷ []) old new → Adds (held_operand around (set_step_of c step) ∷ []) old new
+operand-adds c around step {old = old} {new = new} added = subst (λ (h : Held). Adds (h ∷ []) old new) (sym (operand-stands c around step)) added
+
+-- ---- a query
+
+-- the query itself, with as many columns
+abbrev pub held_alone : ℕ → QueryMeant → Held
+held_alone at m = record { breaks = m.breaks; inside = query_alone at (count_columns m.columns) }
+
+plain-over : (at : ℕ) (m : QueryMeant) (order : List OrderTree) (limit : Option ℤ)
+    → IsOver (held_query (plain_query at m order limit)) (held_alone at (plain_query at m order limit) ∷ held_query m ∷ [])
+plain-over at m order limit =
+    let whole = plain_query at m order limit in
+    over-pair (held_query whole) (held_alone at whole) (held_query m)
+    (λ none. (λ i. none i ++ front-none m.breaks (keys_breaks m.columns order) none i)) (λ none. refl)
+
+proved-over : (at : ℕ) (m : QueryMeant) (order : List OrderTree) (limit : Option ℤ) (query : Query)
+    → IsOver (held_query (proved_query at m order limit query)) (held_alone at (proved_query at m order limit query) ∷ held_query m ∷ [])
+proved-over at m order limit query =
+    let whole = proved_query at m order limit query in
+    over-pair (held_query whole) (held_alone at whole) (held_query m)
+    (λ none. (λ i. none i ++ front-none m.breaks (keys_breaks m.columns order) none i)) (λ none. refl)
+
+seen-over : (around : Around) (at : ℕ) (body : BodyPart) (order : List OrderTree) (limit : Option ℤ)
+    → IsOver (held_query (query_seen around at body order limit)) (held_alone at (query_seen around at body order limit) ∷ held_query (body.means (around_body around body)) ∷ [])
+seen-over around at body order limit = chosen (is_proving around body) where
+  chosen : (b : Bool) → IsOver (held_query (cond b
+      (let m = body.means (record around { trace = in_provenance }) in proved_query at m order limit (limited limit (keys_of m.columns order) (m.make [])))
+      (plain_query at (body.means around) order limit)))
+      (held_alone at (cond b
+      (let m = body.means (record around { trace = in_provenance }) in proved_query at m order limit (limited limit (keys_of m.columns order) (m.make [])))
+      (plain_query at (body.means around) order limit))
+      ∷ held_query (body.means (cond b (record around { trace = in_provenance }) around)) ∷ [])
+  chosen true =
+      let m = body.means (record around { trace = in_provenance }) in
+      proved-over at m order limit (limited limit (keys_of m.columns order) (m.make []))
+  chosen false = plain-over at (body.means around) order limit
+
+query-is : (c : Contents) (around : Around) (tree : QueryTree)
+    → query_means_at (query_of c tree) around ≡ query_seen around tree.at (set_of_tree c tree.body) tree.order tree.limit
+unfolding token query_means_at
+query-is c around tree = ap (λ (query : QueryPart). query.means around) (querytree-record c tree.at tree.body tree.order tree.limit)
+
+pub query-adds : (c : Contents) (around : Around) (tree : QueryTree) (width : ℕ) (old middle new : Gathered)
+    → HasWidth (query_means_at (query_of c tree) around) (Some width) → inside_in middle ≡ both_inside (inside_in old) (query_alone tree.at width)
+    → Adds (held_query ((set_of_tree c tree.body).means (around_body around (set_of_tree c tree.body))) ∷ []) middle new
+    → Adds (held_query (query_means_at (query_of c tree) around) ∷ []) old new
+query-adds c around tree width old middle new wide first body = adds-over
+    (subst (λ (m : QueryMeant). IsOver (held_query m) (held_alone tree.at m ∷ held_query ((set_of_tree c tree.body).means (around_body around (set_of_tree c tree.body))) ∷ []))
+    (sym (query-is c around tree)) (seen-over around tree.at (set_of_tree c tree.body) tree.order tree.limit))
+    (adds-both (adds-this (λ none. first ∙ ap (λ n. both_inside (inside_in old) (query_alone tree.at n)) (sym (wide none)))) body)
+
+-- ---- FROM
+
+beside-over : (left right : FromMeant) → IsOver (held_from (beside_from left right)) (held_from left ∷ held_from right ∷ [])
+beside-over left right = over-pair (held_from (beside_from left right)) (held_from left) (held_from right) (λ none. none) (λ none. refl)
+
+more-over : (outer : List Scope) (trace : Trace) (left : FromMeant) (parts : List FromPart)
+    → IsOver (held_from (from_more outer trace left parts)) (held_from left ∷ held_froms outer trace left.names parts)
+more-over outer trace left [] = over-self (held_from left)
+more-over outer trace left (part ∷ parts) =
+    let right = part.means outer trace left.names in
+    over-front (held_from left ∷ held_from right ∷ []) (held_froms outer trace right.names parts)
+    (more-over outer trace (beside_from left right) parts) (beside-over left right)
+
+all-over : (outer : List Scope) (trace : Trace) (parts : List FromPart) → IsOver (held_from (from_all outer trace parts)) (held_froms outer trace [] parts)
+all-over outer trace [] = record { breaks = λ none. refl; inside = λ none. refl }
+all-over outer trace (part ∷ parts) = more-over outer trace (part.means outer trace []) parts
+
+abbrev BareOn : Option Part → Type 0
+BareOn None = ⊤
+BareOn (Some condition) = BarePart condition
+
+abbrev BareJoin : JoinPart → Type 0
+BareJoin step = BareOn step.condition
+
+on-nothing : (outer : List Scope) (trace : Trace) (items : Option (List ScopeItem)) (condition : Option Part) → BareOn condition
+    → on_breaks condition (on_meant outer trace items condition) ≡ []
+    → option_map_or (λ (m : Meant). m.inside) (on_meant outer trace items condition) nothing_inside ≡ nothing_inside
+on-nothing outer trace None condition bare none = refl
+on-nothing outer trace (Some items) None bare none = refl
+on-nothing outer trace (Some items) (Some condition) bare none =
+    bare (in_on items outer trace) refl (front-none (condition.means (in_on items outer trace)).breaks _ none)
+
+join-over : (outer : List Scope) (trace : Trace) (left : FromMeant) (step : JoinPart) (m : ItemMeant) → BareJoin step
+    → IsOver (held_from (join_item outer trace left step m)) (held_from left ∷ held_item m ∷ [])
+join-over outer trace left step m bare =
+    let items = both_known left.items (scope_items m) in
+    over-pair (held_from (join_item outer trace left step m)) (held_from left) (held_item m)
+    (λ none. front-none (left.breaks ++ m.breaks) (on_breaks step.condition (on_meant outer trace items step.condition)) none)
+    (λ none. ap (both_inside left.inside)
+    (ap (both_inside m.inside) (on-nothing outer trace items step.condition bare
+    (back-none (left.breaks ++ m.breaks) (on_breaks step.condition (on_meant outer trace items step.condition)) none)) ∙ both-nothing m.inside))
+
+joins-over : (outer : List Scope) (trace : Trace) (left : FromMeant) (steps : List JoinPart) → Every BareJoin steps
+    → IsOver (held_from (join_all outer trace left steps)) (held_from left ∷ held_joins outer trace left.names steps)
+joins-over outer trace left [] bare = over-self (held_from left)
+joins-over outer trace left (step ∷ steps) bare =
+    let m = step.item.means outer trace left.names in
+    over-front (held_from left ∷ held_item m ∷ []) (held_joins outer trace (left.names ++ m.name ∷ []) steps)
+    (joins-over outer trace (join_item outer trace left step m) steps bare.1) (join-over outer trace left step m bare.0)
+
+module _ (c : Contents) where
+  on-bare : (condition : Option ExprTree) → BareOn (option_map (part_of c) condition)
+  on-bare None = tt
+  on-bare (Some condition) = bare-tree c condition
+
+  join-bare : (step : JoinStep) → BareJoin (join_of c step)
+  join-bare step = subst BareJoin (sym (join-is c step)) (on-bare (out-JoinStep step).condition)
+
+  joins-bare : (steps : List JoinStep) → Every BareJoin (map (join_of c) steps)
+  joins-bare [] = tt
+  joins-bare (step ∷ steps) = (join-bare step, joins-bare steps)
+
+  -- a `from` is over its first item and those that are joined with it
+  pub from-stands : (outer : List Scope) (trace : Trace) (names : List (List ℕ)) (tree : FromTree)
+      → IsOver (held_from ((from_of c tree).means outer trace names))
+      (held_item ((from_item_of c (out-FromTree tree).first).means outer trace names)
+      ∷ held_joins outer trace (names ++ ((from_item_of c (out-FromTree tree).first).means outer trace names).name ∷ []) (map (join_of c) (out-FromTree tree).joins))
+  from-stands outer trace names tree =
+      let m = (from_item_of c (out-FromTree tree).first).means outer trace names in
+      over-alike (ap (λ (part : FromPart). held_from (part.means outer trace names)) (from-is c tree))
+      (joins-over outer trace (first_item names m) (map (join_of c) (out-FromTree tree).joins) (joins-bare (out-FromTree tree).joins))
+
+  join-stands : (outer : List Scope) (trace : Trace) (names : List (List ℕ)) (step : JoinStep)
+      → held_item ((join_of c step).item.means outer trace names) ≡ held_item ((from_item_of c (out-JoinStep step).item).means outer trace names)
+  join-stands outer trace names step = ap (λ (part : JoinPart). held_item (part.item.means outer trace names)) (join-is c step)
+
+  pub from-adds : (outer : List Scope) (trace : Trace) (tree : FromTree) (read : List JoinStep) (old middle new : Gathered) → read ≡ (out-FromTree tree).joins
+      → ((names : List (List ℕ)) → Adds (held_item ((from_item_of c (out-FromTree tree).first).means outer trace names) ∷ []) old middle)
+      → ((names : List (List ℕ)) → Adds (held_joins outer trace names (map (join_of c) read)) middle new)
+      → (names : List (List ℕ)) → Adds (held_from ((from_of c tree).means outer trace names) ∷ []) old new
+  from-adds outer trace tree read old middle new same first joins names =
+      adds-over (from-stands outer trace names tree) (adds-both (first names)
+      (subst (λ (steps : List JoinStep). Adds (held_joins outer trace (names ++ ((from_item_of c (out-FromTree tree).first).means outer trace names).name ∷ []) (map (join_of c) steps)) middle new)
+      same (joins (names ++ ((from_item_of c (out-FromTree tree).first).means outer trace names).name ∷ []))))
+
+  pub join-adds : (outer : List Scope) (trace : Trace) (step : JoinStep) {old new : Gathered}
+      → ((names : List (List ℕ)) → Adds (held_item ((from_item_of c (out-JoinStep step).item).means outer trace names) ∷ []) old new)
+      → (names : List (List ℕ)) → Adds (held_item ((join_of c step).item.means outer trace names) ∷ []) old new
+  join-adds outer trace step {old = old} {new = new} added names =
+      subst (λ (h : Held). Adds (h ∷ []) old new) (sym (join-stands outer trace names step)) (added names)
+
+  item-over : (at : ℕ) (mark : ScopeMark) (trace : Trace) (earlier : List (List ℕ)) (name label : List ℕ) (read : Read)
+      → IsOver (held_item (item_meant at mark trace earlier name label read)) (held_read read ∷ [])
+  item-over at mark trace earlier name label read = record {
+    breaks = λ none. breaks-one (held_read read) ∙ front-none read.breaks _ (front-none _ _ (front-none _ _ none));
+    inside = λ none. sym (inside-one (held_read read));
+  }
+
+  module _ (outer : List Scope) (trace : Trace) (names : List (List ℕ)) (item : FromItem) where
+    item-stands : IsOver (held_item ((from_item_of c item).means outer trace names)) (held_read (read_of c item.mark outer trace (source_of c item.source)) ∷ [])
+    item-stands = over-alike (ap (λ part. held_item (part.means outer trace names)) (from_item-is c item))
+        (item-over item.at item.mark trace names (scope_name (source_of c item.source) item.alias) (label_of (source_of c item.source) item.alias)
+        (read_of c item.mark outer trace (source_of c item.source)))
+
+    pub named-adds : (name read : Name) (old new : Gathered) → item.source ≡ source.Named name → read ≡ name
+        → Adds (held_read (read_named c read) ∷ []) old new
+        → Adds (held_item ((from_item_of c item).means outer trace names) ∷ []) old new
+    unfolding token
+    named-adds name read old new is same added = adds-over item-stands
+        (subst (λ (r : Read). Adds (held_read r ∷ []) old new)
+        (ap (read_named c) same ∙ sym (ap (read_of c item.mark outer trace) (ap (source_of c) is ∙ fromsource-named c name))) added)
+
+    pub inner-adds : (query read : QueryTree) (old new : Gathered) → item.source ≡ source.Inner query → read ≡ query
+        → Adds (held_query (query_means_at (query_of c read) (record { outer = outer; trace = trace_under item.mark trace; provable = true })) ∷ []) old new
+        → Adds (held_item ((from_item_of c item).means outer trace names) ∷ []) old new
+    unfolding token query_means_at
+    inner-adds query read old new is same added = adds-over item-stands
+        (subst (λ (h : Held). Adds (h ∷ []) old new)
+        (ap (λ (q : QueryTree). held_query (query_means_at (query_of c q) (record { outer = outer; trace = trace_under item.mark trace; provable = true }))) same
+        ∙ sym (ap (λ (part : SourcePart). held_read (read_of c item.mark outer trace part)) (ap (source_of c) is ∙ fromsource-inner c query))) added)
+
+-- ---- the SELECT list
+
+star-over : (has_from : Bool) (scope : Scope) (at : ℕ) → IsOver (held_select (star_meant has_from scope at)) []
+star-over true scope at = record { breaks = λ none. refl; inside = λ none. refl }
+star-over false scope at = record { breaks = λ none. refl; inside = λ none. refl }
+
+table_star-over : (scope : Scope) (table : Name) → IsOver (held_select (table_star_meant scope table)) []
+table_star-over scope table = chosen (item_columns table.text scope) where
+  chosen : (columns : Option (List Placed)) → IsOver (held_select (option_map_or (columns_meant scope table.at) columns (no_columns table.at))) []
+  chosen None = record { breaks = λ none. refl; inside = λ none. refl }
+  chosen (Some columns) = record { breaks = λ none. refl; inside = λ none. refl }
+
+module _ (c : Contents) (has_from : Bool) (scope : Scope) (here : Surroundings) (item : SelectItem) where
+  abbrev item_held : Held
+  item_held = held_select ((item_of c item).means has_from scope here)
+
+  abbrev as_held : SelectPart → Held
+  as_held part = held_select (part.means has_from scope here)
+
+  pub star-adds : (at : ℕ) (old : Gathered) → item ≡ i.Star at → Adds (held_items has_from scope here (item_of c item ∷ [])) old old
+  unfolding token
+  star-adds at old is = adds-nothing old (over-alike (ap as_held (ap (item_of c) is ∙ selectitem-star c at)) (star-over has_from scope at))
+
+  pub table_star-adds : (table : Name) (old : Gathered) → item ≡ i.TableStar table → Adds (held_items has_from scope here (item_of c item ∷ [])) old old
+  unfolding token
+  table_star-adds table old is =
+      adds-nothing old (over-alike (ap as_held (ap (item_of c) is ∙ selectitem-tablestar c table)) (table_star-over scope table))
+
+  pub value-adds : (expr : ExprTree) (name : Option Name) (old new : Gathered) → item ≡ i.Value expr name
+      → Adds (held_at here (part_of c expr) ∷ []) old new → Adds (held_items has_from scope here (item_of c item ∷ [])) old new
+  unfolding token means_at
+  value-adds expr name old new is added =
+      subst (λ (h : Held). Adds (h ∷ []) old new) (sym (ap as_held (ap (item_of c) is ∙ selectitem-value c expr name))) added
+
+-- ---- cores
+
+whole-none : (breaks : List Break) → is_whole breaks ≡ true → breaks ≡ []
+whole-none [] e = refl
+whole-none (b ∷ bs) e = absurd (true≢false (sym e))
+
+none-whole : (breaks : List Break) → breaks ≡ [] → is_whole breaks ≡ true
+none-whole breaks e = ap is_whole e
+
+list-breaks : (has_from : Bool) (scope : Scope) (here : Surroundings) (items : List SelectPart)
+    → all_breaks (held_items has_from scope here items) ≡ items_breaks (map (λ (item : SelectPart). item.means has_from scope here) items)
+list-breaks has_from scope here [] = refl
+list-breaks has_from scope here (item ∷ items) = ap (λ (bs : List Break). (item.means has_from scope here).breaks ++ bs) (list-breaks has_from scope here items)
+
+list-inside : (has_from : Bool) (scope : Scope) (here : Surroundings) (items : List SelectPart)
+    → items_inside (map (λ (item : SelectPart). item.means has_from scope here) items) ≡ all_inside (held_items has_from scope here items)
+list-inside has_from scope here [] = refl
+list-inside has_from scope here (item ∷ items) = ap (both_inside (item.means has_from scope here).inside) (list-inside has_from scope here items)
+
+optional-none : (here : Surroundings) (part : Option Part) → optional_breaks part (optional_meant here part) ≡ [] → all_breaks (held_optional here part) ≡ []
+unfolding means_at
+optional-none here None none = refl
+optional-none here (Some part) none = breaks-one (held_at here part) ∙ front-none (part.means here).breaks _ none
+
+optional-inside : (here : Surroundings) (part : Option Part) → optional_inside (optional_meant here part) ≡ all_inside (held_optional here part)
+unfolding means_at
+optional-inside here None = refl
+optional-inside here (Some part) = sym (inside-one (held_at here part))
+
+appended-none : (hs ks : List Held) → all_breaks hs ≡ [] → all_breaks ks ≡ [] → all_breaks (hs ++ ks) ≡ []
+appended-none hs ks e f = breaks-append hs ks ∙ (λ i. e i ++ f i)
+
+four-inside : (hs ks ls ms : List Held) (a b c d : Inside) → a ≡ all_inside hs → b ≡ all_inside ks → c ≡ all_inside ls → d ≡ all_inside ms
+    → both_inside a (both_inside b (both_inside c d)) ≡ all_inside (hs ++ (ks ++ (ls ++ ms)))
+four-inside hs ks ls ms a b c d e f g h =
+    (λ i. both_inside (e i) (both_inside (f i) (both_inside (g i) (h i))))
+    ∙ ap (λ (rest : Inside). both_inside (all_inside hs) (both_inside (all_inside ks) rest)) (sym (inside-append ls ms))
+    ∙ ap (both_inside (all_inside hs)) (sym (inside-append ks (ls ++ ms)))
+    ∙ sym (inside-append hs (ks ++ (ls ++ ms)))
+
+module _ (around : Around) (word : Option ℕ) (has_from is_distinct : Bool) (items : List SelectPart) (sources : List FromPart)
+    (condition : Option Part) (groups : List ColRef) (having : Option Part) where
+  abbrev own : Around
+  own = around_parts around word
+
+  abbrev input : FromMeant
+  input = from_all around.outer (core_trace around word) sources
+
+  abbrev known_items : List ScopeItem
+  known_items = option_map_or (λ (known : List ScopeItem). known) input.items []
+
+  abbrev plain_scope : Scope
+  plain_scope = scope_of known_items
+
+  abbrev wide_scope : Scope
+  wide_scope = group_scope plain_scope groups having items
+
+  abbrev where_here : Surroundings
+  where_here = in_clause plain_scope around.outer (core_trace around word) false
+
+  abbrev list_here : Surroundings
+  list_here = in_clause wide_scope around.outer (core_trace around word) true
+
+  abbrev seen_clauses : Clauses
+  seen_clauses = core_clauses where_here list_here wide_scope has_from input condition having items
+
+  looked-over : input.breaks ≡ []
+      → IsOver (held_query (core_over around.outer (core_trace around word) (word_breaks around word) input has_from is_distinct items condition groups having known_items))
+      (held_clauses own wide_scope has_from items sources condition having)
+  looked-over from_none = record {
+    breaks = λ none.
+        let clauses : clause_breaks plain_scope condition groups having seen_clauses ≡ [] = back-none (word_breaks around word) _ none in
+        let listed : items_breaks seen_clauses.list ≡ [] = back-none _ (items_breaks seen_clauses.list) clauses in
+        let before : (optional_breaks condition seen_clauses.where_meant ++ flat_map (group_break plain_scope) groups) ++ optional_breaks having seen_clauses.having_meant ≡ [] =
+        front-none _ (items_breaks seen_clauses.list) clauses in
+        appended-none (held_items has_from wide_scope list_here items) _ (list-breaks has_from wide_scope list_here items ∙ listed)
+        (appended-none (held_froms around.outer (core_trace around word) [] sources) _ ((all-over around.outer (core_trace around word) sources).breaks from_none)
+        (appended-none (held_optional where_here condition) _
+        (optional-none where_here condition (front-none _ (flat_map (group_break plain_scope) groups) (front-none _ (optional_breaks having seen_clauses.having_meant) before)))
+        (optional-none list_here having (back-none _ (optional_breaks having seen_clauses.having_meant) before))));
+    inside = λ none.
+        four-inside (held_items has_from wide_scope list_here items) (held_froms around.outer (core_trace around word) [] sources)
+        (held_optional where_here condition) (held_optional list_here having)
+        (items_inside seen_clauses.list) input.inside (optional_inside seen_clauses.where_meant) (optional_inside seen_clauses.having_meant)
+        (list-inside has_from wide_scope list_here items) ((all-over around.outer (core_trace around word) sources).inside from_none)
+        (optional-inside where_here condition) (optional-inside list_here having);
+  }
+
+  core_seen-over : (scope : Scope) → HasScope input groups having items (Some scope)
+      → IsOver (held_query (core_seen around word input has_from is_distinct items condition groups having))
+      (held_clauses own scope has_from items sources condition having)
+  core_seen-over scope is = chosen (is_whole input.breaks) refl where
+    chosen : (b : Bool) → is_whole input.breaks ≡ b
+        → IsOver (held_query (cond b
+        (core_over around.outer (core_trace around word) (word_breaks around word) input has_from is_distinct items condition groups having known_items)
+        (core_unlooked (word_breaks around word) input)))
+        (held_clauses own scope has_from items sources condition having)
+    chosen true e =
+        let from_none : input.breaks ≡ [] = whole-none input.breaks e in
+        subst (λ (s : Scope). IsOver (held_query (core_over around.outer (core_trace around word) (word_breaks around word) input has_from is_distinct items condition groups having known_items))
+        (held_clauses own s has_from items sources condition having)) (sym (is from_none)) (looked-over from_none)
+    chosen false e = record {
+      breaks = λ none. absurd (true≢false (sym (none-whole input.breaks (back-none (word_breaks around word) input.breaks none)) ∙ e));
+      inside = λ none. absurd (true≢false (sym (none-whole input.breaks (back-none (word_breaks around word) input.breaks none)) ∙ e));
+    }
+
+  core_seen-broken : HasScope input groups having items None
+      → (held_query (core_seen around word input has_from is_distinct items condition groups having)).breaks ≡ [] → ⊥
+  core_seen-broken broken = chosen (is_whole input.breaks) refl where
+    chosen : (b : Bool) → is_whole input.breaks ≡ b
+        → (held_query (cond b
+        (core_over around.outer (core_trace around word) (word_breaks around word) input has_from is_distinct items condition groups having known_items)
+        (core_unlooked (word_breaks around word) input))).breaks ≡ [] → ⊥
+    chosen true e none = broken (whole-none input.breaks e)
+    chosen false e none = broken (back-none (word_breaks around word) input.breaks none)
+
+module _ (c : Contents) (around : Around) (core : Core) where
+  abbrev seen_core : QueryMeant
+  seen_core = core_seen around (out-Core core).provenance (from_all around.outer (core_trace around (out-Core core).provenance) (sources_of c core))
+      (has_some (sources_of c core)) (out-Core core).distinct (items_of c core) (condition_of c core) (out-Core core).groups (having_of c core)
+
+  core-stands-so : (core_of c core).means around ≡ seen_core
+  core-stands-so = ap (λ (body : BodyPart). body.means around) (core-is c core)
+
+  module _ (own : Around) (k : Contents) (same : own ≡ around_parts around (out-Core core).provenance) (held_same : k ≡ c) where
+    abbrev Found : Option Scope → Type 0
+    Found found = HasScope (from_all own.outer own.trace (sources_of k core)) (out-Core core).groups (having_of k core) (items_of k core) found
+
+    found-here : (found : Option Scope) → Found found
+        → HasScope (from_all around.outer (core_trace around (out-Core core).provenance) (sources_of c core)) (out-Core core).groups (having_of c core) (items_of c core) found
+    found-here found is =
+        subst (λ (a : Around). HasScope (from_all a.outer a.trace (sources_of c core)) (out-Core core).groups (having_of c core) (items_of c core) found) same
+        (subst (λ (h : Contents). HasScope (from_all own.outer own.trace (sources_of h core)) (out-Core core).groups (having_of h core) (items_of h core) found) held_same is)
+
+    clauses-here : (scope : Scope) (old new : Gathered) → Adds (clauses_of k own scope core) old new
+        → Adds (clauses_of c (around_parts around (out-Core core).provenance) scope core) old new
+    clauses-here scope old new added =
+        subst (λ (a : Around). Adds (clauses_of c a scope core) old new) same (subst (λ (h : Contents). Adds (clauses_of h own scope core) old new) held_same added)
+
+    pub core-adds : (found : Option Scope) (scope : Scope) (old new : Gathered) → Found found → found ≡ Some scope → Adds (clauses_of k own scope core) old new
+        → Adds (held_query ((core_of c core).means around) ∷ []) old new
+    core-adds found scope old new is some added = adds-over
+        (over-alike (ap held_query core-stands-so)
+        (core_seen-over around (out-Core core).provenance (has_some (sources_of c core)) (out-Core core).distinct (items_of c core) (sources_of c core)
+        (condition_of c core) (out-Core core).groups (having_of c core) scope (found-here (Some scope) (subst Found some is))))
+        (clauses-here scope old new added)
+
+    pub core-broken : (found : Option Scope) (old : Gathered) → Found found → found ≡ None → Adds (held_query ((core_of c core).means around) ∷ []) old old
+    core-broken found old is none = adds-broken old
+        (λ whole. core_seen-broken around (out-Core core).provenance (has_some (sources_of c core)) (out-Core core).distinct (items_of c core) (sources_of c core)
+        (condition_of c core) (out-Core core).groups (having_of c core) (found-here None (subst Found none is)) (ap (λ (m : QueryMeant). m.breaks) (sym core-stands-so) ∙ whole))
+
+-- the clauses of a core one after the other
+pub clauses-adds : (c : Contents) (around : Around) (scope : Scope) (core : Core) (in_list in_where : Surroundings) (items : List SelectItem) (sources : List FromTree)
+    (old first second third new : Gathered) → in_list ≡ in_clause scope around.outer around.trace true
+    → in_where ≡ in_clause (record scope { groups = None }) around.outer around.trace false
+    → items ≡ (out-Core core).items → sources ≡ (out-Core core).sources
+    → ((has_from : Bool) (sight : Scope) → Adds (held_items has_from sight in_list (map (item_of c) items)) old first)
+    → ((names : List (List ℕ)) → Adds (held_froms around.outer around.trace names (map (from_of c) sources)) first second)
+    → Adds (held_optional in_where (condition_of c core)) second third → Adds (held_optional in_list (having_of c core)) third new
+    → Adds (clauses_of c around scope core) old new
+clauses-adds c around scope core in_list in_where items sources old first second third new list_is where_is same same_too listed from condition having =
+    adds-both
+    (subst (λ (here : Surroundings). Adds (held_items (has_some (sources_of c core)) scope here (items_of c core)) old first) list_is
+    (subst (λ (items : List SelectItem). Adds (held_items (has_some (sources_of c core)) scope in_list (map (item_of c) items)) old first) same
+    (listed (has_some (sources_of c core)) scope)))
+    (adds-both (subst (λ (sources : List FromTree). Adds (held_froms around.outer around.trace [] (map (from_of c) sources)) first second) same_too (from []))
+    (adds-both (subst (λ (here : Surroundings). Adds (held_optional here (condition_of c core)) second third) where_is condition)
+    (subst (λ (here : Surroundings). Adds (held_optional here (having_of c core)) third new) list_is having)))

@@ -1,0 +1,135 @@
+-- What stands inside parts that may break.
+use Rattle.std.specs.Prelude.{◌≡◌, ℕ, Bool, true, false, cond, List, [], ◌∷◌, ◌++◌, map, Option, Some, None, option_map, nat_lt}
+use Rattle.perm_catalog.specs.Contents.{Contents}
+use Rattle.sql_tree.specs.declared.query.Core.{Core, out-Core}
+use Rattle.name_meaning.specs.Cores.{BodyPart, core_trace, has_some, in_clause}
+use Rattle.name_meaning.specs.Expressions.{ArmPart, StepPart}
+use Rattle.name_meaning.specs.Froms.{FromMeant, FromPart, ItemMeant, JoinPart, Read}
+use Rattle.name_meaning.specs.Items.{SelectMeant, SelectPart}
+use Rattle.name_meaning.specs.Meanings.{Around, Inside, Meant, Part, QueryMeant, Surroundings, both_inside, nothing_inside, means_at}
+use Rattle.name_meaning.specs.Queries.{SetStepPart, is_proving, unprovable}
+use Rattle.name_meaning.specs.Statements.{most_query_columns}
+use Rattle.name_meaning.specs.Trees.{from_of, item_of, part_of}
+use Rattle.name_meaning.specs.declared.answer.Break.{Break}
+use Rattle.name_meaning.specs.declared.scope.Scope.{Scope}
+use Rattle.name_meaning.specs.declared.trace.Trace.{Trace}
+use Rattle.name_meaning.specs.declared.trace.Trace.TheVariants.{InProvenance as in_provenance}
+use Rattle.name_inside.specs.declared.gathered.Gathered.{Gathered}
+
+abbrev pub inside_in : Gathered → Inside
+inside_in found = record { queries = found.queries; names = found.names }
+
+abbrev pub query_alone : ℕ → ℕ → Inside
+query_alone at columns = record { queries = (at, columns) ∷ []; names = [] }
+
+abbrev pub names_alone : List (List ℕ) → Inside
+names_alone names = record { queries = []; names = names }
+
+-- more columns than a query may have
+abbrev pub is_wide : ℕ → Bool
+is_wide columns = nat_lt most_query_columns columns
+
+-- ---- parts
+
+pub record Held : Type 0 where
+  pub breaks : List Break
+  pub inside : Inside
+
+abbrev pub held : Meant → Held
+held m = record { breaks = m.breaks; inside = m.inside }
+
+abbrev pub held_at : Surroundings → Part → Held
+held_at here part = held (means_at part here)
+
+abbrev pub held_step : Surroundings → StepPart → Held
+held_step here step = held_at here step.part
+
+abbrev pub held_arm : Surroundings → ArmPart → List Held
+held_arm here arm = held_at here arm.condition ∷ held_at here arm.value ∷ []
+
+abbrev pub held_optional : Surroundings → Option Part → List Held
+held_optional here None = []
+held_optional here (Some part) = held_at here part ∷ []
+
+abbrev pub held_query : QueryMeant → Held
+held_query m = record { breaks = m.breaks; inside = m.inside }
+
+abbrev pub held_select : SelectMeant → Held
+held_select m = record { breaks = m.breaks; inside = m.inside }
+
+abbrev pub held_item : ItemMeant → Held
+held_item m = record { breaks = m.breaks; inside = m.inside }
+
+abbrev pub held_read : Read → Held
+held_read m = record { breaks = m.breaks; inside = m.inside }
+
+abbrev pub held_from : FromMeant → Held
+held_from m = record { breaks = m.breaks; inside = m.inside }
+
+-- ---- several parts from the left
+
+abbrev pub all_breaks : List Held → List Break
+all_breaks [] = []
+all_breaks (part ∷ parts) = part.breaks ++ all_breaks parts
+
+abbrev pub all_inside : List Held → Inside
+all_inside [] = nothing_inside
+all_inside (part ∷ parts) = both_inside part.inside (all_inside parts)
+
+-- where they break nothing, what stands inside them comes behind what was gathered before
+pub record Adds (parts : List Held) (old new : Gathered) : Type 0 where
+  pub adds : all_breaks parts ≡ [] → inside_in new ≡ both_inside (inside_in old) (all_inside parts)
+
+-- ---- what FROM, set operations and cores are made of
+
+abbrev pub held_operand : Around → SetStepPart → Held
+held_operand around step = held_query (step.operand.means (unprovable around))
+
+-- each item behind those of these names
+abbrev pub held_joins : List Scope → Trace → List (List ℕ) → List JoinPart → List Held
+held_joins outer trace names [] = []
+held_joins outer trace names (step ∷ steps) =
+    let m = step.item.means outer trace names in
+    held_item m ∷ held_joins outer trace (names ++ m.name ∷ []) steps
+
+abbrev pub held_froms : List Scope → Trace → List (List ℕ) → List FromPart → List Held
+held_froms outer trace names [] = []
+held_froms outer trace names (part ∷ parts) =
+    let m = part.means outer trace names in
+    held_from m ∷ held_froms outer trace m.names parts
+
+abbrev pub held_items : Bool → Scope → Surroundings → List SelectPart → List Held
+held_items has_from scope here items = map (λ (item : SelectPart). held_select (item.means has_from scope here)) items
+
+-- the clauses of a core in this scope: the list, FROM, WHERE and HAVING
+abbrev pub held_clauses : Around → Scope → Bool → List SelectPart → List FromPart → Option Part → Option Part → List Held
+held_clauses around scope has_from items sources condition having =
+    held_items has_from scope (in_clause scope around.outer around.trace true) items
+    ++ (held_froms around.outer around.trace [] sources
+    ++ (held_optional (in_clause (record scope { groups = None }) around.outer around.trace false) condition
+    ++ held_optional (in_clause scope around.outer around.trace true) having))
+
+-- a core where it stands, and its parts
+abbrev pub items_of : Contents → Core → List SelectPart
+items_of c core = map (item_of c) (out-Core core).items
+
+abbrev pub sources_of : Contents → Core → List FromPart
+sources_of c core = map (from_of c) (out-Core core).sources
+
+abbrev pub condition_of : Contents → Core → Option Part
+condition_of c core = option_map (part_of c) (out-Core core).condition
+
+abbrev pub having_of : Contents → Core → Option Part
+having_of c core = option_map (part_of c) (out-Core core).having
+
+abbrev pub clauses_of : Contents → Around → Scope → Core → List Held
+clauses_of c around scope core =
+    held_clauses around scope (has_some (sources_of c core)) (items_of c core) (sources_of c core) (condition_of c core) (having_of c core)
+
+-- where a core's own parts stand
+abbrev pub around_parts : Around → Option ℕ → Around
+around_parts around word = record around { trace = core_trace around word }
+
+-- where a query's body stands
+abbrev pub around_body : Around → BodyPart → Around
+around_body around body = cond (is_proving around body) (record around { trace = in_provenance }) around

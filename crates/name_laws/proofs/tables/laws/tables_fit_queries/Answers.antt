@@ -1,0 +1,5 @@
+use Rattle.name_laws.proofs.tables.Tables.{tables-fit}
+use Rattle.name_laws.proofs.tables.laws.tables_fit_queries.Goals as goal
+
+pub returns : goal.returns
+returns c = tables-fit

@@ -1,0 +1,219 @@
+//! Sources of provenance: what an item of FROM reads, with the columns to which it is followed.
+ghost use Rattle.std.specs.Prelude.{◌≡◌, [], map, slice_index_or, position, IfOk};
+ghost use Rattle.std.specs.List.{range_with_len};
+ghost use Rattle.bag_algebra.specs.declared.query.Label.TheVariants.{External as Outside, Relation as Whole};
+ghost use Rattle.bag_algebra.specs.declared.query.Query.TheVariants.{Base as Source, Table as Stored};
+ghost use Rattle.perm_catalog.specs.Columns.{column_kinds};
+ghost use Rattle.name_meaning.specs.Froms.{all_places, external, named_so, names_at, names_of, place_of, table_columns, table_plain, texts_of};
+
+use crate::nodes::source;
+use bag_algebra::{Label, Query};
+use perm_catalog::{Column, TableEntry};
+use perm_values::{Chars, Copyable, Kind, List, NoMemory};
+use sql_tree::Name;
+use std::alloc::Global;
+
+fn column_kinds(alloc: Global, columns: &[Column]) -> Result<List<Kind>, NoMemory>
+    ensures { IfOk result (λ kinds. kinds ≡ column_kinds columns.now) }
+{
+    let mut kinds = List::new(alloc);
+    for column in columns {
+        kinds.push(column.kind)?;
+    }
+    Ok(kinds)
+}
+
+fn column_names(alloc: Global, columns: &[Column]) -> Result<List<Chars>, NoMemory>
+    ensures { IfOk result (λ names. names ≡ names_of (table_columns columns.now)) }
+{
+    let mut names = List::new(alloc);
+    for column in columns {
+        names.push(column.name.copy(alloc)?)?;
+    }
+    Ok(names)
+}
+
+/// The places from 0 on.
+fn places_below(alloc: Global, count: usize) -> Result<List<usize>, NoMemory>
+    ensures { IfOk result (λ places. places ≡ range_with_len 0 count) }
+{
+    let mut places = List::new(alloc);
+    for place in 0..count {
+        places.push(place)?;
+    }
+    Ok(places)
+}
+
+fn copied_places(alloc: Global, places: &[usize]) -> Result<List<usize>, NoMemory>
+    ensures { IfOk result (λ copy. copy ≡ places.now) }
+{
+    let mut copy = List::new(alloc);
+    for place in places {
+        copy.push(*place)?;
+    }
+    Ok(copy)
+}
+
+/// The name at a place; none there is empty.
+fn name_at(alloc: Global, names: &[Chars], place: usize) -> Result<Chars, NoMemory>
+    ensures { IfOk result (λ name. name ≡ slice_index_or names.now place []) }
+{
+    if place < names.len() {
+        return names[place].copy(alloc);
+    }
+    Chars::from_text(alloc, "")
+}
+
+fn names_at(alloc: Global, names: &[Chars], places: &[usize]) -> Result<List<Chars>, NoMemory>
+    ensures { IfOk result (λ found. found ≡ names_at names.now places.now) }
+{
+    let mut found = List::new(alloc);
+    for place in places {
+        found.push(name_at(alloc, names, *place)?)?;
+    }
+    Ok(found)
+}
+
+/// The query as a source of its columns at these places, under their names.
+pub fn external(
+    alloc: Global,
+    query: Query,
+    names: &[Chars],
+    places: &[usize],
+) -> Result<Query, NoMemory>
+    ensures { IfOk result (λ made. made ≡ external query names.now places.now) }
+{
+    let Ok(columns) = names_at(alloc, names, places) else {
+        drop(query);
+        return Err(NoMemory);
+    };
+    let Ok(places) = copied_places(alloc, places) else {
+        drop(query);
+        drop(columns);
+        return Err(NoMemory);
+    };
+    source(alloc, query, places, Label::External { columns })
+}
+
+/// The query as a source of all its columns, under the name of a relation.
+pub fn whole_source(
+    alloc: Global,
+    query: Query,
+    label: &Chars,
+    names: List<Chars>,
+) -> Result<Query, NoMemory>
+    ensures { IfOk result (λ made. made ≡ Source query (all_places names) (Whole label.now names)) }
+{
+    let Ok(places) = places_below(alloc, names.len()) else {
+        drop(query);
+        drop(names);
+        return Err(NoMemory);
+    };
+    let Ok(name) = label.copy(alloc) else {
+        drop(query);
+        drop(names);
+        drop(places);
+        return Err(NoMemory);
+    };
+    source(
+        alloc,
+        query,
+        places,
+        Label::Relation {
+            name,
+            columns: names,
+        },
+    )
+}
+
+/// The place of the first column of this name.
+fn position_of(names: &[Chars], name: &Chars) -> Option<usize>
+    ensures { result ≡ position (named_so name.now) names.now }
+{
+    names.iter().position(|other| name == other)
+}
+
+/// The place of the first column of this name; 0 where there is none.
+fn place_of(names: &[Chars], name: &Chars) -> usize
+    ensures { result ≡ place_of names.now name.now }
+{
+    match position_of(names, name) {
+        None => 0,
+        Some(place) => place,
+    }
+}
+
+fn attribute_places(
+    alloc: Global,
+    names: &[Chars],
+    attributes: &[Name],
+) -> Result<List<usize>, NoMemory>
+    ensures { IfOk result (λ places. places ≡ map (place_of names.now) (texts_of attributes.now)) }
+{
+    let mut places = List::new(alloc);
+    for attribute in attributes {
+        places.push(place_of(names, &attribute.text))?;
+    }
+    Ok(places)
+}
+
+fn attribute_names(alloc: Global, attributes: &[Name]) -> Result<List<Chars>, NoMemory>
+    ensures { IfOk result (λ names. names ≡ texts_of attributes.now) }
+{
+    let mut names = List::new(alloc);
+    for attribute in attributes {
+        names.push(attribute.text.copy(alloc)?)?;
+    }
+    Ok(names)
+}
+
+/// The query as a source of these attributes among the names of its columns.
+pub fn attributes_of(
+    alloc: Global,
+    query: Query,
+    names: &[Chars],
+    attributes: &[Name],
+) -> Result<Query, NoMemory>
+    ensures { IfOk result (λ made. made ≡ Source query (map (place_of names.now) (texts_of attributes.now)) (Outside (texts_of attributes.now))) }
+{
+    let Ok(places) = attribute_places(alloc, names, attributes) else {
+        drop(query);
+        return Err(NoMemory);
+    };
+    let Ok(columns) = attribute_names(alloc, attributes) else {
+        drop(query);
+        drop(places);
+        return Err(NoMemory);
+    };
+    source(alloc, query, places, Label::External { columns })
+}
+
+/// The rows of a table.
+pub fn table_rows(alloc: Global, table: &TableEntry) -> Result<Query, NoMemory>
+    ensures { IfOk result (λ made. made ≡ Stored table.now.id (column_kinds table.now.columns)) }
+{
+    let kinds = column_kinds(alloc, table.columns.as_slice())?;
+    Ok(Query::Table {
+        id: table.id,
+        kinds,
+    })
+}
+
+/// A table as FROM reads it without a mark: a source of all its columns, or of the provenance columns that it stores.
+pub fn table_plain(alloc: Global, name: &Chars, table: &TableEntry) -> Result<Query, NoMemory>
+    ensures { IfOk result (λ made. made ≡ table_plain name.now table.now) }
+{
+    let names = column_names(alloc, table.columns.as_slice())?;
+    let Ok(rows) = table_rows(alloc, table) else {
+        drop(names);
+        return Err(NoMemory);
+    };
+    match &table.mark {
+        None => whole_source(alloc, rows, name, names),
+        Some(mark) => {
+            let made = external(alloc, rows, names.as_slice(), mark.places.as_slice());
+            drop(names);
+            made
+        }
+    }
+}

@@ -1,0 +1,52 @@
+//! Sublinks, each with the number under which its node holds it.
+ghost use Rattle.std.specs.Prelude.{◌≡◌, cond, length, IfOk};
+ghost use Rattle.null_logic.specs.declared.compare.Compare.TheVariants.{Equal, NotEqual};
+ghost use Rattle.bag_algebra.specs.declared.expr.Expr.TheVariants.{Sub as Numbered};
+ghost use Rattle.name_meaning.specs.Expressions.{in_kind};
+ghost use Rattle.name_made_nodes.specs.Makes.{with_sub};
+
+use crate::within::Within;
+use bag_algebra::{Expr, Query, SubKind, Sublink};
+use null_logic::Compare;
+use perm_values::NoMemory;
+
+/// ALL of the rows, or any of them.
+pub fn in_kind(every: bool, op: Compare) -> SubKind
+    ensures { result ≡ in_kind every op }
+{
+    if every {
+        SubKind::All(op)
+    } else {
+        SubKind::Any(op)
+    }
+}
+
+/// IN, or NOT IN: any of the rows is equal, or all are unequal.
+pub fn in_list_kind(negated: bool) -> SubKind
+    ensures { result ≡ in_kind negated (cond negated NotEqual Equal) }
+{
+    if negated {
+        SubKind::All(Compare::NotEqual)
+    } else {
+        SubKind::Any(Compare::Equal)
+    }
+}
+
+/// A sublink behind those found so far.
+pub fn sublink_made(
+    kind: SubKind,
+    tested: Option<Expr>,
+    query: Query,
+    found: &mut Within,
+) -> Result<Expr, NoMemory>
+    ensures number { IfOk result (λ made. made ≡ Numbered (length found.old.subs)) }
+    ensures stands { IfOk result (λ _. found.new ≡ with_sub found.old (record { kind = kind; tested = tested; query = query })) }
+{
+    let number = found.subs.len();
+    found.subs.push(Sublink {
+        kind,
+        tested,
+        query,
+    })?;
+    Ok(Expr::Sub { number })
+}

@@ -1,0 +1,4 @@
+pub mod Segments
+pub mod Shown
+pub mod Sources
+pub mod asked

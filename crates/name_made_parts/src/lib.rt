@@ -1,0 +1,26 @@
+//! What the second pass of name analysis makes without going down a tree and without asking the first: sources of FROM and
+//! what joins them, the scopes of some of their items, columns of stars, keys, and where aggregates stand.
+#![tactic(auto)]
+
+mod asked;
+mod keys;
+mod scoping;
+mod shown;
+mod sources;
+mod standing;
+mod stars;
+
+pub use asked::{
+    Kept, alike_behind, alike_of_all, alike_of_arms, alike_of_case, alike_of_three, alike_of_two,
+    behind_aggregates, chain_kinds, condition_found, core_trace, groups_made, groups_of, item_kind,
+    kind_or_any, limit_keys, listed_with, scalar_kind, scope_or_none, shown_names, tested_kind,
+    trace_inside,
+};
+pub use keys::keys_of;
+pub use scoping::segment;
+pub use shown::{ShownNames, column_names};
+pub use sources::{
+    behind, beside_from, input_or_single, join_kind, joined, marked_query, named_item,
+};
+pub use standing::group_count;
+pub use stars::{add_star, add_table_star};

@@ -1,0 +1,93 @@
+-- What trees of FROM mean, of what their parts mean.
+use Rattle.std.specs.Prelude.{◌≡◌, ◌++◌, ℕ, true, List, map, Option, Some, None, Err}
+use Rattle.std.proofs.Common.{refl, ap, sym, ◌∙◌}
+use Rattle.perm_catalog.specs.Contents.{Contents}
+use Rattle.sql_tree.specs.declared.expression.ExprTree.{ExprTree}
+use Rattle.sql_tree.specs.declared.name.Name.{Name}
+use Rattle.sql_tree.specs.declared.query.QueryTree.{QueryTree}
+use Rattle.sql_tree.specs.declared.source.FromItem.{FromItem}
+use Rattle.sql_tree.specs.declared.source.FromSource.{FromSource}
+use Rattle.sql_tree.specs.declared.source.FromSource.TheVariants as source
+use Rattle.sql_tree.specs.declared.source.FromTree.{FromTree, out-FromTree}
+use Rattle.sql_tree.specs.declared.expression.ExprBody.TheViews.{roll-out-FromTree, roll-out-JoinStep}
+use Rattle.sql_tree.specs.declared.source.JoinStep.{JoinStep, out-JoinStep, roll-JoinStep}
+use Rattle.sql_tree.specs.declared.source.JoinWord.{JoinWord}
+use Rattle.sql_tree.specs.declared.source.ScopeMark.{ScopeMark}
+use Rattle.name_meaning.specs.Froms.{FromItemPart, FromMeant, FromPart, ItemMeant, JoinPart, Read, SourcePart, first_item, item_meant, join_all, label_of, read_named, read_of, read_query, scope_name, trace_under}
+use Rattle.name_meaning.specs.Meanings.{Part, QueryMeant, query_means_at}
+use Rattle.name_meaning.specs.Trees.{from_item_of, from_of, join_of, part_of, query_of, source_of}
+use Rattle.name_meaning.specs.declared.scope.Scope.{Scope}
+use Rattle.name_meaning.specs.declared.trace.Trace.{Trace}
+use Rattle.name_meaning.proofs.Equations.{token, fromitem-record, fromsource-inner, fromsource-named, fromtree-record, joinstep-record-none, joinstep-record-some}
+use Rattle.name_seen_parts.specs.declared.refusal.Refusal.{Refusal}
+use Rattle.name_seen_parts.specs.declared.refusal.Refusal.TheVariants.{Break as Broken, NoMemory}
+use Rattle.name_seen_from.specs.Queried.{QuerySeen}
+use Rattle.name_seen_from.specs.declared.facts.Facts.{Facts as Gathered}
+use Rattle.name_seen_from.specs.Readings.{ItemSeen, ReadSeen}
+use Rattle.name_seen_cores.specs.Behind.{optional_part}
+use Rattle.name_seen_cores.proofs.Cored.{where-breaks}
+
+pub from-means : (c : Contents) (tree : FromTree) (outer : List Scope) (trace : Trace) (earlier : List (List ℕ))
+    → (from_of c tree).means outer trace earlier
+    ≡ join_all outer trace (first_item earlier ((from_item_of c (out-FromTree tree).first).means outer trace earlier)) (map (join_of c) (out-FromTree tree).joins)
+unfolding token
+from-means c tree outer trace earlier =
+    ap (λ (t : FromTree). (from_of c t).means outer trace earlier) (sym (roll-out-FromTree tree))
+    ∙ ap (λ (part : FromPart). part.means outer trace earlier) (fromtree-record c (out-FromTree tree).first (out-FromTree tree).joins)
+
+abbrev joined_by : JoinWord → FromItemPart → Option Part → JoinPart
+joined_by word item condition = record { word = word; item = item; condition = condition }
+
+join-record : (c : Contents) (word : JoinWord) (item : FromItem) (condition : Option ExprTree)
+    → join_of c (roll-JoinStep (record { word = word; item = item; condition = condition })) ≡ joined_by word (from_item_of c item) (optional_part c condition)
+unfolding token
+join-record c word item None = joinstep-record-none c word item
+join-record c word item (Some condition) = joinstep-record-some c word item condition
+
+pub join-is : (c : Contents) (step : JoinStep) → join_of c step ≡ joined_by (out-JoinStep step).word (from_item_of c (out-JoinStep step).item) (optional_part c (out-JoinStep step).condition)
+join-is c step = ap (join_of c) (sym (roll-out-JoinStep step)) ∙ join-record c (out-JoinStep step).word (out-JoinStep step).item (out-JoinStep step).condition
+
+pub item-means : (c : Contents) (item : FromItem) (outer : List Scope) (trace : Trace) (earlier : List (List ℕ))
+    → (from_item_of c item).means outer trace earlier
+    ≡ item_meant item.at item.mark trace earlier (scope_name (source_of c item.source) item.alias) (label_of (source_of c item.source) item.alias)
+    (read_of c item.mark outer trace (source_of c item.source))
+unfolding token
+item-means c item outer trace earlier =
+    ap (λ (part : FromItemPart). part.means outer trace earlier) (fromitem-record c item.at item.source item.alias item.mark)
+
+pub named-read : (c : Contents) (mark : ScopeMark) (outer : List Scope) (trace : Trace) (tree : FromSource) (name : Name) → tree ≡ source.Named name
+    → read_of c mark outer trace (source_of c tree) ≡ read_named c name
+unfolding token
+named-read c mark outer trace tree name is =
+    ap (λ (s : FromSource). read_of c mark outer trace (source_of c s)) is
+    ∙ ap (λ (part : SourcePart). read_of c mark outer trace part) (fromsource-named c name)
+
+pub inner-read : (c : Contents) (mark : ScopeMark) (outer : List Scope) (trace under : Trace) (tree : FromSource) (query : QueryTree) → tree ≡ source.Inner query
+    → trace_under mark trace ≡ under
+    → read_of c mark outer trace (source_of c tree) ≡ read_query (query_means_at (query_of c query) (record { outer = outer; trace = under; provable = true }))
+unfolding token query_means_at
+inner-read c mark outer trace under tree query is same =
+    ap (λ (s : FromSource). read_of c mark outer trace (source_of c s)) is
+    ∙ ap (λ (part : SourcePart). read_of c mark outer trace part) (fromsource-inner c query)
+    ∙ ap (λ (t : Trace). read_query ((query_of c query).means (record { outer = outer; trace = t; provable = true }))) same
+
+-- the item of a join, behind the items before it
+pub joined-item : (c : Contents) (step : JoinStep) (outer : List Scope) (trace : Trace) (names held : List (List ℕ)) → names ≡ held
+    → (join_of c step).item.means outer trace names ≡ (from_item_of c (out-JoinStep step).item).means outer trace held
+joined-item c step outer trace names held same =
+    ap (λ (part : JoinPart). part.item.means outer trace names) (join-is c step)
+    ∙ ap (λ (earlier : List (List ℕ)). (from_item_of c (out-JoinStep step).item).means outer trace earlier) same
+
+pub joined-condition : (c : Contents) (step : JoinStep) (condition : Option ExprTree) → (out-JoinStep step).condition ≡ condition
+    → (join_of c step).condition ≡ optional_part c condition
+joined-condition c step condition is = ap (λ (part : JoinPart). part.condition) (join-is c step) ∙ ap (optional_part c) is
+
+pub read-refused : (m : QueryMeant) (refusal : Refusal) → QuerySeen m (Err refusal) → ReadSeen (read_query m) (Err refusal)
+read-refused m (Broken b) broken = broken
+read-refused m NoMemory broken = tt
+
+-- what was refused of what an item reads is refused of the item
+pub item-refused : (at : ℕ) (mark : ScopeMark) (trace : Trace) (earlier : List (List ℕ)) (name label : List ℕ) (read : Read) (scope wider : Scope) (old new : Gathered) (refusal : Refusal)
+    → ReadSeen read (Err refusal) → ItemSeen (item_meant at mark trace earlier name label read) scope old new wider (Err refusal)
+item-refused at mark trace earlier name label read scope wider old new (Broken b) broken = where-breaks read.breaks _ _ _ b broken
+item-refused at mark trace earlier name label read scope wider old new NoMemory broken = tt

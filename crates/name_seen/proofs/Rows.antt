@@ -1,0 +1,31 @@
+-- Lists that loops go through: those so far, the one at hand, and those behind it.
+use Rattle.std.specs.Prelude.{◌≡◌, ℕ, ◌+◌, ◌<◌, List, [], ◌∷◌, ◌++◌, length, map, IsErrAnd, Result, Ok, Err}
+use Rattle.std.proofs.Common.{ap, sym, subst, ◌∙◌, take, drop, get_or}
+use Rattle.std.proofs.lemmas.List.{map-append, map_more, take-append-drop}
+use Rattle.name_seen_parts.specs.declared.refusal.Refusal.{Refusal}
+use Rattle.name_seen_parts.proofs.clauses.Firsts.{dropped}
+
+pub mapped-more : {X Y : Type 0} (p : X → Y) (xs : List X) (i : ℕ) (x : X) → i < length xs → x ≡ get_or xs i x
+    → map p (take (i + 1) xs) ≡ map p (take i xs) ++ p x ∷ []
+mapped-more p xs i x within e = map_more p xs i x within ∙ ap (λ y. map p (take i xs) ++ p y ∷ []) (sym e)
+
+pub mapped-at : {X Y : Type 0} (p : X → Y) (xs : List X) (i : ℕ) (x : X) → i < length xs → x ≡ get_or xs i x
+    → map p xs ≡ map p (take i xs) ++ p x ∷ map p (drop (i + 1) xs)
+mapped-at p xs i x within e =
+    ap (map p) (sym (take-append-drop i xs) ∙ ap (λ (rest : List _). take i xs ++ rest) (dropped xs i x within e))
+    ∙ map-append p (take i xs) (x ∷ drop (i + 1) xs)
+
+pub twice-more : {X Y Z : Type 0} (g : Y → Z) (p : X → Y) (xs : List X) (i : ℕ) (x : X) → i < length xs → x ≡ get_or xs i x
+    → map g (map p (take (i + 1) xs)) ≡ map g (map p (take i xs)) ++ g (p x) ∷ []
+twice-more g p xs i x within e = ap (map g) (mapped-more p xs i x within e) ∙ map-append g (map p (take i xs)) (p x ∷ [])
+
+pub twice-at : {X Y Z : Type 0} (g : Y → Z) (p : X → Y) (xs : List X) (i : ℕ) (x : X) → i < length xs → x ≡ get_or xs i x
+    → map g (map p xs) ≡ map g (map p (take i xs)) ++ g (p x) ∷ map g (map p (drop (i + 1) xs))
+twice-at g p xs i x within e = ap (map g) (mapped-at p xs i x within e) ∙ map-append g (map p (take i xs)) (p x ∷ map p (drop (i + 1) xs))
+
+-- ---- what is refused, answered on
+
+pub same-refused : {X : Type 0} (P : Result X Refusal → Type 0) (result : Result X Refusal) (refusal : Refusal) → IsErrAnd result (λ (r : Refusal). r ≡ refusal) → P (Err refusal)
+    → P result
+same-refused P (Ok x) refusal is p = absurd is
+same-refused P (Err r) refusal is p = subst (λ (s : Refusal). P (Err s)) (sym is) p

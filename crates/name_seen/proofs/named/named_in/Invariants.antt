@@ -1,9 +1,0 @@
-use Rattle.std.proofs.Common.{◌≡◌, take}
-use Rattle.std.specs.List.{filter}
-use Rattle.name_words.specs.Scopes.{is_meant, placed}
-use Rattle.name_seen.specs.Named.{named_of}
-use Rattle.name_seen.proofs.named.named_in.Given as goal
-
--- what the columns so far are meant as
-abbrev pub invariant-loop-place : goal.invariant-loop-place
-invariant-loop-place l = l.named ≡ named_of (filter (is_meant l.item l.name) (take l.place (placed l.scope)))

@@ -1,0 +1,153 @@
+//! What FROM reads.
+ghost use Rattle.std.specs.Prelude.{◌≡◌, ◌++◌, true, List as Items, Some, [], map};
+ghost use Rattle.perm_catalog.specs.Sound.{IsSound};
+ghost use Rattle.name_meaning.specs.Froms.{FromMeant, from_all, in_on, join_item, on_breaks, read_of, read_query, trace_under};
+ghost use Rattle.name_meaning.specs.Meanings.{means_at, query_means_at};
+ghost use Rattle.name_meaning.specs.Scopes.{ScopeItem, scope_of};
+ghost use Rattle.name_meaning.specs.Trees.{from_item_of, from_of, join_of, part_of, query_of, source_of};
+ghost use Rattle.name_seen_parts.specs.Named.{scopes_of};
+ghost use Rattle.name_seen_parts.specs.Seen.{first_or};
+ghost use Rattle.name_seen_parts.specs.clauses.Told.{Tells};
+ghost use Rattle.name_seen_from.specs.Queried.{FromSeen, FromWhole};
+ghost use Rattle.name_seen_from.specs.declared.facts.Facts.{Facts as Gathered};
+ghost use Rattle.name_seen_from.specs.Readings.{ItemSeen, ReadSeen};
+ghost use Rattle.name_seen.specs.Joining.{JoinSeen};
+ghost use Rattle.sql_tree.specs.declared.source.ScopeMark.{ScopeMark as Mark};
+
+use crate::expressions::kind_of;
+use crate::queries::query_seen;
+use name_meaning::{Scope, Trace};
+use name_seen_cores::in_on;
+use name_seen_from::{Facts, Reading, put_item, read_named, read_shown, trace_under};
+use name_seen_parts::{Around, Here, Refusal, add_items, condition_over, inside, no_items};
+use perm_values::Chars;
+use sql_tree::{ExprTree, FromItem, FromSource, FromTree, JoinStep, QueryTree};
+
+/// The scope of all items of FROM, whose rows aren't grouped, or its first break. The facts of what is read come behind
+/// those so far.
+#[cycle(seen)]
+pub fn from_scope(
+    sources: &[FromTree],
+    around: &Around,
+    facts: &mut Facts,
+) -> Result<Scope, Refusal>
+    requires { IsSound around.now.catalog.now }
+    ensures { FromSeen (from_all (scopes_of around.now.outer.now) around.now.trace (map (from_of around.now.catalog.now) sources.now)) [] facts.old facts.new result }
+{
+    let mut scope = no_items(around.alloc);
+    for source in sources {
+        let own = source_items(source, scope.items.as_slice(), around, facts)?;
+        add_items(around.alloc, &mut scope, own)?;
+    }
+    Ok(scope)
+}
+
+/// The items of one source with its joins, behind items of these names.
+#[cycle(seen)]
+fn source_items(
+    tree: &FromTree,
+    earlier: &[Chars],
+    around: &Around,
+    facts: &mut Facts,
+) -> Result<Scope, Refusal>
+    requires { IsSound around.now.catalog.now }
+    ensures { FromSeen ((from_of around.now.catalog.now tree.now).means (scopes_of around.now.outer.now) around.now.trace earlier.now) earlier.now facts.old facts.new result }
+{
+    let mut scope = no_items(around.alloc);
+    from_item(&tree.first, earlier, &mut scope, around, facts)?;
+    for step in tree.joins.as_slice() {
+        join_seen(step, earlier, &mut scope, around, facts)?;
+    }
+    Ok(scope)
+}
+
+/// One more join of a source, whose items so far are in scope.
+#[cycle(seen)]
+fn join_seen(
+    step: &JoinStep,
+    earlier: &[Chars],
+    scope: &mut Scope,
+    around: &Around,
+    facts: &mut Facts,
+) -> Result<(), Refusal>
+    requires { IsSound around.now.catalog.now }
+    ensures { (left : FromMeant) (before : Gathered) → FromWhole left earlier.now before facts.old scope.old →
+        JoinSeen (join_item (scopes_of around.now.outer.now) around.now.trace left (join_of around.now.catalog.now step.now)
+        ((join_of around.now.catalog.now step.now).item.means (scopes_of around.now.outer.now) around.now.trace left.names))
+        earlier.now before facts.new scope.new result }
+{
+    from_item(&step.item, earlier, scope, around, facts)?;
+    match &step.condition {
+        None => Ok(()),
+        Some(condition) => on_seen(condition, scope, around),
+    }
+}
+
+/// That the condition of a join breaks nothing and is a truth value, or its first break: it sees the items up to its own.
+#[cycle(seen)]
+fn on_seen(condition: &ExprTree, scope: &Scope, around: &Around) -> Result<(), Refusal>
+    requires { IsSound around.now.catalog.now }
+    ensures { (items : Items ScopeItem) → scope.now ≡ scope_of items →
+        Tells (first_or (on_breaks (Some (part_of around.now.catalog.now condition.now))
+        (Some (means_at (part_of around.now.catalog.now condition.now) (in_on items (scopes_of around.now.outer.now) around.now.trace)))) tt) result }
+{
+    let scopes = inside(scope, false, around.outer)?;
+    let here = Here {
+        alloc: around.alloc,
+        catalog: &*around.catalog,
+        scopes: &scopes,
+        standing: in_on(around.trace),
+    };
+    condition_over(condition.at, kind_of(condition, &here))
+}
+
+/// One more item in scope, behind items of these names and those in scope, or its first break.
+#[cycle(seen)]
+fn from_item(
+    item: &FromItem,
+    earlier: &[Chars],
+    scope: &mut Scope,
+    around: &Around,
+    facts: &mut Facts,
+) -> Result<(), Refusal>
+    requires { IsSound around.now.catalog.now }
+    ensures { ItemSeen ((from_item_of around.now.catalog.now item.now).means (scopes_of around.now.outer.now) around.now.trace (earlier.now ++ scope.old.items))
+        scope.old facts.old facts.new scope.new result }
+{
+    let trace = trace_under(&item.mark, around.trace);
+    let reading = read_source(&item.source, trace, around)?;
+    put_item(item, earlier, scope, around, reading, facts)
+}
+
+/// What an item reads that is traced so, or its first break.
+#[cycle(seen)]
+fn read_source(source: &FromSource, trace: Trace, around: &Around) -> Result<Reading, Refusal>
+    requires { IsSound around.now.catalog.now }
+    ensures { (mark : Mark) → trace_under mark around.now.trace ≡ trace →
+        ReadSeen (read_of around.now.catalog.now mark (scopes_of around.now.outer.now) around.now.trace (source_of around.now.catalog.now source.now)) result }
+{
+    match source {
+        FromSource::Named(name) => read_named(around.alloc, around.catalog, name),
+        FromSource::Inner(query) => read_inner(query.get(), trace, around),
+    }
+}
+
+/// What a subquery gives to FROM, or its first break: it sees the scopes around its core, and no item beside it.
+#[cycle(seen)]
+fn read_inner(query: &QueryTree, trace: Trace, around: &Around) -> Result<Reading, Refusal>
+    requires { IsSound around.now.catalog.now }
+    ensures { ReadSeen (read_query (query_means_at (query_of around.now.catalog.now query.now)
+        (record { outer = scopes_of around.now.outer.now; trace = trace; provable = true }))) result }
+{
+    let inner = Around {
+        alloc: around.alloc,
+        catalog: &*around.catalog,
+        outer: &*around.outer,
+        trace,
+        provable: true,
+    };
+    match query_seen(query, &inner) {
+        Ok(shown) => Ok(read_shown(around.alloc, shown)?),
+        Err(refusal) => Err(refusal),
+    }
+}

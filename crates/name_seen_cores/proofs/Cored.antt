@@ -1,0 +1,187 @@
+-- What the code finds of a core, clause by clause, is what the core means.
+use Rattle.std.specs.Prelude.{◌≡◌, ℕ, Bool, true, false, cond, List, [], ◌∷◌, ◌++◌, flat_map, map, Option, Some, None, option_map, Ok, Err}
+use Rattle.std.specs.Option.{option_map_or}
+use Rattle.std.proofs.Common.{refl, ap, sym, ◌∙◌}
+use Rattle.bag_algebra.specs.Built.{Distinct-is, Project_with-is}
+use Rattle.bag_algebra.specs.Scoped.{is_table}
+use Rattle.bag_algebra.specs.declared.expr.Item.{Item}
+use Rattle.bag_algebra.specs.declared.query.Aggr.{Aggr}
+use Rattle.bag_algebra.specs.declared.query.Query.{Query}
+use Rattle.bag_algebra.specs.declared.query.Query.TheVariants.{Distinct, Project}
+use Rattle.bag_algebra.specs.declared.query.Sublink.{Sublink}
+use Rattle.perm_values.specs.declared.kind.Kind.{Kind}
+use Rattle.sql_tree.specs.declared.name.ColRef.{ColRef}
+use Rattle.name_meaning.specs.Cores.{Clauses, aggregated_input, before_list, clause_breaks, clauses_query, core_clauses, core_over, core_query, core_seen, core_trace, core_unlooked, distinct_if, filtered, group_break, group_scope, in_clause, list_columns, optional_breaks, optional_built, optional_meant, settle_known, word_breaks}
+use Rattle.name_meaning.specs.Froms.{FromMeant}
+use Rattle.name_meaning.specs.Items.{Made, SelectPart, items_breaks, made_items, named_from}
+use Rattle.name_meaning.specs.Meanings.{Around, Meant, OutColumn, Part, QueryMeant, is_whole}
+use Rattle.name_meaning.specs.Scopes.{ScopeItem, scope_of}
+use Rattle.name_meaning.specs.declared.answer.Break.{Break}
+use Rattle.name_meaning.specs.declared.scope.Scope.{Scope}
+use Rattle.name_meaning.specs.declared.trace.Trace.{Trace}
+use Rattle.name_laws.specs.Facts.{Facts, both_facts, facts_of, sub_facts}
+use Rattle.name_laws.proofs.FactsOf.{both_facts-assoc, both_facts-none, facts-Aggregate, facts-Distinct, facts-Filter, facts-Project}
+use Rattle.name_seen_parts.specs.Seen.{first_or}
+use Rattle.name_seen_parts.specs.clauses.Columns.{columns_of}
+use Rattle.name_seen_parts.specs.declared.clauses.column.ShownColumn.{ShownColumn}
+use Rattle.name_seen_parts.proofs.clauses.Firsts.{all-none, both-none, first-behind, first-behind_two, first-stays, first-stays_first, first-stays_second, none-broken}
+use Rattle.name_seen_from.specs.Added.{facts_in}
+use Rattle.name_seen_from.specs.Queried.{ColumnsWhole}
+use Rattle.name_seen_from.specs.declared.facts.Facts.{Facts as Gathered}
+use Rattle.name_seen_cores.specs.Behind.{ConditionWhole}
+use Rattle.name_seen_cores.specs.Listed.{ListWhole, seen_at}
+
+-- ---- facts
+
+abbrev condition_facts : Option Meant → Facts
+condition_facts m = sub_facts (optional_built m).subs
+
+facts-filtered : (input : Query) (m : Option Meant) → facts_of (filtered input m) ≡ both_facts (facts_of input) (condition_facts m)
+facts-filtered input None = sym (both_facts-none (facts_of input))
+facts-filtered input (Some m) = facts-Filter input (optional_built (Some m)).expr (optional_built (Some m)).subs
+
+facts-input : (input : Query) (groups : Option (List ℕ)) (aggregates : List Aggr) → facts_of (aggregated_input input groups aggregates) ≡ facts_of input
+facts-input input None aggregates = refl
+facts-input input (Some groups) aggregates = facts-Aggregate input groups aggregates
+
+facts-distinct : (is_distinct : Bool) (query : Query) → facts_of (distinct_if is_distinct query) ≡ facts_of query
+facts-distinct true query = facts-Distinct query
+facts-distinct false query = refl
+
+-- FROM's, then those of WHERE, of HAVING and of the list
+abbrev clauses_facts : Clauses → List Sublink → Facts
+clauses_facts k subs =
+    both_facts (both_facts (both_facts (facts_of k.input.query) (condition_facts k.where_meant)) (condition_facts k.having_meant)) (sub_facts subs)
+
+facts-clauses : (k : Clauses) (is_distinct : Bool) (wanted : List Kind)
+    → facts_of (clauses_query k is_distinct wanted) ≡ clauses_facts k (made_items k.list (settle_known (list_columns k) wanted) (before_list k)).subs
+facts-clauses k is_distinct wanted =
+    let list : Made = made_items k.list (settle_known (list_columns k) wanted) (before_list k) in
+    let aggregates : List Aggr = (optional_built k.having_meant).aggregates ++ list.aggregates in
+    let rows : Query = aggregated_input (filtered k.input.query k.where_meant) k.groups aggregates in
+    facts-distinct is_distinct (Project (filtered rows k.having_meant) list.items list.subs)
+    ∙ facts-Project (filtered rows k.having_meant) list.items list.subs
+    ∙ ap (λ (facts : Facts). both_facts facts (sub_facts list.subs))
+    (facts-filtered rows k.having_meant ∙ ap (λ (facts : Facts). both_facts facts (condition_facts k.having_meant))
+    (facts-input (filtered k.input.query k.where_meant) k.groups aggregates ∙ facts-filtered k.input.query k.where_meant))
+
+adds-clauses : (k : Clauses) (is_distinct : Bool) (wanted : List Kind) (before from where_ having new : Facts)
+    → from ≡ both_facts before (facts_of k.input.query)
+    → where_ ≡ both_facts from (condition_facts k.where_meant)
+    → having ≡ both_facts where_ (condition_facts k.having_meant)
+    → new ≡ both_facts having (sub_facts (made_items k.list (settle_known (list_columns k) wanted) (before_list k)).subs)
+    → new ≡ both_facts before (facts_of (clauses_query k is_distinct wanted))
+adds-clauses k is_distinct wanted before from where_ having new first second third fourth =
+    let subs : List Sublink = (made_items k.list (settle_known (list_columns k) wanted) (before_list k)).subs in
+    let front : Facts = both_facts (facts_of k.input.query) (condition_facts k.where_meant) in
+    let till_where : where_ ≡ both_facts before front = added before from where_ (facts_of k.input.query) (condition_facts k.where_meant) first second in
+    let till_having : having ≡ both_facts before (both_facts front (condition_facts k.having_meant)) =
+    added before where_ having front (condition_facts k.having_meant) till_where third in
+    added before having new (both_facts front (condition_facts k.having_meant)) (sub_facts subs) till_having fourth
+    ∙ ap (both_facts before) (sym (facts-clauses k is_distinct wanted)) where
+      added : (old middle new a b : Facts) → middle ≡ both_facts old a → new ≡ both_facts middle b → new ≡ both_facts old (both_facts a b)
+      added old middle new a b first second = second ∙ ap (λ (facts : Facts). both_facts facts b) first ∙ both_facts-assoc old a b
+
+-- ---- a core is no table
+
+project-inner : (input : Query) (items : List Item) (subs : List Sublink) → is_table (Project input items subs) ≡ false
+project-inner input items subs = ap is_table (Project_with-is input items subs)
+
+distinct-inner : (is_distinct : Bool) (query : Query) → is_table query ≡ false → is_table (distinct_if is_distinct query) ≡ false
+distinct-inner true query inner = ap is_table (Distinct-is query)
+distinct-inner false query inner = inner
+
+-- ---- the word PROVENANCE
+
+pub word-fine : (around : Around) (word : Option ℕ) → first_or (word_breaks around word) (tt {0}) ≡ Ok (tt {0}) → word_breaks around word ≡ []
+word-fine around word fine = none-broken (word_breaks around word) tt tt fine
+
+pub trace-kept : (around : Around) (word : Option ℕ) → first_or (word_breaks around word) (tt {0}) ≡ Ok (tt {0}) → core_trace around word ≡ around.trace
+trace-kept around word fine = by-word around.provable word refl fine where
+  by-word : (provable : Bool) (word : Option ℕ) → around.provable ≡ provable → first_or (word_breaks around word) (tt {0}) ≡ Ok (tt {0}) → core_trace around word ≡ around.trace
+  by-word true word e fine = rw e refl
+  by-word false None e fine = rw e refl
+  by-word false (Some at) e fine = absurd (cc (rw e at fine))
+
+-- ---- FROM
+
+abbrev over_known : Around → FromMeant → Bool → Bool → List SelectPart → Option Part → List ColRef → Option Part → Trace → List Break → Option (List ScopeItem) → QueryMeant
+over_known around input has_from is_distinct items condition groups having trace words known =
+    core_over around.outer trace words input has_from is_distinct items condition groups having (option_map_or (λ known. known) known [])
+
+pub looked : (around : Around) (word : Option ℕ) (input : FromMeant) (has_from is_distinct : Bool) (items : List SelectPart) (condition : Option Part) (groups : List ColRef)
+    (having : Option Part) (known : List ScopeItem) → input.breaks ≡ [] → input.items ≡ Some known → word_breaks around word ≡ [] → core_trace around word ≡ around.trace
+    → core_seen around word input has_from is_distinct items condition groups having
+    ≡ core_over around.outer around.trace [] input has_from is_distinct items condition groups having known
+looked around word input has_from is_distinct items condition groups having known whole is fine kept =
+    let over = over_known around input has_from is_distinct items condition groups having in
+    ap (λ (breaks : List Break). cond (is_whole breaks) (over (core_trace around word) (word_breaks around word) input.items) (core_unlooked (word_breaks around word) input)) whole
+    ∙ (λ at. over (kept at) (fine at) (is at))
+
+not-whole : (breaks : List Break) (b : Break) → first_or breaks (tt {0}) ≡ Err b → is_whole breaks ≡ false
+not-whole [] b broken = absurd (cc broken)
+not-whole (first ∷ more) b broken = refl
+
+pub unlooked-breaks : (around : Around) (word : Option ℕ) (input : FromMeant) (has_from is_distinct : Bool) (items : List SelectPart) (condition : Option Part) (groups : List ColRef)
+    (having : Option Part) (b : Break) → word_breaks around word ≡ [] → first_or input.breaks (tt {0}) ≡ Err b
+    → first_or (core_seen around word input has_from is_distinct items condition groups having).breaks (tt {0}) ≡ Err b
+unlooked-breaks around word input has_from is_distinct items condition groups having b fine broken =
+    let over = over_known around input has_from is_distinct items condition groups having in
+    ap (λ (whole : Bool). first_or (cond whole (over (core_trace around word) (word_breaks around word) input.items) (core_unlooked (word_breaks around word) input)).breaks tt)
+    (not-whole input.breaks b broken)
+    ∙ first-behind (word_breaks around word) input.breaks tt fine ∙ broken
+
+pub word-breaks : (around : Around) (word : Option ℕ) (input : FromMeant) (has_from is_distinct : Bool) (items : List SelectPart) (condition : Option Part) (groups : List ColRef)
+    (having : Option Part) (b : Break) → first_or (word_breaks around word) (tt {0}) ≡ Err b
+    → first_or (core_seen around word input has_from is_distinct items condition groups having).breaks (tt {0}) ≡ Err b
+word-breaks around word input has_from is_distinct items condition groups having b broken = by-whole (is_whole input.breaks) where
+  by-whole : (whole : Bool)
+      → first_or (cond whole (over_known around input has_from is_distinct items condition groups having (core_trace around word) (word_breaks around word) input.items)
+      (core_unlooked (word_breaks around word) input)).breaks (tt {0}) ≡ Err b
+  by-whole true = first-stays (word_breaks around word) _ (tt {0}) (tt {0}) b broken
+  by-whole false = first-stays (word_breaks around word) input.breaks (tt {0}) (tt {0}) b broken
+
+-- ---- the first break of four clauses
+
+pub where-breaks : (first second third fourth : List Break) (b : Break) → first_or first (tt {0}) ≡ Err b → first_or (first ++ second ++ third ++ fourth) (tt {0}) ≡ Err b
+where-breaks first second third fourth b broken =
+    first-stays (first ++ second ++ third) fourth (tt {0}) (tt {0}) b (first-stays_first first second third (tt {0}) (tt {0}) b broken)
+
+pub groups-break : (first second third fourth : List Break) (b : Break) → first ≡ [] → first_or second (tt {0}) ≡ Err b
+    → first_or (first ++ second ++ third ++ fourth) (tt {0}) ≡ Err b
+groups-break first second third fourth b none broken =
+    first-stays (first ++ second ++ third) fourth (tt {0}) (tt {0}) b (first-stays_second first second third (tt {0}) (tt {0}) b none broken)
+
+pub having-breaks : (first second third fourth : List Break) (b : Break) → first ≡ [] → second ≡ [] → first_or third (tt {0}) ≡ Err b
+    → first_or (first ++ second ++ third ++ fourth) (tt {0}) ≡ Err b
+having-breaks first second third fourth b none nothing broken =
+    first-stays (first ++ second ++ third) fourth (tt {0}) (tt {0}) b (first-behind_two first second third tt none nothing ∙ broken)
+
+pub list-breaks : (first second third fourth : List Break) (b : Break) → first ≡ [] → second ≡ [] → third ≡ [] → first_or fourth (tt {0}) ≡ Err b
+    → first_or (first ++ second ++ third ++ fourth) (tt {0}) ≡ Err b
+list-breaks first second third fourth b none nothing empty broken =
+    first-behind (first ++ second ++ third) fourth tt (all-none first second third none nothing empty) ∙ broken
+
+-- ---- the whole
+
+pub core-whole : (around : Around) (input : FromMeant) (has_from is_distinct : Bool) (parts : List SelectPart) (condition : Option Part) (groups : List ColRef)
+    (having : Option Part) (items : List ScopeItem) (before from behind_where behind_having new : Gathered) (columns : List ShownColumn)
+    → facts_in from ≡ both_facts (facts_in before) (facts_of input.query)
+    → ConditionWhole condition (optional_meant (in_clause (scope_of items) around.outer around.trace false) condition) from behind_where
+    → flat_map (group_break (scope_of items)) groups ≡ []
+    → ConditionWhole having (optional_meant (in_clause (group_scope (scope_of items) groups having parts) around.outer around.trace true) having) behind_where behind_having
+    → ListWhole (map (seen_at has_from (group_scope (scope_of items) groups having parts)
+    (in_clause (group_scope (scope_of items) groups having parts) around.outer around.trace true)) parts) behind_having new columns
+    → ColumnsWhole (core_over around.outer around.trace [] input has_from is_distinct parts condition groups having items) before new columns
+core-whole around input has_from is_distinct parts condition groups having items before from behind_where behind_having new columns first second none third list =
+    let own : Scope = scope_of items in
+    let grouped : Scope = group_scope own groups having parts in
+    let k : Clauses = core_clauses (in_clause own around.outer around.trace false) (in_clause grouped around.outer around.trace true) grouped has_from input condition having parts in
+    record {
+      whole = both-none (optional_breaks condition k.where_meant ++ flat_map (group_break own) groups ++ optional_breaks having k.having_meant) (items_breaks k.list)
+          (all-none (optional_breaks condition k.where_meant) (flat_map (group_break own) groups) (optional_breaks having k.having_meant) second.whole none third.whole) list.whole;
+      known = ap (option_map (named_from 1)) list.known ∙ ap Some (sym list.shown);
+      inner = λ wanted. distinct-inner is_distinct _ (project-inner _ _ _);
+      adds = λ wanted. adds-clauses k is_distinct wanted (facts_in before) (facts_in from) (facts_in behind_where) (facts_in behind_having) (facts_in new)
+          first second.adds third.adds (list.adds (settle_known (list_columns k) wanted) (before_list k));
+    }

@@ -1,0 +1,11 @@
+use Rattle.std.specs.Prelude.{Some}
+use Rattle.std.proofs.Common.{refl, ap}
+use Rattle.name_seen_from.specs.Added.{facts_in}
+use Rattle.name_seen_cores.proofs.places.with_places.Goals as goal
+
+pub returns : goal.returns
+returns c = record {
+  shown = c.in-Ok.ensures.shown;
+  places = ap Some c.in-Ok.ensures.places;
+  proved = c.proved.ensures (facts_in c.args.facts) refl;
+}

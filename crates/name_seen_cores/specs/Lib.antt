@@ -1,0 +1,5 @@
+pub mod Behind
+pub mod Expressed
+pub mod Inner
+pub mod Listed
+pub mod Shown

@@ -1,0 +1,4 @@
+pub mod Added
+pub mod Marks
+pub mod Queried
+pub mod Readings

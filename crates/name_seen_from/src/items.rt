@@ -1,0 +1,68 @@
+//! Items of FROM in scope.
+ghost use Rattle.std.specs.Prelude.{◌≡◌, ◌++◌, OnOk};
+ghost use Rattle.name_meaning.specs.Froms.{Read, item_meant, label_of, scope_name};
+ghost use Rattle.name_meaning.specs.Trees.{source_of};
+ghost use Rattle.name_laws.specs.Facts.{both_facts};
+ghost use Rattle.perm_catalog.specs.Contents.{Contents};
+ghost use Rattle.name_seen_from.specs.Added.{facts_in};
+ghost use Rattle.name_seen_parts.specs.from_columns.Scopes.{item_scope, scope_beside};
+ghost use Rattle.name_seen_from.specs.Readings.{IsRead, ItemSeen};
+
+use crate::facts::Facts;
+use crate::marks::{scope_break, with_mark};
+use crate::reading::Reading;
+use name_meaning::Scope;
+use name_seen_parts::{Around, Refusal, add_item, item_break, scope_name};
+use perm_values::{Chars, NoMemory};
+use sql_tree::FromItem;
+use std::alloc::Global;
+
+/// Puts an item with what it reads in scope, behind items of these names and those in scope, and its facts behind those
+/// so far. A break is the item's first one; otherwise it fails only for want of memory.
+pub fn put_item(
+    item: &FromItem,
+    earlier: &[Chars],
+    scope: &mut Scope,
+    around: &Around,
+    reading: Reading,
+    facts: &mut Facts,
+) -> Result<(), Refusal>
+    ensures { (c : Contents) (read : Read) → IsRead read reading →
+        ItemSeen (item_meant item.now.at item.now.mark around.now.trace (earlier.now ++ scope.old.items) (scope_name (source_of c item.now.source) item.now.alias)
+        (label_of (source_of c item.now.source) item.now.alias) read) scope.old facts.old facts.new scope.new result }
+{
+    let name = scope_name(around.alloc, item)?;
+    item_break(
+        item,
+        &name,
+        earlier,
+        scope.items.as_slice(),
+        reading.columns.as_slice(),
+    )?;
+    let marked = with_mark(around.alloc, item, reading)?;
+    scope_break(around.trace, marked.viewed, &marked.plain, item.at)?;
+    put_read(around.alloc, scope, name, marked, facts)?;
+    Ok(())
+}
+
+/// One more item in scope, whose facts come behind those so far.
+fn put_read(
+    alloc: Global,
+    scope: &mut Scope,
+    name: Chars,
+    reading: Reading,
+    facts: &mut Facts,
+) -> Result<(), NoMemory>
+    ensures wider { OnOk result (scope.new ≡ scope_beside scope.old (item_scope name reading.columns)) }
+    ensures adds { OnOk result (facts_in facts.new ≡ both_facts (facts_in facts.old) (facts_in reading.plain)) }
+{
+    let Reading {
+        columns,
+        kinds: _kinds,
+        is_table: _is_table,
+        viewed: _viewed,
+        plain,
+    } = reading;
+    facts.add(plain)?;
+    add_item(alloc, scope, name, columns.as_slice())
+}

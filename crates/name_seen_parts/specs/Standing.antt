@@ -1,0 +1,32 @@
+-- Where an expression and where a query stand.
+use Rattle.std.specs.Prelude.{List}
+use Rattle.perm_catalog.specs.Contents.{Contents}
+use Rattle.sql_tree.specs.declared.expression.ExprTree.{ExprTree}
+use Rattle.name_meaning.specs.Meanings.{Surroundings, Around, means_at}
+use Rattle.name_meaning.specs.Operands.{Operand}
+use Rattle.name_meaning.specs.Trees.{part_of}
+use Rattle.name_meaning.specs.declared.need.Need.{Need}
+use Rattle.name_meaning.specs.declared.scope.Scope.{Scope}
+use Rattle.name_seen_parts.specs.Named.{scopes_of}
+use Rattle.name_seen_parts.specs.declared.standing.Around.{Around as Standpoint}
+use Rattle.name_seen_parts.specs.declared.standing.Here.{Here}
+use Rattle.name_seen_parts.specs.declared.standing.Standing.{Standing}
+
+abbrev pub standing_in : List Scope → Standing → Surroundings
+standing_in scopes standing = record {
+  scopes = scopes;
+  trace = standing.trace;
+  aggregates = standing.aggregates;
+  sublinks = standing.sublinks;
+  argument = standing.argument;
+}
+
+abbrev pub surroundings : Here → Surroundings
+surroundings here = standing_in (scopes_of here.scopes.now) here.standing
+
+abbrev pub around_of : Standpoint → Around
+around_of around = record { outer = scopes_of around.outer.now; trace = around.trace; provable = around.provable }
+
+-- an operand as the definition sees it
+abbrev pub operand_at : Contents → Surroundings → Need → ExprTree → Operand
+operand_at c here need tree = record { at = tree.at; need = need; meant = means_at (part_of c tree) here }

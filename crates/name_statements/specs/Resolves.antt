@@ -1,0 +1,97 @@
+-- What the code answers of a statement: what it resolves to where it breaks nothing, and otherwise the first break.
+use Rattle.std.specs.Prelude.{◌≡◌, ℕ, cond, List, [], ◌++◌, length, Option, option_map, Result, Ok, Err}
+use Rattle.perm_catalog.specs.Contents.{Contents}
+use Rattle.bag_algebra.specs.declared.expr.Expr.{Expr}
+use Rattle.bag_algebra.specs.declared.query.Query.{Query}
+use Rattle.name_made_nodes.specs.Makes.{MakesQuery}
+use Rattle.name_inside.specs.Held.{inside_in}
+use Rattle.name_inside.specs.declared.gathered.Gathered.{Gathered}
+use Rattle.perm_catalog.specs.declared.entries.TableEntry.{TableEntry}
+use Rattle.sql_tree.specs.declared.expression.ExprTree.{ExprTree}
+use Rattle.sql_tree.specs.declared.name.Name.{Name}
+use Rattle.sql_tree.specs.declared.statement.StatementBody.{StatementBody}
+use Rattle.name_meaning.specs.Froms.{names_of}
+use Rattle.name_meaning.specs.Meanings.{QueryMeant, broken_if, is_whole}
+use Rattle.name_meaning.specs.Scopes.{KnownColumn}
+use Rattle.name_meaning.specs.Statements.{answer_of, columns_of, condition_made, delete_breaks, has_boolean, limit_breaks, name_breaks, query_limits, repeats, resolved_body, size_limit, stored_columns, table_limit, width_limit}
+use Rattle.name_meaning.specs.declared.answer.Break.{Break}
+use Rattle.name_meaning.specs.declared.answer.Resolved.{Resolved}
+use Rattle.name_seen_parts.specs.Seen.{first_or}
+use Rattle.name_seen_parts.specs.declared.refusal.Refusal.{Refusal}
+use Rattle.name_seen_parts.specs.declared.refusal.Refusal.TheVariants.{Break as Broken, NoMemory}
+use Rattle.name_statements.specs.declared.queries.Whole.{Whole}
+
+pub record IsResolved (breaks : List Break) (wanted made : Resolved) : Type 0 where
+  pub whole : breaks ≡ []
+  pub is : made ≡ wanted
+
+abbrev pub Resolves : List Break → Resolved → Result Resolved Refusal → Type 0
+Resolves breaks wanted (Ok made) = IsResolved breaks wanted made
+Resolves breaks wanted (Err (Broken first)) = first_or breaks (tt {0}) ≡ Err first
+Resolves breaks wanted (Err NoMemory) = Unit {0}
+
+-- the breaks of what a statement asks for
+abbrev pub body_breaks : Contents → StatementBody → List Break
+body_breaks c body = cond (is_whole (name_breaks c body)) (limit_breaks c body) (name_breaks c body)
+
+abbrev pub ResolvesBody : Contents → StatementBody → Result Resolved Refusal → Type 0
+ResolvesBody c body result = Resolves (body_breaks c body) (resolved_body c body) result
+
+-- what a statement is made of, where it resolves to what is made of that
+abbrev pub ResolvesBy : {A : Type 0} → Contents → StatementBody → (A → Resolved) → Result A Refusal → Type 0
+ResolvesBy c body make (Ok part) = ResolvesBody c body (Ok (make part))
+ResolvesBy c body make (Err refusal) = ResolvesBody c body (Err refusal)
+
+-- what the columns of a query at this offset break as those of a table
+abbrev pub stored_breaks : Name → ℕ → List KnownColumn → List Break
+stored_breaks name at columns =
+    broken_if (repeats (names_of columns)) 14 at ++ broken_if (has_boolean columns) 20 at ++ table_limit name (length columns)
+
+-- ---- a query that breaks nothing
+
+pub record IsWhole (at : ℕ) (m : QueryMeant) (whole : Whole) : Type 0 where
+  pub within : query_limits at m ≡ []
+  pub answer : whole.answer ≡ answer_of m
+  pub places : whole.places ≡ m.places
+  pub columns : whole.columns ≡ stored_columns (columns_of m)
+  pub names : whole.names ≡ m.inside.names
+
+abbrev pub WholeSeen : ℕ → QueryMeant → Result Whole Refusal → Type 0
+WholeSeen at m (Ok whole) = IsWhole at m whole
+WholeSeen at m (Err (Broken first)) = first_or (query_limits at m) (tt {0}) ≡ Err first
+WholeSeen at m (Err NoMemory) = Unit {0}
+
+-- ---- what stands inside a query that breaks nothing, none of it too wide
+
+pub record IsInside (m : QueryMeant) (found : Gathered) : Type 0 where
+  pub inside : inside_in found ≡ m.inside
+  pub narrow : width_limit found.queries ≡ []
+
+abbrev pub InsideSeen : ℕ → QueryMeant → Result Gathered Refusal → Type 0
+InsideSeen at m (Ok found) = IsInside m found
+InsideSeen at m (Err (Broken first)) = first_or (query_limits at m) (tt {0}) ≡ Err first
+InsideSeen at m (Err NoMemory) = Unit {0}
+
+-- ---- a query that breaks nothing, made, with what stands inside it
+
+pub record IsWithin (at : ℕ) (m : QueryMeant) (made : Query) (found : Gathered) : Type 0 where
+  pub inside : inside_in found ≡ m.inside
+  pub narrow : width_limit found.queries ≡ []
+  pub makes : MakesQuery m [] made
+  pub small : size_limit at made ≡ []
+
+abbrev pub WithinSeen : ℕ → QueryMeant → Result (Query × Gathered) Refusal → Type 0
+WithinSeen at m (Ok both) = IsWithin at m both.0 both.1
+WithinSeen at m (Err (Broken first)) = first_or (query_limits at m) (tt {0}) ≡ Err first
+WithinSeen at m (Err NoMemory) = Unit {0}
+
+-- ---- the condition of DELETE
+
+pub record IsCondition (c : Contents) (name : Name) (condition : Option ExprTree) (table : TableEntry) (made : Option Expr) : Type 0 where
+  pub whole : delete_breaks c name condition table ≡ []
+  pub is : made ≡ option_map (λ (tree : ExprTree). condition_made c name tree table) condition
+
+abbrev pub ConditionSeen : Contents → Name → Option ExprTree → TableEntry → Result (Option Expr) Refusal → Type 0
+ConditionSeen c name condition table (Ok made) = IsCondition c name condition table made
+ConditionSeen c name condition table (Err (Broken first)) = first_or (delete_breaks c name condition table) (tt {0}) ≡ Err first
+ConditionSeen c name condition table (Err NoMemory) = Unit {0}

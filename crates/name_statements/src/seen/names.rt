@@ -1,0 +1,116 @@
+//! Names of tables, views and columns.
+ghost use Rattle.std.specs.Prelude.{◌≡◌, []};
+ghost use Rattle.name_meaning.specs.Statements as words;
+ghost use Rattle.name_seen_parts.specs.Seen.{first_or};
+ghost use Rattle.perm_catalog.specs.Changes.{is_free};
+ghost use Rattle.name_statements.specs.seen.Earlier.{column_break, is_defined};
+
+use name_meaning::Break;
+use perm_catalog::Catalog;
+use perm_values::Chars;
+use sql_tree::{ColumnDef, Name};
+
+/// The most columns that a table may have.
+const MOST_COLUMNS: usize = 256;
+
+/// That a table or a view has this name.
+pub fn taken(catalog: &Catalog, name: &Name) -> Result<(), Break>
+    ensures { result ≡ first_or (words.taken catalog.now name.now) tt }
+{
+    if !is_free(catalog, &name.text) {
+        return Err(Break {
+            code: 13,
+            at: name.at,
+        });
+    }
+    Ok(())
+}
+
+fn is_free(catalog: &Catalog, name: &Chars) -> bool
+    ensures { result ≡ is_free catalog.now name.now }
+{
+    catalog.table(name).is_none() && catalog.view(name).is_none()
+}
+
+/// That no table has this name.
+pub fn unknown_table(catalog: &Catalog, name: &Name) -> Result<(), Break>
+    ensures { result ≡ first_or (words.unknown_table catalog.now name.now) tt }
+{
+    match catalog.table(&name.text) {
+        Some(_) => Ok(()),
+        None => Err(Break {
+            code: 10,
+            at: name.at,
+        }),
+    }
+}
+
+/// That no view has this name.
+pub fn unknown_view(catalog: &Catalog, name: &Name) -> Result<(), Break>
+    ensures { result ≡ first_or (words.unknown_view catalog.now name.now) tt }
+{
+    match catalog.view(&name.text) {
+        Some(_) => Ok(()),
+        None => Err(Break {
+            code: 10,
+            at: name.at,
+        }),
+    }
+}
+
+/// That a view uses what has this name.
+pub fn used(catalog: &Catalog, name: &Name) -> Result<(), Break>
+    ensures { result ≡ first_or (words.used catalog.now name.now) tt }
+{
+    match catalog.user_of(&name.text) {
+        None => Ok(()),
+        Some(_) => Err(Break {
+            code: 16,
+            at: name.at,
+        }),
+    }
+}
+
+/// That a table of this name would have more than 256 columns.
+pub fn table_limit(name: &Name, width: usize) -> Result<(), Break>
+    ensures { result ≡ first_or (words.table_limit name.now width) tt }
+{
+    if width > MOST_COLUMNS {
+        return Err(Break {
+            code: 26,
+            at: name.at,
+        });
+    }
+    Ok(())
+}
+
+/// The first column that has the name of an earlier one.
+pub fn repeated_columns(columns: &[ColumnDef]) -> Result<(), Break>
+    ensures { result ≡ first_or (words.repeated_columns [] columns.now) tt }
+{
+    for at in 0..columns.len() {
+        match repeated_column(&columns[..at], &columns[at]) {
+            Ok(()) => {}
+            Err(first) => return Err(first),
+        }
+    }
+    Ok(())
+}
+
+fn repeated_column(earlier: &[ColumnDef], column: &ColumnDef) -> Result<(), Break>
+    ensures { result ≡ first_or (column_break earlier.now column.now) tt }
+{
+    if is_among(earlier, &column.name.text) {
+        return Err(Break {
+            code: 14,
+            at: column.name.at,
+        });
+    }
+    Ok(())
+}
+
+fn is_among(columns: &[ColumnDef], name: &Chars) -> bool
+    ensures { result ≡ is_defined columns.now name.now }
+{
+    columns.iter().any(|column| *name == column.name.text)
+}

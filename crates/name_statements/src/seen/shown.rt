@@ -1,0 +1,75 @@
+//! What a statement asks of the columns of its query.
+ghost use Rattle.std.specs.Prelude.{◌≡◌};
+ghost use Rattle.perm_values.specs.declared.kind.Kind.TheVariants.{Text as Words, Boolean as Truths};
+ghost use Rattle.name_meaning.specs.Froms.{names_of, settled_columns};
+ghost use Rattle.name_meaning.specs.Meanings.{broken_if, is_same_kind, settled};
+ghost use Rattle.name_meaning.specs.Statements.{has_boolean, repeats};
+ghost use Rattle.name_seen_parts.specs.Seen.{first_or};
+ghost use Rattle.name_seen_parts.specs.clauses.Columns.{columns_of};
+ghost use Rattle.name_statements.specs.seen.Earlier.{is_shown};
+
+use name_meaning::Break;
+use name_seen_parts::ShownColumn;
+use perm_values::Kind;
+
+/// That two columns of the query at this offset have one name.
+pub fn repeats_break(at: usize, columns: &[ShownColumn]) -> Result<(), Break>
+    ensures { result ≡ first_or (broken_if (repeats (names_of (settled_columns (columns_of columns.now)))) 14 at) tt }
+{
+    if do_repeat(columns) {
+        return Err(Break { code: 14, at });
+    }
+    Ok(())
+}
+
+fn do_repeat(columns: &[ShownColumn]) -> bool
+    ensures { result ≡ repeats (names_of (settled_columns (columns_of columns.now))) }
+{
+    for at in 0..columns.len() {
+        if is_among(&columns[at + 1..], &columns[at]) {
+            return true;
+        }
+    }
+    false
+}
+
+fn is_among(columns: &[ShownColumn], column: &ShownColumn) -> bool
+    ensures { result ≡ is_shown columns.now column.now.name }
+{
+    let name = &column.name;
+    columns.iter().any(|other| *name == other.name)
+}
+
+/// That a column of the query at this offset holds truths.
+pub fn boolean_break(at: usize, columns: &[ShownColumn]) -> Result<(), Break>
+    ensures { result ≡ first_or (broken_if (has_boolean (settled_columns (columns_of columns.now))) 20 at) tt }
+{
+    if has_boolean(columns) {
+        return Err(Break { code: 20, at });
+    }
+    Ok(())
+}
+
+fn has_boolean(columns: &[ShownColumn]) -> bool
+    ensures { result ≡ has_boolean (settled_columns (columns_of columns.now)) }
+{
+    for column in columns {
+        if is_boolean(column.kind) {
+            return true;
+        }
+    }
+    false
+}
+
+fn is_boolean(kind: Option<Kind>) -> bool
+    ensures { result ≡ is_same_kind (settled kind Words) Truths }
+{
+    match kind {
+        None => false,
+        Some(kind) => match kind {
+            Kind::Integer => false,
+            Kind::Text => false,
+            Kind::Boolean => true,
+        },
+    }
+}

@@ -1,9 +1,0 @@
-use Rattle.std.proofs.Common.{refl}
-use Rattle.node_rows.specs.declared.known.Known.{Known}
-use Rattle.node_rows.proofs.Kept.{kept_on}
-use Rattle.node_rows.proofs.known.Known.keep.Goals as goal
-
-pub returns : goal.returns
-returns c = λ db env row sub knows begins found.
-    let new : Known = record { keeping = c.args.self.now.keeping; columns = c.args.self.now.columns; answer = c.args.answer } in
-    kept_on db env row sub c.args.self.now new knows begins found refl refl

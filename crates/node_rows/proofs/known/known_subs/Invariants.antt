@@ -1,8 +1,0 @@
-use Rattle.std.proofs.Common.{List, take}
-use Rattle.bag_algebra.specs.Bags.{Row}
-use Rattle.bag_algebra.specs.Meaning.{Database}
-use Rattle.node_rows.specs.Known.{AllKnown}
-use Rattle.node_rows.proofs.known.known_subs.Given as goal
-
-abbrev pub invariant-loop-sub : goal.invariant-loop-sub
-invariant-loop-sub l = (db : Database) (env : List Row) → AllKnown db env (take l.sub-index l.subs) l.known.items

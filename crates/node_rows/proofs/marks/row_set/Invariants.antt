@@ -1,6 +1,0 @@
-use Rattle.std.proofs.Common.{take}
-use Rattle.node_rows.specs.Marks.{Holds}
-use Rattle.node_rows.proofs.marks.row_set.Given as goal
-
-abbrev pub invariant-loop-row : goal.invariant-loop-row
-invariant-loop-row l = Holds l.set.keys (take l.row-index l.rows)

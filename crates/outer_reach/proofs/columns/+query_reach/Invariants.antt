@@ -1,6 +1,0 @@
-use Rattle.outer_reach.specs.BuiltReach.{sub_reach}
-use Rattle.outer_reach.proofs.Greatest.{SoFar}
-use Rattle.outer_reach.proofs.columns.+query_reach.Given as goal
-
-abbrev pub invariant-subs_reach-loop-sub : goal.invariant-subs_reach-loop-sub
-invariant-subs_reach-loop-sub l = SoFar sub_reach l.subs l.level l.sub-index l.reach

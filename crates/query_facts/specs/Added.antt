@@ -1,6 +1,0 @@
--- The facts that the code gathers, as the laws of names see them.
-use Rattle.name_laws.specs.Facts.{Facts}
-use Rattle.query_facts.specs.declared.facts.Facts.{Facts as Gathered}
-
-abbrev pub facts_in : Gathered → Facts
-facts_in facts = record { places = facts.places; over_tables = facts.over_tables; traceable = facts.traceable }

@@ -1,0 +1,5 @@
+use Rattle.query_laws.proofs.witnesses.NodeLists.{aggregate-lists}
+use Rattle.query_laws.proofs.witnesses.lists.aggregate_lists_its_class.Goals as goal
+
+pub returns : goal.returns
+returns c = aggregate-lists

@@ -1,6 +1,0 @@
-use Rattle.std.proofs.Common.{◌≡◌, drop}
-use Rattle.query_measures.specs.BuiltFaultFree.{all_fault_free}
-use Rattle.query_measures.proofs.faults.+fault_free.Given as goal
-
-abbrev pub invariant-all_fault_free-loop-sub : goal.invariant-all_fault_free-loop-sub
-invariant-all_fault_free-loop-sub l = all_fault_free l.subs ≡ all_fault_free (drop l.sub-index l.subs)

@@ -1,5 +1,0 @@
-use Rattle.query_measures.proofs.NeverBad.{good-value}
-use Rattle.query_measures.proofs.laws.faultless_expressions_meet_no_fault.Goals as goal
-
-pub returns : goal.returns
-returns c = λ e u env subs w. good-value e w u env subs

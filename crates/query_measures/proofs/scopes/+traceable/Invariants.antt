@@ -1,7 +1,0 @@
-use Rattle.std.proofs.Common.{◌≡◌, drop}
-use Rattle.query_measures.specs.BuiltScopes.{all_traceable}
-use Rattle.query_measures.proofs.scopes.+traceable.Given as goal
-
--- the sublinks that are left decide
-abbrev pub invariant-all_traceable-loop-sub : goal.invariant-all_traceable-loop-sub
-invariant-all_traceable-loop-sub l = all_traceable l.subs ≡ all_traceable (drop l.sub-index l.subs)

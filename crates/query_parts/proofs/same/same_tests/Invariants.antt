@@ -1,6 +1,0 @@
-use Rattle.std.proofs.Common.{◌≡◌, take}
-use Rattle.query_parts.specs.Conjunctions.{same_tests}
-use Rattle.query_parts.proofs.same.same_tests.Given as goal
-
-abbrev pub invariant-loop-at : goal.invariant-loop-at
-invariant-loop-at l = l.tests ≡ same_tests (take l.at l.left) (take l.at l.right)

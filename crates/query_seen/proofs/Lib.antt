@@ -1,9 +1,0 @@
-mod Conditions
-mod CoreSteps
-mod FromTrees
-mod Joined
-mod ListItems
-mod Nodes
-mod QuerySteps
-mod Rows
-mod WhereSeen

@@ -1,5 +1,0 @@
-use Rattle.std.proofs.Common.{◌≡◌, ◌+◌, map, take}
-use Rattle.rewrite_aggregate.proofs.grouping.counted_from.Given as goal
-
-abbrev pub invariant-loop-place : goal.invariant-loop-place
-invariant-loop-place l = l.list ≡ map (λ place. l.from + place) (take l.place-index l.places)

@@ -1,0 +1,17 @@
+//! Laws on rewritings and on what stands for a query: what one is of the other.
+#![tactic(auto)]
+
+mod beside;
+mod kept;
+mod laws;
+mod unions;
+
+pub use beside::rewritings_stand_beside_lists;
+pub use kept::{
+    columns_from, differs_from_first, exact_width, join_kept, matched, same_as_first, sum,
+};
+pub use laws::{
+    distinct_rows_of_rewritings_stand_for_provenance, joins_rewrite_as_without_sublinks,
+    queries_without_places_rewrite_as_what_stands, standing_is_reflexive_and_transitive,
+};
+pub use unions::{UnionSide, before_nulls};

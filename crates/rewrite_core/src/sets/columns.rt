@@ -1,0 +1,32 @@
+//! How many columns a set operation has, and its left rewriting.
+ghost use Rattle.std.specs.Prelude.{IfOk};
+ghost use Rattle.rewrite_core.specs.sets.ColumnsOf.{ColumnsOf};
+
+use bag_algebra::Query;
+use perm_values::NoMemory;
+use rewrite_base::{exact_width, sum};
+
+/// Columns of a set operation and of its left rewriting, which begins with them.
+#[derive(Clone, Copy)]
+pub(crate) struct Columns {
+    pub(crate) own: usize,
+    pub(crate) kept: usize,
+    /// Both together.
+    pub(crate) right: usize,
+    /// Those of the set operation, twice.
+    pub(crate) left_out: usize,
+}
+
+/// It fails only where a number of columns is greater than any `usize`.
+pub(crate) fn columns_of(left: &Query, rewriting: &Query) -> Result<Columns, NoMemory>
+    ensures { IfOk result (λ columns. ColumnsOf columns left.now rewriting.now) }
+{
+    let own = exact_width(left)?;
+    let kept = exact_width(rewriting)?;
+    Ok(Columns {
+        own,
+        kept,
+        right: sum(kept, own)?,
+        left_out: sum(own, own)?,
+    })
+}

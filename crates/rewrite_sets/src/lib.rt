@@ -1,9 +1,0 @@
-//! The rules that rewrite a node to a plain query with the rows of their PROVENANCE.
-#![tactic(auto)]
-
-mod columns;
-mod nodes;
-mod others;
-mod rules;
-
-pub use rules::{except, intersect, limit};

@@ -1,0 +1,240 @@
+-- The one lemma of a sublink on a row: where the sublink is good there, a candidate passes the test exactly where it is one of
+-- its contributions, flattened; and the test is good on every candidate.
+use Rattle.std.proofs.Common.{◌≡◌, ◌↔◌, ℕ, ◌+◌, inl, inr, Bool, true, false, cond, List, [], ◌∷◌, ◌++◌, filter, length, Option, Some, None, Contains, IsTrue, append-nil, length-append, refl, sym, ap, ◌∙◌, subst, arith}
+use Rattle.std.proofs.lemmas.Bool.{and_from}
+use Rattle.std.specs.List.{list_any, flat_map, range_with_len}
+use Rattle.perm_values.specs.Rows.{picked}
+use Rattle.perm_values.specs.declared.kind.Kind.{Kind}
+use Rattle.perm_values.specs.declared.value.Value.{Value}
+use Rattle.perm_values.specs.declared.value.Value.TheVariants.{Null, Boolean}
+use Rattle.bag_algebra.proofs.BagLaws.{permuted-from_same_bag}
+use Rattle.bag_algebra.proofs.Members.{IsIn, in-member, member-in}
+use Rattle.bag_algebra.proofs.MembersByIndex.{in-from_contains, contains-from_in}
+use Rattle.bag_algebra.proofs.Outcomes.{both_then-parts}
+use Rattle.bag_algebra.proofs.TablesRead.{reads_among-fit}
+use Rattle.bag_algebra.specs.Bags.{Row, Bag, member}
+use Rattle.bag_algebra.specs.Children.{subs_denote, sublink_value}
+use Rattle.bag_algebra.specs.Fits.{TablesFit, env_fits, row_begins}
+use Rattle.bag_algebra.specs.Kinds.{kinds_of, place_kinds, shape, width_of}
+use Rattle.bag_algebra.specs.Meaning.{Database, denote, meaning, witnesses, optional_value, condition_on}
+use Rattle.bag_algebra.specs.Means.{Means, Witness, flat, all_empty, cell, chosen, contribution_of, good_rows, good_value, holds_of, is_met, is_some_row, sub_value}
+use Rattle.bag_algebra.specs.Outcome.{Outcome, Good, Bad, both_then}
+use Rattle.bag_algebra.specs.Rewriting.{IsRewrite, SameRows, Stands}
+use Rattle.bag_algebra.specs.Scoped.{over_tables}
+use Rattle.bag_algebra.specs.WellFormed.{WellFormed, sub_form}
+use Rattle.bag_algebra.specs.declared.place.Place.{Place}
+use Rattle.bag_algebra.specs.declared.query.Query.{Query}
+use Rattle.bag_algebra.specs.declared.expr.Expr.{Expr}
+use Rattle.bag_algebra.specs.declared.query.SubKind.{SubKind}
+use Rattle.bag_algebra.specs.declared.query.SubKind.TheVariants.{Exists, Any, All, Scalar}
+use Rattle.bag_algebra.specs.declared.query.Sublink.{Sublink}
+use Rattle.contribution.proofs.AddedColumns.{columns-added}
+use Rattle.contribution.proofs.CrossBases.{meaning-cross_base, kinds_of-cross_base, formed-cross_base, tables-cross_base}
+use Rattle.contribution.proofs.CrossedRows.{FlatAt}
+use Rattle.contribution.proofs.EntriesAtPlaces.{blank-at}
+use Rattle.contribution.proofs.Growth.{denote-same, tested-same}
+use Rattle.contribution.proofs.ListsInBases.{lists-in_cross_base}
+use Rattle.contribution.proofs.OrderOfQueries.{sub_value-permuted}
+use Rattle.contribution.specs.CrossBase.{cross_base_of}
+use Rattle.contribution.specs.Fitting.{Fitting}
+use Rattle.contribution.specs.HeldRows.{held_rows}
+use Rattle.contribution.specs.SameColumns.{SameColumns}
+use Rattle.rewrite_base.proofs.JoinedOutcomes.{Related}
+use Rattle.rewrite_base.proofs.KeptRewriting.{rewriting-related}
+use Rattle.rewrite_base.proofs.KeptRows.{row-width, list-width}
+use Rattle.rewrite_base.proofs.Places.{at-between}
+use Rattle.rewrite_base.specs.Rewritten.{Beside}
+use Rattle.rewrite_sublink.proofs.Contributing.{matching_rows, contributions, is_candidate, from-candidate, in-candidate}
+use Rattle.rewrite_sublink.proofs.MatchingRows.{meaning-matching}
+use Rattle.rewrite_sublink.proofs.TestValues.{passes_of, chosen-passing, test-value}
+use Rattle.rewrite_sublink.specs.Candidates.{deciding, matching, test_condition, test_subs}
+use Rattle.query_laws.proofs.witnesses.Contributed.{contributed, contributes-from, in-contributed}
+use Rattle.query_laws.specs.witnesses.SublinkLists.{Contributes, by_row, by_no_row}
+
+same-answer : (kind : SubKind) (x : Value) (vs : Bag) (o : Outcome Bag) → SameRows (Good vs) o → both_then (Good x) o (sub_value kind) ≡ sub_value kind x vs
+same-answer kind x vs (Good ss) s = sym (sub_value-permuted kind x (permuted-from_same_bag vs ss s))
+same-answer kind x vs (Bad f) s = absurd s
+
+good-related : (R : Bag → Bag → Type 0) (vs : Bag) (o : Outcome Bag) → Related R (Good vs) o → (rs : Bag) × (o ≡ Good rs) × R vs rs
+good-related R vs (Good rs) r = (rs, refl, r)
+good-related R vs (Bad f) r = absurd r
+
+met-is : (b : Bool) → is_met (Good (Boolean b)) ≡ b
+met-is true = refl
+met-is false = refl
+
+cell-first : (v more : Row) → length v ≡ 1 → cell (v ++ more) ≡ cell v
+cell-first [] more e = absurd (omega (arith, e))
+cell-first (y ∷ v) more e = refl
+
+-- what is compared stands in the row's first column
+passes-first : (kind : SubKind) (tested : Option Expr) (scopes : List (List Kind)) (kinds : List Kind) → sub_form kind tested scopes kinds → (x : Value) (v more : Row) →
+    length v ≡ length kinds → passes_of kind x (cell (v ++ more)) ≡ passes_of kind x (cell v)
+passes-first Exists tested scopes kinds f x v more e = refl
+passes-first (Any c) None scopes kinds f x v more e = absurd f
+passes-first (Any c) (Some tested) scopes kinds f x v more e = ap (passes_of (Any c) x) (cell-first v more (e ∙ ap length f.one))
+passes-first (All c) None scopes kinds f x v more e = absurd f
+passes-first (All c) (Some tested) scopes kinds f x v more e = ap (passes_of (All c) x) (cell-first v more (e ∙ ap length f.one))
+passes-first Scalar tested scopes kinds f x v more e = refl
+
+-- a sublink of a node whose row begins with columns of these kinds; what stands for its query, and a rewriting of it
+module _ (kinds : List Kind) (outer : List (List Kind)) (db : Database) (env : List Row) (fits : env_fits env outer ≡ true)
+    (sub : Sublink) (s r : Query) (stands : Stands sub.query s) (rewritten : IsRewrite sub.query r) (over : over_tables sub.query ≡ true)
+    (formed : WellFormed (kinds ∷ outer) sub.query) (fitting : sub_form sub.kind sub.tested (kinds ∷ outer) (kinds_of sub.query)) (tables : TablesFit db sub.query) where
+  abbrev pub stand : Sublink
+  stand = record { kind = sub.kind; tested = sub.tested; query = s }
+
+  abbrev pub base : Query
+  base = cross_base_of sub.query
+
+  abbrev count : ℕ
+  count = width_of base
+
+  abbrev own : ℕ
+  own = width_of s
+
+  abbrev places : List Place
+  places = shape sub.query
+
+  -- ---- the base
+
+  abbrev pub base-rows : (found : Bag) × (meaning base db env ≡ Good found) × ((u : Row) → IsTrue (member u found) ↔ FlatAt places (held_rows sub.query db None) u)
+  base-rows = meaning-cross_base sub.query over db env
+
+  base-fits : Fitting outer base db env
+  base-fits = record {
+    formed = formed-cross_base sub.query (kinds ∷ outer) outer formed;
+    tables = reads_among-fit base sub.query db (tables-cross_base sub.query) tables;
+    outer_rows = fits;
+  }
+
+  pub candidate-width : (k : Row) → IsIn k base-rows.0 → length k ≡ count
+  candidate-width k h = row-width outer base db env base-fits base-rows.0 k base-rows.1 (in-member k base-rows.0 h)
+
+  -- ---- widths
+
+  pub own-is : length (kinds_of sub.query) ≡ own
+  own-is = sym (ap length (stands.kinds (kinds ∷ outer) formed))
+
+  pub count-is : length (place_kinds places) ≡ count
+  count-is = sym (ap length (kinds_of-cross_base sub.query over))
+
+  pub whole-is : width_of r ≡ length (kinds_of sub.query ++ place_kinds places)
+  whole-is = ap length (rewritten.kinds (kinds ∷ outer) formed)
+
+  module _ (b : Row) (begins : row_begins b kinds ≡ true) (v : Value) (good : sublink_value db env b sub ≡ Good v) where
+    pub parts : (x : Value) × (vs : Bag) × (optional_value sub.tested env b ≡ Good x) × (meaning sub.query db (b ∷ env) ≡ Good vs)
+    parts = both_then-parts (optional_value sub.tested env b) (meaning sub.query db (b ∷ env)) (sub_value sub.kind) v good
+
+    abbrev x : Value
+    x = parts.0
+
+    abbrev vs : Bag
+    vs = parts.1
+
+    abbrev lists : Row → List Witness
+    lists = witnesses sub.query db (b ∷ env)
+
+    inner : Fitting (kinds ∷ outer) sub.query db (b ∷ env)
+    inner = record { formed = formed; tables = tables; outer_rows = and_from (row_begins b kinds) (env_fits env outer) begins fits }
+
+    pub rewriting-rows : (rs : Bag) × (meaning r db (b ∷ env) ≡ Good rs) × Beside lists vs rs
+    rewriting-rows =
+        good-related (Beside lists) vs (meaning r db (b ∷ env))
+        (subst (λ o. Related (Beside lists) o (meaning r db (b ∷ env))) parts.3 (rewriting-related (kinds ∷ outer) sub.query r db (b ∷ env) inner rewritten))
+
+    abbrev rs : Bag
+    rs = rewriting-rows.0
+
+    -- ---- under the row with a candidate behind it
+
+    module _ (k : Row) where
+      abbrev z : Row
+      z = b ++ k
+
+      same : SameColumns (kinds ∷ outer) (b ∷ env) (z ∷ env)
+      same = columns-added kinds outer b k env begins
+
+      rewriting-there : meaning r db (z ∷ env) ≡ Good rs
+      rewriting-there =
+          sym (ap (λ (m : Means). m.rows) (denote-same r (kinds ∷ outer) db (b ∷ env) (z ∷ env) (rewritten.formed (kinds ∷ outer) formed) same)) ∙ rewriting-rows.1
+
+      tested-there : optional_value sub.tested env z ≡ Good x
+      tested-there = sym (tested-same (kinds ∷ outer) b z env env same sub.kind sub.tested (kinds_of sub.query) fitting) ∙ parts.2
+
+      stand-rows : SameRows (Good vs) (meaning s db (z ∷ env))
+      stand-rows =
+          subst (SameRows (Good vs)) (ap (λ (m : Means). m.rows) (denote-same s (kinds ∷ outer) db (b ∷ env) (z ∷ env) (stands.formed (kinds ∷ outer) formed) same))
+          (subst (λ o. SameRows o (meaning s db (b ∷ env))) parts.3 (stands.rows (kinds ∷ outer) db (b ∷ env) formed tables inner.outer_rows))
+
+      stand-value : both_then (optional_value sub.tested env z) (meaning s db (z ∷ env)) (sub_value sub.kind) ≡ sub_value sub.kind x vs
+      stand-value =
+          ap (λ o. both_then o (meaning s db (z ∷ env)) (sub_value sub.kind)) tested-there
+          ∙ same-answer sub.kind x vs (meaning s db (z ∷ env)) stand-rows
+
+    -- ---- the test
+
+    abbrev passes : Value → Bool
+    passes = passes_of sub.kind x
+
+    abbrev decided : Bool
+    decided = list_any (λ row. passes (cell row)) vs
+
+    pub wide : (row : Row) → IsIn row vs → length row ≡ own
+    wide row h = row-width (kinds ∷ outer) sub.query db (b ∷ env) inner vs row parts.3 (in-member row vs h) ∙ own-is
+
+    pub long : (row : Row) (w : Witness) → Contains (lists row) w → length (flat w) ≡ count
+    long row w c = list-width (kinds ∷ outer) sub.query db (b ∷ env) inner row w c ∙ count-is
+
+    pub first : (row more : Row) → IsIn row vs → passes (cell (row ++ more)) ≡ passes (cell row)
+    first row more h =
+        passes-first sub.kind sub.tested (kinds ∷ outer) (kinds_of sub.query) fitting x row more
+        (row-width (kinds ∷ outer) sub.query db (b ∷ env) inner vs row parts.3 (in-member row vs h))
+
+    abbrev is_one : Row → Bool
+    is_one k = is_candidate passes (kinds_of sub.query) places vs rs lists rewriting-rows.2 own count (width_of r) own-is count-is whole-is wide long first decided k
+
+    abbrev all_contributions : List Witness
+    all_contributions = contributions passes (kinds_of sub.query) places vs rs lists rewriting-rows.2 own count (width_of r) own-is count-is whole-is wide long first decided
+
+    -- these are the contributions
+    contributed-are : contributed db env b sub x ≡ all_contributions
+    contributed-are =
+        (λ i. cond (is_some_row (good_rows (parts.3 i))) (flat_map lists (chosen sub.kind x (good_rows (parts.3 i)))) (all_empty places ∷ []))
+        ∙ ap (λ rows. cond (is_some_row vs) (flat_map lists rows) (all_empty places ∷ [])) (chosen-passing sub.kind x vs)
+
+    abbrev pub test : ℕ → Row → Outcome Value
+    test from z =
+        condition_on (test_condition (deciding sub.kind)) env (subs_denote (test_subs (deciding sub.kind) stand (matching count from own r)) db env) z
+
+    module _ (from : ℕ) (from_is : length b ≡ from) where
+      pub test-good : (k : Row) → length k ≡ count → test from (b ++ k) ≡ Good (Boolean (is_one k))
+      test-good k e =
+          let candidate : picked (range_with_len from count) (b ++ k) ≡ k =
+          ap (λ xs. picked (range_with_len from count) (b ++ xs)) (sym (append-nil k)) ∙ at-between Null b k [] from count from_is e in
+          let found_there : meaning (matching count from own r) db ((b ++ k) ∷ env) ≡ Good (matching_rows k own count (width_of r) rs) =
+          meaning-matching r db (b ++ k) env rs count from own (rewriting-there k) ∙ ap (λ c. Good (matching_rows c own count (width_of r) rs)) candidate in
+          test-value sub.tested s (matching count from own r) db env (b ++ k) x vs (matching_rows k own count (width_of r) rs) (tested-there k) found_there sub.kind (stand-value k)
+
+      pub passing-contributes : (k : Row) → length k ≡ count → is_met (test from (b ++ k)) ≡ true → (c : Witness) × Contributes db env b sub c × (flat c ≡ k)
+      passing-contributes k e met =
+          let one : is_one k ≡ true = sym (met-is (is_one k)) ∙ sym (ap is_met (test-good k e)) ∙ met in
+          let c = from-candidate passes (kinds_of sub.query) places vs rs lists rewriting-rows.2 own count (width_of r) own-is count-is whole-is wide long first decided refl k one in
+          (c.0, contributes-from db env b sub x vs c.0 parts.2 parts.3 (subst (IsIn c.0) (sym contributed-are) c.1), c.2)
+
+      pub contributing-passes : (c : Witness) → length (flat c) ≡ count → Contributes db env b sub c → is_met (test from (b ++ flat c)) ≡ true
+      contributing-passes c e h =
+          let here : IsIn c (contributed db env b sub x) =
+          subst (λ y. IsIn c (contributed db env b sub y)) (ap good_value parts.2) (in-contributed db env b sub c h) in
+          ap is_met (test-good (flat c) e)
+          ∙ met-is (is_one (flat c))
+          ∙ in-candidate passes (kinds_of sub.query) places vs rs lists rewriting-rows.2 own count (width_of r) own-is count-is whole-is wide long first decided refl c
+          (subst (IsIn c) contributed-are here)
+
+    -- each contribution is a candidate
+    pub contributing-in_base : (c : Witness) → Contributes db env b sub c → IsIn (flat c) base-rows.0
+    contributing-in_base c (by_row y bag row tested_good rows_good is_chosen listed) =
+        let found = lists-in_cross_base sub.query over db (b ∷ env) env row c listed in
+        member-in (flat c) base-rows.0 (subst (λ o. IsTrue (member (flat c) (good_rows o))) (sym found.1 ∙ base-rows.1) found.2)
+    contributing-in_base c (by_no_row none e) =
+        member-in (flat c) base-rows.0 ((base-rows.2 (flat c)).1 (all_empty places, (blank-at sub.query db None).stand, ap flat e))

@@ -1,0 +1,34 @@
+//! What the rows beside a sublink's candidates are chosen by.
+ghost use Rattle.std.specs.Prelude.{◌≡◌};
+ghost use Rattle.bag_algebra.specs.declared.expr.Expr.TheVariants.{Col};
+ghost use Rattle.bag_algebra.specs.declared.query.JoinKind.TheVariants.{Left};
+ghost use Rattle.rewrite_sublink.specs.Candidates.{deciding};
+
+use bag_algebra::{Expr, JoinKind, SubKind};
+use null_logic::Truth;
+
+/// The value with which a sublink lets those rows alone contribute that compare so: a true ANY, a false ALL.
+pub fn deciding(kind: SubKind) -> Option<Truth>
+    ensures { result ≡ deciding kind }
+{
+    match kind {
+        SubKind::Exists => None,
+        SubKind::Any(_) => Some(Truth::True),
+        SubKind::All(_) => Some(Truth::False),
+        SubKind::Scalar => None,
+    }
+}
+
+/// Where there is no row, a row of NULLs stands.
+pub fn outwards() -> JoinKind
+    ensures { result ≡ Left }
+{
+    JoinKind::Left
+}
+
+/// A column of the candidate, which stands in the nearest outer row.
+pub fn candidate_column(place: usize) -> Expr
+    ensures { result ≡ Col 1 place }
+{
+    Expr::Col { level: 1, place }
+}

@@ -1,4 +1,0 @@
-pub mod Itself
-pub mod JoinSublinks
-pub mod Provenance
-pub mod WithoutPlaces

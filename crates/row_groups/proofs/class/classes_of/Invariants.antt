@@ -1,6 +1,0 @@
-use Rattle.std.proofs.Common.{take}
-use Rattle.row_groups.specs.Groups.{IsClassed}
-use Rattle.row_groups.proofs.class.classes_of.Given as goal
-
-abbrev pub invariant-loop-row : goal.invariant-loop-row
-invariant-loop-row l = IsClassed l.groups (take l.row-index l.rows) l.keys.keys l.numbers

@@ -1,5 +1,0 @@
-use Rattle.row_groups.specs.Columns.{AreEmpty}
-use Rattle.row_groups.proofs.column.empty_classes.Given as goal
-
-abbrev pub invariant-loop-class : goal.invariant-loop-class
-invariant-loop-class l = AreEmpty l._class l.classes.items

@@ -1,0 +1,146 @@
+-- What is known of a node's sublinks from row to row.
+use Rattle.std.specs.Prelude.{◌≡◌, ℕ, Bool, true, false, IsTrue, List, [], ◌∷◌, take, Result, Ok, Err}
+use Rattle.null_logic.specs.Logic.{truth_not}
+use Rattle.null_logic.specs.declared.compare.Compare.{Compare}
+use Rattle.null_logic.specs.declared.compare.Compare.TheVariants.{Equal, NotEqual, Less, LessEqual, Greater, GreaterEqual}
+use Rattle.null_logic.specs.declared.truth.Truth.{Truth}
+use Rattle.bag_algebra.specs.Bags.{Row, Bag}
+use Rattle.bag_algebra.specs.Meaning.{Database, meaning}
+use Rattle.bag_algebra.specs.Outcome.{Good}
+use Rattle.bag_algebra.specs.Patterns.{BaseOf, FilterOf, ProjectOf, JoinOf, UnionOf, IntersectOf, ExceptOf, DistinctOf, AggregateOf, LimitOf, ProvOf}
+use Rattle.bag_algebra.specs.declared.expr.Expr.{Expr}
+use Rattle.bag_algebra.specs.declared.query.Query.{Query}
+use Rattle.bag_algebra.specs.declared.query.Query.TheVariants.{Table, Single}
+use Rattle.bag_algebra.specs.declared.query.SubKind.{SubKind}
+use Rattle.bag_algebra.specs.declared.query.SubKind.TheVariants.{Exists, Any, All, Scalar}
+use Rattle.bag_algebra.specs.declared.query.Sublink.{Sublink}
+use Rattle.row_values.specs.Answers.{Refuses}
+use Rattle.row_values.specs.declared.error.ExecError.{ExecError}
+use Rattle.row_joins.specs.Cells.{AreCells}
+use Rattle.row_joins.specs.Equated.{is_equality}
+use Rattle.row_nodes.specs.Keeping.{Filters, Keeps, kept_reach}
+use Rattle.row_nodes.specs.Keyed.{AreKeyed}
+use Rattle.row_nodes.specs.declared.keeping.Keeping.{Keeping}
+use Rattle.row_nodes.specs.declared.keeping.Keeping.TheVariants as of
+use Rattle.row_nodes.specs.declared.known.Answer.{Answer}
+use Rattle.row_nodes.specs.declared.known.Answer.TheVariants as by
+use Rattle.row_nodes.specs.declared.known.Keyed.{Keyed}
+use Rattle.row_nodes.specs.declared.known.Known.{Known}
+
+abbrev pub is_not_equal : Compare → Bool
+is_not_equal Equal = false
+is_not_equal NotEqual = true
+is_not_equal Less = false
+is_not_equal LessEqual = false
+is_not_equal Greater = false
+is_not_equal GreaterEqual = false
+
+-- IN and NOT IN
+abbrev pub tests_equality : SubKind → Bool
+tests_equality Exists = false
+tests_equality (Any c) = is_equality c
+tests_equality (All c) = is_not_equal c
+tests_equality Scalar = false
+
+abbrev pub turned : SubKind → Truth → Truth
+turned Exists truth = truth
+turned (Any c) truth = truth
+turned (All c) truth = truth_not truth
+turned Scalar truth = truth
+
+-- what answers a sublink of this kind whose query has these rows
+abbrev pub HasRows : SubKind → Bag → Answer → Type 0
+HasRows kind vs by.Nothing = Unit {0}
+HasRows kind vs (by.Rows rows) = rows ≡ vs
+HasRows kind vs (by.Cells cells) = IsTrue (tests_equality kind) × AreCells cells vs
+HasRows kind vs (by.Keyed keyed) = ⊥
+
+-- the query has rows under the outer rows, and these are they
+pub record IsWhole (db : Database) (inner : List Row) (sub : Sublink) (answer : Answer) : Type 0 where
+  pub rows : Bag
+  pub means : meaning sub.query db inner ≡ Good rows
+  pub has : HasRows sub.kind rows answer
+
+-- the input of a filter has rows under the outer rows, and these are they, by a key
+pub record IsInput (input : Query) (condition : Expr) (db : Database) (inner : List Row) (keyed : Keyed) : Type 0 where
+  pub means : meaning input db inner ≡ Good keyed.rows
+  pub keyed_are : AreKeyed condition keyed.rows keyed
+
+-- the same of the filter that a query, or the one below its items, is
+abbrev pub HasInput : Query → Database → List Row → Keyed → Type 0
+HasInput (Table id kinds) db inner keyed = Unit {0}
+HasInput Single db inner keyed = Unit {0}
+HasInput (BaseOf input places label) db inner keyed = Unit {0}
+HasInput (FilterOf input condition shape subs) db inner keyed = IsInput input condition db inner keyed
+HasInput (ProjectOf input items _ subs) db inner keyed = HasInput input db inner keyed
+HasInput (JoinOf kind left right condition _ subs) db inner keyed = Unit {0}
+HasInput (UnionOf all left right) db inner keyed = Unit {0}
+HasInput (IntersectOf all left right) db inner keyed = Unit {0}
+HasInput (ExceptOf all left right) db inner keyed = Unit {0}
+HasInput (DistinctOf input) db inner keyed = Unit {0}
+HasInput (AggregateOf input groups aggregates) db inner keyed = Unit {0}
+HasInput (LimitOf input keys count) db inner keyed = Unit {0}
+HasInput (ProvOf input) db inner keyed = Unit {0}
+
+-- the query is a filter that a key answers under the outer rows, or items of one
+pub record IsKeyed (q : Query) (db : Database) (inner : List Row) (keyed : Keyed) : Type 0 where
+  pub reach : ℕ
+  pub filters : Filters q reach
+  pub input : HasInput q db inner keyed
+
+-- the same under outer rows of which the row is the nearest
+pub record KeyedUnder (q : Query) (db : Database) (u : Row) (inner : List Row) (keyed : Keyed) : Type 0 where
+  pub env : List Row
+  pub front : inner ≡ u ∷ env
+  pub on : IsKeyed q db inner keyed
+
+-- what answers the sublink under these outer rows
+abbrev pub Answers : Database → List Row → Sublink → Answer → Type 0
+Answers db inner sub by.Nothing = Unit {0}
+Answers db inner sub (by.Rows rows) = IsWhole db inner sub (by.Rows rows)
+Answers db inner sub (by.Cells cells) = IsWhole db inner sub (by.Cells cells)
+Answers db inner sub (by.Keyed keyed) = IsKeyed sub.query db inner keyed
+
+-- what may be found of a query's filter under the outer rows
+abbrev pub FindsInput : Query → Database → List Row → Answer → Type 0
+FindsInput q db inner by.Nothing = Unit {0}
+FindsInput q db inner (by.Rows rows) = ⊥
+FindsInput q db inner (by.Cells cells) = ⊥
+FindsInput q db inner (by.Keyed keyed) = HasInput q db inner keyed
+
+abbrev pub IsInputFound : Query → Database → List Row → Result Answer ExecError → Type 0
+IsInputFound q db inner (Ok answer) = FindsInput q db inner answer
+IsInputFound q db inner (Err error) = Refuses (meaning q db inner) error
+
+-- what may be found under the outer rows, where this is to be kept
+abbrev pub FindsNothing : Answer → Type 0
+FindsNothing by.Nothing = Unit {0}
+FindsNothing (by.Rows rows) = ⊥
+FindsNothing (by.Cells cells) = ⊥
+FindsNothing (by.Keyed keyed) = ⊥
+
+abbrev pub Finds : Keeping → Database → List Row → Sublink → Answer → Type 0
+Finds of.Nothing db inner sub answer = FindsNothing answer
+Finds (of.Rows n) db inner sub answer = IsWhole db inner sub answer
+Finds (of.Input n) db inner sub answer = FindsInput sub.query db inner answer
+
+abbrev pub IsFound : Keeping → Database → List Row → Sublink → Result Answer ExecError → Type 0
+IsFound keeping db inner sub (Ok answer) = Finds keeping db inner sub answer
+IsFound keeping db inner sub (Err error) = Refuses (meaning sub.query db inner) error
+
+-- what is known of the sublink is so on every row of its node that begins with the columns
+pub record Knows (db : Database) (env : List Row) (sub : Sublink) (known : Known) : Type 0 where
+  pub keeps : Keeps sub.query known.keeping
+  pub answers : (u : Row) → take (kept_reach known.keeping) u ≡ known.columns → Answers db (u ∷ env) sub known.answer
+
+-- and is so on this row
+pub record KnowsOn (db : Database) (env : List Row) (u : Row) (sub : Sublink) (known : Known) : Type 0 where
+  pub knows : Knows db env sub known
+  pub answers : Answers db (u ∷ env) sub known.answer
+
+-- one for each sublink
+abbrev pub AllKnown : Database → List Row → List Sublink → List Known → Type 0
+AllKnown db env [] [] = Unit {0}
+AllKnown db env [] (known ∷ more) = ⊥
+AllKnown db env (sub ∷ subs) [] = ⊥
+AllKnown db env (sub ∷ subs) (known ∷ more) = Knows db env sub known × AllKnown db env subs more

@@ -1,0 +1,208 @@
+//! What is known of a node's sublinks from row to row.
+ghost use Rattle.std.specs.Prelude.{◌≡◌, ◌∷◌, IsTrue, IfOk, OnOk, List as ListOf, take};
+ghost use Rattle.bag_algebra.specs.Bags.{Bag, Row as SeenRow};
+ghost use Rattle.bag_algebra.specs.FaultFree.{faultless};
+ghost use Rattle.bag_algebra.specs.Meaning.{Database};
+ghost use Rattle.bag_algebra.specs.Means.{sub_value};
+ghost use Rattle.bag_algebra.specs.Outcome.{Good};
+ghost use Rattle.bag_algebra.specs.declared.query.Sublink.{Sublink as SeenSublink};
+ghost use Rattle.row_joins.specs.Cells.{AreCells};
+ghost use Rattle.row_joins.specs.Hashed.{on_pair, met_rows};
+ghost use Rattle.row_nodes.specs.Keeping.{kept_reach};
+ghost use Rattle.row_nodes.specs.Keyed.{AreKeyed};
+ghost use Rattle.row_nodes.specs.Known.{AllKnown, Finds, HasRows, Knows, KnowsOn, tests_equality, turned};
+
+use crate::first_columns::{first_columns, row_of, same_values};
+use crate::input::Input;
+use crate::keeping::{Keeping, kept_of};
+use bag_algebra::{Env, Expr, SubKind, Sublink};
+use indexmap::IndexMap;
+use null_logic::{Compare, Truth};
+use perm_values::{List, NoMemory, Row, Rows, Value};
+use row_joins::{Cells, ColumnPair, Reading, equated, key_table, rows_around};
+use std::alloc::Global;
+
+/// What answers a sublink.
+#[derive(Drop)]
+pub enum Answer<'a> {
+    /// Nothing that is known: its query is run.
+    Nothing,
+    /// The rows of its query.
+    Rows(Input<'a>),
+    /// The first columns of these.
+    Cells(Cells),
+    /// The rows over which its query, or the one below its items, is a filter.
+    Keyed(Keyed<'a>),
+}
+
+/// What is known of a sublink's query: what was found of it on a row, for as long as the rows begin with the same columns.
+#[derive(Drop)]
+pub struct Known<'a> {
+    keeping: Keeping,
+    columns: Row,
+    answer: Answer<'a>,
+}
+
+impl<'a> Known<'a> {
+    /// Nothing yet; where there is no hashing, nothing for good. It takes no memory.
+    fn new(alloc: Global, is_hashed: bool, sub: &Sublink) -> Known<'a>
+        ensures { (db : Database) (env : ListOf SeenRow) → Knows db env sub.now result }
+    {
+        Known {
+            keeping: kept_of(is_hashed, &sub.query),
+            columns: Row::new(alloc),
+            answer: Answer::Nothing,
+        }
+    }
+
+    /// What is kept of the query.
+    pub fn keeping(&self) -> Keeping
+        ensures { result ≡ self.now.keeping }
+    {
+        self.keeping
+    }
+
+    /// What answers the sublink on a row that begins with the columns.
+    pub fn answer(&self) -> &Answer<'a>
+        ensures { result.now ≡ self.now.answer }
+    {
+        &self.answer
+    }
+
+    /// Goes on to a row. What was found is dropped where the row begins with other columns than the one before; where it
+    /// begins with the same and nothing was found, it is asked for. It fails only for want of memory.
+    pub fn asks(&mut self, alloc: Global, row: &Row) -> Result<bool, NoMemory>
+        ensures knows { (db : Database) (env : ListOf SeenRow) (sub : SeenSublink) →
+            Knows db env sub self.old → OnOk result (Knows db env sub self.new) }
+        ensures begins { OnOk result (take (kept_reach self.new.keeping) row.now ≡ self.new.columns) }
+    {
+        let columns = first_columns(row, self.keeping.reach());
+        if !same_values(columns, self.columns.as_slice()) {
+            self.columns = row_of(alloc, columns)?;
+            self.answer = Answer::Nothing;
+            return Ok(false);
+        }
+        Ok(self.keeping.keeps() && matches!(self.answer, Answer::Nothing))
+    }
+
+    /// Keeps what was found on a row that begins with the columns. It takes no memory.
+    pub fn keep(&mut self, answer: Answer<'a>)
+        ensures { (db : Database) (env : ListOf SeenRow) (row : SeenRow) (sub : SeenSublink) →
+            Knows db env sub self.old → take (kept_reach self.old.keeping) row ≡ self.old.columns →
+            Finds self.old.keeping db (row ∷ env) sub answer.entry → KnowsOn db env row sub self.new }
+    {
+        self.answer = answer;
+    }
+}
+
+/// What is known of each sublink before a row is looked at: nothing. It fails only for want of memory.
+pub fn known_subs<'a>(
+    alloc: Global,
+    is_hashed: bool,
+    subs: &[Sublink],
+) -> Result<Vec<Known<'a>>, NoMemory>
+    ensures { (db : Database) (env : ListOf SeenRow) → IfOk result (λ known. AllKnown db env subs.now known.items) }
+{
+    let mut known = Vec::new(alloc);
+    for sub in subs {
+        known.push(Known::new(alloc, is_hashed, sub))?;
+    }
+    Ok(known)
+}
+
+/// What answers a sublink of this kind whose query has these rows: where it asks for a value among them, a table of their
+/// first columns. It fails only for want of memory.
+pub fn same_rows<'a>(alloc: Global, kind: SubKind, rows: Input<'a>) -> Result<Answer<'a>, NoMemory>
+    ensures { IfOk result (HasRows kind rows.entry) }
+{
+    if tests_equality(kind) {
+        return Ok(Answer::Cells(Cells::new(alloc, rows.as_slice())?));
+    }
+    Ok(Answer::Rows(rows))
+}
+
+/// Whether the sublink is IN or NOT IN.
+fn tests_equality(kind: SubKind) -> bool
+    ensures { result ≡ tests_equality kind }
+{
+    match kind {
+        SubKind::Any(compare) => matches!(compare, Compare::Equal),
+        SubKind::All(compare) => matches!(compare, Compare::NotEqual),
+        SubKind::Exists => false,
+        SubKind::Scalar => false,
+    }
+}
+
+/// The value of IN or NOT IN over the first columns of rows. It fails only for want of memory.
+pub fn cells_value(
+    alloc: Global,
+    kind: SubKind,
+    cells: &Cells,
+    tested: &Value,
+) -> Result<Value, NoMemory>
+    requires { IsTrue (tests_equality kind) }
+    ensures { (rows : Bag) → AreCells cells.now rows → IfOk result (λ value. sub_value kind tested.now rows ≡ Good value) }
+{
+    let truth = cells.equals_some(alloc, tested)?;
+    Ok(turned(kind, truth).value())
+}
+
+/// The truth for IN, its contrary for NOT IN.
+fn turned(kind: SubKind, truth: Truth) -> Truth
+    ensures { result ≡ turned kind truth }
+{
+    match kind {
+        SubKind::All(_) => truth.not(),
+        SubKind::Any(_) => truth,
+        SubKind::Exists => truth,
+        SubKind::Scalar => truth,
+    }
+}
+
+/// Rows by the columns that a filter over them equates with columns of the outer row.
+#[derive(Drop)]
+pub struct Keyed<'a> {
+    rows: Input<'a>,
+    columns: List<ColumnPair>,
+    table: IndexMap<Row, List<usize>>,
+}
+
+impl<'a> Keyed<'a> {
+    /// The rows by the columns that the condition equates. It fails only for want of memory.
+    pub fn new(alloc: Global, condition: &Expr, rows: Input<'a>) -> Result<Keyed<'a>, NoMemory>
+        ensures { IfOk result (λ keyed. AreKeyed condition.now rows.entry keyed) }
+    {
+        let columns = equated(alloc, Reading::Around, condition)?;
+        let table = key_table(alloc, columns.as_slice(), rows.as_slice())?;
+        Ok(Keyed {
+            rows,
+            columns,
+            table,
+        })
+    }
+
+    /// The rows of which the condition is true where the row is the nearest outer row, in order. It fails only for want of
+    /// memory.
+    pub fn rows_around(
+        &self,
+        alloc: Global,
+        condition: &Expr,
+        row: &Row,
+        inner: &Env,
+    ) -> Result<Rows, NoMemory>
+        requires faultless { IsTrue (faultless condition.now) }
+        requires keyed { AreKeyed condition.now self.now.rows self.now }
+        ensures { (env : ListOf SeenRow) → inner.now ≡ row.now ∷ env →
+            IfOk result (λ found. found ≡ met_rows (on_pair condition.now inner.now) self.now.rows) }
+    {
+        rows_around(
+            alloc,
+            condition,
+            self.columns.as_slice(),
+            &self.table,
+            row,
+            self.rows.as_slice(),
+            inner,
+        )
+    }
+}

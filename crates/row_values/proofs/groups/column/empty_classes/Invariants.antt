@@ -1,0 +1,5 @@
+use Rattle.row_values.specs.groups.Columns.{AreEmpty}
+use Rattle.row_values.proofs.groups.column.empty_classes.Given as goal
+
+abbrev pub invariant-loop-class : goal.invariant-loop-class
+invariant-loop-class l = AreEmpty l._class l.classes.items

@@ -1,0 +1,60 @@
+//! Classes of rows with the same group values, in the order of their first rows.
+ghost use Rattle.std.specs.Prelude.{◌≡◌, IfOk, [], ◌∷◌};
+ghost use Rattle.perm_values.specs.Rows.{picked, value_at};
+ghost use Rattle.bag_algebra.specs.Means.{class_keys};
+ghost use Rattle.row_values.specs.groups.Groups.{IsClassed};
+
+use indexmap::IndexSet;
+use perm_values::{Copyable, List, NoMemory, Row, Value};
+use std::alloc::Global;
+
+/// The group values of each class, and for each row the number of its class.
+#[derive(Drop)]
+pub(crate) struct Classes {
+    pub keys: IndexSet<Row>,
+    pub numbers: List<usize>,
+}
+
+/// The classes of the rows; without groups one, also of no row.
+pub(crate) fn classes_of(alloc: Global, rows: &[Row], groups: &[usize]) -> Result<Classes, NoMemory>
+    ensures { IfOk result (λ classes. IsClassed groups.now rows.now classes.keys.keys classes.numbers) }
+{
+    let mut keys = keys_of_no_row(alloc, groups)?;
+    let mut numbers = List::with_room(alloc, rows.len())?;
+    for row in rows {
+        let key = group_values(alloc, row, groups)?;
+        let (number, _is_new) = keys.insert_full(key)?;
+        numbers.push(number)?;
+    }
+    Ok(Classes { keys, numbers })
+}
+
+fn keys_of_no_row(alloc: Global, groups: &[usize]) -> Result<IndexSet<Row>, NoMemory>
+    ensures { IfOk result (λ set. set.keys ≡ class_keys groups.now []) }
+{
+    let mut keys = IndexSet::new(alloc);
+    if groups.is_empty() {
+        keys.insert(Row::new(alloc))?;
+    }
+    Ok(keys)
+}
+
+/// The values at the places; a place out of range reads NULL.
+fn group_values(alloc: Global, row: &Row, groups: &[usize]) -> Result<Row, NoMemory>
+    ensures { IfOk result (λ values. values ≡ picked groups.now row.now) }
+{
+    let mut values = Row::with_room(alloc, groups.len())?;
+    for group in groups {
+        values.push(value_or_null(alloc, row.as_slice(), *group)?)?;
+    }
+    Ok(values)
+}
+
+fn value_or_null(alloc: Global, values: &[Value], place: usize) -> Result<Value, NoMemory>
+    ensures { IfOk result (λ value. value ≡ value_at values.now place) }
+{
+    match values.get(place) {
+        Some(value) => value.copy(alloc),
+        None => Ok(Value::Null),
+    }
+}

@@ -1,0 +1,15 @@
+//! The value of an expression on a row, and of a sublink over the rows of its query.
+#![tactic(auto)]
+
+mod error;
+mod expression;
+mod groups;
+mod operate;
+mod step;
+mod sublink;
+
+pub use error::ExecError;
+pub use expression::{eval, value_at};
+pub use groups::grouped;
+pub use operate::{holds, is_null};
+pub use sublink::{optional_value, sub_value};

@@ -1,4 +1,0 @@
-pub mod Completing
-pub mod Lines
-pub mod Misspelling
-pub mod Widening

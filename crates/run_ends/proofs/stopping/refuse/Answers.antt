@@ -1,6 +1,0 @@
-use Rattle.std.proofs.Common.{◌∙◌, refl, sym}
-use Rattle.run_ends.specs.Stops.{NoScript}
-use Rattle.run_ends.proofs.stopping.refuse.Goals as goal
-
-pub returns-in-Break-clause-ends : goal.returns-in-Break-clause-ends
-returns-in-Break-clause-ends g c = rw c.in-Break.is (c.finish.ensures.ends (NoScript c.in-Break.found) (sym (c.as_slice.ensures ∙ c.error_line-line.ensures)) refl)

@@ -1,5 +1,0 @@
-pub mod Ends
-pub mod Run
-pub mod Scripts
-pub mod Statuses
-pub mod Stops

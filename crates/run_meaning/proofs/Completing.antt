@@ -1,0 +1,80 @@
+-- Where nothing failed, what stands in the output is the whole of a run in which no file failed, unless memory was wanting.
+use Rattle.std.proofs.Common.{◌≡◌, ◌∙◌, ℕ, false, List, [], ◌∷◌, Option, refl, ap, inl, inr, subst, sym}
+use Rattle.perm_io.specs.Counts.{HasRisen}
+use Rattle.perm_io.specs.Found.{Found, CanBe}
+use Rattle.perm_io.specs.declared.named_file.NamedFile.{NamedFile}
+use Rattle.statement_meaning.specs.Answers.{Files, file_limit}
+use Rattle.run_meaning.specs.Ends.{Written, Ends, EndsOne, Opens, Completes, opened}
+use Rattle.run_meaning.specs.Run.{Ran, Runs, IsSteady, IsWhole}
+use Rattle.run_meaning.specs.Stops.{script_limit}
+use Rattle.run_meaning.specs.declared.status.Status.{Status}
+use Rattle.run_meaning.specs.declared.status.Status.TheVariants as status
+use Rattle.run_meaning.proofs.Widening.{CanBe-wider, file-wider}
+
+unfailed : (words : List (List ℕ)) (held : Option (List NamedFile)) (fault : Type 0) → (fault → ⊥) → (ran : Ran) → Runs words held fault ran → Runs words held ⊥ ran
+unfailed [] held fault none ran h = h
+unfailed (name ∷ []) held fault none ran (found, rest, can, next, is) = (
+  found,
+  rest,
+  CanBe-wider script_limit held fault ⊥ none name found can,
+  file-wider (CanBe file_limit held fault) (CanBe file_limit held ⊥) (CanBe-wider file_limit held fault ⊥ none) found rest next,
+  is,
+)
+unfailed (name ∷ other ∷ words) held fault none ran h = h
+
+module _ (words : List (List ℕ)) (held : Option (List NamedFile)) (fault : Type 0) (w : Written) (files : Files) where
+  whole : (s : Status) (ran : Ran) → Runs words held ⊥ ran → Ends ran w s → Opens ran files.begun files.begun_after s → (HasRisen w.faults_before w.faults_after → ⊥) →
+      Completes (Runs words held ⊥) w files s
+  whole status.Done ran is e o calm = inr (ran, is, e, o.counted ∙ ap (λ n. opened n files.begun) (o.whole tt))
+  whole status.Usage ran is e o calm = inr (ran, is, e, o.counted ∙ ap (λ n. opened n files.begun) (o.whole tt))
+  whole status.Syntax ran is e o calm = inr (ran, is, e, o.counted ∙ ap (λ n. opened n files.begun) (o.whole tt))
+  whole status.Refused ran is e o calm = inr (ran, is, e, o.counted ∙ ap (λ n. opened n files.begun) (o.whole tt))
+  whole status.RunFault ran is e o calm = inr (ran, is, e, o.counted ∙ ap (λ n. opened n files.begun) (o.whole tt))
+  whole status.BadData ran is e o calm = inr (ran, is, e, o.counted ∙ ap (λ n. opened n files.begun) (o.whole tt))
+  whole status.ReadFault ran is e o calm = inr (ran, is, e, o.counted ∙ ap (λ n. opened n files.begun) (o.whole tt))
+  whole status.WriteFault ran is e o calm = absurd (calm e.risen)
+  whole status.NoMemory ran is e o calm = inl refl
+
+  pub completes : (Can : List ℕ → Found → Type 0) (s : Status) → EndsOne 1 Can (Runs words held fault) w files s → (fault → ⊥) → (HasRisen w.faults_before w.faults_after → ⊥) →
+      Completes (Runs words held ⊥) w files s
+  completes Can s (inl e) none calm = whole s e.ran (unfailed words held fault none e.ran e.is) e.ends e.opens calm
+  completes Can s (inr (silent, counted)) none calm = inl silent.said
+
+-- ---- the output's count of faults, and its flush
+
+still : (w : Written) (s : Status) (ran : Ran) → Ends ran w s → IsSteady s → w.faults_after ≡ w.faults_before
+still w status.Done ran e h = e.steady
+still w status.Usage ran e h = e.steady
+still w status.Syntax ran e h = e.steady
+still w status.Refused ran e h = e.steady
+still w status.RunFault ran e h = e.steady
+still w status.BadData ran e h = e.steady
+still w status.ReadFault ran e h = absurd h
+still w status.WriteFault ran e h = absurd h
+still w status.NoMemory ran e h = e.steady
+
+flushed : (w : Written) (s : Status) (ran : Ran) → Ends ran w s → IsWhole s → w.unflushed ≡ false
+flushed w status.Done ran e h = e.flushed
+flushed w status.Usage ran e h = e.flushed
+flushed w status.Syntax ran e h = e.flushed
+flushed w status.Refused ran e h = e.flushed
+flushed w status.RunFault ran e h = e.flushed
+flushed w status.BadData ran e h = e.flushed
+flushed w status.ReadFault ran e h = e.flushed
+flushed w status.WriteFault ran e h = absurd h
+flushed w status.NoMemory ran e h = absurd h
+
+module _ (files_before : ℕ) (Can : List ℕ → Found → Type 0) (IsRun : Ran → Type 0) (w : Written) (files : Files) where
+  pub steadied : (s : Status) → EndsOne files_before Can IsRun w files s → IsSteady s → w.faults_after ≡ w.faults_before
+  steadied s (inl e) h = still w s e.ran e.ends h
+  steadied s (inr (silent, counted)) h = silent.steady
+
+  pub whole-flushed : (s : Status) → EndsOne files_before Can IsRun w files s → IsWhole s → w.unflushed ≡ false
+  whole-flushed s (inl e) h = flushed w s e.ran e.ends h
+  whole-flushed s (inr (silent, counted)) h = absurd (subst IsWhole silent.said h)
+
+  pub write_fault : (s : Status) → EndsOne files_before Can IsRun w files s → s ≡ status.WriteFault → HasRisen w.faults_before w.faults_after
+  write_fault s (inl e) cut = let h : Ends e.ran w status.WriteFault = subst (Ends e.ran w) cut e.ends in h.risen
+  write_fault s (inr (silent, counted)) cut = absurd (other (sym cut ∙ silent.said)) where
+    other : status.WriteFault ≡ status.NoMemory → ⊥
+    other e = cc

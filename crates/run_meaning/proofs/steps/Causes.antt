@@ -1,0 +1,132 @@
+-- Every turn that is refused has a refusal that names why.
+use Rattle.std.proofs.Common.{◌≡◌, ◌≢◌, ◌∙◌, ℕ, Bool, true, false, true≢false, cond, nat_eq, List, [], ◌∷◌, length, Option, Some, None, Result, Ok, Err, codes, refl, sym, ap}
+use Rattle.std.specs.List.{count_by}
+use Rattle.perm_values.specs.Numbers.{last_number}
+use Rattle.perm_values.specs.declared.kind.Kind.{Kind}
+use Rattle.bag_algebra.specs.Bags.{Row, Bag}
+use Rattle.bag_algebra.specs.Expressions.{value}
+use Rattle.bag_algebra.specs.Meaning.{meaning}
+use Rattle.bag_algebra.specs.Means.{holds_of}
+use Rattle.bag_algebra.specs.Outcome.{Outcome, Good, Bad, each, both, mapped}
+use Rattle.bag_algebra.specs.TableRows.{rows_in}
+use Rattle.bag_algebra.specs.declared.expr.Expr.{Expr}
+use Rattle.csv_tables.specs.Loading.{broken_rules, spelled_rows}
+use Rattle.csv_tables.specs.declared.data_error.DataError.{DataError}
+use Rattle.null_logic.specs.declared.run_fault.RunFault.{RunFault}
+use Rattle.perm_catalog.specs.Changes.{rows_at, with_table, with_fewer_rows}
+use Rattle.perm_catalog.specs.Contents.{Contents}
+use Rattle.perm_io.specs.Found.{Found}
+use Rattle.perm_io.specs.Found as found
+use Rattle.sql_tree.specs.declared.statement.Statement.{Statement}
+use Rattle.name_meaning.specs.Meanings.{broken}
+use Rattle.name_meaning.specs.Statements.{resolved}
+use Rattle.name_meaning.specs.declared.answer.Break.{Break}
+use Rattle.name_meaning.specs.declared.answer.Resolved.{Resolved}
+use Rattle.name_meaning.specs.declared.answer.Resolved.TheVariants as r
+use Rattle.statement_meaning.specs.Answers.{Names}
+use Rattle.statement_meaning.specs.Asking.{Asked, Settled, Begins, all_breaks, asked, asks, unbuilt, unless_broken}
+use Rattle.statement_meaning.specs.Turns.{Turn, Cause, Stands, Refused, Broken, Meets, Missing, TooLarge, Unfit, Failed, on_good, drawing, counting, identity_of, add_rows, add_unbroken, answered, copy, goes, row_value, rows_deleted, with_added}
+use Rattle.statement_meaning.specs.declared.refusal.StepRefusal.{StepRefusal}
+use Rattle.statement_meaning.specs.declared.refusal.StepRefusal.TheVariants as refusal
+use Rattle.bag_algebra.proofs.Outcomes.{union-first}
+use Rattle.query_laws.proofs.Caused.{Caused, caused-value, caused-denote}
+
+abbrev pub is_told : StepRefusal → Bool
+is_told (refusal.Break b) = true
+is_told (refusal.Run fault at) = true
+is_told (refusal.Missing at) = true
+is_told (refusal.TooLarge at) = true
+is_told (refusal.Unfit rule) = true
+is_told refusal.ReadFault = true
+is_told refusal.NoMemory = false
+
+pub told≢ : (refused : StepRefusal) → is_told refused ≡ true → refused ≢ refusal.NoMemory
+told≢ refused h e = true≢false (sym h ∙ ap is_told e)
+
+-- the answer of a call that refuses so
+abbrev pub refuses_with : StepRefusal → Result (List ℕ) StepRefusal
+refuses_with refused = Err refused
+
+-- want of memory alone is answered as that
+pub told-answer : (refused : StepRefusal) → refused ≢ refusal.NoMemory → refuses_with refused ≡ refuses_with refusal.NoMemory → ⊥
+told-answer refused told e = told (same refused e) where
+  same : (refused : StepRefusal) → refuses_with refused ≡ refuses_with refusal.NoMemory → refused ≡ refusal.NoMemory
+  same refused e = cc
+
+-- a refusal names the cause
+abbrev pub HasName : Turn → Type 0
+HasName (Stands text c) = Unit {0}
+HasName (Refused cause) = (refused : StepRefusal) × Names (Refused cause) refused × (refused ≢ refusal.NoMemory)
+
+broken-named : (b : Break) → HasName (Refused (Broken b))
+broken-named b = (refusal.Break b, refl, told≢ (refusal.Break b) refl)
+
+on_good-named : {X : Type 0} (at : ℕ) (o : Outcome X) (next : X → Turn) → Caused o → ((x : X) → HasName (next x)) → HasName (on_good at o next)
+on_good-named at (Good x) next c h = h x
+on_good-named at (Bad faults) next c h = (refusal.Run c.0 at, (faults, refl, c.1), told≢ (refusal.Run c.0 at) refl)
+
+drawing-named : (c : Contents) (at : ℕ) (text : List ℕ) (new : Contents) → HasName (drawing c at (Stands text new))
+drawing-named c at text new = chosen (nat_eq c.next last_number) where
+  chosen : (spent : Bool) → HasName (cond spent (Refused (Broken (broken 17 at))) (Stands text new))
+  chosen true = broken-named (broken 17 at)
+  chosen false = tt
+
+caused-both : {X : Type 0} (a : Outcome X) (b : Outcome (List X)) → Caused a → Caused b → Caused (both (λ y ys. y ∷ ys) a b)
+caused-both (Good x) (Good y) c d = tt
+caused-both (Good x) (Bad h) c d = d
+caused-both (Bad g) (Good y) c d = c
+caused-both (Bad g) (Bad h) c d = (c.0, union-first g h c.0 c.1)
+
+caused-each : {X Y : Type 0} (f : X → Outcome Y) (xs : List X) → ((x : X) → Caused (f x)) → Caused (each f xs)
+caused-each f [] h = tt
+caused-each f (x ∷ xs) h = caused-both (f x) (each f xs) (h x) (caused-each f xs h)
+
+goes-caused : (condition : Option Expr) (row : Row) → Caused (goes condition row)
+goes-caused None row = tt
+goes-caused (Some condition) row = by_value (value condition row [] []) (caused-value row [] [] condition) where
+  by_value : (o : Outcome _) → Caused o → Caused (mapped holds_of o)
+  by_value (Good v) c = tt
+  by_value (Bad faults) c = c
+
+unbroken-named : (c : Contents) (at : ℕ) (name : List ℕ) (rules : List DataError) (rows : Bag) → HasName (add_unbroken c at name rules rows)
+unbroken-named c at name [] rows = drawing-named c at (counting (codes "COPY ") (length rows)) (with_added c name rows)
+unbroken-named c at name (first ∷ more) rows = (refusal.Unfit first, refl, told≢ (refusal.Unfit first) refl)
+
+copy-named : (c : Contents) (at : ℕ) (name : List ℕ) (kinds : List Kind) (mark : List ℕ) (header : Bool) (file : Found) → HasName (copy c at name kinds mark header file)
+copy-named c at name kinds mark header (found.Read bytes) = unbroken-named c at name (broken_rules mark kinds header bytes) (spelled_rows mark kinds header bytes)
+copy-named c at name kinds mark header found.Missing = (refusal.Missing at, refl, told≢ (refusal.Missing at) refl)
+copy-named c at name kinds mark header found.TooLong = (refusal.TooLarge at, refl, told≢ (refusal.TooLarge at) refl)
+copy-named c at name kinds mark header found.Failed = (refusal.ReadFault, refl, told≢ refusal.ReadFault refl)
+
+-- whatever became of the file
+abbrev pub AsksNamed : Asked → Type 0
+AsksNamed (Settled turn) = HasName turn
+AsksNamed (Begins name after) = (file : Found) → HasName (after file)
+
+asks-named : (c : Contents) (at : ℕ) (statement : Resolved) → AsksNamed (asks c at statement)
+asks-named c at (r.CreateTable name columns) = drawing-named c at (codes "CREATE TABLE\n") (with_table c name columns [] None)
+asks-named c at (r.CreateTableAs name columns answer places) = broken-named (unbuilt at)
+asks-named c at (r.CreateView name entry) = tt
+asks-named c at (r.Copy name kinds file mark header) = copy-named c at name kinds mark header
+asks-named c at (r.Insert name rows) =
+    on_good-named at (each row_value rows) (add_rows (codes "INSERT ") c at name)
+    (caused-each row_value rows (λ exprs. caused-each (λ (expr : Expr). value expr [] [] []) exprs (λ expr. caused-value [] [] [] expr)))
+    (λ made. drawing-named c at (counting (codes "INSERT ") (length made)) (with_added c name made))
+asks-named c at (r.Delete name condition) =
+    on_good-named at (each (goes condition) (rows_at c (identity_of c name))) (λ doomed. drawing c at (rows_deleted c name doomed))
+    (caused-each (goes condition) (rows_at c (identity_of c name)) (goes-caused condition))
+    (λ doomed. drawing-named c at (counting (codes "DELETE ") (count_by (λ flag. flag) doomed)) (with_fewer_rows c name (identity_of c name) doomed))
+asks-named c at (r.DropTable name) = tt
+asks-named c at (r.DropView name) = tt
+asks-named c at (r.Select answer) =
+    on_good-named at (meaning answer.query (rows_in c.rows) []) (answered c answer) (caused-denote answer.query (rows_in c.rows) []) (λ rows. tt)
+asks-named c at (r.Explain answer) = broken-named (unbuilt at)
+asks-named c at (r.ShowFresh name) = broken-named (unbuilt at)
+
+unless-named : (breaks : List Break) (a : Asked) → AsksNamed a → AsksNamed (unless_broken breaks a)
+unless-named [] a h = h
+unless-named (first ∷ more) a h = broken-named first
+
+pub asked-named : (c : Contents) (statement : Statement) → AsksNamed (asked c statement)
+asked-named c statement =
+    unless-named (all_breaks c statement) (asks c statement.at (resolved c statement)) (asks-named c statement.at (resolved c statement))

@@ -1,0 +1,181 @@
+-- A statement is refused by the first rule that it breaks. It draws one number at most, and wants the last one only where
+-- that is the next.
+use Rattle.std.proofs.Common.{◌≡◌, ◌≢◌, ◌∙◌, ℕ, ◌+◌, ◌≤◌, ◌<◌, Bool, true, false, cond, nat_eq, List, [], ◌∷◌, length, None, Result, Ok, Err, codes, refl, sym, ap, subst, arith}
+use Rattle.std.proofs.lemmas.Bool.Decides.{nat_tests}
+use Rattle.std.specs.List.{count_by}
+use Rattle.perm_values.specs.Numbers.{last_number}
+use Rattle.perm_values.specs.declared.kind.Kind.{Kind}
+use Rattle.bag_algebra.specs.Bags.{Bag}
+use Rattle.bag_algebra.specs.Meaning.{meaning}
+use Rattle.bag_algebra.specs.Outcome.{Outcome, Good, Bad, each}
+use Rattle.bag_algebra.specs.TableRows.{rows_in}
+use Rattle.csv_tables.specs.Loading.{broken_rules, spelled_rows}
+use Rattle.csv_tables.specs.declared.data_error.DataError.{DataError}
+use Rattle.perm_catalog.specs.Changes.{rows_at, with_table, with_fewer_rows}
+use Rattle.perm_catalog.specs.Contents.{Contents}
+use Rattle.perm_io.specs.Found.{Found}
+use Rattle.perm_io.specs.Found as found
+use Rattle.sql_tree.specs.declared.statement.Statement.{Statement}
+use Rattle.sql_tree.specs.declared.statement.StatementBody.{StatementBody}
+use Rattle.sql_tree.specs.declared.statement.StatementBody.TheVariants as st
+use Rattle.name_laws.proofs.Every.{Every}
+use Rattle.name_seen_parts.specs.Seen.{first_or}
+use Rattle.name_meaning.specs.Meanings.{broken}
+use Rattle.name_meaning.specs.Statements.{answer_of, breaks, defined_columns, delete_made, kinds_of_table, query_meant, resolved, resolved_body, rows_made}
+use Rattle.name_meaning.specs.declared.answer.Break.{Break}
+use Rattle.statement_meaning.specs.Answers.{Names, TakesTurn}
+use Rattle.statement_meaning.specs.Asking.{Asked, Settled, Begins, all_breaks, asked, asks, is_unbuilt, unbuilt, unless_broken}
+use Rattle.statement_meaning.specs.Turns.{Turn, Cause, Stands, Refused, Broken, Meets, Missing, TooLarge, Unfit, Failed, on_good, drawing, counting, identity_of, add_rows, add_unbroken, answered, copy, goes, row_value, rows_deleted, with_added}
+use Rattle.statement_meaning.specs.declared.refusal.StepRefusal.{StepRefusal}
+use Rattle.statement_meaning.specs.declared.refusal.StepRefusal.TheVariants as refusal
+use Rattle.run_meaning.specs.Run.{StopsBy, StopsAsked, StopsAt}
+use Rattle.run_meaning.specs.Stops.{IsFirst, IsRefused}
+use Rattle.statement_laws.proofs.Unspent.{IsUnspent, breaks-unspent}
+
+pub refused-turn : (Can : List ℕ → Found → Type 0) (a : Asked) (old new : Contents) (refused : StepRefusal) → TakesTurn Can a old new (Err refused) → IsRefused Can a refused
+refused-turn Can (Settled turn) old new refused h = h.0
+refused-turn Can (Begins name after) old new refused (found, can, h) = (found, can, h.0)
+
+-- one number is drawn at most, and only the want of the last one breaks a rule
+abbrev IsFrugal : Contents → Turn → Type 0
+IsFrugal c (Stands text after) = after.next ≤ c.next + 1
+IsFrugal c (Refused (Broken b)) = c.next ≡ last_number
+IsFrugal c (Refused (Meets faults at)) = Unit {0}
+IsFrugal c (Refused (Missing at)) = Unit {0}
+IsFrugal c (Refused (TooLarge at)) = Unit {0}
+IsFrugal c (Refused (Unfit rule)) = Unit {0}
+IsFrugal c (Refused Failed) = Unit {0}
+
+abbrev IsThrifty : Contents → Asked → Type 0
+IsThrifty c (Settled turn) = IsFrugal c turn
+IsThrifty c (Begins name after) = (file : Found) → IsFrugal c (after file)
+
+same_number : (a b : ℕ) → nat_eq a b ≡ true → a ≡ b
+same_number a b h = grind (arith, nat_tests)
+
+module _ (c : Contents) where
+  frugal-drawing : (at : ℕ) (text : List ℕ) (new : Contents) → new.next ≡ c.next + 1 → IsFrugal c (drawing c at (Stands text new))
+  frugal-drawing at text new h = chosen (nat_eq c.next last_number) refl where
+    chosen : (spent : Bool) → nat_eq c.next last_number ≡ spent → IsFrugal c (cond spent (Refused (Broken (broken 17 at))) (Stands text new))
+    chosen true e = same_number c.next last_number e
+    chosen false e = omega (arith, h)
+
+  frugal-on_good : {X : Type 0} (at : ℕ) (o : Outcome X) (next : X → Turn) → ((x : X) → IsFrugal c (next x)) → IsFrugal c (on_good at o next)
+  frugal-on_good at (Good x) next h = h x
+  frugal-on_good at (Bad faults) next h = tt
+
+  frugal-unbroken : (at : ℕ) (name : List ℕ) (rules : List DataError) (rows : Bag) → IsFrugal c (add_unbroken c at name rules rows)
+  frugal-unbroken at name [] rows = frugal-drawing at (counting (codes "COPY ") (length rows)) (with_added c name rows) refl
+  frugal-unbroken at name (first ∷ more) rows = tt
+
+  frugal-copy : (at : ℕ) (name : List ℕ) (kinds : List Kind) (mark : List ℕ) (header : Bool) (file : Found) → IsFrugal c (copy c at name kinds mark header file)
+  frugal-copy at name kinds mark header (found.Read bytes) = frugal-unbroken at name (broken_rules mark kinds header bytes) (spelled_rows mark kinds header bytes)
+  frugal-copy at name kinds mark header found.Missing = tt
+  frugal-copy at name kinds mark header found.TooLong = tt
+  frugal-copy at name kinds mark header found.Failed = tt
+
+  true_false : {X : Type 0} → true ≡ false → X
+  true_false e = absurd cc
+
+  -- of a form that is run
+  thrifty-asks : (at : ℕ) (body : StatementBody) → is_unbuilt body ≡ false → IsThrifty c (asks c at (resolved_body c body))
+  thrifty-asks at (st.CreateTable table columns) e = frugal-drawing at (codes "CREATE TABLE\n") (with_table c table.text (defined_columns columns) [] None) refl
+  thrifty-asks at (st.CreateTableAs table query) e = true_false e
+  thrifty-asks at (st.CreateView view query) e = omega arith
+  thrifty-asks at (st.Copy table file header mark) e = frugal-copy at table.text (kinds_of_table c table) mark header
+  thrifty-asks at (st.Insert table rows) e =
+      frugal-on_good at (each row_value (rows_made c (kinds_of_table c table) rows)) (add_rows (codes "INSERT ") c at table.text)
+      (λ made. frugal-drawing at (counting (codes "INSERT ") (length made)) (with_added c table.text made) refl)
+  thrifty-asks at (st.Delete table condition) e =
+      frugal-on_good at (each (goes (delete_made c table condition)) (rows_at c (identity_of c table.text))) (λ doomed. drawing c at (rows_deleted c table.text doomed))
+      (λ doomed. frugal-drawing at (counting (codes "DELETE ") (count_by (λ flag. flag) doomed)) (with_fewer_rows c table.text (identity_of c table.text) doomed) refl)
+  thrifty-asks at (st.DropTable table) e = omega arith
+  thrifty-asks at (st.DropView view) e = omega arith
+  thrifty-asks at (st.Select query) e =
+      frugal-on_good at (meaning (answer_of (query_meant c query)).query (rows_in c.rows) []) (answered c (answer_of (query_meant c query))) (λ rows. omega arith)
+  thrifty-asks at (st.Explain query) e = true_false e
+  thrifty-asks at (st.ShowFresh table) e = true_false e
+
+  -- a statement that breaks nothing is of such a form
+  thrifty-whole : (statement : Statement) → all_breaks c statement ≡ [] → IsThrifty c (asks c statement.at (resolved c statement))
+  thrifty-whole statement none = by_form (is_unbuilt statement.body) refl none where
+    by_form : (unbuilt_form : Bool) → is_unbuilt statement.body ≡ unbuilt_form → cond unbuilt_form (unbuilt statement.at ∷ []) (breaks c statement) ≡ [] →
+        IsThrifty c (asks c statement.at (resolved c statement))
+    by_form true e some = absurd cc
+    by_form false e some = thrifty-asks statement.at statement.body e
+
+  all-unspent : (statement : Statement) → Every IsUnspent (all_breaks c statement)
+  all-unspent statement = by_form (is_unbuilt statement.body) where
+    by_form : (unbuilt_form : Bool) → Every IsUnspent (cond unbuilt_form (unbuilt statement.at ∷ []) (breaks c statement))
+    by_form true = ((λ e. omega (arith, e)), tt)
+    by_form false = breaks-unspent c statement
+
+  -- ---- which break refuses it
+
+  same_break : (b d : Break) → Refused (Broken b) ≡ Refused (Broken d) → b ≡ d
+  same_break b d e = cc
+
+  unbroken-turn : (turn : Turn) (b : Break) → IsFrugal c turn → c.next < last_number → turn ≡ Refused (Broken b) → ⊥
+  unbroken-turn turn b frugal few e = let spent = subst (IsFrugal c) e frugal in omega (arith, few, spent)
+
+  unbroken : (Can : List ℕ → Found → Type 0) (a : Asked) (b : Break) → IsThrifty c a → c.next < last_number → IsRefused Can a (refusal.Break b) → ⊥
+  unbroken Can (Settled turn) b thrifty few h = unbroken-turn turn b thrifty few h
+  unbroken Can (Begins name after) b thrifty few (file, can, h) = unbroken-turn (after file) b (thrifty file) few h
+
+  first-of : (Can : List ℕ → Found → Type 0) (a : Asked) (all : List Break) (b : Break) → Every IsUnspent all → (all ≡ [] → IsThrifty c a) → c.next < last_number →
+      IsRefused Can (unless_broken all a) (refusal.Break b) → (first_or all (tt {0}) ≡ Err b) × (b.code ≢ 17)
+  first-of Can a [] b unspent thrifty few h = absurd (unbroken Can a b (thrifty refl) few h)
+  first-of Can a (first ∷ more) b unspent thrifty few h =
+      let e = same_break first b h in (ap (λ (d : Break). Err d) e, subst IsUnspent e unspent.0)
+
+  -- ---- what is drawn
+
+  stood-turn : (turn : Turn) (text : List ℕ) (next : Contents) → IsFrugal c turn → turn ≡ Stands text next → next.next ≤ c.next + 1
+  stood-turn turn text next frugal e = subst (IsFrugal c) e frugal
+
+  not_refused : (b : Break) (text : List ℕ) (next : Contents) → Refused (Broken b) ≡ Stands text next → ⊥
+  not_refused b text next e = cc
+
+  stood : (Can : List ℕ → Found → Type 0) (a : Asked) (all : List Break) (text : List ℕ) (next : Contents) → (all ≡ [] → IsThrifty c a) →
+      TakesTurn Can (unless_broken all a) c next (Ok text) → next.next ≤ c.next + 1
+  stood Can (Settled turn) [] text next thrifty h = stood-turn turn text next (thrifty refl) h
+  stood Can (Begins name after) [] text next thrifty (file, can, h) = stood-turn (after file) text next (thrifty refl file) h
+  stood Can a (first ∷ more) text next thrifty h = absurd (not_refused first text next h)
+
+  stops-turn : (turn : Turn) (statements : List Statement) (b : Break) → IsFrugal c turn → StopsBy turn (λ after. StopsAt after statements b) b →
+      ((after : Contents) → StopsAt after statements b → last_number ≤ after.next + length statements) → last_number ≤ c.next + (length statements + 1)
+  stops-turn (Stands text after) statements b frugal stops later = let l = later after stops in omega (arith, frugal, l)
+  stops-turn (Refused cause) statements b frugal stops later = let spent = subst (IsFrugal c) stops frugal in omega (arith, spent)
+
+  stops-asked : (a : Asked) (all : List Break) (statements : List Statement) (b : Break) → Every IsUnspent all → (all ≡ [] → IsThrifty c a) → b.code ≡ 17 →
+      StopsAsked (unless_broken all a) (λ after. StopsAt after statements b) b →
+      ((after : Contents) → StopsAt after statements b → last_number ≤ after.next + length statements) → last_number ≤ c.next + (length statements + 1)
+  stops-asked (Settled turn) [] statements b unspent thrifty code stops later = stops-turn turn statements b (thrifty refl) stops later
+  stops-asked (Begins name after) [] statements b unspent thrifty code (file, stops) later = stops-turn (after file) statements b (thrifty refl file) stops later
+  stops-asked a (first ∷ more) statements b unspent thrifty code stops later = absurd (unspent.0 (ap (λ (d : Break). d.code) (same_break first b stops) ∙ code))
+
+-- over what a catalog holds whose next number isn't the last, a break is the first of the statement, and no want of a number
+pub stops-first : (Can : List ℕ → Found → Type 0) (c : Contents) (statement : Statement) (refused : StepRefusal) → c.next < last_number → refused ≢ refusal.NoMemory →
+    IsRefused Can (asked c statement) refused → IsFirst c statement refused
+stops-first Can c statement (refusal.Break b) few told h =
+    first-of c Can (asks c statement.at (resolved c statement)) (all_breaks c statement) b (all-unspent c statement) (thrifty-whole c statement) few h
+stops-first Can c statement (refusal.Run fault at) few told h = tt
+stops-first Can c statement (refusal.Missing at) few told h = tt
+stops-first Can c statement (refusal.TooLarge at) few told h = tt
+stops-first Can c statement (refusal.Unfit rule) few told h = tt
+stops-first Can c statement refusal.ReadFault few told h = tt
+stops-first Can c statement refusal.NoMemory few told h = told refl
+
+-- a statement that stood has drawn one number at most
+pub next-after : (Can : List ℕ → Found → Type 0) (c next : Contents) (statement : Statement) (text : List ℕ) → TakesTurn Can (asked c statement) c next (Ok text) →
+    next.next ≤ c.next + 1
+next-after Can c next statement text h =
+    stood c Can (asks c statement.at (resolved c statement)) (all_breaks c statement) text next (thrifty-whole c statement) h
+
+-- what is left of a run wants the last number only where it has that many statements
+pub stops-late : (c : Contents) (statements : List Statement) (b : Break) → b.code ≡ 17 → StopsAt c statements b → last_number ≤ c.next + length statements
+stops-late c [] b e stops = absurd stops
+stops-late c (statement ∷ statements) b e stops =
+    let l = stops-asked c (asks c statement.at (resolved c statement)) (all_breaks c statement) statements b (all-unspent c statement) (thrifty-whole c statement) e stops
+    (λ after more. stops-late after statements b e more) in
+    omega (arith, l)

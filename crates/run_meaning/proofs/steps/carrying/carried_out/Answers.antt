@@ -1,0 +1,20 @@
+use Rattle.statement_meaning.specs.Answers.{can_be, over}
+use Rattle.statement_meaning.specs.Asking.{asks}
+use Rattle.run_meaning.proofs.steps.Stepping.{taken-sound}
+use Rattle.run_meaning.proofs.steps.carrying.carried_out.Goals as goal
+
+pub step-requires : goal.step-requires
+step-requires g c = c.requires.ready
+
+pub returns-clause-done : goal.returns-clause-done
+returns-clause-done g c = record {
+  turn = c.step.ensures.turn;
+  sound =
+      taken-sound (can_be (over g.F.Files.held g.F.Files.faults g.F.Files.begun g.F.Files.absent g.F.Files.taken c.args.files.now c.step.new.files))
+      (asks c.args.catalog.now c.args.at c.args.resolved.now) c.args.catalog.now c.step.new.catalog c.step.result c.requires.before c.requires.sound c.step.ensures.turn;
+  backed = c.step.ensures.backed;
+  faults = c.step.ensures.faults;
+  begun = c.step.ensures.begun;
+  unbegun = c.step.ensures.unbegun;
+  held = c.step.ensures.held;
+}

@@ -1,0 +1,4 @@
+pub mod Comparing
+pub mod Connecting
+pub mod Counts
+pub mod Parts

@@ -1,0 +1,12 @@
+use Rattle.std.proofs.Common.{arith}
+use Rattle.sql_levels.proofs.Connecting.{both_is}
+use Rattle.sql_levels.proofs.connectives.Connectives.both.Goals as goal
+
+pub returns-in_err-first-clause-given : goal.returns-in_err-first-clause-given
+returns-in_err-first-clause-given g c = grind (arith, both_is)
+
+pub returns-in_err-parts-clause-given : goal.returns-in_err-parts-clause-given
+returns-in_err-parts-clause-given g c = grind (arith, both_is)
+
+pub returns-in-Ok-clause-given : goal.returns-in-Ok-clause-given
+returns-in-Ok-clause-given g c = grind (arith, both_is)

@@ -1,0 +1,9 @@
+use Rattle.std.proofs.Common.{rules}
+use Rattle.sql_grammar.specs.Cursors.{reading}
+use Rattle.sql_grammar.specs.Symbols as n
+use Rattle.sql_grammar.proofs.Steps.{reading-keeps}
+use Rattle.sql_levels.proofs.connectives.Connectives.conjuncts.Goals as goal
+
+pub returns-clause-given : goal.returns-clause-given
+returns-clause-given g c =
+    rw c.into_inner.ensures at (c.more_listed.ensures.given (reading n.Negated) (record { reads = λ old new r met. search rules; fewer = reading-keeps n.Negated }))

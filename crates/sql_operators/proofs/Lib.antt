@@ -1,3 +1,0 @@
-pub mod Connecting
-pub mod Counts
-pub mod Parts

@@ -1,6 +1,0 @@
-use Rattle.std.proofs.Common.{arith}
-use Rattle.sql_predicates.proofs.Comparing.{sum_takes}
-use Rattle.sql_predicates.proofs.predicates.Predicates.operand.Goals as goal
-
-pub returns-clause-fewer : goal.returns-clause-fewer
-returns-clause-fewer g c = grind (arith, sum_takes)

@@ -1,0 +1,31 @@
+-- When a resolved statement can be carried out: what its names name is there, and its query is one that can run.
+use Rattle.std.specs.Prelude.{◌≡◌, true, List, [], None, IsSome}
+use Rattle.bag_algebra.specs.Fits.{TablesFit}
+use Rattle.bag_algebra.specs.Scoped.{is_scoped}
+use Rattle.bag_algebra.specs.TableRows.{rows_in}
+use Rattle.bag_algebra.specs.WellFormed.{WellFormed}
+use Rattle.bag_algebra.specs.declared.query.Answer.{Answer}
+use Rattle.perm_catalog.specs.Changes.{table_named, view_named, is_free}
+use Rattle.perm_catalog.specs.Contents.{Contents}
+use Rattle.perm_catalog.specs.Lookups.{first_user}
+use Rattle.name_meaning.specs.declared.answer.Resolved.{Resolved}
+use Rattle.name_meaning.specs.declared.answer.Resolved.TheVariants as r
+
+-- a scoped query that is well formed under no outer rows, whose tables have rows of the kinds that it reads
+pub record CanRun (c : Contents) (answer : Answer) : Type 0 where
+  pub formed : WellFormed [] answer.query
+  pub scoped : is_scoped answer.query ≡ true
+  pub fitting : TablesFit (rows_in c.rows) answer.query
+
+abbrev pub IsReady : Contents → Resolved → Type 0
+IsReady c (r.CreateTable name columns) = is_free c name ≡ true
+IsReady c (r.CreateTableAs name columns answer places) = Unit {0}
+IsReady c (r.CreateView name entry) = is_free c name ≡ true
+IsReady c (r.Copy name kinds file mark header) = IsSome (table_named c name)
+IsReady c (r.Insert name rows) = IsSome (table_named c name)
+IsReady c (r.Delete name condition) = IsSome (table_named c name)
+IsReady c (r.DropTable name) = IsSome (table_named c name) × (first_user c name ≡ None)
+IsReady c (r.DropView name) = IsSome (view_named c name) × (first_user c name ≡ None)
+IsReady c (r.Select answer) = CanRun c answer
+IsReady c (r.Explain answer) = Unit {0}
+IsReady c (r.ShowFresh name) = Unit {0}

@@ -1,0 +1,137 @@
+-- What becomes of a statement whose names are looked up: what it answers and what the catalog holds then, or why it is
+-- refused. What a statement does is one word each, which the code's contracts name too.
+use Rattle.std.specs.Prelude.{ℕ, Bool, true, cond, nat_eq, List, [], ◌∷◌, ◌++◌, length, Option, Some, None, codes}
+use Rattle.std.specs.Fmt.{decimal}
+use Rattle.std.specs.List.{count_by}
+use Rattle.std.specs.Option.{option_map_or}
+use Rattle.perm_values.specs.Numbers.{last_number}
+use Rattle.perm_values.specs.Rows.{printed_cmp}
+use Rattle.perm_values.specs.declared.kind.Kind.{Kind}
+use Rattle.bag_algebra.specs.Bags.{Row, Bag, sorted}
+use Rattle.bag_algebra.specs.Expressions.{value}
+use Rattle.bag_algebra.specs.Meaning.{meaning}
+use Rattle.bag_algebra.specs.Means.{holds_of}
+use Rattle.bag_algebra.specs.Outcome.{Faults, Outcome, Good, Bad, mapped, each}
+use Rattle.bag_algebra.specs.TableRows.{rows_in}
+use Rattle.bag_algebra.specs.declared.expr.Expr.{Expr}
+use Rattle.bag_algebra.specs.declared.query.Answer.{Answer}
+use Rattle.csv_tables.specs.AnswerText.{answer_bytes}
+use Rattle.csv_tables.specs.Loading.{broken_rules, spelled_rows}
+use Rattle.csv_tables.specs.declared.data_error.DataError.{DataError}
+use Rattle.perm_catalog.specs.Changes.{table_named, rows_at, with_table, with_more_rows, with_fewer_rows, with_view, without_table, without_view}
+use Rattle.perm_catalog.specs.Contents.{Contents}
+use Rattle.perm_catalog.specs.declared.column.Column.{Column}
+use Rattle.perm_catalog.specs.declared.entries.TableEntry.{TableEntry}
+use Rattle.perm_catalog.specs.declared.entries.ViewEntry.{ViewEntry}
+use Rattle.perm_io.specs.Found.{Found}
+use Rattle.perm_io.specs.Found as found
+use Rattle.name_meaning.specs.Meanings.{broken}
+use Rattle.name_meaning.specs.declared.answer.Break.{Break}
+
+-- why a statement is refused: a rule of names and kinds is broken, or no number is left to draw; it meets faults; its file
+-- isn't there, is too large, has a record that breaks a rule, or failed. The numbers are the statement's offset
+pub data Cause : Type 0 where
+  Broken : Break → Cause
+  Meets : Faults → ℕ → Cause
+  Missing : ℕ → Cause
+  TooLarge : ℕ → Cause
+  Unfit : DataError → Cause
+  Failed : Cause
+
+-- the statement's text with what the catalog holds then; where it is refused the catalog holds what it held
+pub data Turn : Type 0 where
+  Stands : List ℕ → Contents → Turn
+  Refused : Cause → Turn
+
+-- a bad value refuses the statement with the whole set of its faults, of which any may be named
+abbrev pub on_good : {X : Type 0} → ℕ → Outcome X → (X → Turn) → Turn
+on_good at (Good x) next = next x
+on_good at (Bad faults) next = Refused (Meets faults at)
+
+-- a statement that draws a number; the last one is never drawn
+abbrev pub drawing : Contents → ℕ → Turn → Turn
+drawing c at turn = cond (nat_eq c.next last_number) (Refused (Broken (broken 17 at))) turn
+
+-- the text of a statement that counts rows
+abbrev pub counting : List ℕ → ℕ → List ℕ
+counting word count = word ++ decimal count ++ codes "\n"
+
+-- the identity of the table of this name, which a statement that breaks no rule of names has
+abbrev pub identity_of : Contents → List ℕ → ℕ
+identity_of c name = option_map_or (λ (entry : TableEntry). entry.id) (table_named c name) 0
+
+-- ---- CREATE and DROP
+
+abbrev pub table_created : Contents → List ℕ → List Column → Turn
+table_created c name columns = Stands (codes "CREATE TABLE\n") (with_table c name columns [] None)
+
+abbrev pub create_table : Contents → ℕ → List ℕ → List Column → Turn
+create_table c at name columns = drawing c at (table_created c name columns)
+
+abbrev pub view_created : Contents → List ℕ → ViewEntry → Turn
+view_created c name entry = Stands (codes "CREATE VIEW\n") (with_view c name entry)
+
+abbrev pub table_dropped : Contents → List ℕ → Turn
+table_dropped c name = Stands (codes "DROP TABLE\n") (without_table c name (identity_of c name))
+
+abbrev pub view_dropped : Contents → List ℕ → Turn
+view_dropped c name = Stands (codes "DROP VIEW\n") (without_view c name)
+
+-- ---- rows that are added: by INSERT or COPY, at the end of the table
+
+abbrev pub with_added : Contents → List ℕ → Bag → Contents
+with_added c name rows = with_more_rows c name (identity_of c name) rows
+
+abbrev pub rows_added : List ℕ → Contents → List ℕ → Bag → Turn
+rows_added word c name rows = Stands (counting word (length rows)) (with_added c name rows)
+
+abbrev pub add_rows : List ℕ → Contents → ℕ → List ℕ → Bag → Turn
+add_rows word c at name rows = drawing c at (rows_added word c name rows)
+
+-- the values of a row's expressions, which see no column; all of them are evaluated
+abbrev pub row_value : List Expr → Outcome Row
+row_value exprs = each (λ (expr : Expr). value expr [] [] []) exprs
+
+abbrev pub insert : Contents → ℕ → List ℕ → List (List Expr) → Turn
+insert c at name rows = on_good at (each row_value rows) (add_rows (codes "INSERT ") c at name)
+
+-- ---- the rows of a file, where no record of it breaks a rule
+
+abbrev pub add_unbroken : Contents → ℕ → List ℕ → List DataError → Bag → Turn
+add_unbroken c at name [] rows = add_rows (codes "COPY ") c at name rows
+add_unbroken c at name (first ∷ more) rows = Refused (Unfit first)
+
+-- by what became of the file; columns of these kinds are filled
+abbrev pub copy : Contents → ℕ → List ℕ → List Kind → List ℕ → Bool → Found → Turn
+copy c at name kinds mark header (found.Read bytes) =
+    add_unbroken c at name (broken_rules mark kinds header bytes) (spelled_rows mark kinds header bytes)
+copy c at name kinds mark header found.Missing = Refused (Missing at)
+copy c at name kinds mark header found.TooLong = Refused (TooLarge at)
+copy c at name kinds mark header found.Failed = Refused Failed
+
+-- ---- DELETE: the rows of which the condition is true, or all
+
+-- whether the row goes
+abbrev pub goes : Option Expr → Row → Outcome Bool
+goes None row = Good true
+goes (Some condition) row = mapped holds_of (value condition row [] [])
+
+abbrev pub rows_deleted : Contents → List ℕ → List Bool → Turn
+rows_deleted c name doomed =
+    Stands (counting (codes "DELETE ") (count_by (λ flag. flag) doomed)) (with_fewer_rows c name (identity_of c name) doomed)
+
+-- the condition is looked at on every row
+abbrev pub delete : Contents → ℕ → List ℕ → Option Expr → Turn
+delete c at name condition =
+    on_good at (each (goes condition) (rows_at c (identity_of c name))) (λ doomed. drawing c at (rows_deleted c name doomed))
+
+-- ---- a query: its rows in the order of its keys, then of all columns
+
+abbrev pub answer_text : Answer → Bag → List ℕ
+answer_text answer rows = answer_bytes answer.names (sorted (printed_cmp answer.keys) rows)
+
+abbrev pub answered : Contents → Answer → Bag → Turn
+answered c answer rows = Stands (answer_text answer rows) c
+
+abbrev pub select : Contents → ℕ → Answer → Turn
+select c at answer = on_good at (meaning answer.query (rows_in c.rows) []) (answered c answer)

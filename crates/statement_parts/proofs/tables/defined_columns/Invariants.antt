@@ -1,7 +1,0 @@
-use Rattle.std.proofs.Common.{◌≡◌}
-use Rattle.name_words.specs.Statements.{defined_columns}
-use Rattle.statement_parts.proofs.tables.defined_columns.Given as goal
-
--- the columns so far
-abbrev pub invariant-loop-column : goal.invariant-loop-column
-invariant-loop-column l = l.defined ≡ defined_columns l.yielded

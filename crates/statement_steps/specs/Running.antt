@@ -1,0 +1,22 @@
+-- Which run a runner keeps behind a statement.
+use Rattle.std.specs.Prelude.{◌≡◌, ℕ, List, Option, Result, IfOk}
+use Rattle.perm_catalog.specs.Contents.{Contents}
+use Rattle.name_meaning.specs.declared.answer.Resolved.{Resolved}
+use Rattle.name_meaning.specs.declared.answer.Resolved.TheVariants as r
+use Rattle.statement_meaning.specs.declared.refusal.StepRefusal.{StepRefusal}
+use Rattle.statement_steps.specs.Runs.{IsAnswered}
+use Rattle.statement_steps.specs.declared.ran.Ran.{Ran}
+
+-- a query that is answered is answered by the last run, of which nothing is said after a refusal; no other statement changes it
+abbrev pub KeepsRun : Contents → Resolved → Result (List ℕ) StepRefusal → Option Ran → Option Ran → Type 0
+KeepsRun c (r.CreateTable name columns) result before after = after ≡ before
+KeepsRun c (r.CreateTableAs name columns answer places) result before after = after ≡ before
+KeepsRun c (r.CreateView name entry) result before after = after ≡ before
+KeepsRun c (r.Copy name kinds file mark header) result before after = after ≡ before
+KeepsRun c (r.Insert name rows) result before after = after ≡ before
+KeepsRun c (r.Delete name condition) result before after = after ≡ before
+KeepsRun c (r.DropTable name) result before after = after ≡ before
+KeepsRun c (r.DropView name) result before after = after ≡ before
+KeepsRun c (r.Select answer) result before after = IfOk result (λ text. IsAnswered c answer text after)
+KeepsRun c (r.Explain answer) result before after = after ≡ before
+KeepsRun c (r.ShowFresh name) result before after = after ≡ before

@@ -1,0 +1,51 @@
+-- Runs of queries: what a runner keeps of one, and by which run a query over a catalog is answered.
+use Rattle.std.specs.Prelude.{◌≡◌, ℕ, true, List, [], Option, Some, None, Result, Ok, Err}
+use Rattle.perm_values.specs.Rows.{printed_cmp}
+use Rattle.perm_values.specs.declared.key.Key.{Key}
+use Rattle.bag_algebra.specs.Bags.{sorted}
+use Rattle.bag_algebra.specs.Closed.{is_closed}
+use Rattle.bag_algebra.specs.Fits.{TablesFit}
+use Rattle.bag_algebra.specs.Kinds.{kinds_of}
+use Rattle.bag_algebra.specs.Meaning.{Database, meaning}
+use Rattle.bag_algebra.specs.Outcome.{Outcome, Good, mapped}
+use Rattle.bag_algebra.specs.Rewriting.{is_plain, SameRows}
+use Rattle.bag_algebra.specs.TableRows.{rows_in}
+use Rattle.bag_algebra.specs.TablesRead.{ReadsAmong}
+use Rattle.bag_algebra.specs.WellFormed.{WellFormed}
+use Rattle.bag_algebra.specs.declared.query.Answer.{Answer}
+use Rattle.bag_algebra.specs.declared.query.Query.{Query}
+use Rattle.csv_tables.specs.AnswerText.{answer_bytes}
+use Rattle.row_values.specs.Answers.{Refuses}
+use Rattle.row_values.specs.declared.error.ExecError.{ExecError}
+use Rattle.perm_catalog.specs.Contents.{Contents}
+use Rattle.statement_steps.specs.declared.ran.Ran.{Ran}
+
+-- the run of a query on a database under no outer rows: its rows in the order of the keys, then of all columns
+abbrev pub run_of : Query → List Key → Database → Outcome Ran
+run_of query keys db = mapped (λ rows. record { query = query; rows = sorted (printed_cmp keys) rows }) (meaning query db [])
+
+-- it is the last one; after a refusal, which names a fault that it meets, there is none
+abbrev pub Keeps : Outcome Ran → Result Unit ExecError → Option Ran → Type 0
+Keeps run (Ok done) (Some ran) = run ≡ Good ran
+Keeps run (Ok done) None = ⊥
+Keeps run (Err error) (Some ran) = ⊥
+Keeps run (Err error) None = Refuses run error
+
+-- The text answers a query by this run: of a query without PROVENANCE that reads no outer row, has the answered one's kinds
+-- and, on every database that fits that, its rows, as often, or its faults. What was run and what is answered have the run's
+-- rows over the catalog's tables, as often, and they are what the text tells.
+pub record AnswersBy (c : Contents) (answer : Answer) (text : List ℕ) (ran : Ran) : Type 0 where
+  pub plain : is_plain ran.query ≡ true
+  pub closed : is_closed ran.query ≡ true
+  pub formed : WellFormed [] ran.query
+  pub kinds : kinds_of ran.query ≡ kinds_of answer.query
+  pub tables : ReadsAmong ran.query answer.query
+  pub means : (db : Database) → TablesFit db answer.query → SameRows (meaning answer.query db []) (meaning ran.query db [])
+  pub run : SameRows (meaning ran.query (rows_in c.rows) []) (Good ran.rows)
+  pub rows : SameRows (meaning answer.query (rows_in c.rows) []) (Good ran.rows)
+  pub told : text ≡ answer_bytes answer.names ran.rows
+
+-- the last run is one by which the text answers
+abbrev pub IsAnswered : Contents → Answer → List ℕ → Option Ran → Type 0
+IsAnswered c answer text (Some ran) = AnswersBy c answer text ran
+IsAnswered c answer text None = ⊥

@@ -1,9 +1,0 @@
-use Rattle.std.proofs.Common.{◌≡◌, drop}
-use Rattle.clauses_seen.specs.Columns.{columns_of}
-use Rattle.name_words.specs.Froms.{names_of, settled_columns}
-use Rattle.name_words.specs.Statements.{repeats}
-use Rattle.statements_seen.proofs.shown.do_repeat.Given as goal
-
--- no name of those so far comes again
-abbrev pub invariant-loop-at : goal.invariant-loop-at
-invariant-loop-at l = repeats (names_of (settled_columns (columns_of l.columns))) ≡ repeats (names_of (settled_columns (columns_of (drop l.at l.columns))))

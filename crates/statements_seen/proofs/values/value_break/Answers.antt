@@ -1,7 +1,0 @@
-use Rattle.name_words.specs.Meanings.{means_at}
-use Rattle.name_words.specs.Trees.{part_of}
-use Rattle.name_seen.specs.Standing.{surroundings}
-use Rattle.statements_seen.proofs.values.value_break.Goals as goal
-
-pub returns : goal.returns
-returns c = c.value_over.ensures (means_at (part_of c.args.here.now.catalog.now c.args.tree.now) (surroundings c.args.here.now)) c.kind_of.ensures

@@ -1,7 +1,0 @@
-use Rattle.sublink_laws.proofs.AllSublinks.{ready}
-use Rattle.sublink_laws.proofs.ProjectRows.{rewrite-Project_with}
-use Rattle.sublink_laws.proofs.laws.projects_over_candidates_rewrite.Goals as goal
-
-pub returns : goal.returns
-returns c = λ q rewriting items subs standing rewritings over given stand rewritten.
-    rewrite-Project_with q rewriting items subs standing rewritings given (ready subs standing rewritings stand rewritten over)

@@ -1,8 +1,0 @@
-use Rattle.witness_laws.proofs.NodeLists.{distinct-lists, limit-lists}
-use Rattle.witness_laws.proofs.lists.distinct_and_limit_keep_lists.Goals as goal
-
-pub returns-clause-distinct : goal.returns-clause-distinct
-returns-clause-distinct c = distinct-lists
-
-pub returns-clause-limit : goal.returns-clause-limit
-returns-clause-limit c = limit-lists

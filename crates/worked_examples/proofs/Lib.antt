@@ -1,0 +1,10 @@
+pub mod Answered
+pub mod BrokenCores
+pub mod BrokenLimits
+pub mod BrokenMarks
+pub mod BrokenStatements
+pub mod Provenance
+pub mod Refused
+pub mod ResolvedItems
+pub mod ResolvedQueries
+pub mod Written

@@ -1,0 +1,78 @@
+-- The trees of the worked plans, with the offset of each node, written out by hand.
+use Rattle.std.specs.Prelude.{◌≡◌, ℕ, pos, false, List, [], ◌∷◌, Option, Some, None, codes, refl}
+use Rattle.std.specs.Fmt.{digits}
+use Rattle.null_logic.specs.declared.compare.Compare.TheVariants as compare
+use Rattle.sql_grammar.specs.Sorts.{word_sort, symbol_sort, same_sort}
+use Rattle.sql_tree.specs.declared.expression.ExprBody.{ExprBody}
+use Rattle.sql_tree.specs.declared.expression.ExprBody.TheVariants as e
+use Rattle.sql_tree.specs.declared.expression.ExprTree.{ExprTree}
+use Rattle.sql_tree.specs.declared.name.Name.{Name}
+use Rattle.sql_tree.specs.declared.query.Core.{roll-Core}
+use Rattle.sql_tree.specs.declared.query.QueryTree.{QueryTree}
+use Rattle.sql_tree.specs.declared.query.SelectItem.TheVariants.{Value}
+use Rattle.sql_tree.specs.declared.query.SetTree.{SetTree}
+use Rattle.sql_tree.specs.declared.query.SetTree.TheVariants as set
+use Rattle.sql_tree.specs.declared.query.SetWord.TheVariants.{Union}
+use Rattle.sql_tree.specs.declared.source.FromItem.{FromItem}
+use Rattle.sql_tree.specs.declared.source.FromSource.TheVariants as source
+use Rattle.sql_tree.specs.declared.source.FromTree.{FromTree, roll-FromTree}
+use Rattle.sql_tree.specs.declared.source.JoinStep.{roll-JoinStep}
+use Rattle.sql_tree.specs.declared.source.JoinWord.TheVariants.{Inner}
+use Rattle.sql_tree.specs.declared.source.ScopeMark.TheVariants.{Plain}
+use Rattle.sql_plans.specs.Plans.{value}
+use Rattle.worked_examples.specs.PlannedTexts.{select_join, union, select_exists}
+
+-- ---- nodes, each at its offset
+
+abbrev expr : ℕ → ExprBody → ExprTree
+expr at body = record { at = at; body = body }
+
+abbrev int : ℕ → ℕ → ExprTree
+int at number = expr at (e.Integer (pos number))
+
+abbrev name : ℕ → List ℕ → Name
+name at text = record { text = text; at = at }
+
+abbrev column : ℕ → List ℕ → ExprTree
+column at text = expr at (e.Column (record { at = at; table = None; name = name at text }))
+
+abbrev table : ℕ → List ℕ → FromItem
+table at text = record { at = at; source = source.Named (name at text); alias = None; mark = Plain }
+
+abbrev select : ℕ → ExprTree → List FromTree → Option ExprTree → SetTree
+select at one sources condition = set.Core (roll-Core (record {
+  at = at;
+  provenance = None;
+  distinct = false;
+  items = Value one None ∷ [];
+  sources = sources;
+  condition = condition;
+  groups = [];
+  having = None;
+}))
+
+abbrev query : ℕ → SetTree → QueryTree
+query at body = record { at = at; body = body; order = []; limit = None }
+
+-- ---- trees
+
+example-join : value 0 select_join ≡ query 0 (select 0 (column 7 (codes "a"))
+    (roll-FromTree (record {
+      first = table 16 (codes "t");
+      joins = roll-JoinStep (record {
+        word = Inner;
+        item = table 25 (codes "u");
+        condition = Some (expr 32 (e.Compared compare.Equal (column 32 (codes "a")) (column 38 (codes "b"))));
+      }) ∷ [];
+    }) ∷ []) None)
+unfolding word_sort symbol_sort same_sort
+example-join = refl
+
+example-union : value 0 union ≡ query 0 (set.Chain (set.Paren (query 2 (select 2 (int 9 1) [] None)))
+    (record { word = Union; all = false; at = 19; operand = set.Paren (query 21 (select 21 (int 28 2) [] None)) } ∷ []))
+unfolding word_sort symbol_sort same_sort digits
+example-union = refl
+
+example-exists : value 0 select_exists ≡ query 0 (select 0 (int 7 1) [] (Some (expr 15 (e.Exists (query 24 (select 24 (int 31 2) [] None))))))
+unfolding word_sort symbol_sort same_sort digits
+example-exists = refl

@@ -1,6 +1,0 @@
-pub mod BrokenCores
-pub mod BrokenLimits
-pub mod BrokenMarks
-pub mod BrokenStatements
-pub mod ResolvedItems
-pub mod ResolvedQueries

@@ -1,3 +1,0 @@
-pub mod NamedCatalog
-pub mod NamedQueries
-pub mod NamedTrees

@@ -1,2 +1,0 @@
-pub mod PlannedTexts
-pub mod PlannedTrees

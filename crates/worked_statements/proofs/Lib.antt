@@ -1,4 +1,0 @@
-pub mod Answered
-pub mod Provenance
-pub mod Refused
-pub mod Written
