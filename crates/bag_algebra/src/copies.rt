@@ -15,10 +15,7 @@ impl Copyable for Query {
 
 impl Copyable for Sublink {
     fn copy(&self, alloc: Global) -> Result<Sublink, NoMemory> {
-        let (tested, query) = both(
-            copy_option(alloc, &self.tested),
-            copy_query(alloc, &self.query),
-        )?;
+        let (tested, query) = both(self.tested.copy(alloc), copy_query(alloc, &self.query))?;
         Ok(Sublink {
             kind: self.kind,
             tested,
@@ -31,7 +28,7 @@ impl Copyable for Aggr {
     fn copy(&self, alloc: Global) -> Result<Aggr, NoMemory> {
         Ok(Aggr {
             function: self.function,
-            argument: copy_option(alloc, &self.argument)?,
+            argument: self.argument.copy(alloc)?,
             kind: self.kind,
         })
     }
@@ -212,10 +209,7 @@ fn copy_subs(alloc: Global, subs: &[Sublink]) -> Result<List<Sublink>, NoMemory>
     let mut copy = List::new(alloc);
     for sub in subs {
         let kind = sub.kind;
-        let (tested, query) = both(
-            copy_option(alloc, &sub.tested),
-            copy_query(alloc, &sub.query),
-        )?;
+        let (tested, query) = both(sub.tested.copy(alloc), copy_query(alloc, &sub.query))?;
         copy.push(Sublink {
             kind,
             tested,
@@ -223,13 +217,4 @@ fn copy_subs(alloc: Global, subs: &[Sublink]) -> Result<List<Sublink>, NoMemory>
         })?;
     }
     Ok(copy)
-}
-
-fn copy_option(alloc: Global, part: &Option<Expr>) -> Result<Option<Expr>, NoMemory>
-    ensures { IfOk result (λ copy. copy ≡ part.now) }
-{
-    match part {
-        Some(part) => Ok(Some(part.copy(alloc)?)),
-        None => Ok(None),
-    }
 }

@@ -6,6 +6,7 @@ mod env;
 mod expr;
 mod laws;
 mod measures;
+mod nodes;
 mod place;
 mod query;
 mod tables;

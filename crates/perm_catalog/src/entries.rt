@@ -79,7 +79,7 @@ impl Copyable for Mark {
 impl Copyable for TableEntry {
     fn copy(&self, alloc: Global) -> Result<TableEntry, NoMemory> {
         let columns = self.columns.copy(alloc);
-        let mark = copy_option(alloc, &self.mark);
+        let mark = self.mark.copy(alloc);
         let (columns, mark) = both(columns, mark)?;
         Ok(TableEntry {
             id: self.id,
@@ -93,7 +93,7 @@ impl Copyable for TableEntry {
 impl Copyable for ViewEntry {
     fn copy(&self, alloc: Global) -> Result<ViewEntry, NoMemory> {
         let answer = self.answer.copy(alloc);
-        let places = copy_option(alloc, &self.places);
+        let places = self.places.copy(alloc);
         let names_used = self.names_used.copy(alloc);
         let (answer, places, names_used) = three(answer, places, names_used)?;
         Ok(ViewEntry {
@@ -101,14 +101,5 @@ impl Copyable for ViewEntry {
             places,
             names_used,
         })
-    }
-}
-
-fn copy_option<T: Copyable>(alloc: Global, part: &Option<T>) -> Result<Option<T>, NoMemory>
-    ensures { IfOk result (λ copy. copy ≡ part.now) }
-{
-    match part {
-        Some(part) => Ok(Some(part.copy(alloc)?)),
-        None => Ok(None),
     }
 }

@@ -16,6 +16,15 @@ impl Copyable for usize {
     }
 }
 
+impl<T: Copyable> Copyable for Option<T> {
+    fn copy(&self, alloc: Global) -> Result<Option<T>, NoMemory> {
+        match self {
+            Some(part) => Ok(Some(part.copy(alloc)?)),
+            None => Ok(None),
+        }
+    }
+}
+
 /// Adds copies of `more` at the end.
 pub(crate) fn add_copies<T: Copyable>(
     alloc: Global,

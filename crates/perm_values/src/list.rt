@@ -1,4 +1,5 @@
 ghost use Rattle.std.specs.Prelude.{◌≡◌, [], ◌∷◌, ◌++◌, ◌+◌, ◌<◌, ◌^◌, take, length, slice_get, Some, MatchOption, OnOk, OnErr, IfOk, IsTrue, ◌↔◌, count_by};
+ghost use Rattle.std.specs.List.{range_with_len};
 ghost use Rattle.std.specs.Option.{option_copied};
 ghost use Rattle.perm_values.specs.Marked.{unmarked};
 
@@ -156,10 +157,36 @@ fn keep_in_front<T>(items: &mut [T], doomed: &[bool]) -> usize
     kept
 }
 
+impl<T: Copyable> List<T> {
+    /// A copy of the items, with no room to spare. It fails only for want of memory.
+    pub fn copy_of(alloc: Global, items: &[T]) -> Result<List<T>, NoMemory>
+        ensures { IfOk result (λ copy. copy ≡ items.now) }
+    {
+        let mut copy = Vec::with_capacity(alloc, items.len())?;
+        add_copies(alloc, &mut copy, items)?;
+        Ok(List { items: copy })
+    }
+}
+
 impl<T: Copyable> Copyable for List<T> {
     fn copy(&self, alloc: Global) -> Result<List<T>, NoMemory> {
-        let mut items = Vec::with_capacity(alloc, self.items.len())?;
-        add_copies(alloc, &mut items, self.items.as_slice())?;
-        Ok(List { items })
+        List::copy_of(alloc, self.items.as_slice())
+    }
+}
+
+impl List<usize> {
+    /// As many consecutive numbers, from the first on. It fails only for want of memory, or where no `usize` holds the number
+    /// behind the last.
+    pub fn range(alloc: Global, first: usize, count: usize) -> Result<List<usize>, NoMemory>
+        ensures { IfOk result (λ numbers. numbers ≡ range_with_len first count) }
+    {
+        let Some(end) = first.checked_add(count) else {
+            return Err(NoMemory);
+        };
+        let mut numbers = List::with_room(alloc, count)?;
+        for number in first..end {
+            numbers.push(number)?;
+        }
+        Ok(numbers)
     }
 }
