@@ -1,7 +1,10 @@
 pub mod Bags
 pub mod Built
 pub mod BuiltEvery
+pub mod BuiltFaultFree
 pub mod BuiltForms
+pub mod BuiltMeasures
+pub mod BuiltScopes
 pub mod Children
 pub mod Closed
 pub mod ColumnItems
@@ -18,7 +21,7 @@ pub mod Patterns
 pub mod PlaceNames
 pub mod Rewriting
 pub mod Scoped
+pub mod Sought
 pub mod TableRows
 pub mod TablesRead
 pub mod WellFormed
-pub mod measures

@@ -17,7 +17,7 @@ use Rattle.bag_algebra.specs.declared.place.Place.{Place}
 use Rattle.bag_algebra.specs.declared.query.Label.{Label}
 use Rattle.bag_algebra.specs.declared.query.Query.{Query, Row_of-Sublink, more_of-Sublink, end_of-Sublink}
 use Rattle.bag_algebra.specs.declared.query.Query.TheVariants.{Table, Single}
-use Rattle.contribution.proofs.parts.ColumnQueries.{kinds_of-columns, formed-columns}
+use Rattle.contribution.proofs.ColumnQueries.{kinds_of-columns, formed-columns}
 use Rattle.contribution.proofs.NullRows.{kinds_of-null_row, formed-null_row}
 use Rattle.contribution.proofs.CrossedRows.{Sourced, no_source, one_more, FlatAt, crossed_rows, meaning-crossed, flat-from_crossed, crossed-from_flat}
 use Rattle.contribution.proofs.EntriesAtPlaces.{Rows}

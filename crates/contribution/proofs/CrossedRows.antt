@@ -13,7 +13,7 @@ use Rattle.bag_algebra.specs.Outcome.{Outcome, Good, both, both_then, mapped, ga
 use Rattle.bag_algebra.specs.declared.place.Place.{Place}
 use Rattle.bag_algebra.specs.declared.query.JoinKind.TheVariants.{Inner}
 use Rattle.bag_algebra.specs.declared.query.Query.TheVariants.{Table, Single}
-use Rattle.contribution.proofs.parts.ColumnQueries.{meaning-columns}
+use Rattle.contribution.proofs.ColumnQueries.{meaning-columns}
 use Rattle.contribution.proofs.EntriesAtPlaces.{Rows}
 use Rattle.contribution.proofs.NullRows.{meaning-null_row}
 use Rattle.contribution.specs.CrossBase.{source_query, crossed, always}

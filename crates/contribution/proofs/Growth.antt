@@ -33,7 +33,7 @@ use Rattle.contribution.proofs.WhereGood.{Each}
 use Rattle.contribution.specs.Longer.{Longer, more_lists, more_items}
 use Rattle.contribution.specs.SameColumns.{SameColumns}
 use Rattle.std.proofs.lemmas.Bool.{and_parts, and_from}
-use Rattle.bag_algebra.proofs.measures.Forms.{op_parts}
+use Rattle.bag_algebra.proofs.Forms.{op_parts}
 
 -- beside one own row
 pub columns-own : (kinds : List Kind) (u : Row) {outer : List (List Kind)} {env other : List Row} → SameColumns outer env other →

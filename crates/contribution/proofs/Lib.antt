@@ -4,6 +4,7 @@ pub mod Agreement
 pub mod BagMembers
 pub mod BuiltSources
 pub mod Classes
+pub mod ColumnQueries
 pub mod CrossBases
 pub mod CrossedRows
 pub mod EntriesAtPlaces
@@ -15,15 +16,20 @@ pub mod JoinMembers
 pub mod ListedRows
 pub mod ListsInBases
 pub mod LongerKinds
+pub mod MovedVariants
 pub mod NoRowLost
 pub mod NodeKinds
+pub mod NodeQueries
 pub mod NullRows
 pub mod OrderOfGroups
 pub mod OrderOfQueries
 pub mod OrderOfRows
 pub mod OrderOfSets
+pub mod Padding
+pub mod PartForms
 pub mod QueryKinds
 pub mod RowKinds
+pub mod SameTests
 pub mod SetMembers
 pub mod SetsOfNodes
 pub mod SetsOfRows
@@ -32,4 +38,3 @@ pub mod TablesRead
 pub mod TruthKept
 pub mod ValueKinds
 pub mod WhereGood
-pub mod parts

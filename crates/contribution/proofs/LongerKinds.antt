@@ -15,7 +15,7 @@ use Rattle.bag_algebra.specs.declared.query.Query.{Query, Row_of-Sublink, more_o
 use Rattle.bag_algebra.specs.declared.query.Query.TheVariants.{Table, Single}
 use Rattle.bag_algebra.specs.declared.query.SubKind.{SubKind}
 use Rattle.bag_algebra.specs.declared.query.SubKind.TheVariants as sub
-use Rattle.bag_algebra.proofs.measures.Forms.{alike-kept, op_form-kept}
+use Rattle.bag_algebra.proofs.Forms.{alike-kept, op_form-kept}
 use Rattle.contribution.specs.Longer.{Longer, more_lists, more_items}
 
 -- each column of the first is named, with its kind, by the second

@@ -6,7 +6,7 @@ use Rattle.bag_algebra.specs.Kinds.{kinds_of}
 use Rattle.bag_algebra.specs.Meaning.{Database, meaning}
 use Rattle.bag_algebra.specs.Outcome.{Good, both}
 use Rattle.bag_algebra.specs.WellFormed.{WellFormed}
-use Rattle.contribution.proofs.parts.Padding.{null_items-kinds, null_items-give, null_items-formed}
+use Rattle.contribution.proofs.Padding.{null_items-kinds, null_items-give, null_items-formed}
 use Rattle.contribution.specs.NullRow.{null_row_of}
 use Rattle.bag_algebra.specs.Built.{rows-with_lists}
 

@@ -1,12 +1,15 @@
+pub mod Conjunctions
 pub mod CrossBase
 pub mod FitsPlaces
 pub mod Fitting
 pub mod HasSublinks
 pub mod HeldRows
+pub mod ItemKinds
 pub mod LabelNames
 pub mod Longer
+pub mod MovedColumns
+pub mod NullItems
 pub mod NullRow
 pub mod SameColumns
 pub mod SameMeaning
 pub mod SublinkValues
-pub mod parts

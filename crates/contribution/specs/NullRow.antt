@@ -4,7 +4,7 @@ use Rattle.perm_values.specs.declared.kind.Kind.{Kind}
 use Rattle.bag_algebra.specs.Patterns.{ProjectOf}
 use Rattle.bag_algebra.specs.declared.query.Query.{Query, end_of-Sublink}
 use Rattle.bag_algebra.specs.declared.query.Query.TheVariants.{Single}
-use Rattle.contribution.specs.parts.NullItems.{null_item}
+use Rattle.contribution.specs.NullItems.{null_item}
 
 -- NULLs of these kinds, over the empty row
 abbrev pub null_row_of : List Kind → Query

@@ -1,4 +1,4 @@
 pub mod AnswerText
+pub mod Lines
 pub mod Loading
 pub mod ReadBack
-pub mod errors

@@ -24,9 +24,9 @@ use Rattle.name_meaning.specs.Statements as words
 use Rattle.name_meaning.specs.declared.answer.Break.{Break}
 use Rattle.name_laws.proofs.Every.{back-none, front-none}
 use Rattle.name_laws.proofs.Trees.{query-in_scope, query-known}
-use Rattle.name_laws.specs.forms.Formed.{IsAnswer}
-use Rattle.name_laws.proofs.forms.TreeLaws.{query-answer, query-closed}
-use Rattle.name_laws.proofs.tables.Named.{view-reads}
+use Rattle.name_laws.specs.Formed.{IsAnswer}
+use Rattle.name_laws.proofs.TreeLaws.{query-answer, query-closed}
+use Rattle.name_laws.proofs.Named.{view-reads}
 use Rattle.name_analysis.specs.Stands.{AnswerStands, BodyStands, IsHeldTable, shown_kinds}
 
 abbrev known_kinds : List KnownColumn → List Kind

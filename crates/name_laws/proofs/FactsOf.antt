@@ -7,7 +7,7 @@ use Rattle.bag_algebra.specs.Built.{shape-Base, shape-Filter, shape-Project, sha
 use Rattle.bag_algebra.specs.Children.{subs_shape}
 use Rattle.bag_algebra.specs.Kinds.{kinds_of, kinds_in}
 use Rattle.bag_algebra.specs.Scoped.{is_table}
-use Rattle.bag_algebra.specs.measures.BuiltScopes.{all_over_tables, all_traceable, over_tables-Base, over_tables-Filter, over_tables-Project, over_tables-Join, over_tables-Union, over_tables-Intersect, over_tables-Except, over_tables-Distinct, over_tables-Aggregate, over_tables-Limit, over_tables-Prov, traceable-Base, traceable-Filter, traceable-Project, traceable-Join, traceable-Union, traceable-Intersect, traceable-Except, traceable-Distinct, traceable-Aggregate, traceable-Limit, traceable-Prov}
+use Rattle.bag_algebra.specs.BuiltScopes.{all_over_tables, all_traceable, over_tables-Base, over_tables-Filter, over_tables-Project, over_tables-Join, over_tables-Union, over_tables-Intersect, over_tables-Except, over_tables-Distinct, over_tables-Aggregate, over_tables-Limit, over_tables-Prov, traceable-Base, traceable-Filter, traceable-Project, traceable-Join, traceable-Union, traceable-Intersect, traceable-Except, traceable-Distinct, traceable-Aggregate, traceable-Limit, traceable-Prov}
 use Rattle.bag_algebra.specs.declared.expr.Expr.{Expr}
 use Rattle.bag_algebra.specs.declared.expr.Item.{Item}
 use Rattle.bag_algebra.specs.declared.place.Place.{Place}

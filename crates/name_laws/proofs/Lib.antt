@@ -1,6 +1,19 @@
-pub mod Every
-pub mod FactsOf
-pub mod Induction
+mod Aggregates
+mod Arms
+mod Bodies
+mod Columns
+mod CoreSteps
+mod Cores
+mod ExpressionForms
+mod Filled
+mod FilledTrees
+mod FormedParts
+mod FormedTrees
+mod Froms
+mod GoodMeant
+mod Grouped
+mod Holding
+mod Items
 mod Kept
 mod KeptCores
 mod KeptFroms
@@ -8,13 +21,27 @@ mod KeptItems
 mod KeptQueries
 mod KeptTrees
 mod NamedPlaces
+mod Needs
+mod Opened
+mod Queries
+mod ReadCores
+mod ReadFroms
+mod ReadMeant
+mod ReadNodes
+mod ReadTrees
 mod ScopedCores
 mod ScopedFroms
 mod ScopedMeant
 mod ScopedTrees
 mod Scopes
 mod Settled
+mod Standing
 mod SteadyMeant
+mod Sublinks
+pub mod Every
+pub mod FactsOf
+pub mod FittingTables
+pub mod Induction
+pub mod Named
+pub mod TreeLaws
 pub mod Trees
-pub mod forms
-pub mod tables

@@ -11,7 +11,7 @@ use Rattle.bag_algebra.specs.declared.query.Query.{Query}
 use Rattle.bag_algebra.specs.declared.query.Query.TheVariants.{Filter, Project, Join, Union, Intersect, Except, Distinct, Aggregate, Limit, Prov}
 use Rattle.bag_algebra.specs.declared.query.Sublink.{Sublink}
 use Rattle.perm_values.specs.declared.key.Key.{Key}
-use Rattle.bag_algebra.specs.measures.BuiltScopes.{all_scoped, is_scoped-Filter, is_scoped-Project, is_scoped-Join, is_scoped-Union, is_scoped-Intersect, is_scoped-Except, is_scoped-Distinct, is_scoped-Aggregate, is_scoped-Limit, is_scoped-Prov}
+use Rattle.bag_algebra.specs.BuiltScopes.{all_scoped, is_scoped-Filter, is_scoped-Project, is_scoped-Join, is_scoped-Union, is_scoped-Intersect, is_scoped-Except, is_scoped-Distinct, is_scoped-Aggregate, is_scoped-Limit, is_scoped-Prov}
 use Rattle.name_meaning.specs.Froms.{is_out_of_scope}
 use Rattle.name_meaning.specs.Meanings.{trace_below}
 use Rattle.name_meaning.specs.declared.trace.Trace.{Trace}

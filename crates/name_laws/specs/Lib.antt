@@ -1,5 +1,5 @@
 pub mod Facts
+pub mod Formed
 pub mod Known
+pub mod Standing
 pub mod Traced
-pub mod forms
-pub mod tables

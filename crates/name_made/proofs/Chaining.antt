@@ -12,8 +12,8 @@ use Rattle.name_meaning.specs.Trees.{set_of_tree, set_step_of}
 use Rattle.name_made_nodes.specs.Chained.{Serves}
 use Rattle.name_made_nodes.specs.Makes.{MakesQuery}
 use Rattle.name_made_nodes.proofs.Chains.{chain-append, joined-made, serves-so-far}
-use Rattle.name_made_parts.proofs.asked.Listing.{mapped}
-use Rattle.name_made_parts.proofs.asked.Querying.{step-is}
+use Rattle.name_made_parts.proofs.AskedListing.{mapped}
+use Rattle.name_made_parts.proofs.Querying.{step-is}
 
 -- a chain made on what stands before it, where these kinds serve the whole
 abbrev pub ChainMade : Contents → Around → List SetStep → List Kind → Query → Query → Type 0

@@ -20,10 +20,10 @@ use Rattle.name_meaning.specs.declared.trace.Trace.{Trace}
 use Rattle.bag_algebra.specs.declared.query.Query.TheVariants.{Join}
 use Rattle.name_made_nodes.specs.Listed.{MakesItems}
 use Rattle.name_made_nodes.specs.declared.within.Within.{Within}
-use Rattle.name_made_parts.specs.asked.Cored.{items_meant}
+use Rattle.name_made_parts.specs.Cored.{items_meant}
 use Rattle.name_made_parts.specs.Sources.{IsScope, JoinsMade, MakesJoin, MakesOn, MakesSource, StandsIn, join_count}
-use Rattle.name_made_parts.proofs.asked.Coring.{next-listed}
-use Rattle.name_made_parts.proofs.asked.Listing.{mapped}
+use Rattle.name_made_parts.proofs.Coring.{next-listed}
+use Rattle.name_made_parts.proofs.AskedListing.{mapped}
 use Rattle.name_made_parts.proofs.Sourcing.{both-count, from-fields, join-fields, join-made, join-more, joins-append}
 
 pub of-on : {X E : Type 0} (P Q : Type 0) (result : Result X E) → (P → Q) → OnOk result P → OnOk result Q

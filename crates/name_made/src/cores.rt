@@ -10,7 +10,7 @@ ghost use Rattle.name_made_nodes.specs.Makes.{MakesQuery};
 ghost use Rattle.name_meaning.specs.declared.answer.Break.{Break as Broken};
 ghost use Rattle.name_seen_parts.specs.Named.{here_only, scopes_of};
 ghost use Rattle.name_seen_parts.specs.Standing.{around_of as standing_of, surroundings};
-ghost use Rattle.name_made_parts.specs.asked.Cored.{Keeps, MakesClauses, MakesList, MakesSelected, core_over_items, having_part, items_meant, select_parts, sources_meant};
+ghost use Rattle.name_made_parts.specs.Cored.{Keeps, MakesClauses, MakesList, MakesSelected, core_over_items, having_part, items_meant, select_parts, sources_meant};
 ghost use Rattle.name_made_parts.specs.Sources.{IsScope};
 
 use crate::expressions::made;

@@ -7,7 +7,7 @@ ghost use Rattle.perm_catalog.specs.Contents.{Contents as Held};
 ghost use Rattle.name_meaning.specs.Cores.{group_scope};
 ghost use Rattle.name_meaning.specs.Froms.{marked, read_names, read_query};
 ghost use Rattle.name_meaning.specs.Meanings.{QueryMeant};
-ghost use Rattle.name_made_parts.specs.asked.Cored.{core_groups, having_part, kept_of, select_parts};
+ghost use Rattle.name_made_parts.specs.Cored.{core_groups, having_part, kept_of, select_parts};
 ghost use Rattle.name_made_parts.specs.Sources.{Shows, beside_left, text_of};
 
 use bag_algebra::{Expr, Item, JoinKind, Query};

@@ -1,7 +1,10 @@
+pub mod AskedListing
+pub mod Coring
 pub mod Listing
 pub mod Opened
+pub mod Querying
 pub mod Segmented
+pub mod Settling
 pub mod Sourcing
 pub mod Starred
 pub mod Viewed
-pub mod asked

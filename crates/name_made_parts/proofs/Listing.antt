@@ -5,7 +5,7 @@ use Rattle.std.proofs.Common.{refl, ap, sym}
 use Rattle.std.proofs.lemmas.List.{length-map}
 use Rattle.name_meaning.specs.Meanings.{OutColumn}
 use Rattle.name_meaning.specs.Queries.{is_named}
-use Rattle.name_seen_parts.specs.clauses.Columns.{column_of, columns_of}
+use Rattle.name_seen_parts.specs.Columns.{column_of, columns_of}
 use Rattle.name_seen_parts.specs.declared.clauses.column.ShownColumn.{ShownColumn}
 use Rattle.name_made_parts.specs.Shown.{is_shown_as}
 

@@ -1,4 +1,5 @@
+pub mod AskedColumns
+pub mod Cored
 pub mod Segments
 pub mod Shown
 pub mod Sources
-pub mod asked

@@ -2,7 +2,7 @@
 ghost use Rattle.std.specs.Prelude.{◌≡◌, IfOk, map, position, pred, nat_abs};
 ghost use Rattle.std.specs.Option.{option_map_or};
 ghost use Rattle.name_meaning.specs.Queries.{is_named, key_of, key_place};
-ghost use Rattle.name_seen_parts.specs.clauses.Columns.{columns_of};
+ghost use Rattle.name_seen_parts.specs.Columns.{columns_of};
 ghost use Rattle.name_made_parts.specs.Shown.{is_shown_as};
 
 use name_seen_parts::ShownColumn;

@@ -1,7 +1,7 @@
 //! What a subquery of FROM shows.
 ghost use Rattle.std.specs.Prelude.{◌≡◌, IfOk};
 ghost use Rattle.name_meaning.specs.Froms.{names_of, settled_columns};
-ghost use Rattle.name_seen_parts.specs.clauses.Columns.{columns_of};
+ghost use Rattle.name_seen_parts.specs.Columns.{columns_of};
 
 use name_seen_parts::ShownColumn;
 use perm_values::{Chars, Copyable, List, NoMemory};

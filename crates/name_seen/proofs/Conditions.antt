@@ -16,8 +16,8 @@ use Rattle.name_seen_parts.specs.Seen.{first_or, seen}
 use Rattle.name_seen_parts.specs.declared.refusal.Refusal.{Refusal}
 use Rattle.name_seen_parts.specs.declared.refusal.Refusal.TheVariants.{Break as Broken, NoMemory}
 use Rattle.name_seen_parts.proofs.Arms.{means-is, part-at}
-use Rattle.name_seen_parts.specs.clauses.Told.{Tells}
-use Rattle.name_seen_parts.proofs.clauses.Firsts.{first-stays, none-broken}
+use Rattle.name_seen_parts.specs.Told.{Tells}
+use Rattle.name_seen_parts.proofs.Firsts.{first-stays, none-broken}
 use Rattle.name_seen_from.specs.Added.{facts_in}
 use Rattle.name_seen_from.specs.declared.facts.Facts.{Facts as Gathered}
 use Rattle.name_seen_cores.specs.Behind.{ConditionSeen, ConditionWhole, optional_part}

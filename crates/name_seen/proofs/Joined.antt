@@ -14,14 +14,14 @@ use Rattle.name_seen_parts.specs.Seen.{first_or}
 use Rattle.name_seen_parts.specs.declared.refusal.Refusal.{Refusal}
 use Rattle.name_seen_parts.specs.declared.refusal.Refusal.TheVariants.{Break as Broken, NoMemory}
 use Rattle.name_seen_parts.proofs.Arms.{means-is}
-use Rattle.name_seen_parts.specs.clauses.Told.{Tells}
+use Rattle.name_seen_parts.specs.Told.{Tells}
 use Rattle.name_seen_from.specs.Added.{facts_in}
 use Rattle.name_seen_from.specs.Queried.{FromSeen, FromWhole}
-use Rattle.name_seen_parts.specs.from_columns.Scopes.{item_scope, scope_beside}
+use Rattle.name_seen_parts.specs.Scopes.{item_scope, scope_beside}
 use Rattle.name_seen_from.specs.Readings.{ItemAdded, ItemSeen}
 use Rattle.name_seen_from.specs.declared.facts.Facts.{Facts as Gathered}
-use Rattle.name_seen_parts.proofs.clauses.Firsts.{all-none, first-behind_two, first-stays_first, first-stays_second, none-broken}
-use Rattle.name_seen_parts.proofs.from_columns.Scoping.{scope-beside-is}
+use Rattle.name_seen_parts.proofs.Firsts.{all-none, first-behind_two, first-stays_first, first-stays_second, none-broken}
+use Rattle.name_seen_parts.proofs.Scoping.{scope-beside-is}
 use Rattle.name_seen.specs.Joining.{JoinSeen}
 use Rattle.name_seen_from.proofs.Sourced.{beside-known, both-add, source-breaks}
 

@@ -16,7 +16,7 @@ use Rattle.name_seen_parts.specs.Seen.{first_or}
 use Rattle.name_seen_parts.specs.declared.refusal.Refusal.{Refusal}
 use Rattle.name_seen_parts.specs.declared.refusal.Refusal.TheVariants.{Break as Broken, NoMemory}
 use Rattle.name_seen_parts.specs.declared.clauses.column.ShownColumn.{ShownColumn}
-use Rattle.name_seen_parts.proofs.clauses.Firsts.{first-stays}
+use Rattle.name_seen_parts.proofs.Firsts.{first-stays}
 use Rattle.name_seen_from.specs.Queried.{ColumnsSeen, QuerySeen}
 use Rattle.name_seen_from.specs.declared.facts.Facts.{Facts as Gathered}
 use Rattle.name_seen_from.specs.declared.shown.QueryShown.{QueryShown}

@@ -3,7 +3,7 @@ use Rattle.std.specs.Prelude.{◌≡◌, ℕ, ◌+◌, ◌<◌, List, [], ◌∷
 use Rattle.std.proofs.Common.{ap, sym, subst, ◌∙◌, take, drop, get_or}
 use Rattle.std.proofs.lemmas.List.{map-append, map_more, take-append-drop}
 use Rattle.name_seen_parts.specs.declared.refusal.Refusal.{Refusal}
-use Rattle.name_seen_parts.proofs.clauses.Firsts.{dropped}
+use Rattle.name_seen_parts.proofs.Firsts.{dropped}
 
 pub mapped-more : {X Y : Type 0} (p : X → Y) (xs : List X) (i : ℕ) (x : X) → i < length xs → x ≡ get_or xs i x
     → map p (take (i + 1) xs) ≡ map p (take i xs) ++ p x ∷ []

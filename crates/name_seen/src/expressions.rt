@@ -10,7 +10,7 @@ ghost use Rattle.name_meaning.specs.declared.need.Gives.TheVariants.{Common as c
 ghost use Rattle.name_seen_parts.specs.Seen.{seen};
 ghost use Rattle.name_seen_parts.specs.Standing.{surroundings};
 ghost use Rattle.name_seen_cores.specs.Inner.{InnerLooked};
-ghost use Rattle.name_seen_parts.specs.clauses.Told.{Tells};
+ghost use Rattle.name_seen_parts.specs.Told.{Tells};
 ghost use Rattle.name_seen_cores.specs.Behind.{optional_part};
 ghost use Rattle.name_seen_cores.specs.Expressed.{ExpressionSeen, OperandsBehind};
 ghost use Rattle.name_seen.specs.Nodes.{NodeBehind};

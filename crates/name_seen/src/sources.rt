@@ -7,7 +7,7 @@ ghost use Rattle.name_meaning.specs.Scopes.{ScopeItem, scope_of};
 ghost use Rattle.name_meaning.specs.Trees.{from_item_of, from_of, join_of, part_of, query_of, source_of};
 ghost use Rattle.name_seen_parts.specs.Named.{scopes_of};
 ghost use Rattle.name_seen_parts.specs.Seen.{first_or};
-ghost use Rattle.name_seen_parts.specs.clauses.Told.{Tells};
+ghost use Rattle.name_seen_parts.specs.Told.{Tells};
 ghost use Rattle.name_seen_from.specs.Queried.{FromSeen, FromWhole};
 ghost use Rattle.name_seen_from.specs.declared.facts.Facts.{Facts as Gathered};
 ghost use Rattle.name_seen_from.specs.Readings.{ItemSeen, ReadSeen};

@@ -16,7 +16,7 @@ use Rattle.name_seen_parts.specs.Seen.{seen}
 use Rattle.name_seen_parts.specs.declared.refusal.Refusal.{Refusal}
 use Rattle.name_seen_parts.specs.declared.refusal.Refusal.TheVariants.{Break as Broken, NoMemory}
 use Rattle.name_seen_from.specs.Added.{facts_in}
-use Rattle.name_seen_parts.specs.clauses.Told.{Tells}
+use Rattle.name_seen_parts.specs.Told.{Tells}
 use Rattle.name_seen_cores.specs.Expressed.{ExpressionSeen, answered}
 use Rattle.name_seen_from.specs.declared.facts.Facts.{Facts as Gathered}
 

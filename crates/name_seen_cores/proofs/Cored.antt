@@ -22,9 +22,9 @@ use Rattle.name_meaning.specs.declared.trace.Trace.{Trace}
 use Rattle.name_laws.specs.Facts.{Facts, both_facts, facts_of, sub_facts}
 use Rattle.name_laws.proofs.FactsOf.{both_facts-assoc, both_facts-none, facts-Aggregate, facts-Distinct, facts-Filter, facts-Project}
 use Rattle.name_seen_parts.specs.Seen.{first_or}
-use Rattle.name_seen_parts.specs.clauses.Columns.{columns_of}
+use Rattle.name_seen_parts.specs.Columns.{columns_of}
 use Rattle.name_seen_parts.specs.declared.clauses.column.ShownColumn.{ShownColumn}
-use Rattle.name_seen_parts.proofs.clauses.Firsts.{all-none, both-none, first-behind, first-behind_two, first-stays, first-stays_first, first-stays_second, none-broken}
+use Rattle.name_seen_parts.proofs.Firsts.{all-none, both-none, first-behind, first-behind_two, first-stays, first-stays_first, first-stays_second, none-broken}
 use Rattle.name_seen_from.specs.Added.{facts_in}
 use Rattle.name_seen_from.specs.Queried.{ColumnsWhole}
 use Rattle.name_seen_from.specs.declared.facts.Facts.{Facts as Gathered}

@@ -11,9 +11,9 @@ use Rattle.name_meaning.specs.declared.answer.Break.{Break}
 use Rattle.name_laws.specs.Facts.{Facts, both_facts, sub_facts}
 use Rattle.name_laws.proofs.FactsOf.{both_facts-assoc, both_facts-none, sub_facts-append}
 use Rattle.name_seen_parts.specs.Seen.{first_or}
-use Rattle.name_seen_parts.specs.clauses.Columns.{column_of, columns_of}
+use Rattle.name_seen_parts.specs.Columns.{column_of, columns_of}
 use Rattle.name_seen_parts.specs.declared.clauses.column.ShownColumn.{ShownColumn}
-use Rattle.name_seen_parts.proofs.clauses.Firsts.{both-none, first-stays, first-behind}
+use Rattle.name_seen_parts.proofs.Firsts.{both-none, first-stays, first-behind}
 use Rattle.name_seen_from.specs.Added.{facts_in}
 use Rattle.name_seen_from.specs.declared.facts.Facts.{Facts as Gathered}
 use Rattle.name_seen_cores.specs.Listed.{ItemWhole, ListWhole}

@@ -10,9 +10,9 @@ use Rattle.name_meaning.specs.Froms.{named_columns}
 use Rattle.name_meaning.specs.Meanings.{OutColumn}
 use Rattle.name_meaning.specs.Queries.{out_column}
 use Rattle.name_meaning.specs.Scopes.{KnownColumn}
-use Rattle.name_seen_parts.specs.clauses.Columns.{column_of, columns_of}
+use Rattle.name_seen_parts.specs.Columns.{column_of, columns_of}
 use Rattle.name_seen_parts.specs.declared.clauses.column.ShownColumn.{ShownColumn}
-use Rattle.name_seen_parts.proofs.clauses.Firsts.{dropped}
+use Rattle.name_seen_parts.proofs.Firsts.{dropped}
 
 abbrev pub named_from_place : ℕ → List (List ℕ) → List Kind → List OutColumn
 named_from_place at names kinds = map out_column (named_columns (drop at names) (drop at kinds))

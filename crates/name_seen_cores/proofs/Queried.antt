@@ -26,9 +26,9 @@ use Rattle.name_laws.proofs.FactsOf.{both_facts-assoc, facts-Except, facts-Inter
 use Rattle.name_seen_parts.specs.Seen.{first_or}
 use Rattle.name_seen_parts.specs.declared.refusal.Refusal.{Refusal}
 use Rattle.name_seen_parts.specs.declared.refusal.Refusal.TheVariants.{Break as Broken, NoMemory}
-use Rattle.name_seen_parts.specs.clauses.Columns.{column_of, columns_of}
+use Rattle.name_seen_parts.specs.Columns.{column_of, columns_of}
 use Rattle.name_seen_parts.specs.declared.clauses.column.ShownColumn.{ShownColumn}
-use Rattle.name_seen_parts.proofs.clauses.Firsts.{all-none, both-none, first-behind, first-behind_two, first-stays, first-stays_first, first-stays_second, none-broken}
+use Rattle.name_seen_parts.proofs.Firsts.{all-none, both-none, first-behind, first-behind_two, first-stays, first-stays_first, first-stays_second, none-broken}
 use Rattle.name_seen_from.specs.Added.{facts_in}
 use Rattle.name_seen_from.specs.Queried.{ColumnsSeen, ColumnsWhole, QuerySeen, QueryWhole}
 use Rattle.name_seen_from.specs.declared.facts.Facts.{Facts as Gathered}

@@ -13,9 +13,9 @@ use Rattle.name_meaning.specs.declared.scope.Scope.{Scope}
 use Rattle.name_meaning.specs.declared.scope.ScopeColumn.{ScopeColumn}
 use Rattle.name_laws.proofs.FactsOf.{both_facts-none}
 use Rattle.name_seen_parts.specs.Seen.{first_or}
-use Rattle.name_seen_parts.specs.clauses.Columns.{column_of, columns_of}
+use Rattle.name_seen_parts.specs.Columns.{column_of, columns_of}
 use Rattle.name_seen_parts.specs.declared.clauses.column.ShownColumn.{ShownColumn}
-use Rattle.name_seen_parts.proofs.clauses.Firsts.{none-broken}
+use Rattle.name_seen_parts.proofs.Firsts.{none-broken}
 use Rattle.name_seen_from.specs.Added.{facts_in}
 use Rattle.name_seen_from.specs.declared.facts.Facts.{Facts as Gathered}
 use Rattle.name_seen_cores.specs.Listed.{ItemWhole}

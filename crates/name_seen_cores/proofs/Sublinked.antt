@@ -19,10 +19,10 @@ use Rattle.name_seen_parts.specs.declared.refusal.Refusal.{Refusal}
 use Rattle.name_seen_parts.specs.declared.refusal.Refusal.TheVariants.{Break as Broken, NoMemory}
 use Rattle.name_seen_parts.proofs.SeenAs.{seen-as}
 use Rattle.name_seen_from.specs.Added.{facts_in}
-use Rattle.name_seen_parts.specs.clauses.Told.{Tells}
+use Rattle.name_seen_parts.specs.Told.{Tells}
 use Rattle.name_seen_cores.specs.Expressed.{ExpressionSeen}
 use Rattle.name_seen_cores.specs.Inner.{InnerIs, InnerLooked, InnerSeen, exists_over, scalar_over, tested_by, tested_over, first_shown}
-use Rattle.name_seen_parts.specs.clauses.Columns.{columns_of}
+use Rattle.name_seen_parts.specs.Columns.{columns_of}
 use Rattle.name_seen_from.specs.Queried.{QuerySeen, QueryWhole}
 use Rattle.name_seen_from.specs.declared.facts.Facts.{Facts as Gathered}
 use Rattle.name_seen_from.specs.declared.shown.QueryShown.{QueryShown}
@@ -30,7 +30,7 @@ use Rattle.name_seen_parts.specs.declared.clauses.column.ShownColumn.{ShownColum
 use Rattle.name_seen_cores.specs.declared.sublinks.InnerColumns.{InnerColumns}
 use Rattle.name_seen_cores.proofs.Alone.{alone}
 use Rattle.name_seen_cores.proofs.Behind.{answered-seen}
-use Rattle.name_seen_parts.proofs.clauses.Firsts.{first-stays, first-behind, first-stays_first, first-stays_second, first-behind_two}
+use Rattle.name_seen_parts.proofs.Firsts.{first-stays, first-behind, first-stays_first, first-stays_second, first-behind_two}
 
 first-so : {X Y : Type 0} (xs : List Break) (v : X) (w : Y) (first : Break) → first_or xs v ≡ Err first → first_or xs w ≡ Err first
 first-so [] v w first e = absurd (cc)

@@ -10,7 +10,7 @@ ghost use Rattle.name_meaning.specs.declared.scope.Scope.{Scope};
 ghost use Rattle.name_seen_parts.specs.Named.{scopes_of};
 ghost use Rattle.name_seen_parts.specs.Seen.{seen};
 ghost use Rattle.name_seen_parts.specs.Standing.{standing_in, surroundings};
-ghost use Rattle.name_seen_parts.specs.clauses.Told.{Tells};
+ghost use Rattle.name_seen_parts.specs.Told.{Tells};
 ghost use Rattle.name_seen_cores.specs.Expressed.{answered, kind_over, operands_with};
 
 use name_meaning::{Break, Gives, Need};

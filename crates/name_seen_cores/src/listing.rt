@@ -3,7 +3,7 @@ ghost use Rattle.std.specs.Prelude.{◌≡◌, ◌∷◌, [], ◌++◌, suc, len
 ghost use Rattle.name_meaning.specs.Items.{named_from, star_meant, table_star_meant, title};
 ghost use Rattle.name_meaning.specs.Trees.{part_of};
 ghost use Rattle.perm_catalog.specs.Contents.{Contents};
-ghost use Rattle.name_seen_parts.specs.clauses.Columns.{columns_of};
+ghost use Rattle.name_seen_parts.specs.Columns.{columns_of};
 ghost use Rattle.name_seen_from.specs.declared.facts.Facts.{Facts as Gathered};
 ghost use Rattle.name_seen_cores.specs.Listed.{ItemSeen};
 ghost use Rattle.name_seen_cores.specs.Shown.{columns_shown, is_of, shown};

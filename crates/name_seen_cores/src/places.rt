@@ -5,7 +5,7 @@ ghost use Rattle.bag_algebra.specs.Kinds.{place_kinds};
 ghost use Rattle.bag_algebra.specs.PlaceNames.{place_names};
 ghost use Rattle.name_meaning.specs.Froms.{named_columns};
 ghost use Rattle.name_meaning.specs.Queries.{out_column};
-ghost use Rattle.name_seen_parts.specs.clauses.Columns.{columns_of};
+ghost use Rattle.name_seen_parts.specs.Columns.{columns_of};
 ghost use Rattle.name_seen_cores.specs.Behind.{PlacesBehind};
 
 use bag_algebra::Place;

@@ -18,12 +18,12 @@ use Rattle.name_seen_parts.specs.declared.refusal.Refusal.{Refusal}
 use Rattle.name_seen_parts.specs.declared.refusal.Refusal.TheVariants.{Break as Broken}
 use Rattle.name_seen_from.specs.Added.{facts_in}
 use Rattle.name_seen_from.specs.Marks.{IsMarked}
-use Rattle.name_seen_parts.specs.from_columns.Columns.{known_names}
-use Rattle.name_seen_parts.specs.from_columns.Scopes.{item_scope, scope_beside}
+use Rattle.name_seen_parts.specs.FromColumns.{known_names}
+use Rattle.name_seen_parts.specs.Scopes.{item_scope, scope_beside}
 use Rattle.name_seen_from.specs.Readings.{IsRead, ItemAdded, ItemSeen}
 use Rattle.name_seen_from.specs.declared.facts.Facts.{Facts as Gathered}
 use Rattle.name_seen_from.specs.declared.reading.Reading.{Reading}
-use Rattle.name_seen_parts.proofs.clauses.Firsts.{both-none, first-behind, none-broken}
+use Rattle.name_seen_parts.proofs.Firsts.{both-none, first-behind, none-broken}
 use Rattle.name_seen_from.proofs.Sourced.{marked-is}
 
 abbrev pub repeated_break : ℕ → List (List ℕ) → List ℕ → List Break

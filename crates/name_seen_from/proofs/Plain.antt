@@ -17,14 +17,14 @@ use Rattle.perm_values.specs.declared.no_memory.NoMemory.{NoMemory}
 use Rattle.name_meaning.specs.Froms.{all_places, external, names_at, names_of, read_query, read_view, settled_columns, table_plain}
 use Rattle.name_meaning.specs.Meanings.{OutColumn, QueryMeant}
 use Rattle.name_laws.specs.Facts.{Facts, facts_of}
-use Rattle.name_seen_parts.specs.clauses.Columns.{columns_of}
+use Rattle.name_seen_parts.specs.Columns.{columns_of}
 use Rattle.name_seen_from.specs.Added.{facts_in}
 use Rattle.name_seen_from.specs.Queried.{QueryWhole}
 use Rattle.name_seen_from.specs.declared.facts.Facts.{Facts as Gathered}
 use Rattle.name_seen_from.specs.declared.shown.QueryShown.{QueryShown}
-use Rattle.name_seen_parts.specs.from_columns.Columns.{known_names}
+use Rattle.name_seen_parts.specs.FromColumns.{known_names}
 use Rattle.name_seen_from.specs.Readings.{external_facts, relation_facts}
-use Rattle.name_seen_parts.proofs.from_columns.KnownNames.{length-known}
+use Rattle.name_seen_parts.proofs.KnownNames.{length-known}
 use Rattle.name_seen_from.proofs.Sourced.{facts-based}
 
 pub facts-so : (result : Result Gathered NoMemory) (a b : Facts) → a ≡ b → IfOk result (λ facts. facts_in facts ≡ a) → IfOk result (λ facts. facts_in facts ≡ b)

@@ -21,16 +21,16 @@ use Rattle.name_laws.specs.Facts.{Facts, facts_of, both_facts, source_facts}
 use Rattle.name_laws.proofs.FactsOf.{facts-Base, facts-Join_alone, both_facts-assoc, both_facts-none}
 use Rattle.name_seen_parts.specs.Seen.{first_or}
 use Rattle.name_seen_from.specs.Added.{facts_in}
-use Rattle.name_seen_parts.specs.from_columns.Marks.{places_of}
+use Rattle.name_seen_parts.specs.Marks.{places_of}
 use Rattle.name_seen_from.specs.Marks.{marked_facts}
 use Rattle.name_seen_from.specs.Queried.{FromWhole}
-use Rattle.name_seen_parts.specs.from_columns.Columns.{known_names}
-use Rattle.name_seen_parts.specs.from_columns.Scopes.{scope_beside}
+use Rattle.name_seen_parts.specs.FromColumns.{known_names}
+use Rattle.name_seen_parts.specs.Scopes.{scope_beside}
 use Rattle.name_seen_from.specs.Readings.{IsRead}
 use Rattle.name_seen_from.specs.declared.facts.Facts.{Facts as Gathered}
 use Rattle.name_seen_from.specs.declared.reading.Reading.{Reading}
-use Rattle.name_seen_parts.proofs.clauses.Firsts.{first-stays, first-behind, both-none}
-use Rattle.name_seen_parts.proofs.from_columns.Scoping.{scope-beside-is, all-behind}
+use Rattle.name_seen_parts.proofs.Firsts.{first-stays, first-behind, both-none}
+use Rattle.name_seen_parts.proofs.Scoping.{scope-beside-is, all-behind}
 
 -- ---- marks
 

@@ -13,7 +13,7 @@ use Rattle.name_seen_parts.specs.declared.refusal.Refusal.{Refusal}
 use Rattle.name_seen_parts.specs.declared.refusal.Refusal.TheVariants.{Break as Broken, NoMemory}
 use Rattle.name_seen_from.specs.Added.{facts_in}
 use Rattle.name_seen_from.specs.declared.facts.Facts.{Facts as Gathered}
-use Rattle.name_seen_parts.specs.from_columns.Scopes.{item_scope, scope_beside}
+use Rattle.name_seen_parts.specs.Scopes.{item_scope, scope_beside}
 use Rattle.name_seen_from.specs.declared.reading.Reading.{Reading}
 
 -- ---- what is read

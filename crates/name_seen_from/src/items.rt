@@ -5,7 +5,7 @@ ghost use Rattle.name_meaning.specs.Trees.{source_of};
 ghost use Rattle.name_laws.specs.Facts.{both_facts};
 ghost use Rattle.perm_catalog.specs.Contents.{Contents};
 ghost use Rattle.name_seen_from.specs.Added.{facts_in};
-ghost use Rattle.name_seen_parts.specs.from_columns.Scopes.{item_scope, scope_beside};
+ghost use Rattle.name_seen_parts.specs.Scopes.{item_scope, scope_beside};
 ghost use Rattle.name_seen_from.specs.Readings.{IsRead, ItemSeen};
 
 use crate::facts::Facts;

@@ -10,8 +10,8 @@ ghost use Rattle.name_meaning.specs.Meanings.{broken_if};
 ghost use Rattle.name_meaning.specs.Trees.{source_of};
 ghost use Rattle.perm_catalog.specs.Contents.{Contents};
 ghost use Rattle.name_seen_from.specs.Added.{facts_in};
-ghost use Rattle.name_seen_parts.specs.from_columns.Columns.{known_names};
-ghost use Rattle.name_seen_parts.specs.from_columns.Marks.{places_of};
+ghost use Rattle.name_seen_parts.specs.FromColumns.{known_names};
+ghost use Rattle.name_seen_parts.specs.Marks.{places_of};
 ghost use Rattle.name_seen_from.specs.Marks.{IsMarked};
 ghost use Rattle.name_seen_from.specs.Readings.{relation_facts};
 

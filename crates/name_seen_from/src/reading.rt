@@ -8,7 +8,7 @@ ghost use Rattle.name_meaning.specs.Meanings.{QueryMeant};
 ghost use Rattle.perm_catalog.specs.Columns.{column_kinds};
 ghost use Rattle.name_seen_from.specs.Added.{facts_in};
 ghost use Rattle.name_seen_from.specs.Queried.{QueryWhole};
-ghost use Rattle.name_seen_parts.specs.from_columns.Columns.{known_names};
+ghost use Rattle.name_seen_parts.specs.FromColumns.{known_names};
 ghost use Rattle.name_seen_from.specs.Readings.{IsRead, ReadSeen, external_facts, relation_facts};
 
 use crate::facts::Facts;

@@ -1,9 +1,17 @@
+pub mod Aggregating
 mod AnyColumns
 pub mod Arms
+pub mod Attributed
+pub mod Firsts
+pub mod KnownNames
+pub mod Labels
 mod Levels
 mod Matches
+pub mod NamedColumns
 pub mod OperandLists
 mod OperatorRows
+pub mod Placed
+pub mod Scoping
 pub mod SeenAs
-pub mod clauses
-pub mod from_columns
+pub mod Settled
+pub mod Uniting

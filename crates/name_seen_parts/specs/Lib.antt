@@ -1,6 +1,10 @@
+pub mod Aggregates
+pub mod Columns
+pub mod FromColumns
+pub mod Marks
 pub mod Named
+pub mod Scopes
 pub mod Seen
 pub mod Standing
 pub mod Stars
-pub mod clauses
-pub mod from_columns
+pub mod Told

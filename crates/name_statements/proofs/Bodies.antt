@@ -1,7 +1,7 @@
 -- The first break of what a statement asks for: of its names and kinds, and then of its limits.
 use Rattle.std.specs.Prelude.{◌≡◌, cond, List, [], ◌∷◌, Err}
 use Rattle.std.proofs.Common.{ap, sym, subst}
-use Rattle.name_seen_parts.specs.clauses.Told.{Tells}
+use Rattle.name_seen_parts.specs.Told.{Tells}
 use Rattle.name_meaning.specs.Meanings.{is_whole}
 use Rattle.name_meaning.specs.declared.answer.Break.{Break}
 use Rattle.name_meaning.specs.declared.answer.Resolved.{Resolved}

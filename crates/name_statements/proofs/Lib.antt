@@ -1,4 +1,5 @@
 pub mod Bodies
+pub mod Broken
 pub mod Keys
 pub mod Owned
 pub mod Queried
@@ -6,4 +7,3 @@ pub mod Refused
 pub mod Tabled
 pub mod Values
 pub mod Wholes
-pub mod seen

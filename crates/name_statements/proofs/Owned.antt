@@ -2,7 +2,7 @@
 use Rattle.std.specs.Prelude.{◌≡◌, ℕ, is_none, List, [], ◌∷◌, ◌++◌, flat_map, Option, Some, None, Result, Err}
 use Rattle.std.proofs.Common.{ap, sym, ◌∙◌}
 use Rattle.std.specs.Option.{option_map_or}
-use Rattle.name_seen_parts.proofs.clauses.Firsts.{first-stays, first-stays_first}
+use Rattle.name_seen_parts.proofs.Firsts.{first-stays, first-stays_first}
 use Rattle.perm_catalog.specs.Changes.{table_named}
 use Rattle.perm_catalog.specs.Columns.{column_kinds}
 use Rattle.perm_catalog.specs.Contents.{Contents}

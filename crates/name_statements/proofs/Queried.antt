@@ -2,7 +2,7 @@
 use Rattle.std.specs.Prelude.{◌≡◌, ℕ, List, [], ◌∷◌, ◌++◌, length, IsErrAnd, Result, Ok, Err}
 use Rattle.std.proofs.Common.{refl, ap, sym, subst, ◌∙◌}
 use Rattle.bag_algebra.specs.declared.query.Answer.{Answer}
-use Rattle.name_seen_parts.proofs.clauses.Firsts.{both-none, first-stays}
+use Rattle.name_seen_parts.proofs.Firsts.{both-none, first-stays}
 use Rattle.perm_catalog.specs.Contents.{Contents}
 use Rattle.perm_catalog.specs.declared.entries.ViewEntry.{ViewEntry}
 use Rattle.sql_tree.specs.declared.name.Name.{Name}

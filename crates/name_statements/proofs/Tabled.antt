@@ -3,8 +3,8 @@ use Rattle.std.specs.Prelude.{◌≡◌, ℕ, Bool, cond, is_none, List, [], ◌
 use Rattle.std.specs.Option.{option_map_or}
 use Rattle.std.proofs.Common.{refl, ap, sym, subst, ◌∙◌}
 use Rattle.bag_algebra.specs.declared.expr.Expr.{Expr}
-use Rattle.name_seen_parts.proofs.clauses.Firsts.{both-none, first-behind, first-stays, none-broken}
-use Rattle.name_seen_parts.specs.clauses.Told.{Tells}
+use Rattle.name_seen_parts.proofs.Firsts.{both-none, first-behind, first-stays, none-broken}
+use Rattle.name_seen_parts.specs.Told.{Tells}
 use Rattle.perm_catalog.specs.Changes.{table_named}
 use Rattle.perm_catalog.specs.Columns.{column_kinds}
 use Rattle.perm_catalog.specs.Contents.{Contents}

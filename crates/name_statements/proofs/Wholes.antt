@@ -2,8 +2,8 @@
 use Rattle.std.specs.Prelude.{◌≡◌, ℕ, List, [], map, IfOk, IsErrAnd, IsOkAnd, Option, Some, Result, Ok, Err}
 use Rattle.std.proofs.Common.{ap, sym, subst, ◌∙◌}
 use Rattle.bag_algebra.specs.declared.query.Query.{Query}
-use Rattle.name_seen_parts.proofs.clauses.Firsts.{both-none, first-behind, first-stays, none-broken}
-use Rattle.name_seen_parts.specs.clauses.Columns.{columns_of}
+use Rattle.name_seen_parts.proofs.Firsts.{both-none, first-behind, first-stays, none-broken}
+use Rattle.name_seen_parts.specs.Columns.{columns_of}
 use Rattle.name_meaning.specs.Froms.{names_of, settled_columns}
 use Rattle.name_meaning.specs.Meanings.{Around, Inside, OutColumn, QueryMeant, query_means_at}
 use Rattle.name_meaning.specs.Queries.{key_of}

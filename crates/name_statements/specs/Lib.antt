@@ -1,3 +1,3 @@
+pub mod Earlier
 pub mod Own
 pub mod Resolves
-pub mod seen

@@ -1,6 +1,6 @@
 //! The columns of a query as a table has them.
 ghost use Rattle.std.specs.Prelude.{◌≡◌, IfOk};
-ghost use Rattle.name_seen_parts.specs.clauses.Columns.{columns_of};
+ghost use Rattle.name_seen_parts.specs.Columns.{columns_of};
 ghost use Rattle.name_meaning.specs.Froms.{settled_columns};
 ghost use Rattle.name_meaning.specs.Meanings.{settled};
 ghost use Rattle.name_meaning.specs.Statements.{stored_columns};

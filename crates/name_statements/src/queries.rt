@@ -1,6 +1,6 @@
 //! What statements over a query rest on, before their query is made and behind that.
 ghost use Rattle.std.specs.Prelude.{◌≡◌, [], IfOk};
-ghost use Rattle.name_seen_parts.specs.clauses.Columns.{columns_of};
+ghost use Rattle.name_seen_parts.specs.Columns.{columns_of};
 ghost use Rattle.name_seen_parts.specs.Named.{scopes_of};
 ghost use Rattle.name_seen_parts.specs.Seen.{first_or};
 ghost use Rattle.name_seen_parts.specs.Standing.{around_of};

@@ -1,6 +1,6 @@
 //! Whole queries, within the limits, of what was seen, found and made of them.
 ghost use Rattle.std.specs.Prelude.{◌≡◌, [], IfOk, IsOkAnd, Ok, map};
-ghost use Rattle.name_seen_parts.specs.clauses.Columns.{columns_of};
+ghost use Rattle.name_seen_parts.specs.Columns.{columns_of};
 ghost use Rattle.name_made_nodes.specs.Makes.{MakesQuery};
 ghost use Rattle.name_seen_parts.specs.Standing.{around_of};
 ghost use Rattle.name_meaning.specs.Froms.{names_of, settled_columns};

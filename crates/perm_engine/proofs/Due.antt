@@ -10,8 +10,8 @@ use Rattle.name_meaning.specs.declared.answer.Resolved.{Resolved}
 use Rattle.statement_meaning.specs.Asking.{is_unbuilt, unbuilt}
 use Rattle.statement_meaning.specs.declared.refusal.StepRefusal.{StepRefusal}
 use Rattle.statement_meaning.specs.declared.refusal.StepRefusal.TheVariants as refusal
-use Rattle.run_meaning.specs.steps.Resolving.{IsDue}
-use Rattle.run_meaning.proofs.steps.Stepping.{only-due}
+use Rattle.run_meaning.specs.Resolving.{IsDue}
+use Rattle.run_meaning.proofs.Stepping.{only-due}
 use Rattle.perm_engine.specs.Due.{due_breaks}
 
 -- what is due of a form that is run, or of another one

@@ -9,7 +9,7 @@ ghost use Rattle.statement_meaning.specs.declared.refusal.StepRefusal.TheVariant
 ghost use Rattle.name_statements.specs.Own.{own_breaks};
 ghost use Rattle.name_meaning.specs.Statements.{resolved};
 ghost use Rattle.statement_steps.specs.Running.{KeepsRun};
-ghost use Rattle.run_meaning.specs.steps.Resolving.{IsDue, Resolves, ResolvesBuilt};
+ghost use Rattle.run_meaning.specs.Resolving.{IsDue, Resolves, ResolvesBuilt};
 ghost use Rattle.perm_engine.specs.Due.{due_breaks};
 ghost use Rattle.perm_engine.specs.Sessions.{begun_with};
 

@@ -1,7 +1,9 @@
 pub mod Aggregated
+pub mod Agreeing
 pub mod Evaluated
 pub mod Faults
 pub mod Holding
+pub mod ListsOfNodes
 pub mod Nodes
-pub mod congruence
-pub mod witnesses
+pub mod Standing
+pub mod SublinkLists

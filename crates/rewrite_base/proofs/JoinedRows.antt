@@ -11,7 +11,7 @@ use Rattle.bag_algebra.specs.declared.query.JoinKind.{JoinKind}
 use Rattle.contribution.proofs.JoinMembers.{in-joined_rows}
 use Rattle.contribution.proofs.NoRowLost.{Joined, pair, left_alone, right_alone, from-joined_rows}
 use Rattle.rewrite_base.specs.Rewritten.{SomeList, Beside}
-use Rattle.query_laws.proofs.witnesses.PairedLists.{none-pass, none_passes}
+use Rattle.query_laws.proofs.PairedLists.{none-pass, none_passes}
 
 -- ---- rows that are made of a row and one of its lists
 

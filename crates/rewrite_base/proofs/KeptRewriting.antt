@@ -20,8 +20,8 @@ use Rattle.bag_algebra.specs.declared.expr.Expr.{Expr}
 use Rattle.bag_algebra.specs.declared.query.JoinKind.{JoinKind}
 use Rattle.bag_algebra.specs.declared.query.Query.{Query}
 use Rattle.contribution.specs.Fitting.{Fitting}
-use Rattle.contribution.proofs.parts.ColumnQueries.{kinds_of-columns, meaning-columns, formed-columns}
-use Rattle.contribution.proofs.parts.NodeQueries.{meaning-pairs, formed-pairs, plain-pairs, plain-projected}
+use Rattle.contribution.proofs.ColumnQueries.{kinds_of-columns, meaning-columns, formed-columns}
+use Rattle.contribution.proofs.NodeQueries.{meaning-pairs, formed-pairs, plain-pairs, plain-projected}
 use Rattle.rewrite_base.proofs.JoinedOutcomes.{Related, related-from_rewritten, rewritten-from_related}
 use Rattle.rewrite_base.proofs.Places.{kept-within}
 use Rattle.rewrite_base.specs.KeptColumns.{kept_places, pairs_of, columns_kept}

@@ -20,7 +20,7 @@ use Rattle.contribution.proofs.QueryKinds.{rows_have-kinds, lists_fit-places}
 use Rattle.contribution.proofs.RowKinds.{RowFits, flat-fits, all_empty-fits, row_fits-length}
 use Rattle.contribution.proofs.WhereGood.{each-in}
 use Rattle.contribution.specs.Fitting.{Fitting}
-use Rattle.contribution.proofs.parts.SameTests.{tests-value, conjunction-formed}
+use Rattle.contribution.proofs.SameTests.{tests-value, conjunction-formed}
 use Rattle.rewrite_base.proofs.Places.{at-between, at-kept, within-range}
 use Rattle.rewrite_base.specs.KeptColumns.{kept_places, same_as_first}
 

@@ -9,7 +9,7 @@ use Rattle.bag_algebra.specs.declared.expr.Expr.{Expr}
 use Rattle.bag_algebra.specs.declared.query.JoinKind.{JoinKind}
 use Rattle.bag_algebra.specs.declared.query.Query.{Query}
 use Rattle.rewrite_base.specs.KeptColumns.{kept_places, pairs_of, columns_kept}
-use Rattle.contribution.proofs.parts.NodeQueries.{of_made, closed-projected, closed-pairs}
+use Rattle.contribution.proofs.NodeQueries.{of_made, closed-projected, closed-pairs}
 
 module _ (kind : JoinKind) (left right : Query) (condition : Expr) (l : IsTrue (no_open_sublink left)) (r : IsTrue (no_open_sublink right)) where
   closed-joined : IsTrue (no_open_sublink (pairs_of kind left right condition))

@@ -4,7 +4,7 @@ use Rattle.std.proofs.lemmas.List.{get_or-append-add, get_or_append_left, map-ap
 use Rattle.std.proofs.lemmas.Bool.{cases_lt}
 use Rattle.std.proofs.lemmas.List.Elements.{All-append}
 use Rattle.std.specs.List.{range_with_len}
-use Rattle.contribution.proofs.parts.ColumnQueries.{all-nothing, all-first}
+use Rattle.contribution.proofs.ColumnQueries.{all-nothing, all-first}
 use Rattle.rewrite_base.specs.KeptColumns.{kept_places}
 
 module _ {X : Type 0} (d : X) where

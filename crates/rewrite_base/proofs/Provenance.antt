@@ -13,8 +13,8 @@ use Rattle.bag_algebra.specs.TablesRead.{ReadsAmong}
 use Rattle.bag_algebra.specs.WellFormed.{WellFormed}
 use Rattle.bag_algebra.specs.declared.query.Query.{Query}
 use Rattle.bag_algebra.specs.declared.query.Query.TheVariants.{Distinct, Prov}
-use Rattle.query_laws.proofs.congruence.Inputs.{across}
-use Rattle.bag_algebra.specs.measures.BuiltScopes.{is_plain-Distinct}
+use Rattle.query_laws.proofs.Inputs.{across}
+use Rattle.bag_algebra.specs.BuiltScopes.{is_plain-Distinct}
 use Rattle.rewrite_base.proofs.WithoutPlaces.{rewrite-without_places}
 
 -- bags in which each row stands once are the same where their sets are

@@ -9,7 +9,7 @@ use Rattle.bag_algebra.specs.declared.expr.Expr.{Expr}
 use Rattle.bag_algebra.specs.declared.expr.Expr.TheVariants.{Op}
 use Rattle.bag_algebra.specs.declared.query.JoinKind.{JoinKind}
 use Rattle.bag_algebra.specs.declared.query.Query.{Query, end_of-Sublink}
-use Rattle.contribution.specs.parts.Conjunctions.{all_hold, same_tests}
+use Rattle.contribution.specs.Conjunctions.{all_hold, same_tests}
 
 -- of so many columns the first ones, and those behind the ones that are left out
 abbrev pub kept_places : (kept left_out all : ℕ) → List ℕ

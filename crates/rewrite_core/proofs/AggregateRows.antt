@@ -36,13 +36,13 @@ use Rattle.rewrite_base.proofs.KeptRewriting.{Side, rewriting-related, rewriting
 use Rattle.rewrite_base.proofs.KeptRows.{row-width, list-width, blank-width, length-nulls, nulls-of_rewriting, kept-row, kept-kinds}
 use Rattle.rewrite_base.proofs.Places.{at, at-between, at-moved, at-within, within-range}
 use Rattle.rewrite_base.specs.KeptColumns.{kept_places, pairs_of, columns_kept}
-use Rattle.query_laws.proofs.congruence.Inputs.{across, aggregate-input}
-use Rattle.contribution.proofs.parts.ColumnQueries.{all-first, all-nothing, all-rest}
-use Rattle.contribution.proofs.parts.SameTests.{tests-value, conjunction-formed}
+use Rattle.query_laws.proofs.Inputs.{across, aggregate-input}
+use Rattle.contribution.proofs.ColumnQueries.{all-first, all-nothing, all-rest}
+use Rattle.contribution.proofs.SameTests.{tests-value, conjunction-formed}
 use Rattle.rewrite_base.specs.Rewritten.{Beside}
-use Rattle.query_laws.proofs.witnesses.NodeLists.{aggregate-lists}
-use Rattle.query_laws.specs.witnesses.ListsOfNodes.{AggregateList, of_class, of_no_row}
-use Rattle.query_laws.specs.witnesses.SublinkLists.{InAnswer}
+use Rattle.query_laws.proofs.NodeLists.{aggregate-lists}
+use Rattle.query_laws.specs.ListsOfNodes.{AggregateList, of_class, of_no_row}
+use Rattle.query_laws.specs.SublinkLists.{InAnswer}
 use Rattle.rewrite_core.specs.SameGroups.{same_groups}
 
 -- ---- faults

@@ -24,14 +24,14 @@ use Rattle.bag_algebra.specs.declared.query.Label.{Label}
 use Rattle.bag_algebra.specs.declared.query.Query.{Query, end_of-Sublink}
 use Rattle.bag_algebra.specs.declared.query.Query.TheVariants.{Base}
 use Rattle.contribution.specs.Fitting.{Fitting}
-use Rattle.contribution.proofs.parts.ColumnQueries.{formed-columns, kinds_of-columns, meaning-columns}
-use Rattle.contribution.proofs.parts.NodeQueries.{plain-projected}
+use Rattle.contribution.proofs.ColumnQueries.{formed-columns, kinds_of-columns, meaning-columns}
+use Rattle.contribution.proofs.NodeQueries.{plain-projected}
 use Rattle.rewrite_core.proofs.Faults.{SameFaults}
 use Rattle.rewrite_core.proofs.NodeRows.{Flattened, rewritten-where}
 use Rattle.rewrite_core.proofs.RowColumns.{from_start, places_in-append, places_in-range, row-width}
 use Rattle.rewrite_core.proofs.RuleRows.{rows-from_beside}
-use Rattle.query_laws.proofs.witnesses.NodeLists.{base-lists}
-use Rattle.query_laws.specs.witnesses.SublinkLists.{InAnswer}
+use Rattle.query_laws.proofs.NodeLists.{base-lists}
+use Rattle.query_laws.specs.SublinkLists.{InAnswer}
 
 bad_alike : (f : Bag → Bag) (o s : Outcome Bag) → SameRows o s → SameFaults o (mapped f s)
 bad_alike f (Good us) (Good vs) same = tt

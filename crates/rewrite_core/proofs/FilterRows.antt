@@ -23,16 +23,16 @@ use Rattle.contribution.proofs.GoodRows.{from-gather, from-kept}
 use Rattle.contribution.proofs.JoinMembers.{in-gather, in-kept}
 use Rattle.contribution.proofs.LongerKinds.{has_kind-longer}
 use Rattle.contribution.specs.Fitting.{Fitting}
-use Rattle.contribution.proofs.parts.NodeQueries.{meaning-chosen, formed-chosen, plain-chosen}
+use Rattle.contribution.proofs.NodeQueries.{meaning-chosen, formed-chosen, plain-chosen}
 use Rattle.rewrite_core.proofs.Faults.{SameFaults, kept-alike, gather-bad_alike}
 use Rattle.rewrite_core.proofs.NodeRows.{Flattened, flattened, stands_beside, Made, rewritten-over}
 use Rattle.rewrite_core.proofs.RowColumns.{names-more, row-begins}
 use Rattle.rewrite_core.proofs.RuleRows.{beside-from_rewrite, rows-from_beside}
 use Rattle.rewrite_core.proofs.Unlinked.{listed-followed, followed-listed}
 use Rattle.rewrite_base.specs.Rewritten.{Beside}
-use Rattle.query_laws.proofs.witnesses.NodeLists.{filter-lists}
-use Rattle.query_laws.specs.witnesses.ListsOfNodes.{Followed}
-use Rattle.query_laws.specs.witnesses.SublinkLists.{InAnswer}
+use Rattle.query_laws.proofs.NodeLists.{filter-lists}
+use Rattle.query_laws.specs.ListsOfNodes.{Followed}
+use Rattle.query_laws.specs.SublinkLists.{InAnswer}
 
 module _ (q r : Query) (condition : Expr) (given : IsRewrite q r) where
   abbrev node : Query

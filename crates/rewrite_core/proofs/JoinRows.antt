@@ -30,9 +30,9 @@ use Rattle.bag_algebra.specs.declared.query.Query.TheVariants.{Join}
 use Rattle.contribution.proofs.JoinMembers.{in-joined_rows}
 use Rattle.contribution.proofs.NoRowLost.{Joined, pair, left_alone, right_alone, from-joined_rows}
 use Rattle.contribution.specs.Fitting.{Fitting}
-use Rattle.contribution.proofs.parts.ColumnQueries.{formed-columns, kinds_of-columns, meaning-columns}
-use Rattle.contribution.proofs.parts.NodeQueries.{formed-pairs, meaning-pairs, plain-pairs, plain-projected}
-use Rattle.contribution.specs.parts.MovedColumns.{IsMoved}
+use Rattle.contribution.proofs.ColumnQueries.{formed-columns, kinds_of-columns, meaning-columns}
+use Rattle.contribution.proofs.NodeQueries.{formed-pairs, meaning-pairs, plain-pairs, plain-projected}
+use Rattle.contribution.specs.MovedColumns.{IsMoved}
 use Rattle.rewrite_core.proofs.Closing.{both-true}
 use Rattle.rewrite_core.proofs.Faults.{SameFaults, kept-alike, gather-bad_alike, good-mapped, mapped-same_faults, same_faults-then}
 use Rattle.rewrite_core.proofs.JoinColumns.{all-columns, all-within, flat-all_empty, length-nulls, nulls-append, own-columns, own-within}
@@ -42,11 +42,11 @@ use Rattle.rewrite_core.proofs.RuleRows.{beside-from_rewrite, rows-from_beside}
 use Rattle.rewrite_core.proofs.Unlinked.{none-contribute}
 use Rattle.rewrite_core.specs.JoinColumns.{own_places, added_places, IsLaidOut}
 use Rattle.rewrite_base.specs.Rewritten.{Beside}
-use Rattle.query_laws.proofs.witnesses.AnswerRows.{answer-in, answer-from}
-use Rattle.query_laws.proofs.witnesses.JoinLists.{join-lists}
-use Rattle.query_laws.proofs.witnesses.PairedLists.{none_passes, none-pass}
-use Rattle.query_laws.specs.witnesses.ListsOfNodes as law
-use Rattle.query_laws.specs.witnesses.SublinkLists.{InAnswer, no_sublink}
+use Rattle.query_laws.proofs.AnswerRows.{answer-in, answer-from}
+use Rattle.query_laws.proofs.JoinLists.{join-lists}
+use Rattle.query_laws.proofs.PairedLists.{none_passes, none-pass}
+use Rattle.query_laws.specs.ListsOfNodes as law
+use Rattle.query_laws.specs.SublinkLists.{InAnswer, no_sublink}
 
 mapped-both_then : {X Y Z W : Type 0} (make : Z → W) (o : Outcome X) (s : Outcome Y) (next : X → Y → Outcome Z) →
     mapped make (both_then o s next) ≡ both_then o s (λ x y. mapped make (next x y))

@@ -2,10 +2,14 @@ pub mod AggregateRows
 pub mod BaseRows
 pub mod Closing
 pub mod DistinctRows
+pub mod ExceptRows
 pub mod Faults
 pub mod FilterRows
+pub mod IntersectRows
 pub mod JoinColumns
 pub mod JoinRows
+pub mod LimitRows
+pub mod Matched
 pub mod NodeRows
 pub mod ProjectRows
 pub mod RowColumns
@@ -13,4 +17,3 @@ pub mod RuleRows
 pub mod UnionRows
 pub mod Unlinked
 pub mod Unprojected
-pub mod sets

@@ -29,10 +29,10 @@ use Rattle.contribution.proofs.AddedColumns.{columns-added, all_items-same}
 use Rattle.contribution.proofs.GoodRows.{from-each}
 use Rattle.contribution.proofs.LongerKinds.{all-kept, has_kind-longer}
 use Rattle.contribution.specs.Fitting.{Fitting}
-use Rattle.contribution.proofs.parts.ColumnQueries.{column_items-formed, column_items-kinds}
-use Rattle.contribution.proofs.parts.NodeQueries.{meaning-projected, formed-projected, plain-projected}
-use Rattle.contribution.proofs.parts.Padding.{items-append, kinds-append}
-use Rattle.contribution.specs.parts.ItemKinds.{item_kinds}
+use Rattle.contribution.proofs.ColumnQueries.{column_items-formed, column_items-kinds}
+use Rattle.contribution.proofs.NodeQueries.{meaning-projected, formed-projected, plain-projected}
+use Rattle.contribution.proofs.Padding.{items-append, kinds-append}
+use Rattle.contribution.specs.ItemKinds.{item_kinds}
 use Rattle.rewrite_core.proofs.Faults.{SameFaults, same_faults-made, each-bad_alike, good-mapped}
 use Rattle.rewrite_core.proofs.NodeRows.{Flattened, flattened, stands_beside, Made, rewritten-over}
 use Rattle.rewrite_core.proofs.RowColumns.{behind, names-more, places_in-range, row-begins, row-width, list-width, width-rewriting, width-provenance}
@@ -40,10 +40,10 @@ use Rattle.rewrite_core.proofs.RuleRows.{beside-from_rewrite, rows-from_beside}
 use Rattle.rewrite_core.proofs.Unlinked.{listed-followed, followed-listed}
 use Rattle.rewrite_core.specs.ProvenanceColumns.{provenance_places, provenance_items}
 use Rattle.rewrite_base.specs.Rewritten.{Beside}
-use Rattle.query_laws.proofs.witnesses.AnswerRows.{answer-in, answer-from}
-use Rattle.query_laws.proofs.witnesses.NodeLists.{project-lists}
-use Rattle.query_laws.specs.witnesses.ListsOfNodes.{ProjectList}
-use Rattle.query_laws.specs.witnesses.SublinkLists.{InAnswer}
+use Rattle.query_laws.proofs.AnswerRows.{answer-in, answer-from}
+use Rattle.query_laws.proofs.NodeLists.{project-lists}
+use Rattle.query_laws.specs.ListsOfNodes.{ProjectList}
+use Rattle.query_laws.specs.SublinkLists.{InAnswer}
 
 -- ---- items that give on each row what they make, and then more
 

@@ -25,9 +25,9 @@ use Rattle.bag_algebra.specs.declared.query.Query.TheVariants.{Union}
 use Rattle.contribution.proofs.ListedRows.{only_rows}
 use Rattle.contribution.proofs.SetMembers.{in-union}
 use Rattle.contribution.specs.Fitting.{Fitting}
-use Rattle.contribution.proofs.parts.NodeQueries.{plain-projected}
-use Rattle.contribution.proofs.parts.Padding.{formed-padded, kinds_of-padded, meaning-padded}
-use Rattle.contribution.specs.parts.NullItems.{padded_row}
+use Rattle.contribution.proofs.NodeQueries.{plain-projected}
+use Rattle.contribution.proofs.Padding.{formed-padded, kinds_of-padded, meaning-padded}
+use Rattle.contribution.specs.NullItems.{padded_row}
 use Rattle.rewrite_core.proofs.Closing.{both-true}
 use Rattle.rewrite_core.proofs.JoinColumns.{flat-all_empty}
 use Rattle.rewrite_core.proofs.NodeRows.{Flattened, flattened, Made, rewritten-over_both}
@@ -35,9 +35,9 @@ use Rattle.rewrite_core.proofs.RowColumns.{behind, between, flat-append, list-wi
 use Rattle.rewrite_core.proofs.RuleRows.{beside-from_rewrite, rows-from_beside}
 use Rattle.rewrite_core.specs.UnionColumns.{items_behind, padded_behind, provenance_kinds}
 use Rattle.rewrite_base.specs.Rewritten.{Beside}
-use Rattle.query_laws.proofs.witnesses.NodeLists.{union-lists}
-use Rattle.query_laws.specs.witnesses.ListsOfNodes.{UnionList, from_left, from_right}
-use Rattle.query_laws.specs.witnesses.SublinkLists.{InAnswer}
+use Rattle.query_laws.proofs.NodeLists.{union-lists}
+use Rattle.query_laws.specs.ListsOfNodes.{UnionList, from_left, from_right}
+use Rattle.query_laws.specs.SublinkLists.{InAnswer}
 use Rattle.bag_algebra.proofs.MembersByIndex.{in-from_contains}
 
 both-of_mapped : {X Y Z W V : Type 0} (make : Z → W → V) (first : X → Z) (second : Y → W) (o : Outcome X) (s : Outcome Y) →

@@ -4,8 +4,8 @@ use Rattle.bag_algebra.specs.Bags.{Row}
 use Rattle.bag_algebra.specs.Meaning.{Database, witnesses}
 use Rattle.bag_algebra.specs.Means.{Witness}
 use Rattle.bag_algebra.specs.declared.query.Query.{Query}
-use Rattle.query_laws.specs.witnesses.ListsOfNodes.{Followed}
-use Rattle.query_laws.specs.witnesses.SublinkLists.{EachContributes, no_sublink}
+use Rattle.query_laws.specs.ListsOfNodes.{Followed}
+use Rattle.query_laws.specs.SublinkLists.{EachContributes, no_sublink}
 
 pub none-contribute : {db : Database} {env : List Row} {u : Row} {w : Witness} → EachContributes db env u [] w → [] ≡ w
 none-contribute no_sublink = refl

@@ -18,8 +18,8 @@ use Rattle.bag_algebra.specs.Rewriting.{IsRewrite, SameSet}
 use Rattle.bag_algebra.specs.WellFormed.{WellFormed}
 use Rattle.bag_algebra.specs.declared.query.Query.{Query, end_of-Sublink}
 use Rattle.contribution.specs.Fitting.{Fitting}
-use Rattle.contribution.proofs.parts.ColumnQueries.{kinds_of-columns, meaning-columns}
-use Rattle.contribution.proofs.parts.NodeQueries.{plain-projected}
+use Rattle.contribution.proofs.ColumnQueries.{kinds_of-columns, meaning-columns}
+use Rattle.contribution.proofs.NodeQueries.{plain-projected}
 use Rattle.rewrite_core.proofs.RowColumns.{from_start, row-width}
 
 map-as_is : (f : Row → Row) (us : Bag) → ((u : Row) → IsIn u us → f u ≡ u) → map f us ≡ us

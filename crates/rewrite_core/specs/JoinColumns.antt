@@ -8,7 +8,7 @@ use Rattle.bag_algebra.specs.Patterns.{JoinOf, ProjectOf}
 use Rattle.bag_algebra.specs.declared.expr.Expr.{Expr}
 use Rattle.bag_algebra.specs.declared.query.JoinKind.{JoinKind}
 use Rattle.bag_algebra.specs.declared.query.Query.{Query, end_of-Sublink}
-use Rattle.contribution.specs.parts.MovedColumns.{IsMoved}
+use Rattle.contribution.specs.MovedColumns.{IsMoved}
 
 -- the columns of the inputs, where the left has so many, the left row so many in all, and the right so many
 abbrev pub own_places : ℕ → ℕ → ℕ → List ℕ

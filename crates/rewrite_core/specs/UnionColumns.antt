@@ -6,7 +6,7 @@ use Rattle.bag_algebra.specs.Kinds.{kinds_in, kinds_of, width_of}
 use Rattle.bag_algebra.specs.Patterns.{ProjectOf}
 use Rattle.bag_algebra.specs.declared.expr.Item.{Item}
 use Rattle.bag_algebra.specs.declared.query.Query.{Query, end_of-Sublink}
-use Rattle.contribution.specs.parts.NullItems.{padded_items}
+use Rattle.contribution.specs.NullItems.{padded_items}
 use Rattle.rewrite_core.specs.ProvenanceColumns.{provenance_places}
 
 -- the kinds of the columns that a rewriting has behind those of the query

@@ -5,7 +5,7 @@ ghost use Rattle.bag_algebra.specs.Kinds.{width_of};
 ghost use Rattle.bag_algebra.specs.Rewriting.{IsRewrite};
 ghost use Rattle.bag_algebra.specs.declared.query.Query.TheVariants.{Join};
 ghost use Rattle.bag_algebra.specs.declared.query.Query.{Query as Node};
-ghost use Rattle.contribution.specs.parts.MovedColumns.{IsMoved};
+ghost use Rattle.contribution.specs.MovedColumns.{IsMoved};
 ghost use Rattle.rewrite_core.specs.JoinColumns.{own_places, added_places, IsPaired, IsLaidOut};
 
 use crate::columns::{add_places, column_count, laid};

@@ -1,2 +1,4 @@
+pub mod MadeQueries
 pub mod NoRowLost
-pub mod steps
+pub mod Scopes
+pub mod SublinkLists

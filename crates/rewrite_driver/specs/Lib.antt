@@ -1,2 +1,2 @@
 pub mod FirstColumns
-pub mod steps
+pub mod Places

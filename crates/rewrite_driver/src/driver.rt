@@ -4,8 +4,8 @@ ghost use Rattle.bag_algebra.specs.Rewriting.{IsRewrite, Stands};
 ghost use Rattle.bag_algebra.specs.Scoped.{is_scoped, traceable};
 ghost use Rattle.bag_algebra.specs.declared.query.Query.TheVariants.{Prov};
 ghost use Rattle.bag_algebra.specs.declared.query.Query.{Query as Node};
-ghost use Rattle.query_laws.specs.congruence.Standing.{SubsStand};
-ghost use Rattle.bag_algebra.specs.measures.BuiltScopes.{all_scoped, all_traceable};
+ghost use Rattle.query_laws.specs.Standing.{SubsStand};
+ghost use Rattle.bag_algebra.specs.BuiltScopes.{all_scoped, all_traceable};
 ghost use Rattle.rewrite_driver.specs.FirstColumns.{KeepsRows};
 ghost use Rattle.rewrite_sublink.specs.SubRewritings.{SubsRewritten};
 

@@ -30,16 +30,16 @@ use Rattle.contribution.specs.CrossBase.{cross_base_of}
 use Rattle.contribution.specs.Fitting.{Fitting}
 use Rattle.rewrite_base.proofs.KeptRows.{flat-append, row-width}
 use Rattle.contribution.proofs.LongerKinds.{NamesAlso, well_formed-longer}
-use Rattle.query_laws.specs.congruence.Agreeing.{SubsAgree}
-use Rattle.query_laws.specs.congruence.Standing.{SubsStand}
-use Rattle.bag_algebra.specs.measures.BuiltScopes.{all_over_tables, all_plain}
+use Rattle.query_laws.specs.Agreeing.{SubsAgree}
+use Rattle.query_laws.specs.Standing.{SubsStand}
+use Rattle.bag_algebra.specs.BuiltScopes.{all_over_tables, all_plain}
 use Rattle.rewrite_sublink.proofs.Extending.{Extended, GoodOn, one-reached}
 use Rattle.rewrite_sublink.proofs.Forming.{by, whole, fitting-longer, kinds-contributed, bad-contributed, plain-contributed, tables-contributed, formed-contributed}
 use Rattle.rewrite_sublink.specs.Candidates.{all_contributed, contributed}
 use Rattle.rewrite_sublink.specs.SubRewritings.{SubsRewritten}
-use Rattle.query_laws.proofs.witnesses.Contributed.{AllGood, all_good, each_contributes-from, one_of_each}
-use Rattle.query_laws.proofs.witnesses.PairedLists.{OneOfEach}
-use Rattle.query_laws.specs.witnesses.SublinkLists.{Contributes, EachContributes, no_sublink, one_more}
+use Rattle.query_laws.proofs.Contributed.{AllGood, all_good, each_contributes-from, one_of_each}
+use Rattle.query_laws.proofs.PairedLists.{OneOfEach}
+use Rattle.query_laws.specs.SublinkLists.{Contributes, EachContributes, no_sublink, one_more}
 
 -- sublinks over tables, with what stands for each and a rewriting of each
 pub data Ready : (subs standing : List Sublink) → List Query → Type 0 where

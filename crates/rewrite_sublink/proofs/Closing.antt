@@ -10,8 +10,8 @@ use Rattle.bag_algebra.specs.declared.expr.Item.{Item}
 use Rattle.bag_algebra.specs.declared.query.Query.{Query}
 use Rattle.bag_algebra.specs.declared.query.Query.TheVariants.{Filter, Project}
 use Rattle.bag_algebra.specs.declared.query.Sublink.{Sublink}
-use Rattle.query_laws.specs.congruence.Standing.{SubsStand}
-use Rattle.contribution.proofs.parts.NodeQueries.{closed-projected}
+use Rattle.query_laws.specs.Standing.{SubsStand}
+use Rattle.contribution.proofs.NodeQueries.{closed-projected}
 use Rattle.rewrite_sublink.specs.Candidates.{all_contributed, answer_columns, answer_places}
 use Rattle.rewrite_sublink.specs.SubRewritings.{SubsRewritten}
 

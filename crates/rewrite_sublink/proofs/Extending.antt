@@ -28,16 +28,16 @@ use Rattle.contribution.proofs.Growth.{row_begins-longer}
 use Rattle.contribution.specs.CrossBase.{always, cross_base_of}
 use Rattle.rewrite_base.proofs.KeptRows.{flat-append}
 use Rattle.rewrite_base.specs.KeptColumns.{pairs_of}
-use Rattle.query_laws.specs.congruence.Standing.{SubStands, SubsStand}
-use Rattle.bag_algebra.specs.measures.BuiltScopes.{all_over_tables}
-use Rattle.contribution.proofs.parts.NodeQueries.{meaning-pairs}
+use Rattle.query_laws.specs.Standing.{SubStands, SubsStand}
+use Rattle.bag_algebra.specs.BuiltScopes.{all_over_tables}
+use Rattle.contribution.proofs.NodeQueries.{meaning-pairs}
 use Rattle.rewrite_sublink.proofs.MatchingRows.{gather-kept}
 use Rattle.rewrite_sublink.proofs.OneSublink.{stand, base, base-rows, candidate-width, test, test-good, passing-contributes, contributing-passes, contributing-in_base}
 use Rattle.rewrite_sublink.specs.Candidates.{matching, tested, deciding, test_condition, test_subs, contributed, all_contributed}
 use Rattle.rewrite_sublink.specs.SubRewritings.{SubsRewritten}
-use Rattle.query_laws.proofs.witnesses.Contributed.{all_good, each_contributes-from, one_of_each}
-use Rattle.query_laws.proofs.witnesses.PairedLists.{OneOfEach}
-use Rattle.query_laws.specs.witnesses.SublinkLists.{Contributes, EachContributes, no_sublink, one_more}
+use Rattle.query_laws.proofs.Contributed.{all_good, each_contributes-from, one_of_each}
+use Rattle.query_laws.proofs.PairedLists.{OneOfEach}
+use Rattle.query_laws.specs.SublinkLists.{Contributes, EachContributes, no_sublink, one_more}
 
 -- ---- all pairs
 

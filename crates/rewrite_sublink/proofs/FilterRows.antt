@@ -33,8 +33,8 @@ use Rattle.contribution.specs.Fitting.{Fitting}
 use Rattle.rewrite_base.proofs.JoinedOutcomes.{rewritten-from_related}
 use Rattle.rewrite_base.proofs.KeptRewriting.{rewriting-related}
 use Rattle.rewrite_base.proofs.KeptRows.{flat-append}
-use Rattle.query_laws.proofs.congruence.Sublinks.{answers-same}
-use Rattle.bag_algebra.specs.measures.BuiltScopes.{all_plain, is_plain-Filter}
+use Rattle.query_laws.proofs.StandingSublinks.{answers-same}
+use Rattle.bag_algebra.specs.BuiltScopes.{all_plain, is_plain-Filter}
 use Rattle.rewrite_base.proofs.BesideLists.{same-from_rewritten}
 use Rattle.rewrite_base.specs.Rewritten.{Beside}
 use Rattle.rewrite_sublink.proofs.AllSublinks.{Ready, AllGoodOn, Reached, good-longer, contributes-longer, contributes-shorter, kinds-all, bad-all, plain-all, tables-all, formed-all, reached, stand-plain, stand-tables, stand-form, stand-kinds, stand-agree}
@@ -43,9 +43,9 @@ use Rattle.rewrite_sublink.proofs.Forming.{by, names-more}
 use Rattle.rewrite_sublink.proofs.Faults.{SameFaults, kept-alike, gather-bad_alike}
 use Rattle.rewrite_sublink.proofs.NodeRows.{row-begins, first-good, Flattened, flattened, listed, Reaching, reaching-over}
 use Rattle.rewrite_sublink.specs.Candidates.{all_contributed}
-use Rattle.query_laws.proofs.witnesses.NodeLists.{filter-lists}
-use Rattle.query_laws.specs.witnesses.ListsOfNodes.{Followed}
-use Rattle.query_laws.specs.witnesses.SublinkLists.{InAnswer, EachContributes}
+use Rattle.query_laws.proofs.NodeLists.{filter-lists}
+use Rattle.query_laws.specs.ListsOfNodes.{Followed}
+use Rattle.query_laws.specs.SublinkLists.{InAnswer, EachContributes}
 
 module _ (q r : Query) (condition : Expr) (subs standing : List Sublink) (rewritings : List Query) (given : IsRewrite q r) (are : Ready subs standing rewritings) where
   abbrev node : Query

@@ -29,9 +29,9 @@ use Rattle.contribution.proofs.CrossBases.{meaning-cross_base, kinds_of-cross_ba
 use Rattle.contribution.proofs.LongerKinds.{NamesAlso, slice_get-longer, subs_form-longer, well_formed-longer}
 use Rattle.contribution.specs.CrossBase.{always, cross_base_of}
 use Rattle.rewrite_base.specs.KeptColumns.{pairs_of}
-use Rattle.bag_algebra.specs.measures.BuiltScopes.{all_plain, is_plain-Filter}
-use Rattle.contribution.proofs.parts.ColumnQueries.{all-first, all-nothing, formed-columns}
-use Rattle.contribution.proofs.parts.NodeQueries.{meaning-pairs, formed-pairs, plain-pairs, plain-chosen, plain-projected}
+use Rattle.bag_algebra.specs.BuiltScopes.{all_plain, is_plain-Filter}
+use Rattle.contribution.proofs.ColumnQueries.{all-first, all-nothing, formed-columns}
+use Rattle.contribution.proofs.NodeQueries.{meaning-pairs, formed-pairs, plain-pairs, plain-chosen, plain-projected}
 use Rattle.bag_algebra.specs.ColumnItems.{column_items}
 use Rattle.rewrite_sublink.proofs.MatchingRows.{formed-matching}
 use Rattle.rewrite_sublink.specs.Candidates.{matching, or_nulls, same_as_outer, first_column, deciding, deciding_arm, test_condition, test_subs, contributed}

@@ -20,7 +20,7 @@ use Rattle.bag_algebra.specs.declared.query.Query.{Query}
 use Rattle.bag_algebra.specs.declared.query.Query.TheVariants.{Single}
 use Rattle.contribution.specs.CrossBase.{always}
 use Rattle.rewrite_base.proofs.Places.{at-between, within-range}
-use Rattle.contribution.proofs.parts.NodeQueries.{meaning-pairs, meaning-chosen, formed-pairs, formed-chosen}
+use Rattle.contribution.proofs.NodeQueries.{meaning-pairs, meaning-chosen, formed-pairs, formed-chosen}
 use Rattle.rewrite_sublink.proofs.Contributing.{padded_rows, matching_rows}
 use Rattle.rewrite_sublink.proofs.OuterTests.{outer_tests-value, outer_tests-formed}
 use Rattle.rewrite_sublink.specs.Candidates.{same_as_outer, or_nulls, matching}

@@ -48,8 +48,8 @@ use Rattle.rewrite_sublink.proofs.Contributing.{matching_rows, contributions, is
 use Rattle.rewrite_sublink.proofs.MatchingRows.{meaning-matching}
 use Rattle.rewrite_sublink.proofs.TestValues.{passes_of, chosen-passing, test-value}
 use Rattle.rewrite_sublink.specs.Candidates.{deciding, matching, test_condition, test_subs}
-use Rattle.query_laws.proofs.witnesses.Contributed.{contributed, contributes-from, in-contributed}
-use Rattle.query_laws.specs.witnesses.SublinkLists.{Contributes, by_row, by_no_row}
+use Rattle.query_laws.proofs.Contributed.{contributed, contributes-from, in-contributed}
+use Rattle.query_laws.specs.SublinkLists.{Contributes, by_row, by_no_row}
 
 same-answer : (kind : SubKind) (x : Value) (vs : Bag) (o : Outcome Bag) → SameRows (Good vs) o → both_then (Good x) o (sub_value kind) ≡ sub_value kind x vs
 same-answer kind x vs (Good ss) s = sym (sub_value-permuted kind x (permuted-from_same_bag vs ss s))

@@ -20,9 +20,9 @@ use Rattle.bag_algebra.specs.Outcome.{Good, and_then, both}
 use Rattle.bag_algebra.specs.WellFormed.{HasKind, PlacesIn, PartsHave}
 use Rattle.bag_algebra.specs.declared.expr.Expr.{Expr}
 use Rattle.bag_algebra.specs.declared.expr.Expr.TheVariants.{Col}
-use Rattle.contribution.proofs.parts.ColumnQueries.{all-rest, kind_there}
-use Rattle.contribution.proofs.parts.PartForms.{no_parts-have, more_parts-have}
-use Rattle.contribution.specs.parts.Conjunctions.{all_hold}
+use Rattle.contribution.proofs.ColumnQueries.{all-rest, kind_there}
+use Rattle.contribution.proofs.PartForms.{no_parts-have, more_parts-have}
+use Rattle.contribution.specs.Conjunctions.{all_hold}
 use Rattle.rewrite_sublink.specs.Candidates.{outer_test, outer_tests}
 
 -- ---- one more test

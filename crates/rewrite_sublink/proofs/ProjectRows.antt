@@ -41,11 +41,11 @@ use Rattle.rewrite_base.proofs.JoinedOutcomes.{rewritten-from_related}
 use Rattle.rewrite_base.proofs.KeptRewriting.{rewriting-related}
 use Rattle.rewrite_base.proofs.KeptRows.{flat-append, row-width, list-width}
 use Rattle.rewrite_base.proofs.Places.{at-between, within-range}
-use Rattle.query_laws.proofs.congruence.Sublinks.{answers-same}
-use Rattle.bag_algebra.specs.measures.BuiltScopes.{all_plain, is_plain-Project}
-use Rattle.contribution.proofs.parts.ColumnQueries.{all-first, all-nothing, all-rest, column_items-kinds, kind_there, kinds_of-columns, meaning-columns, formed-columns}
-use Rattle.contribution.proofs.parts.NodeQueries.{plain-projected}
-use Rattle.contribution.specs.parts.ItemKinds.{item_kinds}
+use Rattle.query_laws.proofs.StandingSublinks.{answers-same}
+use Rattle.bag_algebra.specs.BuiltScopes.{all_plain, is_plain-Project}
+use Rattle.contribution.proofs.ColumnQueries.{all-first, all-nothing, all-rest, column_items-kinds, kind_there, kinds_of-columns, meaning-columns, formed-columns}
+use Rattle.contribution.proofs.NodeQueries.{plain-projected}
+use Rattle.contribution.specs.ItemKinds.{item_kinds}
 use Rattle.rewrite_base.proofs.BesideLists.{same-from_rewritten}
 use Rattle.rewrite_base.specs.Rewritten.{Beside}
 use Rattle.rewrite_sublink.proofs.AllSublinks.{Ready, AllGoodOn, Reached, good-longer, contributes-longer, contributes-shorter, kinds-all, bad-all, plain-all, tables-all, formed-all, reached, stand-plain, stand-tables, stand-form, stand-kinds, stand-agree}
@@ -54,10 +54,10 @@ use Rattle.rewrite_sublink.proofs.Forming.{by, names-more}
 use Rattle.rewrite_sublink.proofs.Faults.{SameFaults, same_faults-made, each-bad_alike, in-each}
 use Rattle.rewrite_sublink.proofs.NodeRows.{row-begins, first-of_good, Flattened, flattened, listed, Reaching, reaching-over}
 use Rattle.rewrite_sublink.specs.Candidates.{all_contributed, beside_row, answer_places, answer_columns}
-use Rattle.query_laws.proofs.witnesses.AnswerRows.{answer-in, answer-from}
-use Rattle.query_laws.proofs.witnesses.NodeLists.{project-lists}
-use Rattle.query_laws.specs.witnesses.ListsOfNodes.{Followed, ProjectList}
-use Rattle.query_laws.specs.witnesses.SublinkLists.{InAnswer, EachContributes}
+use Rattle.query_laws.proofs.AnswerRows.{answer-in, answer-from}
+use Rattle.query_laws.proofs.NodeLists.{project-lists}
+use Rattle.query_laws.specs.ListsOfNodes.{Followed, ProjectList}
+use Rattle.query_laws.specs.SublinkLists.{InAnswer, EachContributes}
 
 -- ---- the row, and then the items
 

@@ -24,7 +24,7 @@ use Rattle.bag_algebra.specs.declared.query.SubKind.{SubKind}
 use Rattle.bag_algebra.specs.declared.query.SubKind.TheVariants.{Exists, Any, All, Scalar}
 use Rattle.bag_algebra.specs.declared.query.Sublink.{Sublink}
 use Rattle.contribution.proofs.TruthKept.{some_of-is_true, all_of-is_false}
-use Rattle.contribution.proofs.parts.ColumnQueries.{meaning-columns}
+use Rattle.contribution.proofs.ColumnQueries.{meaning-columns}
 use Rattle.rewrite_sublink.specs.Candidates.{deciding, test_condition, test_subs, first_column}
 
 -- whether a value lets its row contribute where it decides: it compares true for ANY, false for ALL

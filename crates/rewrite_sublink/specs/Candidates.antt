@@ -19,7 +19,7 @@ use Rattle.bag_algebra.specs.declared.query.SubKind.TheVariants.{Exists, Any, Al
 use Rattle.bag_algebra.specs.declared.query.Sublink.{Sublink}
 use Rattle.contribution.specs.CrossBase.{always, cross_base_of}
 use Rattle.rewrite_base.specs.KeptColumns.{pairs_of}
-use Rattle.contribution.specs.parts.Conjunctions.{all_hold}
+use Rattle.contribution.specs.Conjunctions.{all_hold}
 
 -- ---- the rows of a sublink that match a candidate
 

@@ -3,7 +3,7 @@ ghost use Rattle.std.specs.Prelude.{◌≡◌, [], IfOk, length};
 ghost use Rattle.bag_algebra.specs.ColumnItems.{column_items};
 ghost use Rattle.bag_algebra.specs.Kinds.{kinds_of};
 ghost use Rattle.contribution.specs.CrossBase.{always};
-ghost use Rattle.contribution.specs.parts.Conjunctions.{all_hold};
+ghost use Rattle.contribution.specs.Conjunctions.{all_hold};
 ghost use Rattle.rewrite_sublink.specs.Candidates.{first_column, matching, or_nulls, outer_test, outer_tests, same_as_outer};
 
 use crate::decisions::{candidate_column, outwards};

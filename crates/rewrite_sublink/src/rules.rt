@@ -5,8 +5,8 @@ ghost use Rattle.bag_algebra.specs.ColumnItems.{column_items};
 ghost use Rattle.bag_algebra.specs.Kinds.{kinds_of, width_of};
 ghost use Rattle.bag_algebra.specs.Rewriting.{IsRewrite};
 ghost use Rattle.bag_algebra.specs.declared.query.Query.TheVariants.{Filter, Project};
-ghost use Rattle.query_laws.specs.congruence.Standing.{SubsStand};
-ghost use Rattle.bag_algebra.specs.measures.BuiltScopes.{all_over_tables};
+ghost use Rattle.query_laws.specs.Standing.{SubsStand};
+ghost use Rattle.bag_algebra.specs.BuiltScopes.{all_over_tables};
 ghost use Rattle.rewrite_sublink.specs.Candidates.{all_contributed, answer_columns, answer_places, beside_row};
 ghost use Rattle.rewrite_sublink.specs.SubRewritings.{SubsRewritten};
 

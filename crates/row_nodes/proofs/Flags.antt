@@ -5,7 +5,7 @@ use Rattle.perm_values.specs.Rows.{same_row}
 use Rattle.bag_algebra.specs.Bags.{Row, Bag, count, member, once, without_first, in_both, beyond, intersect_of, except_of}
 use Rattle.bag_algebra.proofs.BagLaws.{same_row-is, member_decides, member-append, member-filter, count-append, count-of_none}
 use Rattle.row_nodes.specs.Marks.{marks_behind, marks_by, left_out, wanted, is_over}
-use Rattle.row_values.proofs.groups.Once.{once_more}
+use Rattle.row_values.proofs.Once.{once_more}
 use Rattle.bag_algebra.proofs.Truths.{not_not}
 
 -- ---- one more row

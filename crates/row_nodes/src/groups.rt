@@ -2,7 +2,7 @@
 ghost use Rattle.bag_algebra.specs.Meaning.{arguments_on};
 ghost use Rattle.bag_algebra.specs.Means.{grouped};
 ghost use Rattle.row_values.specs.Answers.{Gives};
-ghost use Rattle.row_values.specs.groups.Columns.{functions_of};
+ghost use Rattle.row_values.specs.Columns.{functions_of};
 
 use crate::input::Input;
 use bag_algebra::{Aggr, Env};

@@ -1,6 +1,11 @@
+pub mod Buckets
+pub mod ClassRows
+pub mod Keys
+pub mod Least
+pub mod Once
 pub mod Outcomes
 pub mod Quantified
 pub mod Taken
+pub mod Totals
 pub mod Truths
 pub mod Values
-pub mod groups

@@ -1,3 +1,5 @@
 pub mod Answers
+pub mod Columns
+pub mod Foremost
+pub mod Groups
 pub mod Parts
-pub mod groups

@@ -1,6 +1,14 @@
+pub mod Breaks
+pub mod Causes
 pub mod Completing
+pub mod Ending
+pub mod Firsts
 pub mod Lines
+pub mod Looping
 pub mod Misspelling
+pub mod Reasons
+pub mod Running
+pub mod Runs
+pub mod Stepping
+pub mod Turns
 pub mod Widening
-pub mod sameness
-pub mod steps

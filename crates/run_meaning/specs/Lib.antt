@@ -1,7 +1,8 @@
+pub mod Carrying
 pub mod Ends
+pub mod Resolving
 pub mod Run
+pub mod Same
 pub mod Scripts
 pub mod Statuses
 pub mod Stops
-pub mod sameness
-pub mod steps

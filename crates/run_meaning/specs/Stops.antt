@@ -1,6 +1,6 @@
 -- Why a run ends: the line that says so, the status, and what the cause rests on.
 use Rattle.std.specs.Prelude.{◌≡◌, ◌≢◌, ℕ, ◌<◌, List, [], Err, codes, IsTrue}
-use Rattle.csv_tables.specs.errors.Lines.{data_line, error_line}
+use Rattle.csv_tables.specs.Lines.{data_line, error_line}
 use Rattle.name_seen_parts.specs.Seen.{first_or}
 use Rattle.name_meaning.specs.declared.answer.Break.{Break}
 use Rattle.null_logic.specs.declared.run_fault.RunFault.{RunFault}

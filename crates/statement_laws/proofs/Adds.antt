@@ -34,10 +34,10 @@ use Rattle.name_meaning.specs.Trees.{part_of}
 use Rattle.name_meaning.specs.declared.answer.Break.{Break}
 use Rattle.name_laws.proofs.Every.{front-none, back-none}
 use Rattle.name_laws.proofs.Trees.{query-in_scope}
-use Rattle.name_laws.specs.forms.Formed.{IsAnswer, IsFormedExpr}
-use Rattle.name_laws.specs.forms.Standing.{StandAt, AggregatesStand}
-use Rattle.name_laws.proofs.forms.TreeLaws.{expr-formed, query-answer, query-closed, query-wide}
-use Rattle.name_laws.proofs.tables.Named.{view-reads}
+use Rattle.name_laws.specs.Formed.{IsAnswer, IsFormedExpr}
+use Rattle.name_laws.specs.Standing.{StandAt, AggregatesStand}
+use Rattle.name_laws.proofs.TreeLaws.{expr-formed, query-answer, query-closed, query-wide}
+use Rattle.name_laws.proofs.Named.{view-reads}
 use Rattle.statement_laws.proofs.Ready.{names-whole, unbroken, not-false}
 use Rattle.statement_laws.specs.Sounder.{AddsSoundly, HaveKinds, RowsHaveKinds}
 

@@ -1,6 +1,16 @@
 pub mod Adds
+pub mod Answered
+pub mod Headline
+pub mod Kept
 pub mod Left
+pub mod Nested
+pub mod Provenance
 pub mod Ready
 pub mod Sounder
 pub mod Unspent
-pub mod answers
+mod Untraced
+mod UntracedCores
+mod UntracedFroms
+mod UntracedTrees
+pub mod Wide
+pub mod Words

@@ -19,8 +19,8 @@ use Rattle.name_meaning.specs.Statements.{alone, answer_of, query_meant, breaks,
 use Rattle.name_meaning.specs.declared.answer.Break.{Break}
 use Rattle.name_laws.proofs.Every.{front-none, back-none}
 use Rattle.name_laws.proofs.Trees.{query-in_scope}
-use Rattle.name_laws.proofs.forms.TreeLaws.{query-closed}
-use Rattle.name_laws.proofs.tables.Tables.{tables-fit}
+use Rattle.name_laws.proofs.TreeLaws.{query-closed}
+use Rattle.name_laws.proofs.FittingTables.{tables-fit}
 use Rattle.statement_meaning.specs.Ready.{CanRun, IsReady}
 
 -- the rules of names are looked at first

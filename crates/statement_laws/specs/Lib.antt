@@ -1,3 +1,5 @@
+pub mod Asks
+pub mod Beside
 pub mod Kept
+pub mod Printed
 pub mod Sounder
-pub mod answers

@@ -12,7 +12,7 @@ use Rattle.bag_algebra.specs.Rewriting.{SameRows, Stands}
 use Rattle.bag_algebra.specs.TableRows.{rows_in}
 use Rattle.bag_algebra.specs.declared.query.Answer.{Answer}
 use Rattle.bag_algebra.specs.declared.query.Query.{Query}
-use Rattle.bag_algebra.proofs.measures.Closing.{query_within}
+use Rattle.bag_algebra.proofs.Closing.{query_within}
 use Rattle.csv_tables.specs.AnswerText.{answer_bytes}
 use Rattle.row_values.specs.Answers.{Refuses}
 use Rattle.row_values.specs.declared.error.ExecError.{ExecError}

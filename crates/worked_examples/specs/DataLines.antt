@@ -2,7 +2,7 @@
 use Rattle.std.specs.Prelude.{◌≡◌, refl, codes}
 use Rattle.std.specs.Fmt.{digits}
 use Rattle.csv_tables.specs.declared.data_error.DataError.TheVariants as rule
-use Rattle.csv_tables.specs.errors.Lines.{data_line}
+use Rattle.csv_tables.specs.Lines.{data_line}
 
 line_of_width : data_line (rule.Width 1) ≡ codes "error E42 record 1\n"
 unfolding digits

@@ -1,6 +1,6 @@
 //! What in a query may fault.
 ghost use Rattle.std.specs.Prelude.{◌≡◌};
-ghost use Rattle.bag_algebra.specs.measures.BuiltFaultFree.{all_parts_faultless, all_arms_faultless, all_fault_free};
+ghost use Rattle.bag_algebra.specs.BuiltFaultFree.{all_parts_faultless, all_arms_faultless, all_fault_free};
 ghost use Rattle.bag_algebra.specs.FaultFree.{faultless, items_faultless, aggregates_faultless, fault_free};
 
 use crate::expr::{Arm, Expr, Item};

@@ -2,7 +2,7 @@
 ghost use Rattle.std.specs.Prelude.{◌≡◌, ◌+◌, ◌-◌, ◌^◌, ◌<◌, min, length, Ok, Err, MatchResult};
 ghost use Rattle.bag_algebra.specs.Children.{subs_shape};
 ghost use Rattle.bag_algebra.specs.Kinds.{kinds_of, kind_in, width_of, place_kinds, shape};
-ghost use Rattle.bag_algebra.specs.measures.Sought.{sought};
+ghost use Rattle.bag_algebra.specs.Sought.{sought};
 
 use crate::query::{Query, Sublink};
 use perm_values::{Kind, List};

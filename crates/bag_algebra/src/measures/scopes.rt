@@ -1,6 +1,6 @@
 //! Where PROVENANCE stands in a query, and what stands below it.
 ghost use Rattle.std.specs.Prelude.{◌≡◌};
-ghost use Rattle.bag_algebra.specs.measures.BuiltScopes.{all_plain, all_over_tables, all_traceable, all_scoped};
+ghost use Rattle.bag_algebra.specs.BuiltScopes.{all_plain, all_over_tables, all_traceable, all_scoped};
 ghost use Rattle.bag_algebra.specs.Rewriting.{is_plain};
 ghost use Rattle.bag_algebra.specs.Scoped.{over_tables, traceable, is_scoped};
 

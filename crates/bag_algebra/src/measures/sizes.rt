@@ -1,6 +1,6 @@
 //! How high and how large a query is.
 ghost use Rattle.std.specs.Prelude.{◌≡◌, ◌+◌, ◌-◌, ◌^◌, min, max};
-ghost use Rattle.bag_algebra.specs.measures.BuiltMeasures.{subs_height, subs_size};
+ghost use Rattle.bag_algebra.specs.BuiltMeasures.{subs_height, subs_size};
 ghost use Rattle.bag_algebra.specs.Measures.{height_of, size_of};
 
 use crate::query::{Query, Sublink};

@@ -14,7 +14,7 @@ ghost use Rattle.bag_algebra.specs.TablesRead.{tables_read};
 ghost use Rattle.bag_algebra.specs.WellFormed.{WellFormed, ItemsForm, PlacesIn};
 ghost use Rattle.bag_algebra.specs.declared.query.Query.{end_of-Sublink};
 ghost use Rattle.perm_values.specs.declared.kind.Kind.{Kind as Sort};
-ghost use Rattle.contribution.specs.parts.ItemKinds.{item_kinds, column_of};
+ghost use Rattle.contribution.specs.ItemKinds.{item_kinds, column_of};
 
 use crate::parts::nodes::projection;
 use bag_algebra::{Expr, Item, Query, kind_at};

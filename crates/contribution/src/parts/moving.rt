@@ -1,7 +1,7 @@
 //! An expression with the columns of its node's own row at other places.
 ghost use Rattle.std.specs.Prelude.{IfOk};
 ghost use Rattle.bag_algebra.specs.declared.expr.Expr.TheVariants.{Col};
-ghost use Rattle.contribution.specs.parts.MovedColumns.{IsMoved, PartsMoved, StepsMoved, ArmsMoved};
+ghost use Rattle.contribution.specs.MovedColumns.{IsMoved, PartsMoved, StepsMoved, ArmsMoved};
 
 use bag_algebra::{Arm, ChainStep, Expr};
 use perm_values::{Boxed, Copyable, Kind, List, NoMemory, Value, both};

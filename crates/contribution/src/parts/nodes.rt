@@ -13,7 +13,7 @@ ghost use Rattle.bag_algebra.specs.WellFormed.{WellFormed, HasKind, ItemsForm};
 ghost use Rattle.bag_algebra.specs.declared.query.Query.{end_of-Sublink};
 ghost use Rattle.perm_values.specs.declared.kind.Kind.{Kind as Sort};
 ghost use Rattle.perm_values.specs.declared.kind.Kind.TheVariants.{Boolean};
-ghost use Rattle.contribution.specs.parts.ItemKinds.{item_kinds};
+ghost use Rattle.contribution.specs.ItemKinds.{item_kinds};
 
 use bag_algebra::{Expr, Item, JoinKind, Query};
 use perm_values::{Boxed, List, NoMemory, boxes};

@@ -12,8 +12,8 @@ ghost use Rattle.bag_algebra.specs.TablesRead.{tables_read};
 ghost use Rattle.bag_algebra.specs.WellFormed.{WellFormed, ItemsForm, PlacesIn};
 ghost use Rattle.bag_algebra.specs.declared.query.Query.{end_of-Sublink};
 ghost use Rattle.perm_values.specs.declared.kind.Kind.{Kind as Sort};
-ghost use Rattle.contribution.specs.parts.ItemKinds.{item_kinds};
-ghost use Rattle.contribution.specs.parts.NullItems.{null_item, padded_items, padded_row};
+ghost use Rattle.contribution.specs.ItemKinds.{item_kinds};
+ghost use Rattle.contribution.specs.NullItems.{null_item, padded_items, padded_row};
 
 use crate::parts::columns::columns_of;
 use crate::parts::nodes::projection;

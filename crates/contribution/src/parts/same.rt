@@ -11,7 +11,7 @@ ghost use Rattle.perm_values.specs.declared.kind.Kind.{Kind as Sort};
 ghost use Rattle.perm_values.specs.declared.kind.Kind.TheVariants.{Boolean};
 ghost use Rattle.perm_values.specs.declared.value.Value.{Value as Cell};
 ghost use Rattle.perm_values.specs.declared.value.Value.TheVariants.{Boolean as Truth};
-ghost use Rattle.contribution.specs.parts.Conjunctions.{all_hold, same_test, same_tests};
+ghost use Rattle.contribution.specs.Conjunctions.{all_hold, same_test, same_tests};
 
 use bag_algebra::Expr;
 use null_logic::Operator;

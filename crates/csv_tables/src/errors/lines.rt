@@ -1,5 +1,5 @@
 ghost use Rattle.std.specs.Prelude.{◌≡◌, ◌++◌, ◌≤◌, ◌+◌, length};
-ghost use Rattle.csv_tables.specs.errors.Lines.{data_line, error_line, field_line, record_line, two_digits};
+ghost use Rattle.csv_tables.specs.Lines.{data_line, error_line, field_line, record_line, two_digits};
 
 use crate::data_error::DataError;
 use crate::errors::line::Line;

@@ -21,11 +21,11 @@ use Rattle.name_made_nodes.proofs.Arms.{behind-others, next-arm-made, next-step-
 use Rattle.name_made_nodes.proofs.FormsMade.{aggregate-form, arm-is, between-form, case-else-form, case-form, chain-form, coalesce-form, column-form, compared-form, count-form, distinct-form, exists-form, in-list-form, in-query-form, integer-form, like-form, logic-form, nots-form, null-form, null-of-form, null-test-form, nullif-form, paren-form, quantified-form, scalar-form, signs-form, step-is, text-form, told, truth-form, truth-test-form}
 use Rattle.name_made_nodes.proofs.Linking.{aggregated-made, tested-made, untested-made}
 use Rattle.name_made_nodes.proofs.Parts.{more-more, node-made}
-use Rattle.name_made_parts.proofs.asked.Listing.{mapped}
+use Rattle.name_made_parts.proofs.AskedListing.{mapped}
 use Rattle.bag_algebra.specs.declared.query.Query.TheVariants.{Prov}
 use Rattle.name_meaning.specs.Queries.{limited, unprovable}
-use Rattle.name_made_parts.proofs.asked.Coring.{core-none, core-some, clauses-made, item-so, some-kept, star-is, table-star-is, value-is}
-use Rattle.name_made_parts.proofs.asked.Querying.{chain-made, chain-of-one, core-is, paren-is, query-is}
+use Rattle.name_made_parts.proofs.Coring.{core-none, core-some, clauses-made, item-so, some-kept, star-is, table-star-is, value-is}
+use Rattle.name_made_parts.proofs.Querying.{chain-made, chain-of-one, core-is, paren-is, query-is}
 use Rattle.null_logic.specs.declared.operator.Operator.TheVariants as x
 use Rattle.perm_values.specs.declared.kind.Kind.TheVariants as kind
 use Rattle.perm_values.specs.declared.value.Value.TheVariants as v
@@ -39,7 +39,7 @@ use Rattle.sql_tree.specs.declared.source.FromTree.{out-FromTree}
 use Rattle.sql_tree.specs.declared.source.JoinStep.{JoinStep}
 use Rattle.name_made_nodes.specs.Cored.{clauses_over}
 use Rattle.name_made_nodes.proofs.ItemLists.{value-listed}
-use Rattle.name_made_parts.specs.asked.Cored.{MakesClauses, MakesList, having_part, kept_of, select_parts, sources_meant}
+use Rattle.name_made_parts.specs.Cored.{MakesClauses, MakesList, having_part, kept_of, select_parts, sources_meant}
 use Rattle.name_made_parts.specs.Sources.{JoinsMade, SourcesMade, join_count}
 use Rattle.name_made_parts.proofs.Sourcing.{first-made, from-fields, item-inner, item-named, no-sources, source-more, sources-made}
 use Rattle.bag_algebra.specs.declared.query.Query.{Query}

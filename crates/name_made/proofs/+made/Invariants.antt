@@ -13,7 +13,7 @@ use Rattle.name_seen_parts.specs.Named.{scopes_of}
 use Rattle.name_made_nodes.specs.Chained.{Serves}
 use Rattle.name_made_parts.specs.Sources.{JoinsMade, SourcesMade}
 use Rattle.name_made_nodes.specs.Listed.{MakesItems}
-use Rattle.name_made_parts.specs.asked.Cored.{items_meant}
+use Rattle.name_made_parts.specs.Cored.{items_meant}
 use Rattle.name_made.proofs.+made.Given as goal
 
 -- the operands so far are made

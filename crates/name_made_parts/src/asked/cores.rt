@@ -7,7 +7,7 @@ ghost use Rattle.name_meaning.specs.Froms.{from_all};
 ghost use Rattle.name_meaning.specs.Meanings.{Around as Place};
 ghost use Rattle.name_meaning.specs.Trees.{from_of};
 ghost use Rattle.name_seen_parts.specs.Named.{scopes_of};
-ghost use Rattle.name_made_parts.specs.asked.Cored.{core_groups, having_part, kept_of, select_parts};
+ghost use Rattle.name_made_parts.specs.Cored.{core_groups, having_part, kept_of, select_parts};
 ghost use Rattle.name_made_parts.specs.Sources.{IsScopeOf};
 
 use bag_algebra::{Aggr, Expr, Item};

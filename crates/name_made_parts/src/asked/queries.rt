@@ -9,8 +9,8 @@ ghost use Rattle.name_meaning.specs.Queries.{keys_of, limited};
 ghost use Rattle.name_meaning.specs.Trees.{set_of_tree};
 ghost use Rattle.name_meaning.specs.declared.trace.Trace.TheVariants.{InProvenance as Proving};
 ghost use Rattle.name_seen_parts.specs.Standing.{around_of};
-ghost use Rattle.name_seen_parts.specs.clauses.Columns.{columns_of};
-ghost use Rattle.name_made_parts.specs.asked.Shown.{Settles};
+ghost use Rattle.name_seen_parts.specs.Columns.{columns_of};
+ghost use Rattle.name_made_parts.specs.AskedColumns.{Settles};
 
 use crate::keys::keys_of;
 use name_meaning::Trace;

@@ -5,7 +5,7 @@ ghost use Rattle.name_meaning.specs.Froms.{names_of, settled_columns};
 ghost use Rattle.name_meaning.specs.Meanings.{query_means_at};
 ghost use Rattle.name_meaning.specs.Trees.{query_of};
 ghost use Rattle.name_seen_parts.specs.Standing.{around_of};
-ghost use Rattle.name_seen_parts.specs.clauses.Columns.{columns_of};
+ghost use Rattle.name_seen_parts.specs.Columns.{columns_of};
 ghost use Rattle.name_made_parts.specs.Sources.{Shows};
 
 use crate::shown::{ShownNames, column_names};

@@ -8,7 +8,7 @@ ghost use Rattle.name_meaning.specs.Sublinks.{around_of, first_kind, in_tested, 
 ghost use Rattle.name_meaning.specs.Trees.{arm_of, part_of, query_of};
 ghost use Rattle.name_meaning.specs.declared.need.Need.TheVariants.{Alike as Same};
 ghost use Rattle.name_seen_parts.specs.Standing.{surroundings};
-ghost use Rattle.name_made_parts.specs.asked.Shown.{kind_of_first};
+ghost use Rattle.name_made_parts.specs.AskedColumns.{kind_of_first};
 ghost use Rattle.perm_catalog.specs.Sound.{IsSound};
 
 use name_made_nodes::{alike_wanted, settled};

@@ -48,7 +48,7 @@ use Rattle.name_meaning.specs.Queries.{set_chain, unprovable}
 use Rattle.name_meaning.specs.Trees.{core_of, from_item_of, from_of, item_of, join_of, set_of_tree, set_step_of, source_of}
 use Rattle.name_seen_parts.specs.Seen.{first_or}
 use Rattle.name_seen_parts.specs.Standing.{around_of}
-use Rattle.name_seen_parts.specs.clauses.Told.{Tells}
+use Rattle.name_seen_parts.specs.Told.{Tells}
 use Rattle.name_seen_parts.specs.declared.refusal.Refusal.TheVariants.{Break as Broken}
 use Rattle.name_seen_from.specs.Queried.{ColumnsSeen, FromSeen, FromWhole, QuerySeen}
 use Rattle.name_seen_cores.specs.Behind.{ConditionSeen, core_behind, optional_part}

@@ -5,7 +5,7 @@ ghost use Rattle.name_meaning.specs.Expressions.{arm_parts};
 ghost use Rattle.name_meaning.specs.Meanings.{Part};
 ghost use Rattle.name_meaning.specs.Trees.{part_of, step_of, arm_of};
 ghost use Rattle.perm_catalog.specs.Contents.{Contents};
-ghost use Rattle.name_seen_parts.specs.clauses.Aggregates.{is_aggregating, otherwise_aggregates, step_aggregates};
+ghost use Rattle.name_seen_parts.specs.Aggregates.{is_aggregating, otherwise_aggregates, step_aggregates};
 
 use perm_values::Boxed;
 use sql_tree::{ArmTree, ExprBody, ExprStep, ExprTree};

@@ -5,7 +5,7 @@ ghost use Rattle.name_seen_parts.specs.declared.refusal.Refusal.TheVariants.{NoM
 ghost use Rattle.name_meaning.specs.Cores.{group_break, group_found, group_place, word_breaks};
 ghost use Rattle.name_meaning.specs.Froms.{condition_breaks};
 ghost use Rattle.name_meaning.specs.Meanings.{Around as Place, Meant};
-ghost use Rattle.name_seen_parts.specs.clauses.Told.{Tells};
+ghost use Rattle.name_seen_parts.specs.Told.{Tells};
 
 use crate::forms::condition_kind;
 use crate::refusal::Refusal;

@@ -3,7 +3,7 @@ ghost use Rattle.std.specs.Prelude.{◌≡◌, Some, count_by, not};
 ghost use Rattle.name_meaning.specs.Meanings.{broken_if};
 ghost use Rattle.name_seen_parts.specs.Seen.{first_or};
 ghost use Rattle.name_meaning.specs.Queries.{is_named, is_position, key_break, keys_breaks};
-ghost use Rattle.name_seen_parts.specs.clauses.Columns.{columns_of};
+ghost use Rattle.name_seen_parts.specs.Columns.{columns_of};
 
 use crate::clauses::column::ShownColumn;
 use crate::clauses::counted::count_break;

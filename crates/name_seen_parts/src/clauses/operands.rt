@@ -2,7 +2,7 @@
 ghost use Rattle.std.specs.Prelude.{◌≡◌, ◌&&◌};
 ghost use Rattle.name_seen_parts.specs.Seen.{first_or};
 ghost use Rattle.name_meaning.specs.Queries.{do_unite, operand_break, united_columns};
-ghost use Rattle.name_seen_parts.specs.clauses.Columns.{columns_of};
+ghost use Rattle.name_seen_parts.specs.Columns.{columns_of};
 
 use crate::clauses::column::ShownColumn;
 use crate::kinds::{united_kind, unites};

@@ -3,8 +3,8 @@ ghost use Rattle.std.specs.Prelude.{◌≡◌, [], IfOk, slice_index_or};
 ghost use Rattle.std.specs.List.{range_with_len};
 ghost use Rattle.name_meaning.specs.Froms.{named_columns, names_at, settled_columns, table_columns};
 ghost use Rattle.perm_catalog.specs.Columns.{column_kinds};
-ghost use Rattle.name_seen_parts.specs.clauses.Columns.{columns_of};
-ghost use Rattle.name_seen_parts.specs.from_columns.Columns.{known_names};
+ghost use Rattle.name_seen_parts.specs.Columns.{columns_of};
+ghost use Rattle.name_seen_parts.specs.FromColumns.{known_names};
 
 use crate::clauses::ShownColumn;
 use perm_catalog::Column;

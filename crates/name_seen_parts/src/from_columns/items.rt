@@ -6,7 +6,7 @@ ghost use Rattle.name_meaning.specs.Froms.{label_of, mark_breaks, named_so, scop
 ghost use Rattle.name_meaning.specs.Meanings.{broken_if};
 ghost use Rattle.name_meaning.specs.Trees.{source_of};
 ghost use Rattle.perm_catalog.specs.Contents.{Contents};
-ghost use Rattle.name_seen_parts.specs.from_columns.Columns.{known_names};
+ghost use Rattle.name_seen_parts.specs.FromColumns.{known_names};
 
 use crate::from_columns::marks::mark_break;
 use name_meaning::Break;

@@ -2,8 +2,8 @@
 ghost use Rattle.std.specs.Prelude.{◌≡◌, [], Some, IfOk, count_by};
 ghost use Rattle.name_seen_parts.specs.Seen.{first_or};
 ghost use Rattle.name_meaning.specs.Froms.{attribute_breaks, mark_breaks, named_so, place_of, texts_of};
-ghost use Rattle.name_seen_parts.specs.from_columns.Columns.{known_names};
-ghost use Rattle.name_seen_parts.specs.from_columns.Marks.{attribute_break, first_named, is_among, places_of};
+ghost use Rattle.name_seen_parts.specs.FromColumns.{known_names};
+ghost use Rattle.name_seen_parts.specs.Marks.{attribute_break, first_named, is_among, places_of};
 
 use crate::clauses::count_break;
 use name_meaning::Break;

@@ -2,7 +2,7 @@
 ghost use Rattle.std.specs.Prelude.{◌≡◌, ◌++◌, [], IfOk, OnOk, map};
 ghost use Rattle.name_meaning.specs.Froms.{table_columns};
 ghost use Rattle.name_meaning.specs.Scopes.{numbered_columns, scope_of};
-ghost use Rattle.name_seen_parts.specs.from_columns.Scopes.{item_scope, moved_by, scope_beside};
+ghost use Rattle.name_seen_parts.specs.Scopes.{item_scope, moved_by, scope_beside};
 
 use name_meaning::{Scope, ScopeColumn};
 use perm_catalog::Column;

@@ -1,6 +1,6 @@
 //! The condition of DELETE.
 ghost use Rattle.std.specs.Prelude.{◌≡◌, ◌∷◌, ◌++◌, [], IfOk};
-ghost use Rattle.name_seen_parts.specs.clauses.Told.{Tells};
+ghost use Rattle.name_seen_parts.specs.Told.{Tells};
 ghost use Rattle.name_seen_parts.specs.Seen.{first_or};
 ghost use Rattle.name_meaning.specs.Froms.{condition_breaks, table_columns};
 ghost use Rattle.name_meaning.specs.Scopes.{numbered_columns, scope_of};

@@ -3,7 +3,7 @@ ghost use Rattle.std.specs.Prelude.{◌≡◌, []};
 ghost use Rattle.name_meaning.specs.Statements as words;
 ghost use Rattle.name_seen_parts.specs.Seen.{first_or};
 ghost use Rattle.perm_catalog.specs.Changes.{is_free};
-ghost use Rattle.name_statements.specs.seen.Earlier.{column_break, is_defined};
+ghost use Rattle.name_statements.specs.Earlier.{column_break, is_defined};
 
 use name_meaning::Break;
 use perm_catalog::Catalog;

@@ -5,8 +5,8 @@ ghost use Rattle.name_meaning.specs.Froms.{names_of, settled_columns};
 ghost use Rattle.name_meaning.specs.Meanings.{broken_if, is_same_kind, settled};
 ghost use Rattle.name_meaning.specs.Statements.{has_boolean, repeats};
 ghost use Rattle.name_seen_parts.specs.Seen.{first_or};
-ghost use Rattle.name_seen_parts.specs.clauses.Columns.{columns_of};
-ghost use Rattle.name_statements.specs.seen.Earlier.{is_shown};
+ghost use Rattle.name_seen_parts.specs.Columns.{columns_of};
+ghost use Rattle.name_statements.specs.Earlier.{is_shown};
 
 use name_meaning::Break;
 use name_seen_parts::ShownColumn;

@@ -1,6 +1,6 @@
 //! The values of INSERT.
 ghost use Rattle.std.specs.Prelude.{◌≡◌, [], List as Sights, flat_map, length};
-ghost use Rattle.name_seen_parts.specs.clauses.Told.{Tells};
+ghost use Rattle.name_seen_parts.specs.Told.{Tells};
 ghost use Rattle.name_seen_parts.specs.Seen.{first_or, seen};
 ghost use Rattle.name_seen_parts.specs.Standing.{standing_in, surroundings};
 ghost use Rattle.name_meaning.specs.Meanings.{Meant, means_at};

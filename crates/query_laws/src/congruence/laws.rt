@@ -14,8 +14,8 @@ ghost use Rattle.bag_algebra.specs.declared.query.Label.{Label};
 ghost use Rattle.bag_algebra.specs.declared.query.Query.TheVariants.{Base, Filter, Project, Join, Union, Intersect, Except, Distinct, Aggregate, Limit};
 ghost use Rattle.bag_algebra.specs.declared.query.Query.{Query};
 ghost use Rattle.bag_algebra.specs.declared.query.Sublink.{Sublink};
-ghost use Rattle.query_laws.specs.congruence.Agreeing.{SubsAgree};
-ghost use Rattle.query_laws.specs.congruence.Standing.{SubsStand};
+ghost use Rattle.query_laws.specs.Agreeing.{SubsAgree};
+ghost use Rattle.query_laws.specs.Standing.{SubsStand};
 
 /// Of its inputs a node sees the rows, each as often as it stands there, or the faults. Of its sublinks it sees, on each
 /// row of its input, the rows of their queries or the faults; a join on each row. A join takes the widths of its inputs for

@@ -14,8 +14,8 @@ ghost use Rattle.bag_algebra.specs.declared.query.Label.{Label};
 ghost use Rattle.bag_algebra.specs.declared.query.Query.{Query};
 ghost use Rattle.bag_algebra.specs.declared.query.Query.TheVariants.{Table, Single, Base, Filter, Project, Join, Union, Intersect, Except, Distinct, Aggregate, Limit, Prov};
 ghost use Rattle.bag_algebra.specs.declared.query.Sublink.{Sublink};
-ghost use Rattle.query_laws.specs.witnesses.ListsOfNodes.{Followed, ProjectList, JoinList, UnionList, IntersectList, ExceptList, AggregateList};
-ghost use Rattle.query_laws.specs.witnesses.SublinkLists.{InAnswer};
+ghost use Rattle.query_laws.specs.ListsOfNodes.{Followed, ProjectList, JoinList, UnionList, IntersectList, ExceptList, AggregateList};
+ghost use Rattle.query_laws.specs.SublinkLists.{InAnswer};
 
 /// The row of a source has the one list that holds it, restricted to the source's places; the rows of a table, of no FROM
 /// and of PROVENANCE have the one list without entries.

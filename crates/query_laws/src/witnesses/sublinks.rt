@@ -8,7 +8,7 @@ ghost use Rattle.bag_algebra.specs.Means.{Witness, all_empty, chosen, contributi
 ghost use Rattle.bag_algebra.specs.Outcome.{Good};
 ghost use Rattle.bag_algebra.specs.declared.query.SubKind.{SubKind};
 ghost use Rattle.bag_algebra.specs.declared.query.Sublink.{Sublink};
-ghost use Rattle.query_laws.specs.witnesses.SublinkLists.{IsChosen, Contributes};
+ghost use Rattle.query_laws.specs.SublinkLists.{IsChosen, Contributes};
 
 /// The rows of a sublink's query that contribute are those that compare true where it is a true ANY, those that compare
 /// false where it is a false ALL, and otherwise all; its contributions are their witness lists, and the all-empty list

@@ -1,6 +1,6 @@
 //! How many columns a set operation has, and its left rewriting.
 ghost use Rattle.std.specs.Prelude.{IfOk};
-ghost use Rattle.rewrite_core.specs.sets.ColumnsOf.{ColumnsOf};
+ghost use Rattle.rewrite_core.specs.ColumnsOf.{ColumnsOf};
 
 use bag_algebra::Query;
 use perm_values::NoMemory;

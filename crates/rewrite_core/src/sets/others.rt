@@ -4,8 +4,8 @@ ghost use Rattle.bag_algebra.specs.Kinds.{width_of};
 ghost use Rattle.bag_algebra.specs.declared.query.JoinKind.TheVariants.{Inner, Left};
 ghost use Rattle.bag_algebra.specs.declared.query.Query.TheVariants.{Except};
 ghost use Rattle.rewrite_base.specs.KeptColumns.{columns_kept, differs_from_first, pairs_of, same_as_first};
-ghost use Rattle.rewrite_core.specs.sets.ColumnsOf.{ColumnsOf};
-ghost use Rattle.rewrite_core.specs.sets.OtherRows.{remaining};
+ghost use Rattle.rewrite_core.specs.ColumnsOf.{ColumnsOf};
+ghost use Rattle.rewrite_core.specs.OtherRows.{remaining};
 
 use crate::sets::columns::{Columns, columns_of};
 use bag_algebra::{JoinKind, Query};

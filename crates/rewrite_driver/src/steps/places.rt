@@ -1,6 +1,6 @@
 //! Whether a query has places of provenance.
 ghost use Rattle.std.specs.Prelude.{◌≡◌, IfOk};
-ghost use Rattle.rewrite_driver.specs.steps.Places.{has_places};
+ghost use Rattle.rewrite_driver.specs.Places.{has_places};
 
 use bag_algebra::Query;
 use contribution::shape;

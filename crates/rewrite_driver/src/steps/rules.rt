@@ -4,8 +4,8 @@ ghost use Rattle.bag_algebra.specs.Rewriting.{IsRewrite, Stands};
 ghost use Rattle.bag_algebra.specs.declared.query.Label.{Label as Named};
 ghost use Rattle.bag_algebra.specs.declared.query.Query.TheVariants.{Base, Filter, Project, Join, Union, Intersect, Except, Distinct, Aggregate, Limit};
 ghost use Rattle.bag_algebra.specs.declared.query.Query.{Query as Node};
-ghost use Rattle.query_laws.specs.congruence.Standing.{SubsStand};
-ghost use Rattle.bag_algebra.specs.measures.BuiltScopes.{all_over_tables};
+ghost use Rattle.query_laws.specs.Standing.{SubsStand};
+ghost use Rattle.bag_algebra.specs.BuiltScopes.{all_over_tables};
 ghost use Rattle.rewrite_sublink.specs.SubRewritings.{SubsRewritten};
 
 use bag_algebra::{Aggr, Expr, Item, JoinKind, Query, Sublink};

@@ -5,7 +5,7 @@ ghost use Rattle.bag_algebra.specs.Rewriting.{IsRewrite, Stands};
 ghost use Rattle.bag_algebra.specs.declared.query.Query.TheVariants.{Filter, Project, Join, Union, Intersect, Except, Distinct, Aggregate, Limit, Prov};
 ghost use Rattle.bag_algebra.specs.declared.query.Query.{Query as Node};
 ghost use Rattle.bag_algebra.specs.declared.query.Sublink.{Sublink as Tested};
-ghost use Rattle.query_laws.specs.congruence.Standing.{SubsStand};
+ghost use Rattle.query_laws.specs.Standing.{SubsStand};
 
 use crate::steps::nodes::{
     aggregate_over, distinct_over, except_over, filter_over, intersect_over, join_over, limit_over,

@@ -2,7 +2,7 @@
 ghost use Rattle.std.specs.Prelude.{◌≡◌, ◌++◌, [], ◌∷◌, List as Items, IfOk, OnOk};
 ghost use Rattle.bag_algebra.specs.Rewriting.{IsRewrite, Stands};
 ghost use Rattle.bag_algebra.specs.declared.query.Sublink.{Sublink as Tested};
-ghost use Rattle.query_laws.specs.congruence.Standing.{SubsStand};
+ghost use Rattle.query_laws.specs.Standing.{SubsStand};
 ghost use Rattle.rewrite_sublink.specs.SubRewritings.{SubsRewritten};
 
 use crate::steps::nodes::sublink_over;

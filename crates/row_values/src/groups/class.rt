@@ -2,7 +2,7 @@
 ghost use Rattle.std.specs.Prelude.{◌≡◌, IfOk, [], ◌∷◌};
 ghost use Rattle.perm_values.specs.Rows.{picked, value_at};
 ghost use Rattle.bag_algebra.specs.Means.{class_keys};
-ghost use Rattle.row_values.specs.groups.Groups.{IsClassed};
+ghost use Rattle.row_values.specs.Groups.{IsClassed};
 
 use indexmap::IndexSet;
 use perm_values::{Copyable, List, NoMemory, Row, Value};

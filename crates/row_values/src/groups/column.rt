@@ -4,7 +4,7 @@ ghost use Rattle.std.specs.List.{AllZip};
 ghost use Rattle.bag_algebra.specs.Meaning.{optional_value, arguments_on};
 ghost use Rattle.bag_algebra.specs.Outcome.{each};
 ghost use Rattle.row_values.specs.Answers.{Refuses};
-ghost use Rattle.row_values.specs.groups.Columns.{IsColumn, Distributes, AreEmpty};
+ghost use Rattle.row_values.specs.Columns.{IsColumn, Distributes, AreEmpty};
 
 use crate::error::ExecError;
 use crate::sublink::optional_value;

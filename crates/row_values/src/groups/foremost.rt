@@ -3,7 +3,7 @@ ghost use Rattle.std.specs.Prelude.{◌≡◌, ◌<◌, cond, length};
 ghost use Rattle.perm_values.specs.Rows.{value_at};
 ghost use Rattle.bag_algebra.specs.Bags.{sorted};
 ghost use Rattle.bag_algebra.specs.Means.{first_or_null, present};
-ghost use Rattle.row_values.specs.groups.Foremost.{order_of, takes_over};
+ghost use Rattle.row_values.specs.Foremost.{order_of, takes_over};
 
 use crate::operate::is_null;
 use perm_values::Value;

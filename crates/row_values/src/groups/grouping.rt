@@ -5,7 +5,7 @@ ghost use Rattle.bag_algebra.specs.Meaning.{arguments_on};
 ghost use Rattle.bag_algebra.specs.Means.{grouped};
 ghost use Rattle.bag_algebra.specs.Outcome.{Outcome, each, mapped};
 ghost use Rattle.row_values.specs.Answers.{Gives};
-ghost use Rattle.row_values.specs.groups.Columns.{functions_of, class_value, MakesRows};
+ghost use Rattle.row_values.specs.Columns.{functions_of, class_value, MakesRows};
 
 use crate::error::ExecError;
 use crate::groups::aggregate::aggregated;

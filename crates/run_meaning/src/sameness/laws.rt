@@ -5,7 +5,7 @@ ghost use Rattle.run_meaning.specs.Run.{Ran, Runs};
 ghost use Rattle.run_meaning.specs.Scripts.{IsScriptOf, IsMisspelled};
 ghost use Rattle.perm_io.specs.declared.named_file.NamedFile.{NamedFile};
 ghost use Rattle.sql_tree.specs.declared.statement.Script.{Script};
-ghost use Rattle.run_meaning.specs.sameness.Same.{SameRun};
+ghost use Rattle.run_meaning.specs.Same.{SameRun};
 
 use crate::laws::bytes_are_one_script;
 use sql_lexer::lexing_is_unique;

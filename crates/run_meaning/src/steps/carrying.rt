@@ -5,7 +5,7 @@ ghost use Rattle.statement_laws.specs.Sounder.{KeepsSound};
 ghost use Rattle.statement_meaning.specs.Asking.{asks};
 ghost use Rattle.statement_meaning.specs.Ready.{IsReady};
 ghost use Rattle.statement_steps.specs.Running.{KeepsRun};
-ghost use Rattle.run_meaning.specs.steps.Carrying.{IsCarriedOut};
+ghost use Rattle.run_meaning.specs.Carrying.{IsCarriedOut};
 
 use name_meaning::Resolved;
 use perm_catalog::Catalog;

@@ -21,9 +21,9 @@ ghost use Rattle.statement_meaning.specs.Answers.{Files, IsTurn, TakesTurn, can_
 ghost use Rattle.statement_meaning.specs.Asking.{Asked, Settled, asked};
 ghost use Rattle.statement_meaning.specs.Turns.{Turn, Cause, Stands, Refused, Meets};
 ghost use Rattle.statement_meaning.specs.declared.refusal.StepRefusal.{StepRefusal};
-ghost use Rattle.statement_laws.specs.answers.Asks.{AsksFor, HasWord, IsResolved, WithoutWord, shown_names, with_body};
-ghost use Rattle.statement_laws.specs.answers.Beside.{IsBeside};
-ghost use Rattle.statement_laws.specs.answers.Printed.{ListsBag, ListsBeside};
+ghost use Rattle.statement_laws.specs.Asks.{AsksFor, HasWord, IsResolved, WithoutWord, shown_names, with_body};
+ghost use Rattle.statement_laws.specs.Beside.{IsBeside};
+ghost use Rattle.statement_laws.specs.Printed.{ListsBag, ListsBeside};
 
 /// A query that breaks no rule, with PROVENANCE or without: where it means a bag on the catalog's tables, it stands with the one
 /// text that lists each row as often as the bag counts it, in the printed order, and the catalog is as before. Where it is bad,

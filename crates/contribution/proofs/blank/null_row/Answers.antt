@@ -9,7 +9,7 @@ use Rattle.bag_algebra.specs.Rewriting.{is_plain}
 use Rattle.bag_algebra.specs.WellFormed.{WellFormed}
 use Rattle.bag_algebra.specs.declared.query.Query.{end_of-Sublink}
 use Rattle.bag_algebra.specs.declared.query.Query.TheVariants.{Single}
-use Rattle.contribution.proofs.parts.NodeQueries.{of_made}
+use Rattle.contribution.proofs.NodeQueries.{of_made}
 use Rattle.contribution.proofs.NullRows.{kinds_of-null_row, meaning-null_row, formed-null_row}
 use Rattle.contribution.specs.NullRow.{null_row_of}
 use Rattle.contribution.proofs.blank.null_row.Goals as goal

@@ -10,7 +10,7 @@ use Rattle.bag_algebra.specs.Rewriting.{is_plain}
 use Rattle.bag_algebra.specs.WellFormed.{WellFormed}
 use Rattle.bag_algebra.specs.declared.query.Query.TheVariants.{Single}
 use Rattle.std.specs.Prelude.{None}
-use Rattle.contribution.proofs.parts.NodeQueries.{of_made}
+use Rattle.contribution.proofs.NodeQueries.{of_made}
 use Rattle.contribution.proofs.CrossBases.{kinds_of-cross_base, meaning-cross_base, formed-cross_base, plain-cross_base, tables-cross_base}
 use Rattle.contribution.proofs.CrossedRows.{FlatAt}
 use Rattle.contribution.proofs.ListsInBases.{lists-in_cross_base}

@@ -1,5 +1,5 @@
 use Rattle.std.proofs.Common.{sym}
-use Rattle.name_seen_parts.proofs.clauses.Firsts.{none-broken}
+use Rattle.name_seen_parts.proofs.Firsts.{none-broken}
 use Rattle.name_statements.specs.Own.{own_breaks}
 use Rattle.name_statements.proofs.Owned.{first-told, none-told, own-first}
 use Rattle.name_analysis.proofs.analysis.resolve.Goals as goal

@@ -1,7 +1,7 @@
 use Rattle.std.proofs.Common.{refl, sym, subst, ◌∙◌}
-use Rattle.name_seen_parts.proofs.clauses.Firsts.{none-broken}
+use Rattle.name_seen_parts.proofs.Firsts.{none-broken}
 use Rattle.name_seen_parts.specs.Standing.{around_of}
-use Rattle.name_seen_parts.specs.clauses.Columns.{columns_of}
+use Rattle.name_seen_parts.specs.Columns.{columns_of}
 use Rattle.name_meaning.specs.Froms.{settled_columns}
 use Rattle.name_meaning.specs.Meanings.{query_means_at}
 use Rattle.name_meaning.specs.Statements as words

@@ -1,5 +1,5 @@
 use Rattle.std.proofs.Common.{refl, sym, subst, ◌∙◌}
-use Rattle.name_seen_parts.proofs.clauses.Firsts.{none-broken}
+use Rattle.name_seen_parts.proofs.Firsts.{none-broken}
 use Rattle.name_seen_parts.specs.Standing.{around_of}
 use Rattle.name_meaning.specs.Froms.{names_of}
 use Rattle.name_meaning.specs.Meanings.{broken_if, query_means_at}

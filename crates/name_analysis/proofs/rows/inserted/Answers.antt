@@ -2,7 +2,7 @@ use Rattle.std.proofs.Common.{subst, sym}
 use Rattle.perm_catalog.specs.declared.column.Column.{Column}
 use Rattle.sql_tree.specs.declared.statement.StatementBody.TheVariants as st
 use Rattle.std.specs.Prelude.{List, flat_map}
-use Rattle.name_seen_parts.specs.clauses.Told.{Tells}
+use Rattle.name_seen_parts.specs.Told.{Tells}
 use Rattle.name_seen_parts.specs.Seen.{first_or}
 use Rattle.name_meaning.specs.Statements.{row_breaks}
 use Rattle.perm_catalog.specs.Columns.{column_kinds}

@@ -1,7 +1,7 @@
 use Rattle.std.proofs.Common.{◌≡◌, take}
 use Rattle.std.specs.Prelude.{map}
 use Rattle.name_meaning.specs.Queries.{key_of}
-use Rattle.name_seen_parts.specs.clauses.Columns.{columns_of}
+use Rattle.name_seen_parts.specs.Columns.{columns_of}
 use Rattle.name_made_parts.proofs.keys.keys_of.Given as goal
 
 abbrev pub invariant-loop-tree : goal.invariant-loop-tree

@@ -1,6 +1,6 @@
 use Rattle.std.proofs.Common.{◌≡◌, take}
 use Rattle.name_meaning.specs.Froms.{names_of, settled_columns}
-use Rattle.name_seen_parts.specs.clauses.Columns.{columns_of}
+use Rattle.name_seen_parts.specs.Columns.{columns_of}
 use Rattle.name_made_parts.proofs.shown.column_names.Given as goal
 
 abbrev pub invariant-loop-column : goal.invariant-loop-column

@@ -7,7 +7,7 @@ use Rattle.name_seen_parts.specs.Seen.{seen}
 use Rattle.name_seen_parts.specs.Standing.{surroundings}
 use Rattle.name_seen_parts.specs.declared.refusal.Refusal.{Refusal}
 use Rattle.name_seen_parts.proofs.SeenAs.{seen-as}
-use Rattle.name_seen_parts.specs.clauses.Told.{Tells}
+use Rattle.name_seen_parts.specs.Told.{Tells}
 use Rattle.name_seen_cores.specs.Expressed.{answered}
 use Rattle.name_seen_cores.proofs.Alone.{tells-answered}
 use Rattle.name_seen_cores.proofs.Sublinked.{argument-refused}

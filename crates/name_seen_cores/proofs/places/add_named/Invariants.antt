@@ -2,7 +2,7 @@ use Rattle.std.proofs.Common.{◌≡◌, ◌++◌}
 use Rattle.std.specs.Prelude.{map}
 use Rattle.name_meaning.specs.Froms.{named_columns}
 use Rattle.name_meaning.specs.Queries.{out_column}
-use Rattle.name_seen_parts.specs.clauses.Columns.{columns_of}
+use Rattle.name_seen_parts.specs.Columns.{columns_of}
 use Rattle.name_seen_cores.proofs.Named.{named_from_place}
 use Rattle.name_seen_cores.proofs.places.add_named.Given as goal
 

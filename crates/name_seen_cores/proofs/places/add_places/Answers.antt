@@ -4,7 +4,7 @@ use Rattle.std.proofs.Common.{ap, ◌∙◌}
 use Rattle.bag_algebra.specs.Kinds.{place_kinds}
 use Rattle.name_meaning.specs.Froms.{named_columns}
 use Rattle.name_meaning.specs.Queries.{out_column}
-use Rattle.name_seen_parts.specs.clauses.Columns.{columns_of}
+use Rattle.name_seen_parts.specs.Columns.{columns_of}
 use Rattle.name_seen_cores.proofs.Results.{holds-on, turned-ok}
 use Rattle.name_seen_cores.proofs.places.add_places.Goals as goal
 

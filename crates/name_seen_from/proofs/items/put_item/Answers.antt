@@ -3,8 +3,8 @@ use Rattle.std.proofs.Common.{ap, sym, ◌∙◌}
 use Rattle.name_meaning.specs.Froms.{is_out_of_scope, item_meant, label_of, marked, read_names, scope_name}
 use Rattle.name_meaning.specs.Meanings.{broken_if}
 use Rattle.name_meaning.specs.Trees.{source_of}
-use Rattle.name_seen_parts.proofs.clauses.Firsts.{none-broken}
-use Rattle.name_seen_parts.specs.from_columns.Scopes.{item_scope, scope_beside}
+use Rattle.name_seen_parts.proofs.Firsts.{none-broken}
+use Rattle.name_seen_parts.specs.Scopes.{item_scope, scope_beside}
 use Rattle.name_seen_from.proofs.Placed.{early-none, item-scoped, item-whole, refused, scope-told}
 use Rattle.name_seen_from.proofs.items.put_item.Goals as goal
 

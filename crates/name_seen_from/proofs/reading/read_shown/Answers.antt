@@ -4,13 +4,13 @@ use Rattle.std.proofs.Common.{refl, ap, sym, ◌∙◌, ◌≡◌}
 use Rattle.bag_algebra.specs.Kinds.{kinds_of}
 use Rattle.perm_catalog.specs.Columns.{column_kinds}
 use Rattle.name_meaning.specs.Froms.{names_of, settled_columns, table_columns}
-use Rattle.name_seen_parts.specs.clauses.Columns.{columns_of}
+use Rattle.name_seen_parts.specs.Columns.{columns_of}
 use Rattle.name_seen_parts.specs.declared.clauses.column.ShownColumn.{ShownColumn}
 use Rattle.name_seen_from.specs.Added.{facts_in}
-use Rattle.name_seen_parts.specs.from_columns.Columns.{known_names}
+use Rattle.name_seen_parts.specs.FromColumns.{known_names}
 use Rattle.name_seen_from.specs.Readings.{external_facts}
 use Rattle.name_seen_from.proofs.Plain.{shown-plain}
-use Rattle.name_seen_parts.proofs.from_columns.Settled.{kinds-settled}
+use Rattle.name_seen_parts.proofs.Settled.{kinds-settled}
 use Rattle.name_seen_from.proofs.reading.read_shown.Goals as goal
 
 pub returns : goal.returns

@@ -1,5 +1,5 @@
 use Rattle.std.proofs.Common.{ap, ◌∙◌}
-use Rattle.name_seen_parts.specs.from_columns.Columns.{known_names}
+use Rattle.name_seen_parts.specs.FromColumns.{known_names}
 use Rattle.name_seen_from.proofs.Plain.{facts-so, table-source, table-whole}
 use Rattle.name_seen_from.proofs.reading.table_plain.Goals as goal
 

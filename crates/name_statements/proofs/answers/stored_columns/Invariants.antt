@@ -1,5 +1,5 @@
 use Rattle.std.proofs.Common.{◌≡◌, take}
-use Rattle.name_seen_parts.specs.clauses.Columns.{columns_of}
+use Rattle.name_seen_parts.specs.Columns.{columns_of}
 use Rattle.name_meaning.specs.Froms.{settled_columns}
 use Rattle.name_meaning.specs.Statements.{stored_columns}
 use Rattle.name_statements.proofs.answers.stored_columns.Given as goal

@@ -8,9 +8,9 @@ use Rattle.run_meaning.specs.Run.{Runs, ended, is_one}
 use Rattle.run_meaning.specs.Stops.{Misused, NoFile, LongFile, FailedFile}
 use Rattle.run_meaning.specs.declared.status.Status.TheVariants as status
 use Rattle.run_meaning.proofs.Completing.{completes, steadied, whole-flushed, write_fault}
-use Rattle.run_meaning.proofs.steps.Looping.{other_end, failed-unsteady, used-of_script}
-use Rattle.run_meaning.proofs.steps.Reasons.{ends-broken, ends-faulty, ends-bad}
-use Rattle.run_meaning.proofs.steps.Running.{Runs-misused, Runs-found, Runs-read, Opens-none, one_word, none_or_more}
+use Rattle.run_meaning.proofs.Looping.{other_end, failed-unsteady, used-of_script}
+use Rattle.run_meaning.proofs.Reasons.{ends-broken, ends-faulty, ends-bad}
+use Rattle.run_meaning.proofs.Running.{Runs-misused, Runs-found, Runs-read, Opens-none, one_word, none_or_more}
 use Rattle.perm_engine.proofs.run.perm.Goals as goal
 
 pub returns-then-words-ne1 : goal.returns-then-words-ne1

@@ -12,11 +12,11 @@ use Rattle.statement_meaning.specs.Asking.{asked}
 use Rattle.perm_engine.specs.Sessions.{SessionState}
 use Rattle.run_meaning.specs.Stops.{ToTheEnd}
 use Rattle.run_meaning.specs.declared.status.Status.TheVariants as status
-use Rattle.run_meaning.proofs.steps.Ending.{HasRun, HasRun-nothing, HasRun-more, HasRun-cut, HasRun-stopped, HasRun-done}
-use Rattle.run_meaning.proofs.steps.Firsts.{next-after}
-use Rattle.run_meaning.proofs.steps.Looping.{next-regular, left-regular, text≢memory, stopped-of_script, stopped-read_fault, stopped-steady, other_end}
-use Rattle.run_meaning.proofs.steps.Running.{of_script}
-use Rattle.run_meaning.proofs.steps.Turns.{begun-told, still_risen}
+use Rattle.run_meaning.proofs.Ending.{HasRun, HasRun-nothing, HasRun-more, HasRun-cut, HasRun-stopped, HasRun-done}
+use Rattle.run_meaning.proofs.Firsts.{next-after}
+use Rattle.run_meaning.proofs.Looping.{next-regular, left-regular, text≢memory, stopped-of_script, stopped-read_fault, stopped-steady, other_end}
+use Rattle.run_meaning.proofs.Running.{of_script}
+use Rattle.run_meaning.proofs.Turns.{begun-told, still_risen}
 use Rattle.run_meaning.proofs.Widening.{CanBe-moved, takes-wider, rests-moved}
 use Rattle.perm_engine.proofs.run.run_statements.Goals as goal
 

@@ -1,5 +1,5 @@
 use Rattle.std.proofs.Common.{sym, ◌∙◌}
-use Rattle.run_meaning.proofs.steps.Stepping.{resolves-unbuilt, resolves-built}
+use Rattle.run_meaning.proofs.Stepping.{resolves-unbuilt, resolves-built}
 use Rattle.perm_engine.proofs.Due.{due-built, due-unbuilt}
 use Rattle.perm_engine.proofs.session.resolved_statement.Goals as goal
 

@@ -11,7 +11,7 @@ use Rattle.bag_algebra.specs.declared.query.Query.{Query}
 use Rattle.bag_algebra.specs.declared.query.Query.TheVariants.{Aggregate}
 use Rattle.rewrite_base.proofs.OpenSublinks.{closed-kept}
 use Rattle.rewrite_base.specs.KeptColumns.{pairs_of, columns_kept}
-use Rattle.contribution.proofs.parts.NodeQueries.{of_made}
+use Rattle.contribution.proofs.NodeQueries.{of_made}
 use Rattle.rewrite_core.proofs.AggregateRows.{aggregate-made}
 use Rattle.rewrite_core.specs.SameGroups.{same_groups}
 use Rattle.rewrite_core.proofs.grouping.aggregate.Goals as goal

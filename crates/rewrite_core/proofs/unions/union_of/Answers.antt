@@ -3,7 +3,7 @@ use Rattle.bag_algebra.specs.Kinds.{width_of}
 use Rattle.bag_algebra.specs.Patterns.{UnionOf}
 use Rattle.bag_algebra.specs.Rewriting.{IsRewrite}
 use Rattle.bag_algebra.specs.declared.query.Query.TheVariants.{Union}
-use Rattle.contribution.proofs.parts.NodeQueries.{of_made}
+use Rattle.contribution.proofs.NodeQueries.{of_made}
 use Rattle.rewrite_core.proofs.Closing.{closed-both}
 use Rattle.rewrite_core.proofs.UnionRows.{rewrite-Union}
 use Rattle.rewrite_core.specs.UnionColumns.{padded_behind, provenance_kinds}

@@ -6,15 +6,15 @@ use Rattle.bag_algebra.specs.Scoped.{is_scoped, over_tables, traceable}
 use Rattle.bag_algebra.specs.declared.query.Query.{the_lemmas}
 use Rattle.bag_algebra.specs.declared.query.Query.TheVariants.{Single}
 use Rattle.contribution.proofs.Added.{one_more}
-use Rattle.query_laws.proofs.congruence.StandingNodes.{stands-Base}
-use Rattle.query_laws.specs.congruence.Standing.{SubsStand}
-use Rattle.bag_algebra.specs.measures.BuiltScopes.{all_scoped, all_traceable, is_scoped-Base, is_scoped-Filter, is_scoped-Project, is_scoped-Join, is_scoped-Union, is_scoped-Intersect, is_scoped-Except, is_scoped-Distinct, is_scoped-Aggregate, is_scoped-Limit, is_scoped-Prov, traceable-Filter, traceable-Project, traceable-Join, traceable-Union, traceable-Intersect, traceable-Except, traceable-Distinct, traceable-Aggregate, traceable-Limit}
+use Rattle.query_laws.proofs.StandingNodes.{stands-Base}
+use Rattle.query_laws.specs.Standing.{SubsStand}
+use Rattle.bag_algebra.specs.BuiltScopes.{all_scoped, all_traceable, is_scoped-Base, is_scoped-Filter, is_scoped-Project, is_scoped-Join, is_scoped-Union, is_scoped-Intersect, is_scoped-Except, is_scoped-Distinct, is_scoped-Aggregate, is_scoped-Limit, is_scoped-Prov, traceable-Filter, traceable-Project, traceable-Join, traceable-Union, traceable-Intersect, traceable-Except, traceable-Distinct, traceable-Aggregate, traceable-Limit}
 use Rattle.rewrite_base.proofs.Itself.{stands-Table, stands-Single}
 use Rattle.rewrite_base.proofs.JoinSublinks.{rewrite-Join}
-use Rattle.rewrite_driver.proofs.steps.MadeQueries.{stands_made, stands_where, rewrites_where, rewrites_without_places}
-use Rattle.rewrite_driver.proofs.steps.Scopes.{one_of, first_of, second_of, at_each, subs-sourced}
+use Rattle.rewrite_driver.proofs.MadeQueries.{stands_made, stands_where, rewrites_where, rewrites_without_places}
+use Rattle.rewrite_driver.proofs.Scopes.{one_of, first_of, second_of, at_each, subs-sourced}
 use Rattle.rewrite_driver.proofs.driver.+stand.Goals as goal
-use Rattle.rewrite_driver.specs.steps.Places.{is_some_place, has_places}
+use Rattle.rewrite_driver.specs.Places.{is_some_place, has_places}
 use Rattle.rewrite_sublink.specs.SubRewritings.{SubsRewritten}
 
 pub stand-stand-requires : goal.stand-stand-requires

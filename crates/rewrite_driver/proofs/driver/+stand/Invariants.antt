@@ -1,5 +1,5 @@
 use Rattle.std.proofs.Common.{take}
-use Rattle.query_laws.specs.congruence.Standing.{SubsStand}
+use Rattle.query_laws.specs.Standing.{SubsStand}
 use Rattle.rewrite_driver.proofs.driver.+stand.Given as goal
 use Rattle.rewrite_sublink.specs.SubRewritings.{SubsRewritten}
 

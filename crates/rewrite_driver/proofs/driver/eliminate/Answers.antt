@@ -3,7 +3,7 @@ use Rattle.bag_algebra.specs.Rewriting.{Stands}
 use Rattle.rewrite_driver.proofs.NoRowLost.{keeps-rows}
 use Rattle.rewrite_driver.proofs.driver.eliminate.Goals as goal
 use Rattle.rewrite_driver.specs.FirstColumns.{KeepsRows}
-use Rattle.rewrite_driver.proofs.steps.MadeQueries.{where_made}
+use Rattle.rewrite_driver.proofs.MadeQueries.{where_made}
 
 pub returns-clause-no_row_lost : goal.returns-clause-no_row_lost
 returns-clause-no_row_lost c q is =

@@ -1,6 +1,6 @@
 use Rattle.std.proofs.Common.{length, sym, ap, ◌∙◌}
 use Rattle.std.proofs.lemmas.List.FromFn.{length-range_with_len}
-use Rattle.contribution.specs.parts.Conjunctions.{all_hold}
+use Rattle.contribution.specs.Conjunctions.{all_hold}
 use Rattle.rewrite_sublink.proofs.matching.same_as_outer.Goals as goal
 use Rattle.rewrite_sublink.specs.Candidates.{outer_tests}
 

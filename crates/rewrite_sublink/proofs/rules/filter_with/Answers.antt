@@ -2,7 +2,7 @@ use Rattle.std.proofs.Common.{◌≡◌, ◌∙◌, IfOk, IsTrue, length, sym, a
 use Rattle.bag_algebra.specs.EveryNode.{no_open_sublink}
 use Rattle.bag_algebra.specs.Rewriting.{IsRewrite}
 use Rattle.bag_algebra.specs.declared.query.Query.TheVariants.{Filter}
-use Rattle.contribution.proofs.parts.NodeQueries.{of_made}
+use Rattle.contribution.proofs.NodeQueries.{of_made}
 use Rattle.rewrite_sublink.proofs.AllSublinks.{ready}
 use Rattle.rewrite_sublink.proofs.Closing.{stand-length, rewritten-length, closed-filter}
 use Rattle.rewrite_sublink.proofs.FilterRows.{rewrite-Filter_with}

@@ -3,7 +3,7 @@ use Rattle.bag_algebra.specs.EveryNode.{no_open_sublink}
 use Rattle.bag_algebra.specs.Kinds.{width_of}
 use Rattle.bag_algebra.specs.Rewriting.{IsRewrite}
 use Rattle.bag_algebra.specs.declared.query.Query.TheVariants.{Project}
-use Rattle.contribution.proofs.parts.NodeQueries.{of_made}
+use Rattle.contribution.proofs.NodeQueries.{of_made}
 use Rattle.rewrite_sublink.proofs.AllSublinks.{ready}
 use Rattle.rewrite_sublink.proofs.ProjectRows.{rewrite-Project_with}
 use Rattle.rewrite_sublink.proofs.Closing.{stand-length, rewritten-length, closed-project}

@@ -1,5 +1,5 @@
 use Rattle.std.proofs.Common.{◌∙◌, ap, refl, sym}
-use Rattle.csv_tables.specs.errors.Lines.{error_line}
+use Rattle.csv_tables.specs.Lines.{error_line}
 use Rattle.statement_meaning.specs.declared.refusal.StepRefusal.TheVariants as refusal
 use Rattle.run_meaning.specs.Stops.{At}
 use Rattle.run_meaning.proofs.stopping.stop.Goals as goal

@@ -1,5 +1,5 @@
 use Rattle.std.proofs.Common.{◌≡◌, ◌&&◌, refl, sym, ap, ◌∙◌}
-use Rattle.bag_algebra.specs.measures.BuiltFaultFree.{all_fault_free, fault_free-Base, fault_free-Filter, fault_free-Project, fault_free-Join, fault_free-Union, fault_free-Intersect, fault_free-Except, fault_free-Distinct, fault_free-Aggregate, fault_free-Limit, fault_free-Prov}
+use Rattle.bag_algebra.specs.BuiltFaultFree.{all_fault_free, fault_free-Base, fault_free-Filter, fault_free-Project, fault_free-Join, fault_free-Union, fault_free-Intersect, fault_free-Except, fault_free-Distinct, fault_free-Aggregate, fault_free-Limit, fault_free-Prov}
 use Rattle.bag_algebra.specs.FaultFree.{faultless, items_faultless, aggregates_faultless, fault_free}
 use Rattle.bag_algebra.proofs.Truths.{second-decides, first-decides}
 use Rattle.bag_algebra.proofs.measures.faults.+fault_free.Goals as goal

@@ -1,5 +1,5 @@
 use Rattle.std.proofs.Common.{◌≡◌, drop}
-use Rattle.bag_algebra.specs.measures.BuiltFaultFree.{all_fault_free}
+use Rattle.bag_algebra.specs.BuiltFaultFree.{all_fault_free}
 use Rattle.bag_algebra.proofs.measures.faults.+fault_free.Given as goal
 
 abbrev pub invariant-all_fault_free-loop-sub : goal.invariant-all_fault_free-loop-sub

@@ -3,7 +3,7 @@ use Rattle.std.proofs.lemmas.List.{at_drop_all}
 use Rattle.bag_algebra.specs.Built.{shape-Distinct, shape-Aggregate, shape-Limit, shape-Prov}
 use Rattle.bag_algebra.specs.Children.{subs_shape}
 use Rattle.bag_algebra.specs.Kinds.{shape}
-use Rattle.bag_algebra.proofs.measures.Rest.{from_here}
+use Rattle.bag_algebra.proofs.Rest.{from_here}
 use Rattle.bag_algebra.proofs.Widths.{places_width, shape_width, places_width-append, shape_width-Base, shape_width-Filter, shape_width-Project, shape_width-Join, shape_width-Union, shape_width-Intersect, shape_width-Except}
 use Rattle.bag_algebra.proofs.measures.kinds.+places_width.Goals as goal
 

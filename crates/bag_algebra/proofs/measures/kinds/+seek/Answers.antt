@@ -4,11 +4,11 @@ use Rattle.std.specs.Result.{result_unwrap_or}
 use Rattle.perm_values.specs.declared.kind.Kind.TheVariants.{Text}
 use Rattle.bag_algebra.specs.Built.{kinds_of-Base, kinds_of-Filter, kinds_of-Project, kinds_of-Join, kinds_of-Union, kinds_of-Intersect, kinds_of-Except, kinds_of-Distinct, kinds_of-Aggregate, kinds_of-Limit, kinds_of-Prov, shape-Distinct, shape-Aggregate, shape-Limit, shape-Prov}
 use Rattle.bag_algebra.specs.Kinds.{kinds_of, kinds_in, shape, place_kinds}
-use Rattle.bag_algebra.specs.measures.Sought.{sought}
+use Rattle.bag_algebra.specs.Sought.{sought}
 use Rattle.bag_algebra.specs.declared.expr.Item.{Item}
 use Rattle.bag_algebra.specs.declared.query.Aggr.{Aggr}
-use Rattle.bag_algebra.proofs.measures.Rest.{from_here}
-use Rattle.bag_algebra.proofs.measures.Seeking.{found_as, sought-map, whole-found, whole-rest, picked-found, picked-rest, source_kinds, sub_source_kinds, source_kinds-Base, source_kinds-Filter, source_kinds-Project, source_kinds-Join, source_kinds-Union, source_kinds-Intersect, source_kinds-Except}
+use Rattle.bag_algebra.proofs.Rest.{from_here}
+use Rattle.bag_algebra.proofs.Seeking.{found_as, sought-map, whole-found, whole-rest, picked-found, picked-rest, source_kinds, sub_source_kinds, source_kinds-Base, source_kinds-Filter, source_kinds-Project, source_kinds-Join, source_kinds-Union, source_kinds-Intersect, source_kinds-Except}
 use Rattle.bag_algebra.proofs.Widths.{place_kinds-append}
 use Rattle.bag_algebra.proofs.measures.kinds.+seek.Goals as goal
 

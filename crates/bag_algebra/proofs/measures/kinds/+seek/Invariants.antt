@@ -1,6 +1,6 @@
 use Rattle.std.proofs.Common.{◌≡◌, drop}
-use Rattle.bag_algebra.specs.measures.Sought.{sought}
-use Rattle.bag_algebra.proofs.measures.Seeking.{sub_source_kinds}
+use Rattle.bag_algebra.specs.Sought.{sought}
+use Rattle.bag_algebra.proofs.Seeking.{sub_source_kinds}
 use Rattle.bag_algebra.proofs.measures.kinds.+seek.Given as goal
 
 -- the place is none of the sublinks so far

@@ -1,5 +1,5 @@
 use Rattle.std.proofs.Common.{ap, ◌∙◌, arith, Err}
-use Rattle.bag_algebra.proofs.measures.Seeking.{sought-at, sought-past}
+use Rattle.bag_algebra.proofs.Seeking.{sought-at, sought-past}
 use Rattle.bag_algebra.proofs.measures.kinds.nth.Goals as goal
 
 pub returns-then-place-len : goal.returns-then-place-len

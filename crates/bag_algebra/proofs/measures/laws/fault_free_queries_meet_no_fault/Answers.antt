@@ -1,4 +1,4 @@
-use Rattle.bag_algebra.proofs.measures.NeverBad.{good-query}
+use Rattle.bag_algebra.proofs.NeverBad.{good-query}
 use Rattle.bag_algebra.proofs.measures.laws.fault_free_queries_meet_no_fault.Goals as goal
 
 pub returns : goal.returns

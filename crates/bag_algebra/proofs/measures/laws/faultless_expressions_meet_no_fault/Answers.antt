@@ -1,4 +1,4 @@
-use Rattle.bag_algebra.proofs.measures.NeverBad.{good-value}
+use Rattle.bag_algebra.proofs.NeverBad.{good-value}
 use Rattle.bag_algebra.proofs.measures.laws.faultless_expressions_meet_no_fault.Goals as goal
 
 pub returns : goal.returns

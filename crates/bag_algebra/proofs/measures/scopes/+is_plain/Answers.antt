@@ -1,5 +1,5 @@
 use Rattle.std.proofs.Common.{◌≡◌, ◌&&◌, refl, sym, ap, ◌∙◌}
-use Rattle.bag_algebra.specs.measures.BuiltScopes.{all_plain, is_plain-Base, is_plain-Filter, is_plain-Project, is_plain-Join, is_plain-Union, is_plain-Intersect, is_plain-Except, is_plain-Distinct, is_plain-Aggregate, is_plain-Limit, is_plain-Prov}
+use Rattle.bag_algebra.specs.BuiltScopes.{all_plain, is_plain-Base, is_plain-Filter, is_plain-Project, is_plain-Join, is_plain-Union, is_plain-Intersect, is_plain-Except, is_plain-Distinct, is_plain-Aggregate, is_plain-Limit, is_plain-Prov}
 use Rattle.bag_algebra.specs.Rewriting.{is_plain}
 use Rattle.bag_algebra.proofs.Truths.{second-decides, first-decides}
 use Rattle.bag_algebra.proofs.measures.scopes.+is_plain.Goals as goal

@@ -1,5 +1,5 @@
 use Rattle.std.proofs.Common.{◌≡◌, ◌&&◌, refl, sym, ap, ◌∙◌}
-use Rattle.bag_algebra.specs.measures.BuiltScopes.{all_scoped, is_scoped-Base, is_scoped-Filter, is_scoped-Project, is_scoped-Join, is_scoped-Union, is_scoped-Intersect, is_scoped-Except, is_scoped-Distinct, is_scoped-Aggregate, is_scoped-Limit, is_scoped-Prov}
+use Rattle.bag_algebra.specs.BuiltScopes.{all_scoped, is_scoped-Base, is_scoped-Filter, is_scoped-Project, is_scoped-Join, is_scoped-Union, is_scoped-Intersect, is_scoped-Except, is_scoped-Distinct, is_scoped-Aggregate, is_scoped-Limit, is_scoped-Prov}
 use Rattle.bag_algebra.specs.Scoped.{traceable, is_scoped}
 use Rattle.bag_algebra.proofs.Truths.{second-decides, first-decides}
 use Rattle.bag_algebra.proofs.measures.scopes.+is_scoped.Goals as goal

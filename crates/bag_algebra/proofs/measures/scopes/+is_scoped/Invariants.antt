@@ -1,5 +1,5 @@
 use Rattle.std.proofs.Common.{◌≡◌, drop}
-use Rattle.bag_algebra.specs.measures.BuiltScopes.{all_scoped}
+use Rattle.bag_algebra.specs.BuiltScopes.{all_scoped}
 use Rattle.bag_algebra.proofs.measures.scopes.+is_scoped.Given as goal
 
 -- the sublinks that are left decide

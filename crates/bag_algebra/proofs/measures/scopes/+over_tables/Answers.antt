@@ -1,6 +1,6 @@
 use Rattle.std.proofs.Common.{ℕ, List, false, ◌≡◌, ◌&&◌, refl, sym, ap, ◌∙◌}
 use Rattle.perm_values.specs.declared.kind.Kind.{Kind}
-use Rattle.bag_algebra.specs.measures.BuiltScopes.{all_over_tables, over_tables-Base, over_tables-Filter, over_tables-Project, over_tables-Join, over_tables-Union, over_tables-Intersect, over_tables-Except, over_tables-Distinct, over_tables-Aggregate, over_tables-Limit, over_tables-Prov}
+use Rattle.bag_algebra.specs.BuiltScopes.{all_over_tables, over_tables-Base, over_tables-Filter, over_tables-Project, over_tables-Join, over_tables-Union, over_tables-Intersect, over_tables-Except, over_tables-Distinct, over_tables-Aggregate, over_tables-Limit, over_tables-Prov}
 use Rattle.bag_algebra.specs.Scoped.{is_table, over_tables}
 use Rattle.bag_algebra.specs.Patterns.{BaseOf, FilterOf, ProjectOf, JoinOf, UnionOf, IntersectOf, ExceptOf, DistinctOf, AggregateOf, LimitOf, ProvOf}
 use Rattle.bag_algebra.specs.declared.query.Query.{Query}

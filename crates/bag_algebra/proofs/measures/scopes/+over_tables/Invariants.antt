@@ -1,5 +1,5 @@
 use Rattle.std.proofs.Common.{◌≡◌, drop}
-use Rattle.bag_algebra.specs.measures.BuiltScopes.{all_over_tables}
+use Rattle.bag_algebra.specs.BuiltScopes.{all_over_tables}
 use Rattle.bag_algebra.proofs.measures.scopes.+over_tables.Given as goal
 
 -- the sublinks that are left decide

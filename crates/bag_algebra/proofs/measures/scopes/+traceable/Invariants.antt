@@ -1,5 +1,5 @@
 use Rattle.std.proofs.Common.{◌≡◌, drop}
-use Rattle.bag_algebra.specs.measures.BuiltScopes.{all_traceable}
+use Rattle.bag_algebra.specs.BuiltScopes.{all_traceable}
 use Rattle.bag_algebra.proofs.measures.scopes.+traceable.Given as goal
 
 -- the sublinks that are left decide

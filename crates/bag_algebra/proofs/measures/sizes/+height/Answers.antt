@@ -1,8 +1,8 @@
 use Rattle.std.proofs.Common.{ap, ◌∙◌, arith}
 use Rattle.std.proofs.lemmas.List.{at_drop_all}
-use Rattle.bag_algebra.specs.measures.BuiltMeasures.{subs_height, height_of-Base, height_of-Filter, height_of-Project, height_of-Join, height_of-Union, height_of-Intersect, height_of-Except, height_of-Distinct, height_of-Aggregate, height_of-Limit, height_of-Prov}
+use Rattle.bag_algebra.specs.BuiltMeasures.{subs_height, height_of-Base, height_of-Filter, height_of-Project, height_of-Join, height_of-Union, height_of-Intersect, height_of-Except, height_of-Distinct, height_of-Aggregate, height_of-Limit, height_of-Prov}
 use Rattle.bag_algebra.specs.Measures.{height_of}
-use Rattle.bag_algebra.proofs.measures.Rest.{from_here}
+use Rattle.bag_algebra.proofs.Rest.{from_here}
 use Rattle.bag_algebra.proofs.measures.sizes.+height.Goals as goal
 
 pub height-returns-in-Base : goal.height-returns-in-Base

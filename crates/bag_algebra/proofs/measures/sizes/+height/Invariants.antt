@@ -1,5 +1,5 @@
 use Rattle.std.proofs.Common.{◌≡◌, ◌-◌, ◌^◌, min, max, drop}
-use Rattle.bag_algebra.specs.measures.BuiltMeasures.{subs_height}
+use Rattle.bag_algebra.specs.BuiltMeasures.{subs_height}
 use Rattle.bag_algebra.proofs.measures.sizes.+height.Given as goal
 
 -- the highest so far beside the sublinks that are left

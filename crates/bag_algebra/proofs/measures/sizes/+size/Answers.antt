@@ -1,8 +1,8 @@
 use Rattle.std.proofs.Common.{ap, ◌∙◌, arith}
 use Rattle.std.proofs.lemmas.List.{at_drop_all}
-use Rattle.bag_algebra.specs.measures.BuiltMeasures.{subs_size, size_of-Base, size_of-Filter, size_of-Project, size_of-Join, size_of-Union, size_of-Intersect, size_of-Except, size_of-Distinct, size_of-Aggregate, size_of-Limit, size_of-Prov}
+use Rattle.bag_algebra.specs.BuiltMeasures.{subs_size, size_of-Base, size_of-Filter, size_of-Project, size_of-Join, size_of-Union, size_of-Intersect, size_of-Except, size_of-Distinct, size_of-Aggregate, size_of-Limit, size_of-Prov}
 use Rattle.bag_algebra.specs.Measures.{size_of}
-use Rattle.bag_algebra.proofs.measures.Rest.{from_here}
+use Rattle.bag_algebra.proofs.Rest.{from_here}
 use Rattle.bag_algebra.proofs.measures.sizes.+size.Goals as goal
 
 pub size-returns-in-Base : goal.size-returns-in-Base

@@ -1,5 +1,5 @@
 use Rattle.std.proofs.Common.{◌≡◌, ◌+◌, ◌-◌, ◌^◌, ◌≤◌, min, drop}
-use Rattle.bag_algebra.specs.measures.BuiltMeasures.{subs_size}
+use Rattle.bag_algebra.specs.BuiltMeasures.{subs_size}
 use Rattle.bag_algebra.proofs.measures.sizes.+size.Given as goal
 
 -- the operators so far and those of the sublinks that are left

@@ -10,8 +10,8 @@ use Rattle.bag_algebra.specs.Meaning.{items_on}
 use Rattle.bag_algebra.specs.Means.{no_subs}
 use Rattle.bag_algebra.specs.Outcome.{Good}
 use Rattle.bag_algebra.specs.WellFormed.{ItemsForm, PlacesIn}
-use Rattle.contribution.proofs.parts.ColumnQueries.{column_items-kinds, column_items-formed}
-use Rattle.contribution.specs.parts.ItemKinds.{item_kinds}
+use Rattle.contribution.proofs.ColumnQueries.{column_items-kinds, column_items-formed}
+use Rattle.contribution.specs.ItemKinds.{item_kinds}
 use Rattle.contribution.proofs.parts.columns.column_items.Goals as goal
 
 pub returns-clause-made : goal.returns-clause-made

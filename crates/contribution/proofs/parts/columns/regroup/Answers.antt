@@ -8,8 +8,8 @@ use Rattle.bag_algebra.specs.Outcome.{mapped}
 use Rattle.bag_algebra.specs.Patterns.{ProjectOf}
 use Rattle.bag_algebra.specs.WellFormed.{WellFormed}
 use Rattle.bag_algebra.specs.declared.query.Query.{end_of-Sublink}
-use Rattle.contribution.proofs.parts.ColumnQueries.{kinds_of-columns, meaning-columns, formed-columns}
-use Rattle.contribution.proofs.parts.NodeQueries.{of_made}
+use Rattle.contribution.proofs.ColumnQueries.{kinds_of-columns, meaning-columns, formed-columns}
+use Rattle.contribution.proofs.NodeQueries.{of_made}
 use Rattle.contribution.proofs.parts.columns.regroup.Goals as goal
 
 pub returns-clause-made : goal.returns-clause-made

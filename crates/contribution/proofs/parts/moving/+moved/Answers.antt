@@ -1,8 +1,8 @@
 use Rattle.std.proofs.Common.{sym, subst}
 use Rattle.perm_values.proofs.Taken.{opened}
 use Rattle.bag_algebra.specs.declared.expr.Expr.TheVariants.{Op, Chain, Case, IsNull, IsTruth, Same}
-use Rattle.contribution.proofs.parts.MovedVariants.{along-next, moved-Op, moved-Chain, moved-Case, moved-IsNull, moved-IsTruth, moved-Same}
-use Rattle.contribution.specs.parts.MovedColumns.{IsMoved, PartsMoved, StepsMoved, ArmsMoved, StepMoved, ArmMoved}
+use Rattle.contribution.proofs.MovedVariants.{along-next, moved-Op, moved-Chain, moved-Case, moved-IsNull, moved-IsTruth, moved-Same}
+use Rattle.contribution.specs.MovedColumns.{IsMoved, PartsMoved, StepsMoved, ArmsMoved, StepMoved, ArmMoved}
 use Rattle.contribution.proofs.parts.moving.+moved.Goals as goal
 
 pub moved-returns-in_ok-moved_parts-in-Op : goal.moved-returns-in_ok-moved_parts-in-Op

@@ -1,5 +1,5 @@
 use Rattle.std.proofs.Common.{take}
-use Rattle.contribution.specs.parts.MovedColumns.{PartsMoved, StepsMoved, ArmsMoved}
+use Rattle.contribution.specs.MovedColumns.{PartsMoved, StepsMoved, ArmsMoved}
 use Rattle.contribution.proofs.parts.moving.+moved.Given as goal
 
 abbrev pub invariant-moved_parts-loop-part : goal.invariant-moved_parts-loop-part

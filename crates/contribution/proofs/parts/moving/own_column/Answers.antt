@@ -1,4 +1,4 @@
-use Rattle.contribution.proofs.parts.MovedVariants.{moved-none}
+use Rattle.contribution.proofs.MovedVariants.{moved-none}
 use Rattle.contribution.proofs.parts.moving.own_column.Goals as goal
 
 pub returns : goal.returns

@@ -11,7 +11,7 @@ use Rattle.bag_algebra.specs.Outcome.{and_then, gather}
 use Rattle.bag_algebra.specs.Rewriting.{is_plain}
 use Rattle.bag_algebra.specs.WellFormed.{WellFormed, HasKind}
 use Rattle.bag_algebra.specs.declared.query.Query.TheVariants.{Filter}
-use Rattle.contribution.proofs.parts.NodeQueries.{meaning-chosen, formed-chosen, plain-chosen, tables-chosen, closed-chosen}
+use Rattle.contribution.proofs.NodeQueries.{meaning-chosen, formed-chosen, plain-chosen, tables-chosen, closed-chosen}
 use Rattle.contribution.proofs.parts.nodes.filtered.Goals as goal
 use Rattle.bag_algebra.specs.BuiltForms.{Filter_alone-is}
 

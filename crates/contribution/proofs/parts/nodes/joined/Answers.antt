@@ -11,7 +11,7 @@ use Rattle.bag_algebra.specs.Outcome.{both_then}
 use Rattle.bag_algebra.specs.Rewriting.{is_plain}
 use Rattle.bag_algebra.specs.WellFormed.{WellFormed, HasKind}
 use Rattle.bag_algebra.specs.declared.query.Query.TheVariants.{Join}
-use Rattle.contribution.proofs.parts.NodeQueries.{meaning-pairs, formed-pairs, plain-pairs, tables-pairs, closed-pairs}
+use Rattle.contribution.proofs.NodeQueries.{meaning-pairs, formed-pairs, plain-pairs, tables-pairs, closed-pairs}
 use Rattle.contribution.proofs.parts.nodes.joined.Goals as goal
 use Rattle.bag_algebra.specs.BuiltForms.{Join_alone-is}
 

@@ -11,8 +11,8 @@ use Rattle.bag_algebra.specs.Outcome.{and_then, each}
 use Rattle.bag_algebra.specs.Rewriting.{is_plain}
 use Rattle.bag_algebra.specs.WellFormed.{WellFormed, ItemsForm}
 use Rattle.bag_algebra.specs.declared.query.Query.TheVariants.{Project}
-use Rattle.contribution.proofs.parts.NodeQueries.{meaning-projected, formed-projected, plain-projected, tables-projected, closed-projected}
-use Rattle.contribution.specs.parts.ItemKinds.{item_kinds}
+use Rattle.contribution.proofs.NodeQueries.{meaning-projected, formed-projected, plain-projected, tables-projected, closed-projected}
+use Rattle.contribution.specs.ItemKinds.{item_kinds}
 use Rattle.contribution.proofs.parts.nodes.projection.Goals as goal
 
 pub returns-clause-made : goal.returns-clause-made

@@ -6,9 +6,9 @@ use Rattle.bag_algebra.specs.Meaning.{items_on}
 use Rattle.bag_algebra.specs.Means.{no_subs}
 use Rattle.bag_algebra.specs.Outcome.{Good}
 use Rattle.bag_algebra.specs.WellFormed.{ItemsForm}
-use Rattle.contribution.proofs.parts.Padding.{null_items-kinds, null_items-give, null_items-formed}
-use Rattle.contribution.specs.parts.ItemKinds.{item_kinds}
-use Rattle.contribution.specs.parts.NullItems.{null_item}
+use Rattle.contribution.proofs.Padding.{null_items-kinds, null_items-give, null_items-formed}
+use Rattle.contribution.specs.ItemKinds.{item_kinds}
+use Rattle.contribution.specs.NullItems.{null_item}
 use Rattle.contribution.proofs.parts.nulls.null_items.Goals as goal
 
 pub returns-clause-made : goal.returns-clause-made

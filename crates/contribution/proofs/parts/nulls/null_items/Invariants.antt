@@ -1,5 +1,5 @@
 use Rattle.std.proofs.Common.{◌≡◌, map, take}
-use Rattle.contribution.specs.parts.NullItems.{null_item}
+use Rattle.contribution.specs.NullItems.{null_item}
 use Rattle.contribution.proofs.parts.nulls.null_items.Given as goal
 
 abbrev pub invariant-loop-kind : goal.invariant-loop-kind

@@ -7,9 +7,9 @@ use Rattle.bag_algebra.specs.Outcome.{mapped}
 use Rattle.bag_algebra.specs.Patterns.{ProjectOf}
 use Rattle.bag_algebra.specs.WellFormed.{WellFormed}
 use Rattle.bag_algebra.specs.declared.query.Query.{end_of-Sublink}
-use Rattle.contribution.proofs.parts.NodeQueries.{of_made}
-use Rattle.contribution.proofs.parts.Padding.{kinds_of-padded, meaning-padded, formed-padded}
-use Rattle.contribution.specs.parts.NullItems.{padded_row}
+use Rattle.contribution.proofs.NodeQueries.{of_made}
+use Rattle.contribution.proofs.Padding.{kinds_of-padded, meaning-padded, formed-padded}
+use Rattle.contribution.specs.NullItems.{padded_row}
 use Rattle.contribution.proofs.parts.nulls.padded.Goals as goal
 
 pub returns-clause-made : goal.returns-clause-made

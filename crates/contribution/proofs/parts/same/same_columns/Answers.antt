@@ -10,8 +10,8 @@ use Rattle.bag_algebra.specs.FaultFree.{faultless}
 use Rattle.bag_algebra.specs.Kinds.{kinds_in}
 use Rattle.bag_algebra.specs.Outcome.{Good}
 use Rattle.bag_algebra.specs.WellFormed.{HasKind, PlacesIn}
-use Rattle.contribution.proofs.parts.SameTests.{tests-value, conjunction-formed, conjunction-faultless}
-use Rattle.contribution.specs.parts.Conjunctions.{all_hold}
+use Rattle.contribution.proofs.SameTests.{tests-value, conjunction-formed, conjunction-faultless}
+use Rattle.contribution.specs.Conjunctions.{all_hold}
 use Rattle.contribution.proofs.parts.same.same_columns.Goals as goal
 
 pub returns-clause-made : goal.returns-clause-made

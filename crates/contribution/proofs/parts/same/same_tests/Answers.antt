@@ -1,6 +1,6 @@
 use Rattle.std.proofs.Common.{◌≡◌, suc, ◌+◌, ◌++◌, ◌∷◌, [], take, sym, subst, ◌∙◌, arith}
-use Rattle.contribution.proofs.parts.SameTests.{same_tests-next}
-use Rattle.contribution.specs.parts.Conjunctions.{same_tests}
+use Rattle.contribution.proofs.SameTests.{same_tests-next}
+use Rattle.contribution.specs.Conjunctions.{same_tests}
 use Rattle.contribution.proofs.parts.same.same_tests.Goals as goal
 
 pub loop-at-preserved : goal.loop-at-preserved

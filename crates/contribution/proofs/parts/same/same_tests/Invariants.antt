@@ -1,5 +1,5 @@
 use Rattle.std.proofs.Common.{◌≡◌, take}
-use Rattle.contribution.specs.parts.Conjunctions.{same_tests}
+use Rattle.contribution.specs.Conjunctions.{same_tests}
 use Rattle.contribution.proofs.parts.same.same_tests.Given as goal
 
 abbrev pub invariant-loop-at : goal.invariant-loop-at

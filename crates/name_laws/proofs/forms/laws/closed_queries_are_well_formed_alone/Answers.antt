@@ -1,5 +1,5 @@
 use Rattle.std.proofs.Common.{[], refl}
-use Rattle.bag_algebra.proofs.measures.Closing.{query_within, query_inside}
+use Rattle.bag_algebra.proofs.Closing.{query_within, query_inside}
 use Rattle.name_laws.proofs.forms.laws.closed_queries_are_well_formed_alone.Goals as goal
 
 pub returns : goal.returns

@@ -1,4 +1,4 @@
-use Rattle.name_laws.proofs.forms.TreeLaws.{expr-formed}
+use Rattle.name_laws.proofs.TreeLaws.{expr-formed}
 use Rattle.name_laws.proofs.forms.laws.expressions_are_well_formed.Goals as goal
 
 pub returns : goal.returns

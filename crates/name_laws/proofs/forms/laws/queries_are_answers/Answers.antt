@@ -1,4 +1,4 @@
-use Rattle.name_laws.proofs.forms.TreeLaws.{query-answer}
+use Rattle.name_laws.proofs.TreeLaws.{query-answer}
 use Rattle.name_laws.proofs.forms.laws.queries_are_answers.Goals as goal
 
 pub returns : goal.returns

@@ -1,4 +1,4 @@
-use Rattle.name_laws.proofs.forms.TreeLaws.{query-formed}
+use Rattle.name_laws.proofs.TreeLaws.{query-formed}
 use Rattle.name_laws.proofs.forms.laws.queries_are_well_formed.Goals as goal
 
 pub returns : goal.returns

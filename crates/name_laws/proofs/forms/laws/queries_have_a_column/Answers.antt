@@ -1,4 +1,4 @@
-use Rattle.name_laws.proofs.forms.TreeLaws.{query-wide}
+use Rattle.name_laws.proofs.TreeLaws.{query-wide}
 use Rattle.name_laws.proofs.forms.laws.queries_have_a_column.Goals as goal
 
 pub returns : goal.returns

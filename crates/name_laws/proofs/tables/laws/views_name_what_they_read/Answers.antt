@@ -1,4 +1,4 @@
-use Rattle.name_laws.proofs.tables.Named.{view-reads}
+use Rattle.name_laws.proofs.Named.{view-reads}
 use Rattle.name_laws.proofs.tables.laws.views_name_what_they_read.Goals as goal
 
 pub returns : goal.returns

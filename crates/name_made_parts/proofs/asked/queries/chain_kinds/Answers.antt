@@ -1,11 +1,11 @@
 use Rattle.std.specs.Prelude.{◌≡◌, []}
 use Rattle.name_meaning.specs.Cores.{settle}
 use Rattle.name_meaning.specs.Trees.{set_of_tree}
-use Rattle.name_seen_parts.specs.clauses.Columns.{columns_of}
+use Rattle.name_seen_parts.specs.Columns.{columns_of}
 use Rattle.name_made_nodes.proofs.Arms.{of-ok}
 use Rattle.name_seen_parts.specs.Standing.{around_of}
-use Rattle.name_made_parts.specs.asked.Shown.{Settles}
-use Rattle.name_made_parts.proofs.asked.Querying.{settles-so}
+use Rattle.name_made_parts.specs.AskedColumns.{Settles}
+use Rattle.name_made_parts.proofs.Querying.{settles-so}
 use Rattle.name_made_parts.proofs.asked.queries.chain_kinds.Goals as goal
 
 pub returns : goal.returns

@@ -1,4 +1,4 @@
-use Rattle.name_made_parts.proofs.asked.Listing.{kinds-more}
+use Rattle.name_made_parts.proofs.AskedListing.{kinds-more}
 use Rattle.name_made_parts.proofs.asked.queries.settled_kinds.Goals as goal
 
 pub loop-place-preserved : goal.loop-place-preserved

@@ -1,5 +1,5 @@
 use Rattle.name_seen_parts.specs.Standing.{surroundings}
-use Rattle.name_made_parts.proofs.asked.Listing.{arms-more}
+use Rattle.name_made_parts.proofs.AskedListing.{arms-more}
 use Rattle.name_made_parts.proofs.asked.united.arms_united.Goals as goal
 
 pub loop-arm-preserved : goal.loop-arm-preserved

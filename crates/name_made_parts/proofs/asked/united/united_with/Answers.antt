@@ -1,6 +1,6 @@
 use Rattle.name_meaning.specs.Trees.{part_of}
 use Rattle.name_seen_parts.specs.Standing.{surroundings}
-use Rattle.name_made_parts.proofs.asked.Listing.{first-alike}
+use Rattle.name_made_parts.proofs.AskedListing.{first-alike}
 use Rattle.name_made_parts.proofs.asked.united.united_with.Goals as goal
 
 pub returns-in-None : goal.returns-in-None

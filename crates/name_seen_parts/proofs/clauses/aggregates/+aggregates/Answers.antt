@@ -7,8 +7,8 @@ use Rattle.sql_tree.specs.declared.expression.ExprTree.{ExprTree}
 use Rattle.name_meaning.specs.Expressions.{arm_parts}
 use Rattle.name_meaning.specs.Trees.{body_of, part_of, step_of, arm_of}
 use Rattle.name_meaning.proofs.Equations.{token, exprbody-null, exprbody-nullof, exprbody-integer, exprbody-text, exprbody-truth, exprbody-column, exprbody-paren, exprbody-nots, exprbody-signs, exprbody-logic, exprbody-chain, exprbody-compared, exprbody-like, exprbody-between, exprbody-inlist, exprbody-inquery, exprbody-quantified, exprbody-isnull, exprbody-istruth, exprbody-isdistinct, exprbody-coalesce, exprbody-nullif, exprbody-exists, exprbody-scalar}
-use Rattle.name_seen_parts.specs.clauses.Aggregates.{is_aggregating, step_aggregates}
-use Rattle.name_seen_parts.proofs.clauses.Aggregating.{aggregate-is, any-flat-more, any-more, arm-is, case-is, got, of-body, one-part, part-and, step-is, steps-are, three-parts, two-parts}
+use Rattle.name_seen_parts.specs.Aggregates.{is_aggregating, step_aggregates}
+use Rattle.name_seen_parts.proofs.Aggregating.{aggregate-is, any-flat-more, any-more, arm-is, case-is, got, of-body, one-part, part-and, step-is, steps-are, three-parts, two-parts}
 use Rattle.name_seen_parts.proofs.clauses.aggregates.+aggregates.Goals as goal
 
 pub has_aggregate-returns-in-Null : goal.has_aggregate-returns-in-Null

@@ -4,7 +4,7 @@ use Rattle.std.specs.List.{list_any}
 use Rattle.name_meaning.specs.Expressions.{arm_parts}
 use Rattle.name_meaning.specs.Trees.{part_of, step_of, arm_of}
 use Rattle.perm_catalog.specs.Contents.{Contents}
-use Rattle.name_seen_parts.specs.clauses.Aggregates.{is_aggregating, step_aggregates}
+use Rattle.name_seen_parts.specs.Aggregates.{is_aggregating, step_aggregates}
 use Rattle.name_seen_parts.proofs.clauses.aggregates.+aggregates.Given as goal
 
 -- whether one stands in those so far

@@ -1,6 +1,6 @@
 use Rattle.std.proofs.Common.{◌∙◌}
 use Rattle.name_meaning.specs.Cores.{group_place}
-use Rattle.name_seen_parts.proofs.clauses.Placed.{found-behind, found-passed}
+use Rattle.name_seen_parts.proofs.Placed.{found-behind, found-passed}
 use Rattle.name_seen_parts.proofs.clauses.breaks.group_places.Goals as goal
 use Rattle.name_seen_parts.proofs.clauses.breaks.group_places.Goals.{in-Some+in_ok-push-in-Some, in-None}
 

@@ -4,8 +4,8 @@ use Rattle.std.proofs.Math.ListN.{drop_of_length-le}
 use Rattle.name_meaning.specs.Queries.{key_break}
 use Rattle.name_meaning.specs.declared.answer.Break.{Break}
 use Rattle.name_seen_parts.specs.Seen.{first_or}
-use Rattle.name_seen_parts.specs.clauses.Columns.{columns_of}
-use Rattle.name_seen_parts.proofs.clauses.Firsts.{flat-first, flat-step, none-broken}
+use Rattle.name_seen_parts.specs.Columns.{columns_of}
+use Rattle.name_seen_parts.proofs.Firsts.{flat-first, flat-step, none-broken}
 use Rattle.name_seen_parts.proofs.clauses.keys.keys_break.Goals as goal
 
 pub returns-in-Err : goal.returns-in-Err

@@ -1,8 +1,8 @@
 use Rattle.std.specs.Prelude.{Bool, ◌&&◌, ◌+◌}
 use Rattle.std.proofs.Common.{refl, sym, ap, ◌∙◌, drop, arith}
 use Rattle.name_meaning.specs.Queries.{do_unite}
-use Rattle.name_seen_parts.specs.clauses.Columns.{columns_of}
-use Rattle.name_seen_parts.proofs.clauses.Uniting.{unites-at, unites-end}
+use Rattle.name_seen_parts.specs.Columns.{columns_of}
+use Rattle.name_seen_parts.proofs.Uniting.{unites-at, unites-end}
 use Rattle.name_seen_parts.proofs.clauses.operands.do_unite.Goals as goal
 
 pub loop-at-init : goal.loop-at-init

@@ -1,6 +1,6 @@
 use Rattle.std.proofs.Common.{◌≡◌, drop}
 use Rattle.name_meaning.specs.Queries.{do_unite}
-use Rattle.name_seen_parts.specs.clauses.Columns.{columns_of}
+use Rattle.name_seen_parts.specs.Columns.{columns_of}
 use Rattle.name_seen_parts.proofs.clauses.operands.do_unite.Given as goal
 
 -- the columns so far unite

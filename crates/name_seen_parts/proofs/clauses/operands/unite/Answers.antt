@@ -1,6 +1,6 @@
 use Rattle.std.specs.Prelude.{ℕ, length, min}
 use Rattle.std.proofs.Common.{refl, sym, ap, ◌∙◌, arith}
-use Rattle.name_seen_parts.proofs.clauses.Uniting.{united-at, united-end}
+use Rattle.name_seen_parts.proofs.Uniting.{united-at, united-end}
 use Rattle.name_seen_parts.proofs.clauses.operands.unite.Goals as goal
 
 pub loop-at-init : goal.loop-at-init

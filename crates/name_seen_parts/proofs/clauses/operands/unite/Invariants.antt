@@ -1,7 +1,7 @@
 use Rattle.std.proofs.Common.{◌≡◌, take, drop}
 use Rattle.std.specs.Prelude.{◌++◌}
 use Rattle.name_meaning.specs.Queries.{united_columns}
-use Rattle.name_seen_parts.specs.clauses.Columns.{columns_of}
+use Rattle.name_seen_parts.specs.Columns.{columns_of}
 use Rattle.name_seen_parts.proofs.clauses.operands.unite.Given as goal
 
 -- the columns so far are united, and those behind them as they were

@@ -1,6 +1,6 @@
 use Rattle.std.specs.Prelude.{ℕ, List, ◌++◌, ◌∷◌, []}
 use Rattle.std.proofs.Common.{ap, sym, ◌∙◌}
-use Rattle.name_seen_parts.proofs.from_columns.KnownNames.{range-more}
+use Rattle.name_seen_parts.proofs.KnownNames.{range-more}
 use Rattle.name_seen_parts.proofs.from_columns.columns.all_places.Goals as goal
 
 pub loop-place-preserved : goal.loop-place-preserved

@@ -2,7 +2,7 @@ use Rattle.std.specs.Prelude.{◌++◌, ◌∷◌, []}
 use Rattle.std.proofs.Common.{ap, ◌∙◌, get_or, arith}
 use Rattle.perm_values.specs.declared.kind.Kind.TheVariants as kind
 use Rattle.name_meaning.specs.Froms.{table_columns}
-use Rattle.name_seen_parts.proofs.from_columns.NamedColumns.{column_named, named-all, named-more, table-more}
+use Rattle.name_seen_parts.proofs.NamedColumns.{column_named, named-all, named-more, table-more}
 use Rattle.name_seen_parts.proofs.from_columns.columns.named_columns.Goals as goal
 
 pub loop-at-preserved : goal.loop-at-preserved

@@ -1,5 +1,5 @@
 use Rattle.std.proofs.Common.{◌≡◌, take}
-use Rattle.name_seen_parts.specs.from_columns.Columns.{known_names}
+use Rattle.name_seen_parts.specs.FromColumns.{known_names}
 use Rattle.name_seen_parts.proofs.from_columns.columns.names_of.Given as goal
 
 abbrev pub invariant-loop-column : goal.invariant-loop-column

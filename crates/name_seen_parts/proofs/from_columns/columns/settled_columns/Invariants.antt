@@ -1,6 +1,6 @@
 use Rattle.std.proofs.Common.{◌≡◌, take}
 use Rattle.name_meaning.specs.Froms.{settled_columns, table_columns}
-use Rattle.name_seen_parts.specs.clauses.Columns.{columns_of}
+use Rattle.name_seen_parts.specs.Columns.{columns_of}
 use Rattle.name_seen_parts.proofs.from_columns.columns.settled_columns.Given as goal
 
 abbrev pub invariant-loop-column : goal.invariant-loop-column

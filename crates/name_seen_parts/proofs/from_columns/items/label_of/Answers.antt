@@ -1,5 +1,5 @@
 use Rattle.std.proofs.Common.{[]}
-use Rattle.name_seen_parts.proofs.from_columns.Labels.{label-alias, label-named, label-none, text-so}
+use Rattle.name_seen_parts.proofs.Labels.{label-alias, label-named, label-none, text-so}
 use Rattle.name_seen_parts.proofs.from_columns.items.label_of.Goals as goal
 
 pub returns-in-Named : goal.returns-in-Named

@@ -2,10 +2,10 @@ use Rattle.std.specs.Prelude.{List}
 use Rattle.std.proofs.Common.{ap, sym, ◌∙◌, take}
 use Rattle.name_meaning.specs.declared.answer.Break.{Break}
 use Rattle.name_seen_parts.specs.Seen.{first_or}
-use Rattle.name_seen_parts.proofs.clauses.Firsts.{none-broken}
-use Rattle.name_seen_parts.specs.from_columns.Marks.{attribute_break}
-use Rattle.name_seen_parts.specs.from_columns.Columns.{known_names}
-use Rattle.name_seen_parts.proofs.from_columns.Attributed.{attributes-first, attributes-step}
+use Rattle.name_seen_parts.proofs.Firsts.{none-broken}
+use Rattle.name_seen_parts.specs.Marks.{attribute_break}
+use Rattle.name_seen_parts.specs.FromColumns.{known_names}
+use Rattle.name_seen_parts.proofs.Attributed.{attributes-first, attributes-step}
 use Rattle.name_seen_parts.proofs.from_columns.marks.attributes_break.Goals as goal
 
 pub returns-in-Err : goal.returns-in-Err

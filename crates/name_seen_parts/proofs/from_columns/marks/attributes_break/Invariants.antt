@@ -2,7 +2,7 @@ use Rattle.std.proofs.Common.{◌≡◌, [], take, drop}
 use Rattle.std.specs.Prelude.{Some}
 use mathlib.Core.List.{reverse}
 use Rattle.name_meaning.specs.Froms.{attribute_breaks, texts_of}
-use Rattle.name_seen_parts.specs.from_columns.Columns.{known_names}
+use Rattle.name_seen_parts.specs.FromColumns.{known_names}
 use Rattle.name_seen_parts.proofs.from_columns.marks.attributes_break.Given as goal
 
 -- the attributes so far break nothing

@@ -2,7 +2,7 @@ use Rattle.std.specs.Prelude.{ℕ, Option}
 use Rattle.std.specs.Option.{option_map_or}
 use Rattle.std.proofs.Common.{ap, sym, ◌∙◌}
 use Rattle.name_meaning.specs.Froms.{named_so}
-use Rattle.name_seen_parts.proofs.from_columns.KnownNames.{position-named}
+use Rattle.name_seen_parts.proofs.KnownNames.{position-named}
 use Rattle.name_seen_parts.proofs.from_columns.marks.place_of.Goals as goal
 
 pub returns-in-Some : goal.returns-in-Some

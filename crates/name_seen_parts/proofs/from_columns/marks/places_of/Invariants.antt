@@ -1,6 +1,6 @@
 use Rattle.std.proofs.Common.{◌≡◌, take}
-use Rattle.name_seen_parts.specs.from_columns.Marks.{places_of}
-use Rattle.name_seen_parts.specs.from_columns.Columns.{known_names}
+use Rattle.name_seen_parts.specs.Marks.{places_of}
+use Rattle.name_seen_parts.specs.FromColumns.{known_names}
 use Rattle.name_seen_parts.proofs.from_columns.marks.places_of.Given as goal
 
 abbrev pub invariant-loop-name : goal.invariant-loop-name

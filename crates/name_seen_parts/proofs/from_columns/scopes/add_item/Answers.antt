@@ -1,6 +1,6 @@
 use Rattle.std.proofs.Common.{◌∙◌, None}
 use Rattle.name_meaning.specs.Froms.{table_columns}
-use Rattle.name_seen_parts.proofs.from_columns.Scoping.{item-beside}
+use Rattle.name_seen_parts.proofs.Scoping.{item-beside}
 use Rattle.name_seen_parts.proofs.from_columns.scopes.add_item.Goals as goal
 
 pub returns : goal.returns

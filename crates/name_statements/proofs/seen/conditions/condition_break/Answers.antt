@@ -3,7 +3,7 @@ use Rattle.std.proofs.Common.{ap, ◌∙◌}
 use Rattle.name_seen_parts.specs.Named.{scopes_of}
 use Rattle.name_seen_parts.specs.Standing.{standing_in}
 use Rattle.name_meaning.specs.declared.scope.Scope.{Scope}
-use Rattle.name_statements.proofs.seen.Broken.{condition-told}
+use Rattle.name_statements.proofs.Broken.{condition-told}
 use Rattle.name_statements.proofs.seen.conditions.condition_break.Goals as goal
 
 pub returns : goal.returns

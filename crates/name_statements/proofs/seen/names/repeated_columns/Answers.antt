@@ -2,9 +2,9 @@ use Rattle.std.specs.Prelude.{List}
 use Rattle.std.proofs.Common.{ap, sym, ◌∙◌, take}
 use Rattle.name_meaning.specs.declared.answer.Break.{Break}
 use Rattle.name_seen_parts.specs.Seen.{first_or}
-use Rattle.name_seen_parts.proofs.clauses.Firsts.{none-broken}
-use Rattle.name_statements.specs.seen.Earlier.{column_break}
-use Rattle.name_statements.proofs.seen.Broken.{columns-first, columns-step}
+use Rattle.name_seen_parts.proofs.Firsts.{none-broken}
+use Rattle.name_statements.specs.Earlier.{column_break}
+use Rattle.name_statements.proofs.Broken.{columns-first, columns-step}
 use Rattle.name_statements.proofs.seen.names.repeated_columns.Goals as goal
 
 pub returns-in-Err : goal.returns-in-Err

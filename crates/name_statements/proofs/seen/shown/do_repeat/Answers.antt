@@ -1,11 +1,11 @@
 use Rattle.std.specs.Prelude.{List, Bool, ◌||◌, ◌+◌}
 use Rattle.std.proofs.Common.{sym, ap, ◌∙◌, drop}
-use Rattle.name_seen_parts.specs.clauses.Columns.{columns_of}
+use Rattle.name_seen_parts.specs.Columns.{columns_of}
 use Rattle.name_meaning.specs.Froms.{names_of, settled_columns}
 use Rattle.name_meaning.specs.Statements.{repeats}
 use Rattle.name_seen_parts.specs.declared.clauses.column.ShownColumn.{ShownColumn}
-use Rattle.name_statements.specs.seen.Earlier.{is_shown}
-use Rattle.name_statements.proofs.seen.Broken.{all-behind, repeats-at}
+use Rattle.name_statements.specs.Earlier.{is_shown}
+use Rattle.name_statements.proofs.Broken.{all-behind, repeats-at}
 use Rattle.name_statements.proofs.seen.shown.do_repeat.Goals as goal
 
 pub returns-then-is_among : goal.returns-then-is_among

@@ -1,9 +1,9 @@
 use Rattle.std.specs.Prelude.{Bool, ◌||◌, ◌+◌}
 use Rattle.std.proofs.Common.{sym, ap, ◌∙◌, drop}
-use Rattle.name_seen_parts.specs.clauses.Columns.{columns_of}
+use Rattle.name_seen_parts.specs.Columns.{columns_of}
 use Rattle.name_meaning.specs.Froms.{settled_columns}
 use Rattle.name_meaning.specs.Statements.{has_boolean}
-use Rattle.name_statements.proofs.seen.Broken.{boolean-at}
+use Rattle.name_statements.proofs.Broken.{boolean-at}
 use Rattle.name_statements.proofs.seen.shown.has_boolean.Goals as goal
 
 pub returns-then-is_boolean : goal.returns-then-is_boolean

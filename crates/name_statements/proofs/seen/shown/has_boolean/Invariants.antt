@@ -1,5 +1,5 @@
 use Rattle.std.proofs.Common.{◌≡◌, drop}
-use Rattle.name_seen_parts.specs.clauses.Columns.{columns_of}
+use Rattle.name_seen_parts.specs.Columns.{columns_of}
 use Rattle.name_meaning.specs.Froms.{settled_columns}
 use Rattle.name_meaning.specs.Statements.{has_boolean}
 use Rattle.name_statements.proofs.seen.shown.has_boolean.Given as goal

@@ -1,11 +1,11 @@
 use Rattle.std.specs.Prelude.{Err}
 use Rattle.std.proofs.Common.{arith, subst}
-use Rattle.name_seen_parts.specs.clauses.Told.{Tells}
+use Rattle.name_seen_parts.specs.Told.{Tells}
 use Rattle.name_seen_parts.specs.Seen.{first_or}
 use Rattle.name_meaning.specs.Meanings.{Surroundings, means_at}
 use Rattle.name_meaning.specs.Statements.{value_breaks}
 use Rattle.name_meaning.specs.Trees.{part_of}
-use Rattle.name_statements.proofs.seen.Broken.{values-refused}
+use Rattle.name_statements.proofs.Broken.{values-refused}
 use Rattle.name_statements.proofs.seen.values.values_break.Goals as goal
 
 pub returns-in-Err : goal.returns-in-Err

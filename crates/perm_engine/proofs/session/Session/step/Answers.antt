@@ -2,7 +2,7 @@ use Rattle.std.proofs.Common.{◌≡◌, inl, refl}
 use Rattle.std.proofs.lemmas.Result.{err_from_is_err_and}
 use Rattle.name_meaning.specs.Statements.{resolved}
 use Rattle.statement_meaning.specs.Answers.{over}
-use Rattle.run_meaning.proofs.steps.Stepping.{asked-carried, due-carried, due-refused, made-ran, refused-ran, refused-takes, refused-backed, refused-unfailed, refused-unbegun}
+use Rattle.run_meaning.proofs.Stepping.{asked-carried, due-carried, due-refused, made-ran, refused-ran, refused-takes, refused-backed, refused-unfailed, refused-unbegun}
 use Rattle.perm_engine.specs.Due.{due_breaks}
 use Rattle.perm_engine.proofs.session.Session.step.Goals as goal
 

@@ -1,4 +1,4 @@
-use Rattle.query_laws.proofs.congruence.StandingNodes.{stands-Base, stands-Filter, stands-Project, stands-Join, stands-Union, stands-Intersect, stands-Except, stands-Distinct, stands-Aggregate, stands-Limit}
+use Rattle.query_laws.proofs.StandingNodes.{stands-Base, stands-Filter, stands-Project, stands-Join, stands-Union, stands-Intersect, stands-Except, stands-Distinct, stands-Aggregate, stands-Limit}
 use Rattle.query_laws.proofs.congruence.laws.nodes_over_what_stands_stand.Goals as goal
 
 pub returns-clause-base : goal.returns-clause-base

@@ -1,4 +1,4 @@
-use Rattle.query_laws.proofs.congruence.RowsAlone.{base-rows, filter-rows, project-rows, join-rows, union-rows, intersect-rows, except-rows, distinct-rows, aggregate-rows, limit-rows}
+use Rattle.query_laws.proofs.RowsAlone.{base-rows, filter-rows, project-rows, join-rows, union-rows, intersect-rows, except-rows, distinct-rows, aggregate-rows, limit-rows}
 use Rattle.query_laws.proofs.congruence.laws.nodes_see_rows_alone.Goals as goal
 
 pub returns-clause-base : goal.returns-clause-base

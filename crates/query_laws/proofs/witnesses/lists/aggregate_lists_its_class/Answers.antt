@@ -1,4 +1,4 @@
-use Rattle.query_laws.proofs.witnesses.NodeLists.{aggregate-lists}
+use Rattle.query_laws.proofs.NodeLists.{aggregate-lists}
 use Rattle.query_laws.proofs.witnesses.lists.aggregate_lists_its_class.Goals as goal
 
 pub returns : goal.returns

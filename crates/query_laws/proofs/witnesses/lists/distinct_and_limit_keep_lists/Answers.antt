@@ -1,4 +1,4 @@
-use Rattle.query_laws.proofs.witnesses.NodeLists.{distinct-lists, limit-lists}
+use Rattle.query_laws.proofs.NodeLists.{distinct-lists, limit-lists}
 use Rattle.query_laws.proofs.witnesses.lists.distinct_and_limit_keep_lists.Goals as goal
 
 pub returns-clause-distinct : goal.returns-clause-distinct

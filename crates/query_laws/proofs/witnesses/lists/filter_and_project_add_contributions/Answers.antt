@@ -1,4 +1,4 @@
-use Rattle.query_laws.proofs.witnesses.NodeLists.{filter-lists, project-lists}
+use Rattle.query_laws.proofs.NodeLists.{filter-lists, project-lists}
 use Rattle.query_laws.proofs.witnesses.lists.filter_and_project_add_contributions.Goals as goal
 
 pub returns-clause-filter : goal.returns-clause-filter

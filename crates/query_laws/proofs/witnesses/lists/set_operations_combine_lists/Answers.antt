@@ -1,4 +1,4 @@
-use Rattle.query_laws.proofs.witnesses.NodeLists.{union-lists, intersect-lists, except-lists}
+use Rattle.query_laws.proofs.NodeLists.{union-lists, intersect-lists, except-lists}
 use Rattle.query_laws.proofs.witnesses.lists.set_operations_combine_lists.Goals as goal
 
 pub returns-clause-union : goal.returns-clause-union

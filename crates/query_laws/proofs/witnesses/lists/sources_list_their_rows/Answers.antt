@@ -1,4 +1,4 @@
-use Rattle.query_laws.proofs.witnesses.NodeLists.{table-lists, single-lists, base-lists, provenance-lists}
+use Rattle.query_laws.proofs.NodeLists.{table-lists, single-lists, base-lists, provenance-lists}
 use Rattle.query_laws.proofs.witnesses.lists.sources_list_their_rows.Goals as goal
 
 pub returns-clause-table : goal.returns-clause-table

@@ -2,7 +2,7 @@ use Rattle.std.proofs.Common.{ap, subst}
 use Rattle.bag_algebra.proofs.Members.{IsIn}
 use Rattle.bag_algebra.specs.Means.{chosen, good_value}
 use Rattle.bag_algebra.proofs.MembersByIndex.{in-from_contains, contains-from_in}
-use Rattle.query_laws.proofs.witnesses.Contributed.{in-chosen, chosen-is, contributed, contributes-from, in-contributed}
+use Rattle.query_laws.proofs.Contributed.{in-chosen, chosen-is, contributed, contributes-from, in-contributed}
 use Rattle.query_laws.proofs.witnesses.sublinks.contributions_are_lists_of_chosen_rows.Goals as goal
 
 pub returns-clause-chosen : goal.returns-clause-chosen

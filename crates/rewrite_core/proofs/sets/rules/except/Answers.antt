@@ -9,9 +9,9 @@ use Rattle.bag_algebra.specs.declared.query.Query.{Query}
 use Rattle.bag_algebra.specs.declared.query.Query.TheVariants.{Except}
 use Rattle.rewrite_base.proofs.OpenSublinks.{closed-as_joined, closed-kept}
 use Rattle.rewrite_base.specs.KeptColumns.{columns_kept, differs_from_first, pairs_of}
-use Rattle.contribution.proofs.parts.NodeQueries.{of_made}
-use Rattle.rewrite_core.proofs.sets.ExceptRows.{except-made}
-use Rattle.rewrite_core.specs.sets.OtherRows.{remaining}
+use Rattle.contribution.proofs.NodeQueries.{of_made}
+use Rattle.rewrite_core.proofs.ExceptRows.{except-made}
+use Rattle.rewrite_core.specs.OtherRows.{remaining}
 use Rattle.rewrite_core.proofs.sets.rules.except.Goals as goal
 
 pub beside_others-requires : goal.beside_others-requires

@@ -4,8 +4,8 @@ use Rattle.bag_algebra.specs.declared.query.JoinKind.TheVariants.{Inner}
 use Rattle.bag_algebra.specs.declared.query.Query.TheVariants.{Intersect}
 use Rattle.rewrite_base.proofs.OpenSublinks.{closed-kept}
 use Rattle.rewrite_base.specs.KeptColumns.{same_as_first, pairs_of, columns_kept}
-use Rattle.contribution.proofs.parts.NodeQueries.{of_made}
-use Rattle.rewrite_core.proofs.sets.IntersectRows.{intersect-made}
+use Rattle.contribution.proofs.NodeQueries.{of_made}
+use Rattle.rewrite_core.proofs.IntersectRows.{intersect-made}
 use Rattle.rewrite_core.proofs.sets.rules.intersect.Goals as goal
 
 pub matched-requires : goal.matched-requires

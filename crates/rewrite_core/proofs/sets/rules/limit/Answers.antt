@@ -9,8 +9,8 @@ use Rattle.bag_algebra.specs.declared.query.Query.{Query}
 use Rattle.bag_algebra.specs.declared.query.Query.TheVariants.{Limit}
 use Rattle.rewrite_base.proofs.OpenSublinks.{closed-kept}
 use Rattle.rewrite_base.specs.KeptColumns.{same_as_first, pairs_of, columns_kept}
-use Rattle.contribution.proofs.parts.NodeQueries.{of_made}
-use Rattle.rewrite_core.proofs.sets.LimitRows.{limit-made}
+use Rattle.contribution.proofs.NodeQueries.{of_made}
+use Rattle.rewrite_core.proofs.LimitRows.{limit-made}
 use Rattle.rewrite_core.proofs.sets.rules.limit.Goals as goal
 
 pub matched-requires : goal.matched-requires

@@ -1,7 +1,7 @@
 use Rattle.std.specs.Prelude.{nat_lt}
 use Rattle.std.proofs.Common.{ap, ◌∙◌}
-use Rattle.rewrite_driver.proofs.steps.MadeQueries.{is_some-length}
-use Rattle.rewrite_driver.specs.steps.Places.{is_some_place}
+use Rattle.rewrite_driver.proofs.MadeQueries.{is_some-length}
+use Rattle.rewrite_driver.specs.Places.{is_some_place}
 use Rattle.rewrite_driver.proofs.steps.places.has_places.Goals as goal
 
 pub returns : goal.returns

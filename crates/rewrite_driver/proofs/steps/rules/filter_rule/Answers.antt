@@ -2,9 +2,9 @@ use Rattle.std.proofs.Common.{arith, sym, subst}
 use Rattle.std.proofs.lemmas.Grind.{common_steps}
 use Rattle.bag_algebra.specs.Rewriting.{IsRewrite}
 use Rattle.bag_algebra.specs.declared.query.Query.TheVariants.{Filter}
-use Rattle.query_laws.specs.congruence.Standing.{SubsStand}
+use Rattle.query_laws.specs.Standing.{SubsStand}
 use Rattle.perm_values.proofs.Taken.{opened}
-use Rattle.rewrite_driver.proofs.steps.MadeQueries.{where_made, none_left}
+use Rattle.rewrite_driver.proofs.MadeQueries.{where_made, none_left}
 use Rattle.rewrite_sublink.specs.SubRewritings.{SubsRewritten}
 use Rattle.rewrite_driver.proofs.steps.rules.filter_rule.Goals as goal
 

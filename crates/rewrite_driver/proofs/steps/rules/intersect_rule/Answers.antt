@@ -1,7 +1,7 @@
 use Rattle.bag_algebra.specs.Rewriting.{IsRewrite}
 use Rattle.bag_algebra.specs.declared.query.Query.TheVariants.{Intersect}
 use Rattle.perm_values.proofs.Taken.{opened}
-use Rattle.rewrite_driver.proofs.steps.MadeQueries.{where_made}
+use Rattle.rewrite_driver.proofs.MadeQueries.{where_made}
 use Rattle.rewrite_driver.proofs.steps.rules.intersect_rule.Goals as goal
 
 pub returns : goal.returns

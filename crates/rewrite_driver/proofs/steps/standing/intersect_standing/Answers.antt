@@ -1,7 +1,7 @@
 use Rattle.bag_algebra.specs.Rewriting.{Stands}
 use Rattle.bag_algebra.specs.declared.query.Query.TheVariants.{Intersect}
-use Rattle.query_laws.proofs.congruence.StandingNodes.{stands-Intersect}
-use Rattle.contribution.proofs.parts.NodeQueries.{of_made}
+use Rattle.query_laws.proofs.StandingNodes.{stands-Intersect}
+use Rattle.contribution.proofs.NodeQueries.{of_made}
 use Rattle.perm_values.proofs.Taken.{opened}
 use Rattle.rewrite_driver.proofs.steps.standing.intersect_standing.Goals as goal
 

@@ -1,8 +1,8 @@
 use Rattle.bag_algebra.specs.Rewriting.{Stands}
 use Rattle.bag_algebra.specs.declared.query.Query.TheVariants.{Join}
-use Rattle.query_laws.proofs.congruence.StandingNodes.{stands-Join}
-use Rattle.query_laws.specs.congruence.Standing.{SubsStand}
-use Rattle.contribution.proofs.parts.NodeQueries.{of_made}
+use Rattle.query_laws.proofs.StandingNodes.{stands-Join}
+use Rattle.query_laws.specs.Standing.{SubsStand}
+use Rattle.contribution.proofs.NodeQueries.{of_made}
 use Rattle.perm_values.proofs.Taken.{opened}
 use Rattle.rewrite_driver.proofs.steps.standing.join_standing.Goals as goal
 

@@ -1,6 +1,6 @@
 use Rattle.bag_algebra.specs.Rewriting.{IsRewrite, Stands}
 use Rattle.bag_algebra.specs.declared.query.Query.TheVariants.{Prov}
-use Rattle.contribution.proofs.parts.NodeQueries.{of_made}
+use Rattle.contribution.proofs.NodeQueries.{of_made}
 use Rattle.perm_values.proofs.Taken.{opened}
 use Rattle.rewrite_base.proofs.Provenance.{stands-Prov}
 use Rattle.rewrite_driver.proofs.steps.standing.provenance_standing.Goals as goal

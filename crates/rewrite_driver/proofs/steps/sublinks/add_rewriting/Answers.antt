@@ -1,8 +1,8 @@
 use Rattle.std.proofs.Common.{◌∷◌, ◌++◌, []}
 use Rattle.bag_algebra.specs.Rewriting.{IsRewrite}
 use Rattle.perm_values.proofs.Taken.{opened}
-use Rattle.rewrite_driver.proofs.steps.MadeQueries.{appended}
-use Rattle.rewrite_driver.proofs.steps.SublinkLists.{rewritten-more}
+use Rattle.rewrite_driver.proofs.MadeQueries.{appended}
+use Rattle.rewrite_driver.proofs.SublinkLists.{rewritten-more}
 use Rattle.rewrite_sublink.specs.SubRewritings.{SubsRewritten}
 use Rattle.rewrite_driver.proofs.steps.sublinks.add_rewriting.Goals as goal
 

@@ -1,9 +1,9 @@
 use Rattle.std.proofs.Common.{◌∷◌, ◌++◌, [], sym, subst}
 use Rattle.bag_algebra.specs.Rewriting.{Stands}
-use Rattle.query_laws.specs.congruence.Standing.{SubsStand}
+use Rattle.query_laws.specs.Standing.{SubsStand}
 use Rattle.perm_values.proofs.Taken.{opened}
-use Rattle.rewrite_driver.proofs.steps.MadeQueries.{appended}
-use Rattle.rewrite_driver.proofs.steps.SublinkLists.{stand-more}
+use Rattle.rewrite_driver.proofs.MadeQueries.{appended}
+use Rattle.rewrite_driver.proofs.SublinkLists.{stand-more}
 use Rattle.rewrite_driver.proofs.steps.sublinks.add_standing.Goals as goal
 
 pub returns : goal.returns

@@ -1,6 +1,6 @@
 use Rattle.std.proofs.Common.{◌∙◌, FitsSigned, w64, sym, subst, arith}
 use Rattle.std.proofs.lemmas.Int.{ints, to_z-of_z}
-use Rattle.row_values.proofs.groups.Totals.{total-taken, total-whole, sum-fits, sum-passes, fits-in, passes}
+use Rattle.row_values.proofs.Totals.{total-taken, total-whole, sum-fits, sum-passes, fits-in, passes}
 use Rattle.row_values.proofs.groups.aggregate.sum.Goals as goal
 
 pub loop-value-preserved : goal.loop-value-preserved

@@ -1,6 +1,6 @@
 use Rattle.std.proofs.Common.{take}
 use Rattle.row_values.proofs.Taken.{taken}
-use Rattle.row_values.proofs.groups.Keys.{classed-more}
+use Rattle.row_values.proofs.Keys.{classed-more}
 use Rattle.row_values.proofs.groups.class.classes_of.Goals as goal
 
 pub loop-row-preserved : goal.loop-row-preserved

@@ -2,8 +2,8 @@ use Rattle.std.proofs.Common.{take, refl, sym, subst}
 use Rattle.std.specs.List.{AllZip}
 use Rattle.row_values.proofs.Outcomes.{handed_on}
 use Rattle.row_values.proofs.Taken.{taken}
-use Rattle.row_values.specs.groups.Columns.{IsColumn}
-use Rattle.row_values.proofs.groups.ClassRows.{argument_refuses, zip-more}
+use Rattle.row_values.specs.Columns.{IsColumn}
+use Rattle.row_values.proofs.ClassRows.{argument_refuses, zip-more}
 use Rattle.row_values.proofs.groups.column.columns_of.Goals as goal
 
 pub returns-in_err-values-clause-err : goal.returns-in_err-values-clause-err

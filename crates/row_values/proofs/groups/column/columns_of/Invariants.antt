@@ -1,6 +1,6 @@
 use Rattle.std.proofs.Common.{take}
 use Rattle.std.specs.List.{AllZip}
-use Rattle.row_values.specs.groups.Columns.{IsColumn}
+use Rattle.row_values.specs.Columns.{IsColumn}
 use Rattle.row_values.proofs.groups.column.columns_of.Given as goal
 
 abbrev pub invariant-loop-aggregate : goal.invariant-loop-aggregate

@@ -1,7 +1,7 @@
 use Rattle.std.proofs.Common.{get_or, arith}
 use Rattle.bag_algebra.specs.Meaning.{optional_value}
 use Rattle.row_values.proofs.Outcomes.{handed_on, each_item}
-use Rattle.row_values.proofs.groups.Buckets.{distributes-taken, pushed}
+use Rattle.row_values.proofs.Buckets.{distributes-taken, pushed}
 use Rattle.row_values.proofs.groups.column.distributed.Goals as goal
 
 pub returns-in_err-value-clause-err : goal.returns-in_err-value-clause-err

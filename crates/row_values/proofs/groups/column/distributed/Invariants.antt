@@ -1,6 +1,6 @@
 use Rattle.std.proofs.Common.{take}
 use Rattle.bag_algebra.specs.Meaning.{optional_value}
-use Rattle.row_values.specs.groups.Columns.{Distributes}
+use Rattle.row_values.specs.Columns.{Distributes}
 use Rattle.row_values.proofs.groups.column.distributed.Given as goal
 
 abbrev pub invariant-loop-i : goal.invariant-loop-i

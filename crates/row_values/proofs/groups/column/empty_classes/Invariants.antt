@@ -1,4 +1,4 @@
-use Rattle.row_values.specs.groups.Columns.{AreEmpty}
+use Rattle.row_values.specs.Columns.{AreEmpty}
 use Rattle.row_values.proofs.groups.column.empty_classes.Given as goal
 
 abbrev pub invariant-loop-class : goal.invariant-loop-class

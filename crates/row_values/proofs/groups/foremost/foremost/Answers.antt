@@ -1,5 +1,5 @@
 use Rattle.std.proofs.Common.{refl}
-use Rattle.row_values.proofs.groups.Least.{one_step}
+use Rattle.row_values.proofs.Least.{one_step}
 use Rattle.row_values.proofs.groups.foremost.foremost.Goals as goal
 
 pub loop-behind-preserved : goal.loop-behind-preserved

@@ -1,5 +1,5 @@
 use Rattle.std.proofs.Common.{◌-◌, length}
-use Rattle.row_values.proofs.groups.Least.{IsForemost}
+use Rattle.row_values.proofs.Least.{IsForemost}
 use Rattle.row_values.proofs.groups.foremost.foremost.Given as goal
 
 abbrev pub invariant-loop-behind : goal.invariant-loop-behind

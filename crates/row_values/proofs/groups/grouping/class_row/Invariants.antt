@@ -1,6 +1,6 @@
 use Rattle.std.proofs.Common.{◌≡◌, ◌++◌, take}
 use Rattle.bag_algebra.specs.Outcome.{Good, mapped, each}
-use Rattle.row_values.specs.groups.Columns.{class_value}
+use Rattle.row_values.specs.Columns.{class_value}
 use Rattle.row_values.proofs.groups.grouping.class_row.Given as goal
 
 abbrev pub invariant-loop-column : goal.invariant-loop-column

@@ -1,7 +1,7 @@
 use Rattle.std.proofs.Common.{◌++◌, ◌∷◌, [], sym, ap, ◌∙◌, append_assoc, arith}
 use Rattle.std.proofs.lemmas.List.{length-append}
 use Rattle.row_values.proofs.Outcomes.{passed}
-use Rattle.row_values.proofs.groups.ClassRows.{class_more, class_refuses}
+use Rattle.row_values.proofs.ClassRows.{class_more, class_refuses}
 use Rattle.row_values.proofs.groups.grouping.class_rows.Goals as goal
 
 pub returns-in_err-class_row : goal.returns-in_err-class_row

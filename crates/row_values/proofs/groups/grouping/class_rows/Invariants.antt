@@ -1,7 +1,7 @@
 use Rattle.std.proofs.Common.{◌≡◌, ◌++◌, length}
 use Rattle.bag_algebra.specs.Bags.{Row}
 use Rattle.bag_algebra.specs.Outcome.{Outcome, Good, each}
-use Rattle.row_values.specs.groups.Columns.{MakesRows}
+use Rattle.row_values.specs.Columns.{MakesRows}
 use Rattle.row_values.proofs.groups.grouping.class_rows.Given as goal
 
 abbrev pub invariant-loop-key : goal.invariant-loop-key

@@ -1,4 +1,4 @@
-use Rattle.run_meaning.proofs.sameness.Breaks.{same_break, spelled_or_not}
+use Rattle.run_meaning.proofs.Breaks.{same_break, spelled_or_not}
 use Rattle.run_meaning.proofs.sameness.laws.a_misspelling_has_one_break.Goals as goal
 
 pub returns-clause-one_break : goal.returns-clause-one_break

@@ -1,4 +1,4 @@
-use Rattle.run_meaning.proofs.sameness.Runs.{a_run, same_run}
+use Rattle.run_meaning.proofs.Runs.{a_run, same_run}
 use Rattle.run_meaning.proofs.sameness.laws.told_files_have_one_run.Goals as goal
 
 pub returns-clause-some : goal.returns-clause-some

@@ -1,6 +1,6 @@
 use Rattle.statement_meaning.specs.Answers.{can_be, over}
 use Rattle.statement_meaning.specs.Asking.{asks}
-use Rattle.run_meaning.proofs.steps.Stepping.{taken-sound}
+use Rattle.run_meaning.proofs.Stepping.{taken-sound}
 use Rattle.run_meaning.proofs.steps.carrying.carried_out.Goals as goal
 
 pub step-requires : goal.step-requires

@@ -1,6 +1,6 @@
 use Rattle.std.proofs.Common.{arith}
 use Rattle.perm_catalog.specs.Changes.{nothing_held}
-use Rattle.run_meaning.proofs.steps.Firsts.{stops-late}
+use Rattle.run_meaning.proofs.Firsts.{stops-late}
 use Rattle.run_meaning.proofs.steps.laws.a_run_has_numbers_left.Goals as goal
 
 pub returns : goal.returns

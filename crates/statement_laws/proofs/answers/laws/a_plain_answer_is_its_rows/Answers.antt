@@ -1,4 +1,4 @@
-use Rattle.statement_laws.proofs.answers.Answered.{good-answer, bad-answer, one_text}
+use Rattle.statement_laws.proofs.Answered.{good-answer, bad-answer, one_text}
 use Rattle.statement_laws.proofs.answers.laws.a_plain_answer_is_its_rows.Goals as goal
 
 pub returns-clause-good : goal.returns-clause-good

@@ -1,4 +1,4 @@
-use Rattle.statement_laws.proofs.answers.Kept.{query-keeps}
+use Rattle.statement_laws.proofs.Kept.{query-keeps}
 use Rattle.statement_laws.proofs.answers.laws.a_query_changes_nothing.Goals as goal
 
 pub returns : goal.returns

@@ -1,4 +1,4 @@
-use Rattle.statement_laws.proofs.answers.Kept.{refused-keeps, refusal-keeps, files-keep}
+use Rattle.statement_laws.proofs.Kept.{refused-keeps, refusal-keeps, files-keep}
 use Rattle.statement_laws.proofs.answers.laws.a_refused_statement_changes_nothing.Goals as goal
 
 pub returns-clause-refused : goal.returns-clause-refused

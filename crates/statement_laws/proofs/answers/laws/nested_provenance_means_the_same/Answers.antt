@@ -1,4 +1,4 @@
-use Rattle.statement_laws.proofs.answers.Nested.{nested-good, nested-bad, nested-lists}
+use Rattle.statement_laws.proofs.Nested.{nested-good, nested-bad, nested-lists}
 use Rattle.statement_laws.proofs.answers.laws.nested_provenance_means_the_same.Goals as goal
 
 pub returns-clause-good : goal.returns-clause-good

@@ -1,4 +1,4 @@
-use Rattle.statement_laws.proofs.answers.Provenance.{good-provenance, bad-provenance, one_provenance_text}
+use Rattle.statement_laws.proofs.Provenance.{good-provenance, bad-provenance, one_provenance_text}
 use Rattle.statement_laws.proofs.answers.laws.provenance_answers_are_rows_beside_witness_lists.Goals as goal
 
 pub returns-clause-good : goal.returns-clause-good

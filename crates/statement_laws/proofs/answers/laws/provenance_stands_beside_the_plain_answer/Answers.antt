@@ -1,4 +1,4 @@
-use Rattle.statement_laws.proofs.answers.Headline.{both-answer}
+use Rattle.statement_laws.proofs.Headline.{both-answer}
 use Rattle.statement_laws.proofs.answers.laws.provenance_stands_beside_the_plain_answer.Goals as goal
 
 pub returns : goal.returns

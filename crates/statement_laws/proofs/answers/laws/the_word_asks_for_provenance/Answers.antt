@@ -1,4 +1,4 @@
-use Rattle.statement_laws.proofs.answers.Words.{without-word, word-proves, word-names}
+use Rattle.statement_laws.proofs.Words.{without-word, word-proves, word-names}
 use Rattle.statement_laws.proofs.answers.laws.the_word_asks_for_provenance.Goals as goal
 
 pub returns-clause-without : goal.returns-clause-without

@@ -1,4 +1,0 @@
-pub mod BuiltFaultFree
-pub mod BuiltMeasures
-pub mod BuiltScopes
-pub mod Sought

@@ -1,4 +1,0 @@
-pub mod Conjunctions
-pub mod ItemKinds
-pub mod MovedColumns
-pub mod NullItems

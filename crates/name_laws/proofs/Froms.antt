@@ -1,0 +1,389 @@
+-- FROM that breaks nothing is made well formed, and its rows hold the columns of its items.
+use Rattle.std.specs.Prelude.{◌≡◌, ⊤, ℕ, zero, suc, ◌+◌, ◌≤◌, ◌<◌, Bool, true, false, List, [], ◌∷◌, ◌++◌, map, length, nat_eq, nat_lt, position, slice_get, Option, Some, None, option_map, IfSome}
+use Rattle.std.proofs.Common.{refl, ap, sym, ◌∙◌, subst, append_assoc, append-nil, true≢false, arith, pred}
+use Rattle.std.proofs.lemmas.List.{length-map, map-append}
+use Rattle.std.proofs.lemmas.List.Elements.{All-nil, All-cons}
+use Rattle.std.proofs.lemmas.List.FromFn.{length-range_with_len}
+use Rattle.std.proofs.lemmas.List.Quantifiers.{position-Some}
+use Rattle.std.proofs.lemmas.Option.{same_Some, slice_get-map}
+use Rattle.std.specs.List.{list_any, count_by, range_with_len, AllByRecursion as Every}
+use Rattle.std.specs.Option.{option_map_or}
+use Rattle.perm_values.specs.declared.kind.Kind.{Kind}
+use Rattle.perm_values.specs.declared.kind.Kind.TheVariants.{Text, Boolean}
+use Rattle.bag_algebra.specs.Built.{kinds_of-Base, kinds_of-Join}
+use Rattle.bag_algebra.specs.BuiltForms.{subs_kinds, WellFormed-Base, WellFormed-Join}
+use Rattle.bag_algebra.specs.Kinds.{kinds_of, width_of}
+use Rattle.bag_algebra.specs.WellFormed.{HasKind, WellFormed, PlacesIn, label_width}
+use Rattle.bag_algebra.specs.declared.expr.Expr.{Expr}
+use Rattle.bag_algebra.specs.declared.query.JoinKind.{JoinKind}
+use Rattle.bag_algebra.specs.declared.query.JoinKind.TheVariants as join
+use Rattle.bag_algebra.specs.declared.query.Label.{Label}
+use Rattle.bag_algebra.specs.declared.query.Label.TheVariants.{Relation, External}
+use Rattle.bag_algebra.specs.declared.query.Query.{Query}
+use Rattle.bag_algebra.specs.declared.query.Query.TheVariants.{Table, Base, Join}
+use Rattle.contribution.proofs.LongerKinds.{longer-names, well_formed-longer}
+use Rattle.contribution.specs.Longer.{more_lists}
+use Rattle.perm_catalog.specs.Changes.{table_named, view_named}
+use Rattle.perm_catalog.specs.Columns.{column_kinds}
+use Rattle.perm_catalog.specs.Contents.{Contents}
+use Rattle.perm_catalog.specs.Sound.{IsSound, IsSoundTable, IsSoundView}
+use Rattle.perm_catalog.specs.declared.column.Column.{Column}
+use Rattle.perm_catalog.specs.declared.entries.Mark.{Mark}
+use Rattle.perm_catalog.specs.declared.entries.TableEntry.{TableEntry}
+use Rattle.perm_catalog.specs.declared.entries.ViewEntry.{ViewEntry}
+use Rattle.sql_tree.specs.declared.name.Name.{Name}
+use Rattle.sql_tree.specs.declared.source.JoinWord.{JoinWord}
+use Rattle.sql_tree.specs.declared.source.ScopeMark.{ScopeMark}
+use Rattle.sql_tree.specs.declared.source.ScopeMark.TheVariants as mark
+use Rattle.name_meaning.specs.Cores.{settle}
+use Rattle.name_meaning.specs.Froms.{names_of, names_at, all_places, table_columns, settled_columns, named_columns, Read, external, read_table, read_view, read_nothing, read_named, read_query, named_so, place_of, column_breaks, attribute_breaks, texts_of, marked, mark_breaks, trace_under, SourcePart, named as named_source, inner as inner_source, ItemMeant, FromItemPart, read_of, read_names, scope_break, item_meant, in_on, FromMeant, JoinPart, FromPart, join_kind, scope_items, both_known, first_item, on_meant, on_breaks, on_made, join_item, join_all, beside_from, from_more, from_all, yes}
+use Rattle.name_meaning.specs.Meanings.{Around, Built, Meant, Part, OutColumn, QueryMeant, broken_if, settled}
+use Rattle.name_meaning.specs.Scopes.{KnownColumn, ScopeItem, scope_of, numbered_columns, columns_from}
+use Rattle.name_meaning.specs.Sublinks.{nothing_before}
+use Rattle.name_meaning.specs.declared.answer.Break.{Break}
+use Rattle.name_meaning.specs.declared.scope.Scope.{Scope}
+use Rattle.name_meaning.specs.declared.scope.ScopeColumn.{ScopeColumn}
+use Rattle.name_meaning.specs.declared.trace.Trace.{Trace}
+use Rattle.name_laws.specs.Known.{column_kinds_of, items_kinds}
+use Rattle.name_laws.specs.Standing.{StandAt, HoldsScope, RowsHold, AggregatesStand}
+use Rattle.name_laws.proofs.Arms.{GoodOptional}
+use Rattle.name_laws.proofs.Cores.{by, formed-condition}
+use Rattle.name_laws.proofs.GoodMeant.{front-none, back-none}
+use Rattle.name_laws.proofs.Sublinks.{GoodQuery}
+
+-- ---- places
+
+pub range-in : (from n width : ℕ) → from + n ≤ width → PlacesIn width (range_with_len from n)
+range-in from zero width h = All-nil _
+range-in from (suc n) width h =
+    All-cons (λ (place : ℕ). place < width) from (range_with_len (from + 1) n) (omega arith) (range-in (from + 1) n width (omega arith))
+
+-- the place of what is there at all
+pub position-in : {X : Type 0} (test : X → Bool) (xs : List X) → nat_eq (count_by test xs) 0 ≡ false
+    → option_map_or (λ (place : ℕ). place) (position test xs) 0 < length xs
+position-in test [] e = absurd (true≢false e)
+position-in {X} test (x ∷ xs) e = chosen (position test (x ∷ xs)) refl where
+  chosen : (at : Option ℕ) → position test (x ∷ xs) ≡ at → option_map_or (λ (place : ℕ). place) at 0 < suc (length xs)
+  chosen None f = omega arith
+  chosen (Some at) f = (position-Some test (x ∷ xs) at x f).0
+
+pub unbroken-not : (b : Bool) (code at : ℕ) → broken_if b code at ≡ [] → b ≡ false
+unbroken-not true code at e = cc e
+unbroken-not false code at e = refl
+
+attributes-in : (names earlier : List (List ℕ)) (attributes : List Name) → attribute_breaks (Some names) earlier attributes ≡ []
+    → PlacesIn (length names) (map (place_of names) (texts_of attributes))
+attributes-in names earlier [] whole = All-nil _
+attributes-in names earlier (attribute ∷ attributes) whole =
+    let one : List Break = column_breaks attribute names in
+    let again : List Break = broken_if (list_any (named_so attribute.text) earlier) 14 attribute.at in
+    let rest : List Break = attribute_breaks (Some names) (attribute.text ∷ earlier) attributes in
+    let own = front-none one again (front-none (one ++ again) rest whole) in
+    let none = front-none (broken_if (nat_eq (count_by (named_so attribute.text) names) 0) 11 attribute.at)
+    (broken_if (nat_lt 1 (count_by (named_so attribute.text) names)) 12 attribute.at) own in
+    All-cons (λ (place : ℕ). place < length names) (place_of names attribute.text) (map (place_of names) (texts_of attributes))
+    (position-in (named_so attribute.text) names (unbroken-not (nat_eq (count_by (named_so attribute.text) names) 0) 11 attribute.at none))
+    (attributes-in names (attribute.text ∷ earlier) attributes (back-none (one ++ again) rest whole))
+
+-- ---- kinds
+
+kinds-table_columns : (columns : List Column) → column_kinds columns ≡ column_kinds_of (table_columns columns)
+kinds-table_columns [] = refl
+kinds-table_columns (c ∷ columns) = ap (λ (kinds : List Kind). c.kind ∷ kinds) (kinds-table_columns columns)
+
+kinds-settled_columns : (columns : List OutColumn) → settle columns [] ≡ column_kinds_of (settled_columns columns)
+kinds-settled_columns [] = refl
+kinds-settled_columns (c ∷ columns) = ap (λ (kinds : List Kind). settled c.kind Text ∷ kinds) (kinds-settled_columns columns)
+
+kinds-named_columns : (names : List (List ℕ)) (kinds : List Kind) → length names ≡ length kinds → column_kinds_of (named_columns names kinds) ≡ kinds
+kinds-named_columns [] [] e = refl
+kinds-named_columns [] (k ∷ ks) e = absurd (omega (arith, e))
+kinds-named_columns (name ∷ names) [] e = refl
+kinds-named_columns (name ∷ names) (k ∷ ks) e = ap (λ kinds. k ∷ kinds) (kinds-named_columns names ks (ap pred e))
+
+kinds-columns_from : (number : ℕ) (items : List ScopeItem) → map (λ (column : ScopeColumn). column.kind) (columns_from number items) ≡ items_kinds items
+kinds-columns_from number [] = refl
+kinds-columns_from number (item ∷ items) =
+    map-append (λ (column : ScopeColumn). column.kind) (numbered_columns number item.columns) (columns_from (suc number) items)
+    ∙ (λ i. numbered item.columns i ++ kinds-columns_from (suc number) items i) where
+      numbered : (columns : List KnownColumn) → map (λ (column : ScopeColumn). column.kind) (numbered_columns number columns) ≡ column_kinds_of columns
+      numbered [] = refl
+      numbered (c ∷ columns) = ap (λ (kinds : List Kind). c.kind ∷ kinds) (numbered columns)
+
+-- rows with the columns of all items hold their scope
+pub scope-holds : (items : List ScopeItem) (row : List Kind) → row ≡ items_kinds items → HoldsScope (scope_of items) row
+scope-holds items row is place at column e there =
+    let columns = columns_from 0 items in
+    ap (λ r. slice_get r at) (is ∙ sym (kinds-columns_from 0 items))
+    ∙ ap (slice_get (map (λ (c : ScopeColumn). c.kind) columns)) (sym (same_Some place at there))
+    ∙ slice_get-map (λ (c : ScopeColumn). c.kind) columns place
+    ∙ ap (option_map (λ (c : ScopeColumn). c.kind)) e
+
+-- ---- what an item reads
+
+pub record FormedRead (outer : List Scope) (r : Read) : Type 0 where
+  pub columns : List KnownColumn
+  pub known : r.columns ≡ Some columns
+  pub kinds : kinds_of r.query ≡ column_kinds_of columns
+  pub plain_kinds : kinds_of r.plain ≡ column_kinds_of columns
+  pub formed : (rows : List (List Kind)) → RowsHold outer rows → WellFormed rows r.query
+  pub plain_formed : (rows : List (List Kind)) → RowsHold outer rows → WellFormed rows r.plain
+
+abbrev pub GoodRead : List Scope → Read → Type 0
+GoodRead outer r = r.breaks ≡ [] → FormedRead outer r
+
+based-formed : (rows : List (List Kind)) (input : Query) (places : List ℕ) (label : Label) → WellFormed rows input → PlacesIn (width_of input) places
+    → label_width label ≡ length places → WellFormed rows (Base input places label)
+based-formed rows input places label f within named =
+    by (sym (WellFormed-Base rows input places label)) (record { input = f; in_range = within; named = named })
+
+plain-formed : (rows : List (List Kind)) (query : Query) (names : List (List ℕ)) (places : Option (List ℕ)) → WellFormed rows query
+    → IfSome places (PlacesIn (width_of query)) → WellFormed rows (option_map_or (external query names) places query)
+plain-formed rows query names None f within = f
+plain-formed rows query names (Some places) f within = based-formed rows query places (External (names_at names places)) f within (length-map places _)
+
+kinds-plain : (query : Query) (names : List (List ℕ)) (places : Option (List ℕ)) → kinds_of (option_map_or (external query names) places query) ≡ kinds_of query
+kinds-plain query names None = refl
+kinds-plain query names (Some places) = kinds_of-Base query places (External (names_at names places))
+
+module _ (c : Contents) (sound : IsSound c) where
+  abbrev table_with : ℕ → List ℕ → List Column → Option Mark → Query
+  table_with id name columns stored = option_map_or
+      (λ (m : Mark). external (Table id (column_kinds columns)) (names_of (table_columns columns)) m.places) stored
+      (Base (Table id (column_kinds columns)) (all_places columns) (Relation name (names_of (table_columns columns))))
+
+  table-formed : (rows : List (List Kind)) (id : ℕ) (name : List ℕ) (columns : List Column) (stored : Option Mark) → stored ≡ None
+      → WellFormed rows (table_with id name columns stored)
+  table-formed rows id name columns None e =
+      let l = length-map columns (λ (column : Column). column.kind) in
+      let m : length (names_of (table_columns columns)) ≡ length (all_places columns) =
+      length-map (table_columns columns) _ ∙ length-map columns _ ∙ sym (length-range_with_len 0 (length columns)) in
+      based-formed rows (Table id (column_kinds columns)) (all_places columns) (Relation name (names_of (table_columns columns))) tt
+      (range-in 0 (length columns) (length (column_kinds columns)) (omega (arith, l))) m
+  table-formed rows id name columns (Some m) e = cc
+
+  kinds-table : (id : ℕ) (name : List ℕ) (columns : List Column) (stored : Option Mark) → kinds_of (table_with id name columns stored) ≡ column_kinds columns
+  kinds-table id name columns None = kinds_of-Base (Table id (column_kinds columns)) (all_places columns) (Relation name (names_of (table_columns columns)))
+  kinds-table id name columns (Some m) =
+      kinds_of-Base (Table id (column_kinds columns)) m.places (External (names_at (names_of (table_columns columns)) m.places))
+
+  good-read_table : (outer : List Scope) (name : List ℕ) (table : TableEntry) → IsSoundTable c table → GoodRead outer (read_table name table)
+  good-read_table outer name table is whole = record {
+    columns = table_columns table.columns;
+    known = refl;
+    kinds = kinds-table_columns table.columns;
+    plain_kinds = kinds-table table.id name table.columns table.mark ∙ kinds-table_columns table.columns;
+    formed = λ rows hold. tt;
+    plain_formed = λ rows hold. table-formed rows table.id name table.columns table.mark is.unmarked;
+  }
+
+  good-read_view : (outer : List Scope) (name : List ℕ) (view : ViewEntry) → IsSoundView c view → GoodRead outer (read_view name view)
+  good-read_view outer name view is whole =
+      let kinds = sym (kinds-named_columns view.answer.names (kinds_of view.answer.query) is.answer.named) in
+      let formed : (rows : List (List Kind)) → WellFormed rows view.answer.query =
+      λ rows. well_formed-longer view.answer.query [] rows (longer-names (more_lists rows)) is.answer.closed in
+      record {
+        columns = named_columns view.answer.names (kinds_of view.answer.query);
+        known = refl;
+        kinds = kinds;
+        plain_kinds = kinds-plain view.answer.query view.answer.names view.places ∙ kinds;
+        formed = λ rows hold. formed rows;
+        plain_formed = λ rows hold. plain-formed rows view.answer.query view.answer.names view.places (formed rows) is.places;
+      }
+
+  good-read_named : (outer : List Scope) (name : Name) → GoodRead outer (read_named c name)
+  good-read_named outer name = as_table (table_named c name.text) refl where
+    as_view : (view : Option ViewEntry) → view_named c name.text ≡ view → GoodRead outer (option_map_or (read_view name.text) view (read_nothing name))
+    as_view None e = λ whole. absurd (cc whole)
+    as_view (Some view) e = good-read_view outer name.text view (sound.views name.text view e)
+
+    as_table : (table : Option TableEntry) → table_named c name.text ≡ table
+        → GoodRead outer (option_map_or (read_table name.text) table (option_map_or (read_view name.text) (view_named c name.text) (read_nothing name)))
+    as_table None e = as_view (view_named c name.text) refl
+    as_table (Some table) e = good-read_table outer name.text table (sound.tables name.text table e)
+
+  good-read_query : (around : Around) (m : QueryMeant) → GoodQuery around m → GoodRead around.outer (read_query m)
+  good-read_query around m good whole =
+      let query = good.known whole in
+      let kinds = query.kinds [] ∙ kinds-settled_columns query.columns in
+      let names = option_map_or (λ (columns : List OutColumn). names_of (settled_columns columns)) m.columns [] in
+      record {
+        columns = settled_columns query.columns;
+        known = ap (option_map settled_columns) query.known;
+        kinds = kinds;
+        plain_kinds = kinds-plain (m.make []) names m.places ∙ kinds;
+        formed = λ rows hold. good.formed whole rows hold [];
+        plain_formed = λ rows hold. plain-formed rows (m.make []) names m.places (good.formed whole rows hold []) (good.places whole);
+      }
+
+  abbrev pub GoodSource : SourcePart → Type 0
+  GoodSource (named_source name) = ⊤
+  GoodSource (inner_source query) = (around : Around) → GoodQuery around (query.means around)
+
+  pub good-read_of : (m : ScopeMark) (outer : List Scope) (trace : Trace) (source : SourcePart) → GoodSource source → GoodRead outer (read_of c m outer trace source)
+  good-read_of m outer trace (named_source name) good = good-read_named outer name
+  good-read_of m outer trace (inner_source query) good =
+      let around : Around = record { outer = outer; trace = trace_under m trace; provable = true } in
+      good-read_query around (query.means around) (good around)
+
+-- ---- items
+
+pub record FormedItem (outer : List Scope) (m : ItemMeant) : Type 0 where
+  pub columns : List KnownColumn
+  pub known : m.columns ≡ Some columns
+  pub kinds : kinds_of m.query ≡ column_kinds_of columns
+  pub formed : (rows : List (List Kind)) → RowsHold outer rows → WellFormed rows m.query
+
+abbrev pub GoodItemMeant : List Scope → ItemMeant → Type 0
+GoodItemMeant outer m = m.breaks ≡ [] → FormedItem outer m
+
+abbrev pub GoodFromItem : FromItemPart → Type 0
+GoodFromItem item = (outer : List Scope) (trace : Trace) (earlier : List (List ℕ)) → GoodItemMeant outer (item.means outer trace earlier)
+
+marked-kinds : (m : ScopeMark) (label : List ℕ) (names : List (List ℕ)) (read : Read) (kinds : List Kind)
+    → kinds_of read.query ≡ kinds → kinds_of read.plain ≡ kinds → kinds_of (marked m label names read) ≡ kinds
+marked-kinds mark.Plain label names read kinds e f = f
+marked-kinds mark.BaseRelation label names read kinds e f = kinds_of-Base read.query (all_places names) (Relation label names) ∙ e
+marked-kinds (mark.External attributes) label names read kinds e f =
+    kinds_of-Base read.query (map (place_of names) (texts_of attributes)) (External (texts_of attributes)) ∙ e
+
+marked-formed : (m : ScopeMark) (label : List ℕ) (names : List (List ℕ)) (read : Read) (rows : List (List Kind)) → WellFormed rows read.query → WellFormed rows read.plain
+    → length names ≡ width_of read.query → mark_breaks m (Some names) ≡ [] → WellFormed rows (marked m label names read)
+marked-formed mark.Plain label names read rows f g width whole = g
+marked-formed mark.BaseRelation label names read rows f g width whole =
+    based-formed rows read.query (all_places names) (Relation label names) f (range-in 0 (length names) (width_of read.query) (omega (arith, width)))
+    (sym (length-range_with_len 0 (length names)))
+marked-formed (mark.External attributes) label names read rows f g width whole =
+    based-formed rows read.query (map (place_of names) (texts_of attributes)) (External (texts_of attributes)) f
+    (subst (λ w. PlacesIn w (map (place_of names) (texts_of attributes))) width (attributes-in names [] attributes whole))
+    (sym (length-map (texts_of attributes) (place_of names)))
+
+pub good-item_meant : (outer : List Scope) (at : ℕ) (m : ScopeMark) (trace : Trace) (earlier : List (List ℕ)) (name label : List ℕ) (read : Read) → GoodRead outer read
+    → GoodItemMeant outer (item_meant at m trace earlier name label read)
+good-item_meant outer at m trace earlier name label read good whole =
+    let same_name : List Break = broken_if (list_any (named_so name) earlier) 15 at in
+    let attributes : List Break = mark_breaks m (option_map names_of read.columns) in
+    let scoped : List Break = scope_break read.breaks trace read.viewed (marked m label (read_names read) read) at in
+    let first = front-none ((read.breaks ++ same_name) ++ attributes) scoped whole in
+    let r = good (front-none read.breaks same_name (front-none (read.breaks ++ same_name) attributes first)) in
+    let are : read_names read ≡ names_of r.columns = ap (λ (columns : Option (List KnownColumn)). option_map_or names_of columns []) r.known in
+    let known : option_map names_of read.columns ≡ Some (read_names read) = ap (option_map names_of) r.known ∙ ap Some (sym are) in
+    let width : length (read_names read) ≡ width_of read.query =
+    ap length are ∙ length-map r.columns _ ∙ sym (length-map r.columns (λ (column : KnownColumn). column.kind)) ∙ ap length (sym r.kinds) in
+    record {
+      columns = r.columns;
+      known = r.known;
+      kinds = marked-kinds m label (read_names read) read (column_kinds_of r.columns) r.kinds r.plain_kinds;
+      formed = λ rows hold. marked-formed m label (read_names read) read rows (r.formed rows hold) (r.plain_formed rows hold) width
+          (subst (λ (names : Option (List (List ℕ))). mark_breaks m names ≡ []) known (back-none (read.breaks ++ same_name) attributes first));
+    }
+
+-- ---- joins
+
+pub record FormedFrom (outer : List Scope) (m : FromMeant) : Type 0 where
+  pub items : List ScopeItem
+  pub known : m.items ≡ Some items
+  pub kinds : kinds_of m.query ≡ items_kinds items
+  pub formed : (rows : List (List Kind)) → RowsHold outer rows → WellFormed rows m.query
+
+abbrev pub GoodFrom : List Scope → FromMeant → Type 0
+GoodFrom outer m = m.breaks ≡ [] → FormedFrom outer m
+
+abbrev pub GoodFromPart : FromPart → Type 0
+GoodFromPart part = (outer : List Scope) (trace : Trace) (earlier : List (List ℕ)) → GoodFrom outer (part.means outer trace earlier)
+
+abbrev pub GoodJoin : JoinPart → Type 0
+GoodJoin step = GoodFromItem step.item × GoodOptional step.condition
+
+items_kinds-append : (xs ys : List ScopeItem) → items_kinds (xs ++ ys) ≡ items_kinds xs ++ items_kinds ys
+items_kinds-append [] ys = refl
+items_kinds-append (x ∷ xs) ys =
+    ap (λ (kinds : List Kind). column_kinds_of x.columns ++ kinds) (items_kinds-append xs ys)
+    ∙ sym (append_assoc (column_kinds_of x.columns) (items_kinds xs) (items_kinds ys))
+
+abbrev item_of : ItemMeant → List KnownColumn → List ScopeItem
+item_of m columns = record { name = m.name; columns = columns } ∷ []
+
+pub good-first : (outer : List Scope) (earlier : List (List ℕ)) (m : ItemMeant) → GoodItemMeant outer m → GoodFrom outer (first_item earlier m)
+good-first outer earlier m good whole =
+    let item = good whole in
+    record {
+      items = item_of m item.columns;
+      known = ap (option_map (λ (columns : List KnownColumn). item_of m columns)) item.known;
+      kinds = item.kinds ∙ sym (append-nil (column_kinds_of item.columns));
+      formed = item.formed;
+    }
+
+yes-holds : (rows : List (List Kind)) → HasKind rows [] yes Boolean
+yes-holds rows = record { fitting = refl; gives = refl }
+
+-- a condition in the rows up to its own step
+on-holds : (outer : List Scope) (trace : Trace) (items : List ScopeItem) (condition : Option Part) (row : List Kind) (rows : List (List Kind)) → GoodOptional condition
+    → on_breaks condition (on_meant outer trace (Some items) condition) ≡ [] → row ≡ items_kinds items → RowsHold outer rows
+    → HasKind (row ∷ rows) [] (on_made (on_meant outer trace (Some items) condition)) Boolean
+on-holds outer trace items None row rows good whole is hold = yes-holds (row ∷ rows)
+on-holds outer trace items (Some part) row rows good whole is hold =
+    let here = in_on items outer trace in
+    let formed = formed-condition here part.at (part.means here) (good.formed here) whole in
+    formed.holds (row ∷ rows) [] (scope-holds items row is, hold)
+    (subst (λ aggregates. AggregatesStand here.scopes 0 aggregates (row ∷ rows)) (sym (formed.without_aggregates refl)) tt)
+    (subst (λ subs. StandAt 0 (subs_kinds subs) []) (sym (formed.without_subs refl)) tt)
+
+joined-formed : (kind : JoinKind) (left right : Query) (condition : Expr) (rows : List (List Kind)) → WellFormed rows left → WellFormed rows right
+    → HasKind ((kinds_of left ++ kinds_of right) ∷ rows) [] condition Boolean → WellFormed rows (Join kind left right condition [])
+joined-formed kind left right condition rows f g h =
+    by (sym (WellFormed-Join rows kind left right condition [])) (record { left = f; right = g; subs = tt; condition = h; without_subs = tt })
+
+good-joined : (outer : List Scope) (trace : Trace) (left : FromMeant) (step : JoinPart) (m : ItemMeant) → GoodFrom outer left → GoodItemMeant outer m
+    → GoodOptional step.condition → GoodFrom outer (join_item outer trace left step m)
+good-joined outer trace left step m l r condition whole =
+    let on = on_meant outer trace (both_known left.items (scope_items m)) step.condition in
+    let operands = front-none (left.breaks ++ m.breaks) (on_breaks step.condition on) whole in
+    let from = l (front-none left.breaks m.breaks operands) in
+    let item = r (back-none left.breaks m.breaks operands) in
+    let own : List ScopeItem = item_of m item.columns in
+    let items : List ScopeItem = from.items ++ own in
+    let known : both_known left.items (scope_items m) ≡ Some items =
+    λ i. both_known (from.known i) (ap (option_map (λ (columns : List KnownColumn). item_of m columns)) item.known i) in
+    let kinds : kinds_of left.query ++ kinds_of m.query ≡ items_kinds items =
+    (λ i. from.kinds i ++ (item.kinds ∙ sym (append-nil (column_kinds_of item.columns))) i) ∙ sym (items_kinds-append from.items own) in
+    let on_whole : on_breaks step.condition (on_meant outer trace (Some items) step.condition) ≡ [] =
+    subst (λ (found : Option (List ScopeItem)). on_breaks step.condition (on_meant outer trace found step.condition) ≡ []) known
+    (back-none (left.breaks ++ m.breaks) (on_breaks step.condition on) whole) in
+    record {
+      items = items;
+      known = known;
+      kinds = kinds_of-Join (join_kind step.word) left.query m.query (on_made on) [] ∙ kinds;
+      formed = λ rows hold. joined-formed (join_kind step.word) left.query m.query (on_made on) rows (from.formed rows hold) (item.formed rows hold)
+          (subst (λ (found : Option (List ScopeItem)). HasKind ((kinds_of left.query ++ kinds_of m.query) ∷ rows) [] (on_made (on_meant outer trace found step.condition)) Boolean)
+          (sym known) (on-holds outer trace items step.condition (kinds_of left.query ++ kinds_of m.query) rows condition on_whole kinds hold));
+    }
+
+pub good-join_all : (outer : List Scope) (trace : Trace) (left : FromMeant) (steps : List JoinPart) → GoodFrom outer left → Every GoodJoin steps
+    → GoodFrom outer (join_all outer trace left steps)
+good-join_all outer trace left [] l h = l
+good-join_all outer trace left (step ∷ steps) l h =
+    let m : ItemMeant = step.item.means outer trace left.names in
+    good-join_all outer trace (join_item outer trace left step m) steps (good-joined outer trace left step m l (h.0.0 outer trace left.names) h.0.1) h.1
+
+good-beside : (outer : List Scope) (left right : FromMeant) → GoodFrom outer left → GoodFrom outer right → GoodFrom outer (beside_from left right)
+good-beside outer left right l r whole =
+    let a = l (front-none left.breaks right.breaks whole) in
+    let b = r (back-none left.breaks right.breaks whole) in
+    record {
+      items = a.items ++ b.items;
+      known = λ i. both_known (a.known i) (b.known i);
+      kinds = kinds_of-Join join.Inner left.query right.query yes [] ∙ (λ i. a.kinds i ++ b.kinds i) ∙ sym (items_kinds-append a.items b.items);
+      formed = λ rows hold. joined-formed join.Inner left.query right.query yes rows (a.formed rows hold) (b.formed rows hold) (yes-holds ((kinds_of left.query ++ kinds_of right.query) ∷ rows));
+    }
+
+good-more : (outer : List Scope) (trace : Trace) (left : FromMeant) (parts : List FromPart) → GoodFrom outer left → Every GoodFromPart parts
+    → GoodFrom outer (from_more outer trace left parts)
+good-more outer trace left [] l h = l
+good-more outer trace left (part ∷ parts) l h =
+    let right : FromMeant = part.means outer trace left.names in
+    good-more outer trace (beside_from left right) parts (good-beside outer left right l (h.0 outer trace left.names)) h.1
+
+pub good-from_all : (outer : List Scope) (trace : Trace) (parts : List FromPart) → Every GoodFromPart parts → GoodFrom outer (from_all outer trace parts)
+good-from_all outer trace [] h = λ whole. record { items = []; known = refl; kinds = refl; formed = λ rows hold. tt }
+good-from_all outer trace (part ∷ parts) h = good-more outer trace (part.means outer trace []) parts (h.0 outer trace []) h.1

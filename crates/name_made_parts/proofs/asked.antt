@@ -1,4 +1,0 @@
-pub mod Coring
-pub mod Listing
-pub mod Querying
-pub mod Settling

@@ -1,2 +1,0 @@
-pub mod Cored
-pub mod Shown

@@ -1,4 +1,0 @@
-pub mod Aggregating
-pub mod Firsts
-pub mod Placed
-pub mod Uniting

@@ -1,6 +1,0 @@
-pub mod Attributed
-pub mod KnownNames
-pub mod Labels
-pub mod NamedColumns
-pub mod Scoping
-pub mod Settled

@@ -1,0 +1,95 @@
+-- Of its inputs a node sees the rows, each as often as it stands there, or the faults; of its sublinks the same, on each row.
+use Rattle.std.proofs.Common.{◌≡◌, ℕ, Bool, List, map, ◌∙◌, refl}
+use Rattle.std.specs.Prelude.{IsTrue}
+use Rattle.perm_values.specs.declared.key.Key.{Key}
+use Rattle.bag_algebra.specs.Bags.{Row, Bag, member}
+use Rattle.bag_algebra.specs.Built.{meaning-Base, meaning-Filter, meaning-Project, meaning-Join, meaning-Union, meaning-Intersect, meaning-Except, meaning-Distinct, meaning-Aggregate, meaning-Limit}
+use Rattle.bag_algebra.specs.Children.{subs_denote}
+use Rattle.bag_algebra.specs.Kinds.{width_of}
+use Rattle.bag_algebra.specs.Meaning.{Database, meaning, condition_on, items_on, arguments_on}
+use Rattle.bag_algebra.specs.Means.{joined_rows}
+use Rattle.bag_algebra.specs.Outcome.{Good, both_then}
+use Rattle.bag_algebra.specs.Rewriting.{SameRows}
+use Rattle.bag_algebra.specs.declared.expr.Expr.{Expr}
+use Rattle.bag_algebra.specs.declared.expr.Item.{Item}
+use Rattle.bag_algebra.specs.declared.query.Aggr.{Aggr}
+use Rattle.bag_algebra.specs.declared.query.JoinKind.{JoinKind}
+use Rattle.bag_algebra.specs.declared.query.Label.{Label}
+use Rattle.bag_algebra.specs.declared.query.Query.{Query}
+use Rattle.bag_algebra.specs.declared.query.Query.TheVariants.{Base, Filter, Project, Join, Union, Intersect, Except, Distinct, Aggregate, Limit}
+use Rattle.bag_algebra.specs.declared.query.Sublink.{Sublink}
+use Rattle.query_laws.proofs.Inputs.{across, filter-input, project-input, distinct-input, limit-input, aggregate-input, join-inputs, union-inputs, intersect-inputs, except-inputs}
+use Rattle.query_laws.specs.Agreeing.{SubsAgree}
+use Rattle.query_laws.proofs.StandingSublinks.{filter-subs, project-subs, join-subs}
+
+pub base-rows : (input other : Query) (places : List ℕ) (label : Label) (db : Database) (env : List Row) →
+    SameRows (meaning input db env) (meaning other db env) →
+    SameRows (meaning (Base input places label) db env) (meaning other db env)
+base-rows input other places label db env s = across (meaning-Base db env input places label) refl s
+
+pub filter-rows : (input other : Query) (condition : Expr) (subs others : List Sublink) (db : Database) (env : List Row) →
+    SameRows (meaning input db env) (meaning other db env) →
+    ((us : Bag) (u : Row) → meaning input db env ≡ Good us → IsTrue (member u us) → SubsAgree db env u subs others) →
+    SameRows (meaning (Filter input condition subs) db env) (meaning (Filter other condition others) db env)
+filter-rows input other condition subs others db env s agree =
+    across (filter-subs db env input subs others agree condition ∙ meaning-Filter db env input condition others) (meaning-Filter db env other condition others)
+    (filter-input (meaning input db env) (meaning other db env) s (condition_on condition env (subs_denote others db env)))
+
+pub project-rows : (input other : Query) (items : List Item) (subs others : List Sublink) (db : Database) (env : List Row) →
+    SameRows (meaning input db env) (meaning other db env) →
+    ((us : Bag) (u : Row) → meaning input db env ≡ Good us → IsTrue (member u us) → SubsAgree db env u subs others) →
+    SameRows (meaning (Project input items subs) db env) (meaning (Project other items others) db env)
+project-rows input other items subs others db env s agree =
+    across (project-subs db env input subs others agree items ∙ meaning-Project db env input items others) (meaning-Project db env other items others)
+    (project-input (meaning input db env) (meaning other db env) s (items_on items env (subs_denote others db env)))
+
+pub join-rows : (kind : JoinKind) (left right other another : Query) (condition : Expr) (subs others : List Sublink) (db : Database) (env : List Row) →
+    SameRows (meaning left db env) (meaning other db env) → SameRows (meaning right db env) (meaning another db env) →
+    width_of left ≡ width_of other → width_of right ≡ width_of another → ((u : Row) → SubsAgree db env u subs others) →
+    SameRows (meaning (Join kind left right condition subs) db env) (meaning (Join kind other another condition others) db env)
+join-rows kind left right other another condition subs others db env s r wide width agree =
+    let on_row = condition_on condition env (subs_denote others db env) in
+    across (join-subs db env kind left right condition subs others agree ∙ meaning-Join db env kind left right condition others
+    ∙ (λ i. both_then (meaning left db env) (meaning right db env) (joined_rows kind on_row (wide i) (width i))))
+    (meaning-Join db env kind other another condition others)
+    (join-inputs (meaning left db env) (meaning other db env) s (meaning right db env) (meaning another db env) r kind on_row (width_of other) (width_of another))
+
+pub union-rows : (all : Bool) (left right other another : Query) (db : Database) (env : List Row) →
+    SameRows (meaning left db env) (meaning other db env) → SameRows (meaning right db env) (meaning another db env) →
+    SameRows (meaning (Union all left right) db env) (meaning (Union all other another) db env)
+union-rows all left right other another db env s r =
+    across (meaning-Union db env all left right) (meaning-Union db env all other another)
+    (union-inputs (meaning left db env) (meaning other db env) s (meaning right db env) (meaning another db env) r all)
+
+pub intersect-rows : (all : Bool) (left right other another : Query) (db : Database) (env : List Row) →
+    SameRows (meaning left db env) (meaning other db env) → SameRows (meaning right db env) (meaning another db env) →
+    SameRows (meaning (Intersect all left right) db env) (meaning (Intersect all other another) db env)
+intersect-rows all left right other another db env s r =
+    across (meaning-Intersect db env all left right) (meaning-Intersect db env all other another)
+    (intersect-inputs (meaning left db env) (meaning other db env) s (meaning right db env) (meaning another db env) r all)
+
+pub except-rows : (all : Bool) (left right other another : Query) (db : Database) (env : List Row) →
+    SameRows (meaning left db env) (meaning other db env) → SameRows (meaning right db env) (meaning another db env) →
+    SameRows (meaning (Except all left right) db env) (meaning (Except all other another) db env)
+except-rows all left right other another db env s r =
+    across (meaning-Except db env all left right) (meaning-Except db env all other another)
+    (except-inputs (meaning left db env) (meaning other db env) s (meaning right db env) (meaning another db env) r all)
+
+pub distinct-rows : (input other : Query) (db : Database) (env : List Row) →
+    SameRows (meaning input db env) (meaning other db env) →
+    SameRows (meaning (Distinct input) db env) (meaning (Distinct other) db env)
+distinct-rows input other db env s =
+    across (meaning-Distinct db env input) (meaning-Distinct db env other) (distinct-input (meaning input db env) (meaning other db env) s)
+
+pub aggregate-rows : (input other : Query) (groups : List ℕ) (aggregates : List Aggr) (db : Database) (env : List Row) →
+    SameRows (meaning input db env) (meaning other db env) →
+    SameRows (meaning (Aggregate input groups aggregates) db env) (meaning (Aggregate other groups aggregates) db env)
+aggregate-rows input other groups aggregates db env s =
+    across (meaning-Aggregate db env input groups aggregates) (meaning-Aggregate db env other groups aggregates)
+    (aggregate-input (meaning input db env) (meaning other db env) s groups (map (λ (aggregate : Aggr). aggregate.function) aggregates) (arguments_on aggregates env))
+
+pub limit-rows : (input other : Query) (keys : List Key) (most : ℕ) (db : Database) (env : List Row) →
+    SameRows (meaning input db env) (meaning other db env) →
+    SameRows (meaning (Limit input keys most) db env) (meaning (Limit other keys most) db env)
+limit-rows input other keys most db env s =
+    across (meaning-Limit db env input keys most) (meaning-Limit db env other keys most) (limit-input (meaning input db env) (meaning other db env) s keys most)

@@ -1,4 +1,0 @@
-pub mod Inputs
-pub mod RowsAlone
-pub mod StandingNodes
-pub mod Sublinks

@@ -1,2 +1,0 @@
-pub mod ListsOfNodes
-pub mod SublinkLists

@@ -1,4 +1,0 @@
-pub mod ExceptRows
-pub mod IntersectRows
-pub mod LimitRows
-pub mod Matched

@@ -1,2 +1,0 @@
-pub mod ColumnsOf
-pub mod OtherRows

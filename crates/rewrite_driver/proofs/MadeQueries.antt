@@ -1,0 +1,46 @@
+-- What a call made for a node is made for the query that the node is.
+use Rattle.std.specs.Prelude.{⊤, OnOk, nat_lt}
+use Rattle.std.proofs.Common.{◌≡◌, arith, false, List, [], ◌∷◌, length, Result, Ok, Err, IfOk, refl, sym, subst, true≢false}
+use Rattle.std.proofs.lemmas.Bool.Decides.{nat_tests}
+use Rattle.perm_values.specs.declared.no_memory.NoMemory.{NoMemory}
+use Rattle.bag_algebra.specs.Kinds.{shape}
+use Rattle.bag_algebra.specs.Rewriting.{IsRewrite, Stands}
+use Rattle.bag_algebra.specs.declared.place.Place.{Place}
+use Rattle.bag_algebra.specs.declared.query.Query.{Query}
+use Rattle.rewrite_base.proofs.WithoutPlaces.{rewrite-without_places}
+use Rattle.rewrite_driver.specs.Places.{is_some_place, has_places}
+
+pub where_made : {X : Type 0} (P R : X → Type 0) (result : Result X NoMemory) → ((x : X) → P x → R x) → IfOk result P → IfOk result R
+where_made P R (Ok x) f p = f x p
+where_made P R (Err error) f p = tt
+
+module _ (q node : Query) (result : Result Query NoMemory) (is : q ≡ node) where
+  pub stands_made : (made : Query) → IfOk result (λ p. p ≡ made) → Stands node made → IfOk result (λ p. Stands q p)
+  stands_made made is_made s =
+      where_made (λ p. p ≡ made) (λ p. Stands q p) result (λ p e. subst (λ n. Stands n p) (sym is) (subst (λ b. Stands node b) (sym e) s)) is_made
+
+  pub stands_where : (P : Query → Type 0) → ((p : Query) → P p → Stands node p) → IfOk result P → IfOk result (λ p. Stands q p)
+  stands_where P f given = where_made P (λ p. Stands q p) result (λ p h. subst (λ n. Stands n p) (sym is) (f p h)) given
+
+  pub rewrites_where : (P : Query → Type 0) → ((p : Query) → P p → IsRewrite node p) → IfOk result P → IfOk result (λ p. IsRewrite q p)
+  rewrites_where P f given = where_made P (λ p. IsRewrite q p) result (λ p h. subst (λ n. IsRewrite n p) (sym is) (f p h)) given
+
+no_place : (places : List Place) → is_some_place places ≡ false → places ≡ []
+no_place [] e = refl
+no_place (place ∷ places) e = absurd (true≢false e)
+
+pub rewrites_without_places : (q : Query) (result : Result Query NoMemory) → has_places q ≡ false → IfOk result (λ p. Stands q p) → IfOk result (λ p. IsRewrite q p)
+rewrites_without_places q result none given =
+    where_made (λ p. Stands q p) (λ p. IsRewrite q p) result (λ p s. rewrite-without_places q p (no_place (shape q) none) s) given
+
+pub none_left : {X : Type 0} (xs : List X) → length xs ≡ 0 → xs ≡ []
+none_left [] e = refl
+none_left (x ∷ xs) e = absurd (omega (arith, e))
+
+pub is_some-length : (places : List Place) → (nat_lt 0 (length places)) ≡ is_some_place places
+is_some-length [] = refl
+is_some-length (place ∷ places) = grind (arith, nat_tests)
+
+pub appended : {X : Type 0} (P : List X → Type 0) (xs ys : List X) (result : Result ⊤ NoMemory) → OnOk result (ys ≡ xs) → P xs → OnOk result (P ys)
+appended P xs ys (Ok done) e p = subst P (sym e) p
+appended P xs ys (Err error) e p = tt

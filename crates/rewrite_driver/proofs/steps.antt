@@ -1,3 +1,0 @@
-pub mod MadeQueries
-pub mod Scopes
-pub mod SublinkLists
