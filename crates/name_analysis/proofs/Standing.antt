@@ -28,6 +28,7 @@ use Rattle.name_laws.specs.Formed.{IsAnswer}
 use Rattle.name_laws.proofs.TreeLaws.{query-answer, query-closed}
 use Rattle.name_laws.proofs.Named.{view-reads}
 use Rattle.name_analysis.specs.Stands.{AnswerStands, BodyStands, IsHeldTable, shown_kinds}
+use Rattle.name_meaning.specs.declared.rule.Rule.TheVariants as rule
 
 abbrev known_kinds : List KnownColumn → List Kind
 known_kinds columns = map (λ (column : KnownColumn). column.kind) columns
@@ -86,7 +87,7 @@ module _ (c : Contents) (sound : IsSound c) where
 
   module _ (tree : QueryTree) where
     abbrev named_twice : List Break
-    named_twice = broken_if (words.repeats (names_of (words.columns_of (words.query_meant c tree)))) 14 tree.at
+    named_twice = broken_if (words.repeats (names_of (words.columns_of (words.query_meant c tree)))) rule.RepeatedColumn tree.at
 
     query-whole : (front : List Break) → front ++ words.named_query_breaks tree.at (words.query_meant c tree) ≡ [] → (words.query_meant c tree).breaks ≡ []
     query-whole front e =
@@ -97,7 +98,7 @@ module _ (c : Contents) (sound : IsSound c) where
   body-stands (st.CreateTableAs table query) regular whole =
       answer-stands query regular (query-whole query (words.taken c table)
       (front-none (words.taken c table ++ words.named_query_breaks query.at (words.query_meant c query))
-      (broken_if (words.has_boolean (words.columns_of (words.query_meant c query))) 20 query.at) whole))
+      (broken_if (words.has_boolean (words.columns_of (words.query_meant c query))) rule.UnfitKind query.at) whole))
   body-stands (st.CreateView view query) regular whole = answer-stands query regular (query-whole query (words.taken c view) whole)
   body-stands (st.Copy table file header mark) regular whole = tt
   body-stands (st.Insert table rows) regular whole = tt

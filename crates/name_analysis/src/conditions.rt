@@ -10,7 +10,7 @@ ghost use Rattle.name_statements.specs.Resolves.{ConditionSeen, ResolvesBody, Re
 use bag_algebra::Expr;
 use name_made::made;
 use name_made_nodes::Within;
-use name_meaning::{Break, Resolved};
+use name_meaning::{Break, Resolved, Rule};
 use name_seen_parts::{Here, Refusal, Scopes, inside};
 use name_statements::{
     alone, delete_break, delete_of, let_condition_go, let_found_go, table_scope,
@@ -47,7 +47,7 @@ fn deleted(
 {
     match catalog.table(&table.text) {
         None => Err(Refusal::Break(Break {
-            code: 10,
+            rule: Rule::UnknownRelation,
             at: table.at,
         })),
         Some(entry) => condition_of(alloc, catalog, table, entry, condition),

@@ -21,6 +21,7 @@ use Rattle.name_laws.proofs.Every.{Every, every-append, every-flat_map, every-ma
 use Rattle.name_laws.proofs.Induction.{AreKept, BodyParts, kept-part}
 use Rattle.name_inside.specs.Held.{Held, held, held_arm, held_at, held_optional, held_step}
 use Rattle.name_inside.proofs.Forms.{BarePart, IsBare, bare-over, last-some, over-body}
+use Rattle.name_meaning.specs.declared.rule.Rule.TheVariants as rule
 
 abbrev BareBody : Body → Type 0
 BareBody body = (at : ℕ) (here : Surroundings) → here.sublinks ≡ false → IsBare (held (body.means at here))
@@ -56,7 +57,7 @@ abbrev AnyJoin : JoinPart → Type 0
 AnyJoin step = ⊤
 
 -- a sublink breaks where it may not stand
-unlooked : (b : Bool) (m : Meant) (at : ℕ) (kind : Option Kind) → b ≡ false → IsBare (held (cond b m (breaking 24 at kind)))
+unlooked : (b : Bool) (m : Meant) (at : ℕ) (kind : Option Kind) → b ≡ false → IsBare (held (cond b m (breaking rule.MisplacedSublink at kind)))
 unlooked true m at kind e none = absurd (true≢false e)
 unlooked false m at kind e none = absurd (cc)
 

@@ -32,6 +32,7 @@ use Rattle.name_laws.proofs.Every.{Every, every-append, every-map, every-flat_ma
 use Rattle.name_laws.proofs.Induction.{AreKept, BodyParts, kept-part}
 use Rattle.name_inside.specs.Held.{Held, all_breaks, all_inside, held, held_arm, held_at, held_optional, held_query, held_step}
 use Rattle.name_inside.proofs.Over.{IsOver, breaks-append, breaks-one, both-nothing, inside-append, inside-one}
+use Rattle.name_meaning.specs.declared.rule.Rule.TheVariants as rule
 
 -- ---- nothing inside
 
@@ -113,15 +114,15 @@ aggregate-over : (here : Surroundings) (at : ℕ) (word : AggWord) (argument : P
     → IsOver (held (aggregate_meant here at word (Some argument))) []
 aggregate-over here at word argument bare = record {
   breaks = λ none. refl;
-  inside = λ none. bare (front-none (argument.means (in_argument here)).breaks (broken_if (not here.aggregates) 23 at)
-      (front-none ((argument.means (in_argument here)).breaks ++ broken_if (not here.aggregates) 23 at)
-      (broken_if (not (takes_kind word (seen_kind (argument.means (in_argument here))))) 20 argument.at) none));
+  inside = λ none. bare (front-none (argument.means (in_argument here)).breaks (broken_if (not here.aggregates) rule.MisplacedAggregate at)
+      (front-none ((argument.means (in_argument here)).breaks ++ broken_if (not here.aggregates) rule.MisplacedAggregate at)
+      (broken_if (not (takes_kind word (seen_kind (argument.means (in_argument here))))) rule.UnfitKind argument.at) none));
 }
 
 standing-over : (here : Surroundings) (at : ℕ) (kind : Option Kind) (m : Meant) (parts : List Held) → IsOver (held m) parts
     → IsOver (held (if_standing here at kind m)) parts
 standing-over here at kind m parts over = chosen here.sublinks where
-  chosen : (b : Bool) → IsOver (held (cond b m (breaking 24 at kind))) parts
+  chosen : (b : Bool) → IsOver (held (cond b m (breaking rule.MisplacedSublink at kind))) parts
   chosen true = over
   chosen false = record { breaks = λ none. absurd (cc); inside = λ none. absurd (cc) }
 
@@ -133,7 +134,7 @@ exists-over here at query = record {
 
 scalar-over : (here : Surroundings) (at : ℕ) (query : QueryMeant) → IsOver (held (scalar_meant here at query)) (held_query query ∷ [])
 scalar-over here at query = record {
-  breaks = λ none. breaks-one (held_query query) ∙ front-none query.breaks (broken_if (not (is_one_column query.columns)) 21 at) none;
+  breaks = λ none. breaks-one (held_query query) ∙ front-none query.breaks (broken_if (not (is_one_column query.columns)) rule.UnfitWidth at) none;
   inside = λ none. sym (inside-one (held_query query));
 }
 

@@ -8,16 +8,17 @@ use Rattle.name_meaning.specs.Statements.{most_query_columns, width_limit}
 use Rattle.name_meaning.specs.declared.answer.Break.{Break}
 use Rattle.name_seen_parts.specs.Seen.{first_or}
 use Rattle.name_inside.specs.Held.{is_wide}
+use Rattle.name_meaning.specs.declared.rule.Rule.TheVariants as rule
 
 limit-of : Option (ℕ × ℕ) → List Break
-limit-of query = option_map_or (λ (query : ℕ × ℕ). broken 26 query.0 ∷ []) query []
+limit-of query = option_map_or (λ (query : ℕ × ℕ). broken rule.TooManyColumns query.0 ∷ []) query []
 
 pub narrow-first : (query : ℕ × ℕ) (queries : List (ℕ × ℕ)) → is_wide query.1 ≡ false → width_limit (query ∷ queries) ≡ width_limit queries
 unfolding limit-of
 narrow-first query queries e =
     ap (λ (b : Bool). limit-of (cond b (Some query) (find (λ (q : ℕ × ℕ). nat_lt most_query_columns q.1) queries))) e
 
-pub wide-first : (query : ℕ × ℕ) (queries : List (ℕ × ℕ)) → is_wide query.1 ≡ true → width_limit (query ∷ queries) ≡ broken 26 query.0 ∷ []
+pub wide-first : (query : ℕ × ℕ) (queries : List (ℕ × ℕ)) → is_wide query.1 ≡ true → width_limit (query ∷ queries) ≡ broken rule.TooManyColumns query.0 ∷ []
 unfolding limit-of
 wide-first query queries e =
     ap (λ (b : Bool). limit-of (cond b (Some query) (find (λ (q : ℕ × ℕ). nat_lt most_query_columns q.1) queries))) e
@@ -28,6 +29,6 @@ narrow-step queries i query within e narrow =
     ap width_limit (dropped queries i query within e) ∙ narrow-first query (drop (i + 1) queries) narrow
 
 pub wide-step : (queries : List (ℕ × ℕ)) (i : ℕ) (query : ℕ × ℕ) → i < length queries → query ≡ get_or queries i query → is_wide query.1 ≡ true
-    → first_or (width_limit (drop i queries)) (tt {0}) ≡ Err (broken 26 query.0)
+    → first_or (width_limit (drop i queries)) (tt {0}) ≡ Err (broken rule.TooManyColumns query.0)
 wide-step queries i query within e wide =
     ap (λ (breaks : List Break). first_or breaks (tt {0})) (ap width_limit (dropped queries i query within e) ∙ wide-first query (drop (i + 1) queries) wide)

@@ -3,7 +3,7 @@ ghost use Rattle.name_seen_parts.specs.Seen.{first_or};
 ghost use Rattle.name_meaning.specs.Statements.{width_limit};
 ghost use Rattle.name_inside.specs.Held.{is_wide};
 
-use name_meaning::Break;
+use name_meaning::{Break, Rule};
 
 /// The most columns that a query may have.
 const MOST_COLUMNS: usize = 1024;
@@ -15,7 +15,10 @@ pub fn first_wide(queries: &[(usize, usize)]) -> Result<(), Break>
     for place in 0..queries.len() {
         let (at, columns) = queries[place];
         if is_wide(columns) {
-            return Err(Break { code: 26, at });
+            return Err(Break {
+                rule: Rule::TooManyColumns,
+                at,
+            });
         }
     }
     Ok(())

@@ -21,14 +21,16 @@ use Rattle.name_laws.proofs.Arms.{GoodOptional}
 use Rattle.name_laws.proofs.FormedParts.{none-formed}
 use Rattle.name_laws.proofs.GoodMeant.{GoodMeant, front-none, back-none, whole-kind}
 use Rattle.name_laws.proofs.Needs.{settled-of_kind}
+use Rattle.name_meaning.specs.declared.rule.Rule.TheVariants as rule
+use Rattle.name_meaning.specs.declared.rule.Rule.{Rule}
 
 own-column : (rows : List (List Kind)) (place : ℕ) (kind : Kind) → slice_get (own_row rows) place ≡ Some kind → column_kind rows 0 place ≡ Some kind
 own-column [] place kind e = e
 own-column (row ∷ rows) place kind e = e
 
-pub unbroken : (b : Bool) (code at : ℕ) → broken_if (not b) code at ≡ [] → b ≡ true
-unbroken true code at e = refl
-unbroken false code at e = cc e
+pub unbroken : (b : Bool) (which : Rule) (at : ℕ) → broken_if (not b) which at ≡ [] → b ≡ true
+unbroken true which at e = refl
+unbroken false which at e = cc e
 
 opposite : {P : Type 0} (b : Bool) → b ≡ true → b ≡ false → P
 opposite b e f = absurd (true≢false (sym e ∙ f))
@@ -72,20 +74,20 @@ one-argument word.Max seen rows argument e takes has = (has, not-truth seen take
 
 good-rows_counted : (here : Surroundings) (at : ℕ) (word : AggWord) → false ≡ has_argument word → GoodMeant here (rows_counted here at word)
 good-rows_counted here at word regular whole wanted n =
-    formed-aggregate here word None None n (unbroken here.aggregates 23 at whole) (λ rows hold. no-argument word rows regular)
+    formed-aggregate here word None None n (unbroken here.aggregates rule.MisplacedAggregate at whole) (λ rows hold. no-argument word rows regular)
 
 good-aggregated : (here : Surroundings) (at : ℕ) (word : AggWord) (argument_at : ℕ) (argument : Meant) → true ≡ has_argument word
     → GoodMeant (in_argument here) argument → GoodMeant here (aggregated here at word argument_at argument)
 good-aggregated here at word argument_at argument regular good whole wanted n =
     let seen = seen_kind argument in
-    let standing = broken_if (not here.aggregates) 23 at in
-    let kinded = broken_if (not (takes_kind word seen)) 20 argument_at in
+    let standing = broken_if (not here.aggregates) rule.MisplacedAggregate at in
+    let kinded = broken_if (not (takes_kind word seen)) rule.UnfitKind argument_at in
     let front = front-none (argument.breaks ++ standing) kinded whole in
     let own = front-none argument.breaks standing front in
     let made : Built = argument.make (argument_wanted word) nothing_before in
     let formed = good own (argument_wanted word) nothing_before in
-    let takes = unbroken (takes_kind word seen) 20 argument_at (back-none (argument.breaks ++ standing) kinded whole) in
-    formed-aggregate here word seen (Some made.expr) n (unbroken here.aggregates 23 at (back-none argument.breaks standing front))
+    let takes = unbroken (takes_kind word seen) rule.UnfitKind argument_at (back-none (argument.breaks ++ standing) kinded whole) in
+    formed-aggregate here word seen (Some made.expr) n (unbroken here.aggregates rule.MisplacedAggregate at (back-none argument.breaks standing front))
     (λ rows hold. one-argument word seen rows made.expr regular takes
     (subst (λ own_kind. HasKind rows [] made.expr (settled own_kind (argument_wanted word))) (sym (whole-kind argument own))
     (formed.holds rows [] hold

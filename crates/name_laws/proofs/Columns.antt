@@ -21,6 +21,7 @@ use Rattle.name_meaning.specs.declared.scope.ScopeColumn.{ScopeColumn}
 use Rattle.name_laws.specs.Standing.{HoldsScope, RowsHold}
 use Rattle.name_laws.proofs.FormedParts.{formed-none}
 use Rattle.name_laws.proofs.GoodMeant.{GoodMeant, IsPlain, front-none}
+use Rattle.name_meaning.specs.declared.rule.Rule.TheVariants as rule
 
 -- ---- columns with their places
 
@@ -124,7 +125,7 @@ look_up-kind scopes rows reference column place e is hold =
 
 -- ---- a column as an expression
 
-there : (place : Option ℕ) (at : ℕ) → broken_if (not (is_some place)) 22 at ≡ [] → (p : ℕ) × (place ≡ Some p)
+there : (place : Option ℕ) (at : ℕ) → broken_if (not (is_some place)) rule.UngroupedColumn at ≡ [] → (p : ℕ) × (place ≡ Some p)
 there None at e = absurd (cc e)
 there (Some p) at e = (p, refl)
 
@@ -134,7 +135,7 @@ good-column here at reference = chosen (look_up 0 here.scopes reference) refl wh
   chosen absent e whole wanted n = absurd (cc whole)
   chosen ambiguous e whole wanted n = absurd (cc whole)
   chosen (found column) e whole wanted n =
-      let place = there column.place at (front-none (broken_if (not (is_some column.place)) 22 at) (broken_if (here.argument && nat_lt 0 column.level) 23 at) whole) in
+      let place = there column.place at (front-none (broken_if (not (is_some column.place)) rule.UngroupedColumn at) (broken_if (here.argument && nat_lt 0 column.level) rule.MisplacedAggregate at) whole) in
       formed-none here n _ (λ rows subs hold.
       subst (λ p. HasKind rows subs (option_map_or (Col column.level) p (null_at column.kind)) column.kind) (sym place.1)
       (look_up-kind here.scopes rows reference column place.0 e place.1 hold))

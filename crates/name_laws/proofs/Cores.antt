@@ -34,6 +34,7 @@ use Rattle.name_laws.proofs.Grouped.{groups-in, grouped-holds, grouped-stand}
 use Rattle.name_laws.proofs.Items.{IsFormedList, GoodSelect, GoodItem, good-list, plain-list, items-good, items-plain}
 use Rattle.name_laws.proofs.Needs.{settled-of_kind}
 use Rattle.name_laws.proofs.Standing.{stand-whole, aggregates-append}
+use Rattle.name_meaning.specs.declared.rule.Rule.TheVariants as rule
 
 pub by : {A B : Type 0} → A ≡ B → A → B
 by e h = subst (λ (X : Type 0). X) e h
@@ -47,9 +48,9 @@ FormedOptional here (Some m) = IsFormedExpr here nothing_before (m.make Boolean 
 pub formed-condition : (here : Surroundings) (at : ℕ) (m : Meant) → GoodMeant here m → condition_breaks at m ≡ []
     → IsFormedExpr here nothing_before (m.make Boolean nothing_before) Boolean
 formed-condition here at m good whole =
-    let kinded = broken_if (not (unites (Some Boolean) (seen_kind m))) 20 at in
+    let kinded = broken_if (not (unites (Some Boolean) (seen_kind m))) rule.UnfitKind at in
     let own = front-none m.breaks kinded whole in
-    let unite = unbroken (unites (Some Boolean) (seen_kind m)) 20 at (back-none m.breaks kinded whole) in
+    let unite = unbroken (unites (Some Boolean) (seen_kind m)) rule.UnfitKind at (back-none m.breaks kinded whole) in
     let is : settled m.kind Boolean ≡ Boolean = ap (λ k. settled k Boolean) (sym (whole-kind m own)) ∙ settled-of_kind Boolean (seen_kind m) unite in
     subst (IsFormedExpr here nothing_before (m.make Boolean nothing_before)) is (good own Boolean nothing_before)
 

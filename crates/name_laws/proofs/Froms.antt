@@ -50,6 +50,8 @@ use Rattle.name_laws.proofs.Arms.{GoodOptional}
 use Rattle.name_laws.proofs.Cores.{by, formed-condition}
 use Rattle.name_laws.proofs.GoodMeant.{front-none, back-none}
 use Rattle.name_laws.proofs.Sublinks.{GoodQuery}
+use Rattle.name_meaning.specs.declared.rule.Rule.TheVariants as rule
+use Rattle.name_meaning.specs.declared.rule.Rule.{Rule}
 
 -- ---- places
 
@@ -67,22 +69,22 @@ position-in {X} test (x ∷ xs) e = chosen (position test (x ∷ xs)) refl where
   chosen None f = omega arith
   chosen (Some at) f = (position-Some test (x ∷ xs) at x f).0
 
-pub unbroken-not : (b : Bool) (code at : ℕ) → broken_if b code at ≡ [] → b ≡ false
-unbroken-not true code at e = cc e
-unbroken-not false code at e = refl
+pub unbroken-not : (b : Bool) (which : Rule) (at : ℕ) → broken_if b which at ≡ [] → b ≡ false
+unbroken-not true which at e = cc e
+unbroken-not false which at e = refl
 
 attributes-in : (names earlier : List (List ℕ)) (attributes : List Name) → attribute_breaks (Some names) earlier attributes ≡ []
     → PlacesIn (length names) (map (place_of names) (texts_of attributes))
 attributes-in names earlier [] whole = All-nil _
 attributes-in names earlier (attribute ∷ attributes) whole =
     let one : List Break = column_breaks attribute names in
-    let again : List Break = broken_if (list_any (named_so attribute.text) earlier) 14 attribute.at in
+    let again : List Break = broken_if (list_any (named_so attribute.text) earlier) rule.RepeatedColumn attribute.at in
     let rest : List Break = attribute_breaks (Some names) (attribute.text ∷ earlier) attributes in
     let own = front-none one again (front-none (one ++ again) rest whole) in
-    let none = front-none (broken_if (nat_eq (count_by (named_so attribute.text) names) 0) 11 attribute.at)
-    (broken_if (nat_lt 1 (count_by (named_so attribute.text) names)) 12 attribute.at) own in
+    let none = front-none (broken_if (nat_eq (count_by (named_so attribute.text) names) 0) rule.UnknownColumn attribute.at)
+    (broken_if (nat_lt 1 (count_by (named_so attribute.text) names)) rule.AmbiguousColumn attribute.at) own in
     All-cons (λ (place : ℕ). place < length names) (place_of names attribute.text) (map (place_of names) (texts_of attributes))
-    (position-in (named_so attribute.text) names (unbroken-not (nat_eq (count_by (named_so attribute.text) names) 0) 11 attribute.at none))
+    (position-in (named_so attribute.text) names (unbroken-not (nat_eq (count_by (named_so attribute.text) names) 0) rule.UnknownColumn attribute.at none))
     (attributes-in names (attribute.text ∷ earlier) attributes (back-none (one ++ again) rest whole))
 
 -- ---- kinds
@@ -261,7 +263,7 @@ marked-formed (mark.External attributes) label names read rows f g width whole =
 pub good-item_meant : (outer : List Scope) (at : ℕ) (m : ScopeMark) (trace : Trace) (earlier : List (List ℕ)) (name label : List ℕ) (read : Read) → GoodRead outer read
     → GoodItemMeant outer (item_meant at m trace earlier name label read)
 good-item_meant outer at m trace earlier name label read good whole =
-    let same_name : List Break = broken_if (list_any (named_so name) earlier) 15 at in
+    let same_name : List Break = broken_if (list_any (named_so name) earlier) rule.RepeatedItem at in
     let attributes : List Break = mark_breaks m (option_map names_of read.columns) in
     let scoped : List Break = scope_break read.breaks trace read.viewed (marked m label (read_names read) read) at in
     let first = front-none ((read.breaks ++ same_name) ++ attributes) scoped whole in

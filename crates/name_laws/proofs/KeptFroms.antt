@@ -41,6 +41,7 @@ use Rattle.name_laws.proofs.FactsOf.{facts-Join_alone}
 use Rattle.name_laws.proofs.Kept.{GoodQuery}
 use Rattle.name_laws.proofs.NamedPlaces.{IsNamed, AreNamed, named-base, named-formed}
 use Rattle.name_laws.proofs.Settled.{kinds-named_columns}
+use Rattle.name_meaning.specs.declared.rule.Rule.TheVariants as rule
 
 -- ---- sources
 
@@ -187,7 +188,7 @@ module _ (c : Contents) where
   pub good-item_meant : (at : ℕ) (m : ScopeMark) (trace : Trace) (earlier : List (List ℕ)) (name label : List ℕ) (read : Read) → GoodRead read
       → GoodItem (item_meant at m trace earlier name label read)
   good-item_meant at m trace earlier name label read good =
-      let same_name : List Break = broken_if (list_any (named_so name) earlier) 15 at in
+      let same_name : List Break = broken_if (list_any (named_so name) earlier) rule.RepeatedItem at in
       let attributes : List Break = mark_breaks m (option_map names_of read.columns) in
       let scoped : List Break = scope_break read.breaks trace read.viewed (marked m label (read_names read) read) at in
       record {

@@ -33,6 +33,7 @@ use Rattle.name_laws.proofs.Froms.{range-in, position-in, unbroken-not}
 use Rattle.name_laws.proofs.GoodMeant.{front-none, back-none}
 use Rattle.name_laws.proofs.Needs.{same_kind}
 use Rattle.name_laws.proofs.Sublinks.{GoodQuery, settled-twice}
+use Rattle.name_meaning.specs.declared.rule.Rule.TheVariants as rule
 
 pub record GoodBodyMeant (around : Around) (m : QueryMeant) : Type 0 where
   pub known : m.breaks ≡ [] → HasItsKinds m
@@ -102,9 +103,9 @@ settle-second (x ∷ left) (r ∷ right) (k ∷ ks) l e =
 
 operands-fit : (at : ℕ) (left right : List OutColumn) → operand_break at left right ≡ [] → (length left ≡ length right) × (do_unite left right ≡ true)
 operands-fit at left right e = chosen (nat_eq (length left) (length right)) refl e where
-  chosen : (b : Bool) → nat_eq (length left) (length right) ≡ b → cond b (broken_if (not (do_unite left right)) 20 at) (broken 21 at ∷ []) ≡ []
+  chosen : (b : Bool) → nat_eq (length left) (length right) ≡ b → cond b (broken_if (not (do_unite left right)) rule.UnfitKind at) (broken rule.UnfitWidth at ∷ []) ≡ []
       → (length left ≡ length right) × (do_unite left right ≡ true)
-  chosen true f g = (eqb-true (length left) (length right) f, unbroken (do_unite left right) 20 at g)
+  chosen true f g = (eqb-true (length left) (length right) f, unbroken (do_unite left right) rule.UnfitKind at g)
   chosen false f g = absurd (cc g)
 
 -- what a step of whole operands knows
@@ -191,9 +192,9 @@ position-is (negsuc n) width e = absurd (true≢false (sym e))
 key-in : (columns : List OutColumn) (key : OrderKey) (at : ℕ) (descending : Bool) → key_break columns (record { at = at; key = key; descending = descending }) ≡ []
     → key_place columns key < length columns
 key-in columns (named_key name) at descending whole =
-    position-in (is_named name) columns (unbroken-not (nat_eq (count_by (is_named name) columns) 0) 11 at
-    (front-none (broken_if (nat_eq (count_by (is_named name) columns) 0) 11 at) (broken_if (nat_lt 1 (count_by (is_named name) columns)) 12 at) whole))
-key-in columns (Position n) at descending whole = position-is n (length columns) (unbroken (is_position n (length columns)) 11 at whole)
+    position-in (is_named name) columns (unbroken-not (nat_eq (count_by (is_named name) columns) 0) rule.UnknownColumn at
+    (front-none (broken_if (nat_eq (count_by (is_named name) columns) 0) rule.UnknownColumn at) (broken_if (nat_lt 1 (count_by (is_named name) columns)) rule.AmbiguousColumn at) whole))
+key-in columns (Position n) at descending whole = position-is n (length columns) (unbroken (is_position n (length columns)) rule.UnknownColumn at whole)
 
 keys-in : (columns : List OutColumn) (order : List OrderTree) → flat_map (key_break columns) order ≡ [] → KeysIn (length columns) (map (key_of columns) order)
 keys-in columns [] whole = All-nil _

@@ -23,6 +23,8 @@ use Rattle.name_meaning.specs.declared.scope.Found.TheVariants.{Absent as absent
 use Rattle.name_meaning.specs.declared.scope.Scope.{Scope}
 use Rattle.name_laws.proofs.Every.{Every, every-append, every-map, every-flat_map}
 use Rattle.name_laws.proofs.ReadNodes.{Grows, wide-right, subs-left, subs-right, reads-append}
+use Rattle.name_meaning.specs.declared.rule.Rule.TheVariants as rule
+use Rattle.name_meaning.specs.declared.rule.Rule.{Rule}
 
 module _ (P : List (List ℕ) → ℕ → List Kind → Type 0) (g : Grows P) where
   abbrev pub MeantReads : Meant → Type 0
@@ -95,14 +97,14 @@ module _ (P : List (List ℕ) → ℕ → List Kind → Type 0) (g : Grows P) wh
   reads-aggregate here at word None w n = tt
   reads-aggregate here at word (Some argument) w n = tt
 
-  reads-breaking : (code at : ℕ) (kind : Option Kind) → MeantReads (breaking code at kind)
-  reads-breaking code at kind w n = tt
+  reads-breaking : (which : Rule) (at : ℕ) (kind : Option Kind) → MeantReads (breaking which at kind)
+  reads-breaking which at kind w n = tt
 
   pub reads-if_standing : (here : Surroundings) (at : ℕ) (kind : Option Kind) (m : Meant) → MeantReads m → MeantReads (if_standing here at kind m)
   reads-if_standing here at kind m good = chosen here.sublinks where
-    chosen : (b : Bool) → MeantReads (cond b m (breaking 24 at kind))
+    chosen : (b : Bool) → MeantReads (cond b m (breaking rule.MisplacedSublink at kind))
     chosen true = good
-    chosen false = reads-breaking 24 at kind
+    chosen false = reads-breaking rule.MisplacedSublink at kind
 
   pub reads-exists : (here : Surroundings) (at : ℕ) (q : QueryMeant) → QueryReads q → MeantReads (exists_meant here at q)
   reads-exists here at q good w n = (good [], tt)

@@ -28,6 +28,7 @@ use Rattle.name_laws.proofs.Every.{Every, every-map, front-none, back-none}
 use Rattle.name_laws.proofs.KeptCores.{never-whole}
 use Rattle.name_laws.proofs.ScopedMeant.{QueryFits, PartFits, SelectFits, ItemFits, fits-list}
 use Rattle.name_laws.proofs.Scopes.{scope-Filter, scope-Project, scope-Union, scope-Intersect, scope-Except, scope-Distinct, scope-Aggregate, scope-Limit, scope-Prov}
+use Rattle.name_meaning.specs.declared.rule.Rule.TheVariants as rule
 
 scope-aggregated : (t : Trace) (input : Query) (groups : Option (List ℕ)) (aggregates : List Aggr) → IsInScope t input → IsInScope t (aggregated_input input groups aggregates)
 scope-aggregated t input None aggregates h = h
@@ -49,7 +50,7 @@ scope-limited t (Some n) keys query h = scope-Limit t query keys (nat_abs n) h
 -- a word that stands rightly leaves the trace as it is
 same-trace : (around : Around) (at : Option ℕ) → word_breaks around at ≡ [] → core_trace around at ≡ around.trace
 same-trace around at e = chosen around.provable at e where
-  chosen : (b : Bool) (at : Option ℕ) → cond b [] (option_map_or (λ n. broken 25 n ∷ []) at []) ≡ []
+  chosen : (b : Bool) (at : Option ℕ) → cond b [] (option_map_or (λ n. broken rule.MisplacedProvenance n ∷ []) at []) ≡ []
       → cond (not b && is_some at) untraced around.trace ≡ around.trace
   chosen true None e = refl
   chosen true (Some n) e = refl
@@ -76,7 +77,7 @@ module _ (Sound : Type 0) where
   fits-filtered sound here input None good whole h = h
   fits-filtered sound here input (Some part) good whole h =
       scope-Filter here.trace input (optional_built (Some (part.means here))).expr (optional_built (Some (part.means here))).subs h
-      (good here sound (front-none (part.means here).breaks (broken_if (not (unites (Some kind.Boolean) (seen_kind (part.means here)))) 20 part.at) whole)
+      (good here sound (front-none (part.means here).breaks (broken_if (not (unites (Some kind.Boolean) (seen_kind (part.means here)))) rule.UnfitKind part.at) whole)
       kind.Boolean nothing_before)
 
   pub fits-core_over : (outer : List Scope) (trace : Trace) (words : List Break) (input : FromMeant) (has_from is_distinct : Bool) (items : List SelectPart)

@@ -31,6 +31,7 @@ use Rattle.name_laws.proofs.Every.{Every, front-none, back-none}
 use Rattle.name_laws.proofs.KeptFroms.{out_names}
 use Rattle.name_laws.proofs.ScopedMeant.{QueryFits, QueryPartFits}
 use Rattle.name_laws.proofs.Scopes.{WhenTraced, when-traced, traced-traceable, looked-traced, scope-Join, traced-none}
+use Rattle.name_meaning.specs.declared.rule.Rule.TheVariants as rule
 
 -- ---- sources
 
@@ -49,14 +50,14 @@ pub record ReadIsInScope (t : Trace) (r : Read) : Type 0 where
   pub plain : is_scoped r.plain ≡ true
   pub traced : r.viewed ≡ false → WhenTraced t (traceable r.plain ≡ true)
 
-unbroken : (is_broken : Bool) (at : ℕ) → broken_if is_broken 25 at ≡ [] → is_broken ≡ false
+unbroken : (is_broken : Bool) (at : ℕ) → broken_if is_broken rule.MisplacedProvenance at ≡ [] → is_broken ≡ false
 unbroken true at e = absurd (cc e)
 unbroken false at e = refl
 
 in_scope : (t : Trace) (read : Read) (query : Query) (at : ℕ) → read.breaks ≡ [] → scope_break read.breaks t read.viewed query at ≡ []
     → is_out_of_scope t read.viewed query ≡ false
 in_scope t read query at whole e = unbroken (is_out_of_scope t read.viewed query) at
-    (sym (ap (λ (breaks : List Break). cond (is_whole breaks) (broken_if (is_out_of_scope t read.viewed query) 25 at) []) whole) ∙ e)
+    (sym (ap (λ (breaks : List Break). cond (is_whole breaks) (broken_if (is_out_of_scope t read.viewed query) rule.MisplacedProvenance at) []) whole) ∙ e)
 
 scoped-marked : (m : ScopeMark) (label : List ℕ) (names : List (List ℕ)) (read : Read) → is_scoped read.query ≡ true → is_scoped read.plain ≡ true
     → is_scoped (marked m label names read) ≡ true
@@ -154,7 +155,7 @@ module _ (c : Contents) where
   pub fits-item_meant : (at : ℕ) (m : ScopeMark) (t : Trace) (earlier : List (List ℕ)) (name label : List ℕ) (read : Read) → ReadFits (trace_under m t) read
       → ItemFits t (item_meant at m t earlier name label read)
   fits-item_meant at m t earlier name label read good sound whole =
-      let same_name : List Break = broken_if (list_any (named_so name) earlier) 15 at in
+      let same_name : List Break = broken_if (list_any (named_so name) earlier) rule.RepeatedItem at in
       let attributes : List Break = mark_breaks m (option_map names_of read.columns) in
       let query : Query = marked m label (read_names read) read in
       let scoped : List Break = scope_break read.breaks t read.viewed query at in

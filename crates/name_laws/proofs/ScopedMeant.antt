@@ -23,6 +23,8 @@ use Rattle.name_meaning.specs.declared.trace.Trace.{Trace}
 use Rattle.name_laws.specs.Traced.{IsInScope, AreInScope}
 use Rattle.name_laws.proofs.Every.{Every, every-append, every-map, every-flat_map, front-none, back-none}
 use Rattle.name_laws.proofs.Scopes.{scope-none, scope-append, scope-sub}
+use Rattle.name_meaning.specs.declared.rule.Rule.TheVariants as rule
+use Rattle.name_meaning.specs.declared.rule.Rule.{Rule}
 
 -- `Sound`: that the catalog is
 module _ (Sound : Type 0) where
@@ -96,20 +98,20 @@ module _ (Sound : Type 0) where
   fits-aggregate here at word None sound whole w n = scope-none here.trace
   fits-aggregate here at word (Some argument) sound whole w n = scope-none here.trace
 
-  fits-breaking : (t : Trace) (code at : ℕ) (kind : Option Kind) → MeantFits t (breaking code at kind)
-  fits-breaking t code at kind sound whole w n = scope-none t
+  fits-breaking : (t : Trace) (which : Rule) (at : ℕ) (kind : Option Kind) → MeantFits t (breaking which at kind)
+  fits-breaking t which at kind sound whole w n = scope-none t
 
   pub fits-if_standing : (here : Surroundings) (at : ℕ) (kind : Option Kind) (m : Meant) → MeantFits here.trace m → MeantFits here.trace (if_standing here at kind m)
   fits-if_standing here at kind m good = chosen here.sublinks where
-    chosen : (b : Bool) → MeantFits here.trace (cond b m (breaking 24 at kind))
+    chosen : (b : Bool) → MeantFits here.trace (cond b m (breaking rule.MisplacedSublink at kind))
     chosen true = good
-    chosen false = fits-breaking here.trace 24 at kind
+    chosen false = fits-breaking here.trace rule.MisplacedSublink at kind
 
   pub fits-exists : (here : Surroundings) (at : ℕ) (q : QueryMeant) → QueryFits (trace_below here.trace) q → MeantFits here.trace (exists_meant here at q)
   fits-exists here at q good sound whole w n = scope-sub here.trace _ (good sound whole [])
 
   pub fits-scalar : (here : Surroundings) (at : ℕ) (q : QueryMeant) → QueryFits (trace_below here.trace) q → MeantFits here.trace (scalar_meant here at q)
-  fits-scalar here at q good sound whole w n = scope-sub here.trace _ (good sound (front-none q.breaks (broken_if (not (is_one_column q.columns)) 21 at) whole) (settled (first_kind q) w ∷ []))
+  fits-scalar here at q good sound whole w n = scope-sub here.trace _ (good sound (front-none q.breaks (broken_if (not (is_one_column q.columns)) rule.UnfitWidth at) whole) (settled (first_kind q) w ∷ []))
 
   fits-tested_looked : (t : Trace) (sub : SubKind) (tested : Meant) (at : ℕ) (q : QueryMeant) → QueryFits (trace_below t) q → MeantFits t (tested_looked sub tested at q)
   fits-tested_looked t sub tested at q good sound whole w n =
@@ -117,7 +119,7 @@ module _ (Sound : Type 0) where
       (tested_kind tested q ∷ []))
 
   fits-tested_unlooked : (t : Trace) (at : ℕ) (tested : Meant) → MeantFits t tested → MeantFits t (tested_unlooked at tested)
-  fits-tested_unlooked t at tested good sound whole w n = good sound (front-none tested.breaks (broken 24 at ∷ []) whole) w n
+  fits-tested_unlooked t at tested good sound whole w n = good sound (front-none tested.breaks (broken rule.MisplacedSublink at ∷ []) whole) w n
 
   pub fits-tested : (here : Surroundings) (at : ℕ) (sub : SubKind) (part : Part) (query : QueryPart) → PartFits part
       → QueryPartFits query → MeantFits here.trace (tested_meant here at sub part query)

@@ -22,6 +22,8 @@ use Rattle.name_laws.proofs.Every.{Every, every-append, every-map, every-flat_ma
 use Rattle.name_laws.proofs.FactsOf.{sub_facts-append}
 use Rattle.name_laws.proofs.NamedPlaces.{IsNamed, AreNamed}
 use Rattle.name_laws.proofs.Kept.{GoodQuery}
+use Rattle.name_meaning.specs.declared.rule.Rule.TheVariants as rule
+use Rattle.name_meaning.specs.declared.rule.Rule.{Rule}
 
 -- `Sound`: what the names of places rest on
 module _ (Sound : Type 0) where
@@ -43,12 +45,12 @@ module _ (Sound : Type 0) where
   pub good-null : GoodMeant null_meant
   good-null = record { steady = λ w v n k. refl; named = λ sound w n. tt }
 
-  pub good-breaking : (code at : ℕ) (kind : Option Kind) → GoodMeant (breaking code at kind)
-  good-breaking code at kind = record { steady = λ w v n k. refl; named = λ sound w n. tt }
+  pub good-breaking : (which : Rule) (at : ℕ) (kind : Option Kind) → GoodMeant (breaking which at kind)
+  good-breaking which at kind = record { steady = λ w v n k. refl; named = λ sound w n. tt }
 
   pub good-column : (here : Surroundings) (at : ℕ) (is : Found) → GoodMeant (column_meant here at is)
-  good-column here at absent = good-breaking 11 at None
-  good-column here at ambiguous = good-breaking 12 at None
+  good-column here at absent = good-breaking rule.UnknownColumn at None
+  good-column here at ambiguous = good-breaking rule.AmbiguousColumn at None
   good-column here at (found column) = record { steady = λ w v n k. refl; named = λ sound w n. tt }
 
   pub good-aggregate : (here : Surroundings) (at : ℕ) (word : AggWord) (argument : Option Part) → GoodMeant (aggregate_meant here at word argument)
@@ -115,9 +117,9 @@ module _ (Sound : Type 0) where
 
   pub good-if_standing : (here : Surroundings) (at : ℕ) (kind : Option Kind) (m : Meant) → GoodMeant m → GoodMeant (if_standing here at kind m)
   good-if_standing here at kind m good = chosen here.sublinks where
-    chosen : (b : Bool) → GoodMeant (cond b m (breaking 24 at kind))
+    chosen : (b : Bool) → GoodMeant (cond b m (breaking rule.MisplacedSublink at kind))
     chosen true = good
-    chosen false = good-breaking 24 at kind
+    chosen false = good-breaking rule.MisplacedSublink at kind
 
   abbrev one_sub : SubKind → Option Expr → QueryMeant → List Kind → Facts
   one_sub sub tested q wanted = sub_facts (record { kind = sub; tested = tested; query = q.make wanted } ∷ [])

@@ -25,6 +25,7 @@ use Rattle.name_laws.proofs.Aggregates.{unbroken}
 use Rattle.name_laws.proofs.FormedParts.{none-formed}
 use Rattle.name_laws.proofs.GoodMeant.{GoodMeant, GoodPart, IsPlain, front-none, back-none, whole-kind}
 use Rattle.name_laws.proofs.Needs.{same_kind}
+use Rattle.name_meaning.specs.declared.rule.Rule.TheVariants as rule
 
 -- a query that breaks nothing has its kinds and is made well formed, and its provenance columns are columns of it
 pub record GoodQuery (around : Around) (m : QueryMeant) : Type 0 where
@@ -85,9 +86,9 @@ settled-twice (Some k) wanted = refl
 
 pub good-scalar : (here : Surroundings) (at : ℕ) (q : QueryMeant) → here.sublinks ≡ true → GoodQuery (around_of here) q → GoodMeant here (scalar_meant here at q)
 good-scalar here at q standing good whole wanted n =
-    let own = front-none q.breaks (broken_if (not (is_one_column q.columns)) 21 at) whole in
+    let own = front-none q.breaks (broken_if (not (is_one_column q.columns)) rule.UnfitWidth at) whole in
     let one = one-column q (good.known own) own
-    (unbroken (is_one_column q.columns) 21 at (back-none q.breaks (broken_if (not (is_one_column q.columns)) 21 at) whole)) in
+    (unbroken (is_one_column q.columns) rule.UnfitWidth at (back-none q.breaks (broken_if (not (is_one_column q.columns)) rule.UnfitWidth at) whole)) in
     let kind = settled (first_kind q) wanted in
     let kinds : kinds_of (q.make (kind ∷ [])) ≡ kind ∷ [] =
     one.kinds kind ∙ ap (λ k. settled k kind ∷ []) (sym one.first) ∙ ap (λ k. k ∷ []) (settled-twice (first_kind q) wanted) in
@@ -99,13 +100,13 @@ good-scalar here at q standing good whole wanted n =
 
 pub good-if_standing : (here : Surroundings) (at : ℕ) (kind : Option Kind) (m : Meant) → (here.sublinks ≡ true → GoodMeant here m) → GoodMeant here (if_standing here at kind m)
 good-if_standing here at kind m good = chosen here.sublinks refl where
-  chosen : (b : Bool) → here.sublinks ≡ b → GoodMeant here (cond b m (breaking 24 at kind))
+  chosen : (b : Bool) → here.sublinks ≡ b → GoodMeant here (cond b m (breaking rule.MisplacedSublink at kind))
   chosen true e = good e
   chosen false e = λ whole wanted n. absurd (cc whole)
 
 pub plain-if_standing : (here : Surroundings) (at : ℕ) (kind : Option Kind) (m : Meant) → IsPlain m → IsPlain (if_standing here at kind m)
 plain-if_standing here at kind m plain = chosen here.sublinks where
-  chosen : (b : Bool) → IsPlain (cond b m (breaking 24 at kind))
+  chosen : (b : Bool) → IsPlain (cond b m (breaking rule.MisplacedSublink at kind))
   chosen true = plain
   chosen false = λ wanted n. refl
 
@@ -132,8 +133,8 @@ kind-in_kind false op kinds = refl
 
 tested-fits : (seen : Option Kind) (at : ℕ) (q : QueryMeant) → tested_break seen at q ≡ [] → (is_one_column q.columns ≡ true) × (unites seen (first_kind q) ≡ true)
 tested-fits seen at q e = chosen (is_one_column q.columns) e where
-  chosen : (b : Bool) → cond b (broken_if (not (unites seen (first_kind q))) 20 at) (broken 21 at ∷ []) ≡ [] → (b ≡ true) × (unites seen (first_kind q) ≡ true)
-  chosen true e = (refl, unbroken (unites seen (first_kind q)) 20 at e)
+  chosen : (b : Bool) → cond b (broken_if (not (unites seen (first_kind q))) rule.UnfitKind at) (broken rule.UnfitWidth at ∷ []) ≡ [] → (b ≡ true) × (unites seen (first_kind q) ≡ true)
+  chosen true e = (refl, unbroken (unites seen (first_kind q)) rule.UnfitKind at e)
   chosen false e = absurd (cc e)
 
 good-looked : (here : Surroundings) (every : Bool) (op : Compare) (tested : Meant) (at : ℕ) (q : QueryMeant) → here.sublinks ≡ true
@@ -166,7 +167,7 @@ good-tested here at every op part query good inner = chosen here.sublinks refl w
   chosen : (b : Bool) → here.sublinks ≡ b → GoodMeant here (cond b (tested_looked (in_kind every op) (part.means (in_tested here)) query.at (query.means (around_of here)))
       (tested_unlooked at (part.means (in_tested here))))
   chosen true e = good-looked here every op (part.means (in_tested here)) query.at (query.means (around_of here)) e (good.formed (in_tested here)) inner
-  chosen false e = λ whole wanted n. absurd (cc (back-none (part.means (in_tested here)).breaks (broken 24 at ∷ []) whole))
+  chosen false e = λ whole wanted n. absurd (cc (back-none (part.means (in_tested here)).breaks (broken rule.MisplacedSublink at ∷ []) whole))
 
 pub plain-tested : (here : Surroundings) (at : ℕ) (kind : SubKind) (part : Part) (query : QueryPart) → ((there : Surroundings) → IsPlain (part.means there))
     → IsPlain (tested_meant here at kind part query)

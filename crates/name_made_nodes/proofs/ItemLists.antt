@@ -19,6 +19,7 @@ use Rattle.name_made_nodes.specs.Listed.{widths, AreListed, MakesItems}
 use Rattle.name_made_nodes.specs.Makes.{before_of, with_found, Makes}
 use Rattle.name_made_nodes.specs.declared.within.Within.{Within}
 use Rattle.name_made_nodes.proofs.Parts.{none-first, none-second, with-nothing, with-both, before-with, behind-nothing, behind-both}
+use Rattle.name_meaning.specs.declared.rule.Rule.TheVariants as rule
 
 breaks-append : (ms more : List SelectMeant) → items_breaks (ms ++ more) ≡ items_breaks ms ++ items_breaks more
 breaks-append [] more = refl
@@ -176,4 +177,4 @@ pub no-table-listed : (may_link : Bool) (scope : Scope) (table : Name) (wanted :
     → None ≡ item_number table.text scope → MakesItems may_link (table_star_meant scope table ∷ []) wanted p p w w
 no-table-listed may_link scope table wanted p w is =
     subst (λ (number : Option ℕ). MakesItems may_link (of_number scope table number ∷ []) wanted p p w w) is
-    (broken-listed may_link (no_columns table.at) wanted p w (broken 11 table.at) [] refl)
+    (broken-listed may_link (no_columns table.at) wanted p w (broken rule.UnknownColumn table.at) [] refl)

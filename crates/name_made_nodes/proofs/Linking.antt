@@ -18,6 +18,7 @@ use Rattle.name_made_nodes.specs.Makes.{before_of, nothing_found, with_found, Is
 use Rattle.name_made_nodes.specs.declared.within.Within.{Within}
 use Rattle.name_made_nodes.proofs.Arms.{broken-made}
 use Rattle.name_made_nodes.proofs.Parts.{none-first, none-second}
+use Rattle.name_meaning.specs.declared.rule.Rule.TheVariants as rule
 
 -- a sublink of a query alone, where one may stand
 alone-linked : (may_link : Bool) (kind : SubKind) (query : QueryMeant) (kinds : List Kind) (m : Meant) (wanted : Kind) (e : Expr) (old new : Within)
@@ -38,31 +39,31 @@ pub exists-linked : (here : Surroundings) (at query_at : ℕ) (wanted : Kind) (q
     → here.sublinks ≡ true → Links sub.Exists None query [] e old new
     → Makes here.sublinks (if_standing here at (Some kind.Boolean) (exists_meant here query_at query)) wanted e old new
 exists-linked here at query_at wanted query e old new stands links =
-    subst (λ (stands : Bool). Makes here.sublinks (cond stands (exists_meant here query_at query) (breaking 24 at (Some kind.Boolean))) wanted e old new) (sym stands)
+    subst (λ (stands : Bool). Makes here.sublinks (cond stands (exists_meant here query_at query) (breaking rule.MisplacedSublink at (Some kind.Boolean))) wanted e old new) (sym stands)
     (alone-linked here.sublinks sub.Exists query [] (exists_meant here query_at query) wanted e old new stands (λ whole. whole) refl links)
 
 pub scalar-linked : (here : Surroundings) (at query_at : ℕ) (wanted kind : Kind) (query : QueryMeant) (e : Expr) (old new : Within)
     → here.sublinks ≡ true → kind ≡ settled (first_kind query) wanted → Links sub.Scalar None query (kind ∷ []) e old new
     → Makes here.sublinks (if_standing here at None (scalar_meant here query_at query)) wanted e old new
 scalar-linked here at query_at wanted kind query e old new stands is links =
-    subst (λ (stands : Bool). Makes here.sublinks (cond stands (scalar_meant here query_at query) (breaking 24 at None)) wanted e old new) (sym stands)
+    subst (λ (stands : Bool). Makes here.sublinks (cond stands (scalar_meant here query_at query) (breaking rule.MisplacedSublink at None)) wanted e old new) (sym stands)
     (alone-linked here.sublinks sub.Scalar query (kind ∷ []) (scalar_meant here query_at query) wanted e old new stands
-    (λ whole. none-first query.breaks (broken_if _ 21 query_at) whole)
+    (λ whole. none-first query.breaks (broken_if _ rule.UnfitWidth query_at) whole)
     (ap (λ (k : Kind). sub_built sub.Scalar None (before_of old) query (k ∷ [])) (sym is)) links)
 
 -- where no sublink may stand, none is looked at
 pub unlooked-made : (here : Surroundings) (at : ℕ) (kind : Option Kind) (m : Meant) (wanted : Kind) (e : Expr) (w : Within) → here.sublinks ≡ false
     → Makes here.sublinks (if_standing here at kind m) wanted e w w
 unlooked-made here at kind m wanted e w none =
-    subst (λ (stands : Bool). Makes here.sublinks (cond stands m (breaking 24 at kind)) wanted e w w) (sym none)
-    (broken-made (breaking 24 at kind) wanted e w [] (broken 24 at) refl here.sublinks)
+    subst (λ (stands : Bool). Makes here.sublinks (cond stands m (breaking rule.MisplacedSublink at kind)) wanted e w w) (sym none)
+    (broken-made (breaking rule.MisplacedSublink at kind) wanted e w [] (broken rule.MisplacedSublink at) refl here.sublinks)
 
 pub untested-made : (here : Surroundings) (at : ℕ) (kind : SubKind) (part : Part) (query : QueryPart) (wanted : Kind) (e : Expr) (w : Within)
     → here.sublinks ≡ false → Makes here.sublinks (tested_meant here at kind part query) wanted e w w
 untested-made here at kind part query wanted e w none =
     subst (λ (stands : Bool). Makes here.sublinks (cond stands (tested_looked kind (part.means (in_tested here)) query.at (query.means (around_of here)))
     (tested_unlooked at (part.means (in_tested here)))) wanted e w w) (sym none)
-    (broken-made (tested_unlooked at (part.means (in_tested here))) wanted e w (part.means (in_tested here)).breaks (broken 24 at) refl here.sublinks)
+    (broken-made (tested_unlooked at (part.means (in_tested here))) wanted e w (part.means (in_tested here)).breaks (broken rule.MisplacedSublink at) refl here.sublinks)
 
 looked-made : (may_link : Bool) (kind : SubKind) (tested : Meant) (query_at : ℕ) (query : QueryMeant) (common wanted : Kind) (e left : Expr) (old mid new : Within)
     → may_link ≡ true → common ≡ tested_kind tested query
@@ -131,8 +132,8 @@ pub aggregated-made : (may_link : Bool) (here : Surroundings) (at argument_at : 
 aggregated-made may_link here at argument_at word argument wanted part e own old new made built =
     record {
       makes = λ whole.
-          let breaks = none-first argument.breaks (broken_if (not here.aggregates) 23 at)
-          (none-first (argument.breaks ++ broken_if (not here.aggregates) 23 at) (broken_if (not (takes_kind word (seen_kind argument))) 20 argument_at) whole) in
+          let breaks = none-first argument.breaks (broken_if (not here.aggregates) rule.MisplacedAggregate at)
+          (none-first (argument.breaks ++ broken_if (not here.aggregates) rule.MisplacedAggregate at) (broken_if (not (takes_kind word (seen_kind argument))) rule.UnfitKind argument_at) whole) in
           subst (λ (part : Expr). IsBuilt (aggregate_made here word (seen_kind argument) (Some part) (before_of old)) e old new) (made.makes breaks).expr built;
       unlinked = λ _. ap (λ (w : Within). w.subs) built.found ∙ append-nil old.subs;
     }

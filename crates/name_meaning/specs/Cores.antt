@@ -21,6 +21,7 @@ use Rattle.name_meaning.specs.declared.scope.Found.TheVariants.{Absent as absent
 use Rattle.name_meaning.specs.declared.scope.Scope.{Scope}
 use Rattle.name_meaning.specs.declared.trace.Trace.{Trace}
 use Rattle.name_meaning.specs.declared.trace.Trace.TheVariants.{Untraced as untraced}
+use Rattle.name_meaning.specs.declared.rule.Rule.TheVariants as rule
 
 -- a core, or what stands for one among set operations; `word`: the offset of PROVENANCE behind its first SELECT
 pub record BodyPart : Type 0 where
@@ -70,8 +71,8 @@ group_found scope reference = look_up 0 (scope ∷ []) reference
 
 abbrev pub group_break : Scope → ColRef → List Break
 group_break scope reference = elim (group_found scope reference) [
-  | absent ↦ broken 11 reference.at ∷ []
-  | ambiguous ↦ broken 12 reference.at ∷ []
+  | absent ↦ broken rule.UnknownColumn reference.at ∷ []
+  | ambiguous ↦ broken rule.AmbiguousColumn reference.at ∷ []
   | found column ↦ []
 ]
 
@@ -183,7 +184,7 @@ abbrev pub is_misplaced : Around → Option ℕ → Bool
 is_misplaced around word = not around.provable && is_some word
 
 abbrev pub word_breaks : Around → Option ℕ → List Break
-word_breaks around word = cond around.provable [] (option_map_or (λ at. broken 25 at ∷ []) word [])
+word_breaks around word = cond around.provable [] (option_map_or (λ at. broken rule.MisplacedProvenance at ∷ []) word [])
 
 abbrev pub core_trace : Around → Option ℕ → Trace
 core_trace around word = cond (is_misplaced around word) untraced around.trace

@@ -35,6 +35,7 @@ use Rattle.name_meaning.specs.declared.answer.Break.{Break}
 use Rattle.name_meaning.specs.declared.scope.Scope.{Scope}
 use Rattle.name_meaning.specs.declared.trace.Trace.{Trace}
 use Rattle.name_meaning.specs.declared.trace.Trace.TheVariants.{Untraced as untraced, InProvenance as in_provenance, TracedSublink as traced_sublink}
+use Rattle.name_meaning.specs.declared.rule.Rule.TheVariants as rule
 
 -- ---- columns
 
@@ -102,7 +103,7 @@ read_view name view = record {
 
 abbrev pub read_nothing : Name → Read
 read_nothing name = record {
-  breaks = broken 10 name.at ∷ [];
+  breaks = broken rule.UnknownRelation name.at ∷ [];
   columns = None;
   query = Single;
   plain = Single;
@@ -134,15 +135,15 @@ place_of names name = option_map_or (λ place. place) (position (named_so name) 
 
 -- an attribute is one column
 abbrev pub column_breaks : Name → List (List ℕ) → List Break
-column_breaks attribute names = broken_if (nat_eq (count_by (named_so attribute.text) names) 0) 11 attribute.at
-    ++ broken_if (nat_lt 1 (count_by (named_so attribute.text) names)) 12 attribute.at
+column_breaks attribute names = broken_if (nat_eq (count_by (named_so attribute.text) names) 0) rule.UnknownColumn attribute.at
+    ++ broken_if (nat_lt 1 (count_by (named_so attribute.text) names)) rule.AmbiguousColumn attribute.at
 
 -- an attribute is one of the columns, where these are known, and is named once
 abbrev pub attribute_breaks : Option (List (List ℕ)) → List (List ℕ) → List Name → List Break
 attribute_breaks names earlier [] = []
 attribute_breaks names earlier (attribute ∷ attributes) =
     option_map_or (column_breaks attribute) names []
-    ++ broken_if (list_any (named_so attribute.text) earlier) 14 attribute.at
+    ++ broken_if (list_any (named_so attribute.text) earlier) rule.RepeatedColumn attribute.at
     ++ attribute_breaks names (attribute.text ∷ earlier) attributes
 
 abbrev pub texts_of : List Name → List (List ℕ)
@@ -208,11 +209,11 @@ abbrev pub read_names : Read → List (List ℕ)
 read_names read = option_map_or names_of read.columns []
 
 abbrev pub scope_break : List Break → Trace → Bool → Query → ℕ → List Break
-scope_break earlier trace viewed query at = cond (is_whole earlier) (broken_if (is_out_of_scope trace viewed query) 25 at) []
+scope_break earlier trace viewed query at = cond (is_whole earlier) (broken_if (is_out_of_scope trace viewed query) rule.MisplacedProvenance at) []
 
 abbrev pub item_meant : ℕ → ScopeMark → Trace → List (List ℕ) → List ℕ → List ℕ → Read → ItemMeant
 item_meant at mark trace earlier name label read = record {
-  breaks = read.breaks ++ broken_if (list_any (named_so name) earlier) 15 at ++ mark_breaks mark (option_map names_of read.columns)
+  breaks = read.breaks ++ broken_if (list_any (named_so name) earlier) rule.RepeatedItem at ++ mark_breaks mark (option_map names_of read.columns)
       ++ scope_break read.breaks trace read.viewed (marked mark label (read_names read) read) at;
   name = name;
   columns = read.columns;
@@ -224,7 +225,7 @@ item_meant at mark trace earlier name label read = record {
 
 -- a condition's own breaks, then its kind
 abbrev pub condition_breaks : ℕ → Meant → List Break
-condition_breaks at m = m.breaks ++ broken_if (not (unites (Some kind.Boolean) (seen_kind m))) 20 at
+condition_breaks at m = m.breaks ++ broken_if (not (unites (Some kind.Boolean) (seen_kind m))) rule.UnfitKind at
 
 abbrev pub yes : Expr
 yes = Lit (v.Boolean true) kind.Boolean

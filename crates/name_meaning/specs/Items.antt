@@ -16,6 +16,7 @@ use Rattle.name_meaning.specs.Scopes.{Placed, placed, item_columns, place_among}
 use Rattle.name_meaning.specs.Sublinks.{null_at}
 use Rattle.name_meaning.specs.declared.answer.Break.{Break}
 use Rattle.name_meaning.specs.declared.scope.Scope.{Scope}
+use Rattle.name_meaning.specs.declared.rule.Rule.TheVariants as rule
 
 -- a column of the list; without a name of its own it is named by its position
 pub record Titled : Type 0 where
@@ -57,7 +58,7 @@ is_ungrouped scope column = is_none (place_among scope.groups column.0)
 -- all of these columns; in a grouped core each is one of its GROUP BY columns
 abbrev pub columns_meant : Scope → ℕ → List Placed → SelectMeant
 columns_meant scope at columns = record {
-  breaks = broken_if (list_any (is_ungrouped scope) columns) 22 at;
+  breaks = broken_if (list_any (is_ungrouped scope) columns) rule.UngroupedColumn at;
   columns = Some (map titled columns);
   inside = nothing_inside;
   make = λ wanted before. record { items = map (column_item scope) columns; subs = []; aggregates = [] };
@@ -65,7 +66,7 @@ columns_meant scope at columns = record {
 
 abbrev pub no_columns : ℕ → SelectMeant
 no_columns at = record {
-  breaks = broken 11 at ∷ [];
+  breaks = broken rule.UnknownColumn at ∷ [];
   columns = None;
   inside = nothing_inside;
   make = λ wanted before. record { items = []; subs = []; aggregates = [] };

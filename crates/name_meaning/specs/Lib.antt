@@ -1,3 +1,4 @@
+pub mod Codes
 pub mod Cores
 pub mod Expressions
 pub mod Froms

@@ -11,13 +11,14 @@ use Rattle.name_meaning.specs.declared.answer.Break.{Break}
 use Rattle.name_meaning.specs.declared.scope.Scope.{Scope}
 use Rattle.name_meaning.specs.declared.trace.Trace.{Trace}
 use Rattle.name_meaning.specs.declared.trace.Trace.TheVariants.{Untraced as untraced, InProvenance as in_provenance, TracedSublink as traced_sublink}
+use Rattle.name_meaning.specs.declared.rule.Rule.{Rule}
 
-abbrev pub broken : ℕ → ℕ → Break
-broken code at = record { code = code; at = at }
+abbrev pub broken : Rule → ℕ → Break
+broken rule at = record { rule = rule; at = at }
 
 -- this break alone, where it is one
-abbrev pub broken_if : Bool → ℕ → ℕ → List Break
-broken_if is_broken code at = cond is_broken (broken code at ∷ []) []
+abbrev pub broken_if : Bool → Rule → ℕ → List Break
+broken_if is_broken rule at = cond is_broken (broken rule at ∷ []) []
 
 abbrev pub is_whole : List Break → Bool
 is_whole [] = true

@@ -18,6 +18,7 @@ use Rattle.name_meaning.specs.declared.need.Gives.{Gives}
 use Rattle.name_meaning.specs.declared.need.Gives.TheVariants.{Always as always, Common as common}
 use Rattle.name_meaning.specs.declared.need.Need.{Need}
 use Rattle.name_meaning.specs.declared.need.Need.TheVariants.{OfKind as of_kind, Alike as alike, Free as free}
+use Rattle.name_meaning.specs.declared.rule.Rule.TheVariants as rule
 
 pub record Operand : Type 0 where
   pub at : ℕ
@@ -95,7 +96,7 @@ parts_inside (o ∷ os) = both_inside o.meant.inside (parts_inside os)
 
 abbrev pub unfit_break : Option ℕ → List Break
 unfit_break None = []
-unfit_break (Some at) = broken 20 at ∷ []
+unfit_break (Some at) = broken rule.UnfitKind at ∷ []
 
 abbrev pub given_kind : Gives → List Operand → Option Kind
 given_kind (always kind) os = Some kind

@@ -19,6 +19,7 @@ use Rattle.name_meaning.specs.Meanings.{both_inside, Around, OutColumn, QueryMea
 use Rattle.name_meaning.specs.Scopes.{KnownColumn}
 use Rattle.name_meaning.specs.declared.answer.Break.{Break}
 use Rattle.name_meaning.specs.declared.trace.Trace.TheVariants.{InProvenance as in_provenance}
+use Rattle.name_meaning.specs.declared.rule.Rule.TheVariants as rule
 
 -- ---- set operations
 
@@ -45,7 +46,7 @@ do_unite (l ∷ left) [] = true
 do_unite (l ∷ left) (r ∷ right) = unites l.kind r.kind && do_unite left right
 
 abbrev pub operand_break : ℕ → List OutColumn → List OutColumn → List Break
-operand_break at left right = cond (nat_eq (length left) (length right)) (broken_if (not (do_unite left right)) 20 at) (broken 21 at ∷ [])
+operand_break at left right = cond (nat_eq (length left) (length right)) (broken_if (not (do_unite left right)) rule.UnfitKind at) (broken rule.UnfitWidth at ∷ [])
 
 abbrev pub operand_breaks : ℕ → Option (List OutColumn) → Option (List OutColumn) → List Break
 operand_breaks at None right = []
@@ -101,9 +102,9 @@ is_position (negsuc n) width = false
 -- a key is an output column: one alone that has its name, or the one at its position
 abbrev pub key_break : List OutColumn → OrderTree → List Break
 key_break columns tree = elim tree.key [
-  | named_key name ↦ broken_if (nat_eq (count_by (is_named name) columns) 0) 11 tree.at
-      ++ broken_if (nat_lt 1 (count_by (is_named name) columns)) 12 tree.at
-  | Position n ↦ broken_if (not (is_position n (length columns))) 11 tree.at
+  | named_key name ↦ broken_if (nat_eq (count_by (is_named name) columns) 0) rule.UnknownColumn tree.at
+      ++ broken_if (nat_lt 1 (count_by (is_named name) columns)) rule.AmbiguousColumn tree.at
+  | Position n ↦ broken_if (not (is_position n (length columns))) rule.UnknownColumn tree.at
 ]
 
 abbrev pub key_place : List OutColumn → OrderKey → ℕ

@@ -36,6 +36,7 @@ use Rattle.name_meaning.specs.declared.scope.Scope.{Scope}
 use Rattle.name_meaning.specs.declared.trace.Trace.TheVariants.{Untraced as untraced}
 use Rattle.name_meaning.specs.declared.answer.Resolved.{Resolved}
 use Rattle.name_meaning.specs.declared.answer.Resolved.TheVariants as r
+use Rattle.name_meaning.specs.declared.rule.Rule.TheVariants as rule
 
 -- ---- the queries of a statement
 
@@ -75,7 +76,7 @@ table_scope name table = scope_of (record { name = name.text; columns = table_co
 
 -- the value's own breaks, then its kind
 abbrev pub value_breaks : Kind → ℕ → Meant → List Break
-value_breaks kind at m = m.breaks ++ broken_if (not (unites (Some kind) (seen_kind m))) 20 at
+value_breaks kind at m = m.breaks ++ broken_if (not (unites (Some kind) (seen_kind m))) rule.UnfitKind at
 
 abbrev pub values_breaks : Contents → List Kind → List ExprTree → List Break
 values_breaks c [] values = []
@@ -84,7 +85,7 @@ values_breaks c (kind ∷ kinds) (tree ∷ trees) =
     value_breaks kind (part_of c tree).at (means_at (part_of c tree) (bare [])) ++ values_breaks c kinds trees
 
 abbrev pub row_breaks : Contents → List Kind → ValuesRow → List Break
-row_breaks c kinds row = cond (nat_eq (length row.values) (length kinds)) (values_breaks c kinds row.values) (broken 21 row.at ∷ [])
+row_breaks c kinds row = cond (nat_eq (length row.values) (length kinds)) (values_breaks c kinds row.values) (broken rule.UnfitWidth row.at ∷ [])
 
 abbrev pub made_alone : Kind → Meant → Expr
 made_alone kind m = (m.make kind nothing_before).expr
@@ -97,38 +98,38 @@ row_made c (kind ∷ kinds) (tree ∷ trees) = made_alone kind (means_at (part_o
 -- ---- the rules of names and kinds
 
 abbrev pub taken : Contents → Name → List Break
-taken c name = broken_if (not (is_free c name.text)) 13 name.at
+taken c name = broken_if (not (is_free c name.text)) rule.TakenName name.at
 
 -- each later column of an earlier name
 abbrev pub repeated_columns : List (List ℕ) → List ColumnDef → List Break
 repeated_columns earlier [] = []
 repeated_columns earlier (column ∷ columns) =
-    broken_if (list_any (named_so column.name.text) earlier) 14 column.name.at ++ repeated_columns (column.name.text ∷ earlier) columns
+    broken_if (list_any (named_so column.name.text) earlier) rule.RepeatedColumn column.name.at ++ repeated_columns (column.name.text ∷ earlier) columns
 
 abbrev pub unknown_table : Contents → Name → List Break
-unknown_table c name = broken_if (is_none (table_named c name.text)) 10 name.at
+unknown_table c name = broken_if (is_none (table_named c name.text)) rule.UnknownRelation name.at
 
 abbrev pub unknown_view : Contents → Name → List Break
-unknown_view c name = broken_if (is_none (view_named c name.text)) 10 name.at
+unknown_view c name = broken_if (is_none (view_named c name.text)) rule.UnknownRelation name.at
 
 abbrev pub used : Contents → Name → List Break
-used c name = broken_if (is_some (first_user c name.text)) 16 name.at
+used c name = broken_if (is_some (first_user c name.text)) rule.UsedByView name.at
 
 -- what stands on a table that isn't there isn't looked at
 abbrev pub on_table : Contents → Name → (TableEntry → List Break) → List Break
-on_table c name looked = option_map_or looked (table_named c name.text) (broken 10 name.at ∷ [])
+on_table c name looked = option_map_or looked (table_named c name.text) (broken rule.UnknownRelation name.at ∷ [])
 
 abbrev pub delete_breaks : Contents → Name → Option ExprTree → TableEntry → List Break
 delete_breaks c name condition table = option_map_or
     (λ tree. condition_breaks (part_of c tree).at (means_at (part_of c tree) (bare (table_scope name table ∷ [])))) condition []
 
 abbrev pub named_query_breaks : ℕ → QueryMeant → List Break
-named_query_breaks at m = m.breaks ++ broken_if (repeats (names_of (columns_of m))) 14 at
+named_query_breaks at m = m.breaks ++ broken_if (repeats (names_of (columns_of m))) rule.RepeatedColumn at
 
 abbrev pub name_breaks : Contents → StatementBody → List Break
 name_breaks c (st.CreateTable table columns) = taken c table ++ repeated_columns [] columns
 name_breaks c (st.CreateTableAs table query) = taken c table ++ named_query_breaks query.at (query_meant c query)
-    ++ broken_if (has_boolean (columns_of (query_meant c query))) 20 query.at
+    ++ broken_if (has_boolean (columns_of (query_meant c query))) rule.UnfitKind query.at
 name_breaks c (st.CreateView view query) = taken c view ++ named_query_breaks query.at (query_meant c query)
 name_breaks c (st.Copy table file header mark) = unknown_table c table
 name_breaks c (st.Insert table rows) =
@@ -155,14 +156,14 @@ abbrev pub most_operators : ℕ
 most_operators = 65536
 
 abbrev pub table_limit : Name → ℕ → List Break
-table_limit name width = broken_if (nat_lt most_table_columns width) 26 name.at
+table_limit name width = broken_if (nat_lt most_table_columns width) rule.TooManyColumns name.at
 
 -- the first query in the order of the text that has too many columns
 abbrev pub width_limit : List (ℕ × ℕ) → List Break
-width_limit queries = option_map_or (λ (query : ℕ × ℕ). broken 26 query.0 ∷ []) (find (λ (query : ℕ × ℕ). nat_lt most_query_columns query.1) queries) []
+width_limit queries = option_map_or (λ (query : ℕ × ℕ). broken rule.TooManyColumns query.0 ∷ []) (find (λ (query : ℕ × ℕ). nat_lt most_query_columns query.1) queries) []
 
 abbrev pub size_limit : ℕ → Query → List Break
-size_limit at query = broken_if (nat_lt greatest_height (height_of query) || nat_lt most_operators (size_of query)) 27 at
+size_limit at query = broken_if (nat_lt greatest_height (height_of query) || nat_lt most_operators (size_of query)) rule.TooLarge at
 
 abbrev pub query_limits : ℕ → QueryMeant → List Break
 query_limits at m = width_limit m.inside.queries ++ size_limit at (m.make [])

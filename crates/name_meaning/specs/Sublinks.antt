@@ -17,6 +17,8 @@ use Rattle.name_meaning.specs.Scopes.{ungrouped, group_count}
 use Rattle.name_meaning.specs.declared.answer.Break.{Break}
 use Rattle.name_meaning.specs.declared.scope.Found.{Found}
 use Rattle.name_meaning.specs.declared.scope.Found.TheVariants.{Absent as absent, Ambiguous as ambiguous, Column as found}
+use Rattle.name_meaning.specs.declared.rule.Rule.TheVariants as rule
+use Rattle.name_meaning.specs.declared.rule.Rule.{Rule}
 
 -- ---- what needs no operand
 
@@ -26,10 +28,10 @@ built_alone expr = record { expr = expr; subs = []; aggregates = [] }
 abbrev pub null_at : Kind → Expr
 null_at kind = Lit Null kind
 
--- a part that breaks by this code alone; what it would be is of no account
-abbrev pub breaking : ℕ → ℕ → Option Kind → Meant
-breaking code at kind = record {
-  breaks = broken code at ∷ [];
+-- a part that breaks this rule alone; what it would be is of no account
+abbrev pub breaking : Rule → ℕ → Option Kind → Meant
+breaking which at kind = record {
+  breaks = broken which at ∷ [];
   kind = kind;
   inside = nothing_inside;
   make = λ wanted before. built_alone (null_at (settled kind wanted));
@@ -38,10 +40,10 @@ breaking code at kind = record {
 -- a column: it stands for itself in its core's rows, and where these are groups only if it is one of their columns; an
 -- argument of an aggregate names columns of its own core alone
 abbrev pub column_meant : Surroundings → ℕ → Found → Meant
-column_meant here at absent = breaking 11 at None
-column_meant here at ambiguous = breaking 12 at None
+column_meant here at absent = breaking rule.UnknownColumn at None
+column_meant here at ambiguous = breaking rule.AmbiguousColumn at None
 column_meant here at (found column) = record {
-  breaks = broken_if (not (is_some column.place)) 22 at ++ broken_if (here.argument && nat_lt 0 column.level) 23 at;
+  breaks = broken_if (not (is_some column.place)) rule.UngroupedColumn at ++ broken_if (here.argument && nat_lt 0 column.level) rule.MisplacedAggregate at;
   kind = Some column.kind;
   inside = nothing_inside;
   make = λ wanted before. built_alone (option_map_or (Col column.level) column.place (null_at column.kind));
@@ -109,7 +111,7 @@ aggregate_made here word argument_kind argument before = record {
 
 abbrev pub rows_counted : Surroundings → ℕ → AggWord → Meant
 rows_counted here at word = record {
-  breaks = broken_if (not here.aggregates) 23 at;
+  breaks = broken_if (not here.aggregates) rule.MisplacedAggregate at;
   kind = Some (aggregate_kind word None);
   inside = nothing_inside;
   make = λ wanted before. aggregate_made here word None None before;
@@ -117,7 +119,7 @@ rows_counted here at word = record {
 
 abbrev pub aggregated : Surroundings → ℕ → AggWord → ℕ → Meant → Meant
 aggregated here at word argument_at argument = record {
-  breaks = argument.breaks ++ broken_if (not here.aggregates) 23 at ++ broken_if (not (takes_kind word (seen_kind argument))) 20 argument_at;
+  breaks = argument.breaks ++ broken_if (not here.aggregates) rule.MisplacedAggregate at ++ broken_if (not (takes_kind word (seen_kind argument))) rule.UnfitKind argument_at;
   kind = Some (aggregate_kind word (seen_kind argument));
   inside = argument.inside;
   make = λ wanted before.
@@ -163,7 +165,7 @@ exists_meant here at query = record {
 
 abbrev pub scalar_meant : Surroundings → ℕ → QueryMeant → Meant
 scalar_meant here at query = record {
-  breaks = query.breaks ++ broken_if (not (is_one_column query.columns)) 21 at;
+  breaks = query.breaks ++ broken_if (not (is_one_column query.columns)) rule.UnfitWidth at;
   kind = first_kind query;
   inside = query.inside;
   make = λ wanted before. sub_built Scalar None before query (settled (first_kind query) wanted ∷ []);
@@ -171,7 +173,7 @@ scalar_meant here at query = record {
 
 -- an inner query is looked at where a sublink may stand
 abbrev pub if_standing : Surroundings → ℕ → Option Kind → Meant → Meant
-if_standing here at kind meant = cond here.sublinks meant (breaking 24 at kind)
+if_standing here at kind meant = cond here.sublinks meant (breaking rule.MisplacedSublink at kind)
 
 -- the left operand of a sublink has no sublink
 abbrev pub in_tested : Surroundings → Surroundings
@@ -179,7 +181,7 @@ in_tested here = record here { sublinks = false }
 
 -- one column, of a kind that unites with that of the left operand
 abbrev pub tested_break : Option Kind → ℕ → QueryMeant → List Break
-tested_break tested at query = cond (is_one_column query.columns) (broken_if (not (unites tested (first_kind query))) 20 at) (broken 21 at ∷ [])
+tested_break tested at query = cond (is_one_column query.columns) (broken_if (not (unites tested (first_kind query))) rule.UnfitKind at) (broken rule.UnfitWidth at ∷ [])
 
 abbrev pub tested_kind : Meant → QueryMeant → Kind
 tested_kind tested query = settled (united_kind (seen_kind tested) (first_kind query)) kind.Text
@@ -201,7 +203,7 @@ tested_looked sub tested query_at query = record {
 }
 
 abbrev pub tested_unlooked : ℕ → Meant → Meant
-tested_unlooked at tested = record tested { breaks = tested.breaks ++ broken 24 at ∷ []; kind = Some kind.Boolean }
+tested_unlooked at tested = record tested { breaks = tested.breaks ++ broken rule.MisplacedSublink at ∷ []; kind = Some kind.Boolean }
 
 abbrev pub tested_meant : Surroundings → ℕ → SubKind → Part → QueryPart → Meant
 tested_meant here at sub part query = cond here.sublinks

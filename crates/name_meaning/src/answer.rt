@@ -1,11 +1,12 @@
+use crate::rule::Rule;
 use bag_algebra::{Answer, Expr};
 use perm_catalog::{Column, ViewEntry};
 use perm_values::{Chars, Kind, List};
 
-/// A rule of names and kinds that a statement breaks: the number of its error code, and the offset where it is broken.
+/// A rule that a script or a statement breaks, and the offset in the script where it is broken.
 #[derive(Clone, Copy, PartialEq, Eq)]
 pub struct Break {
-    pub code: u8,
+    pub rule: Rule,
     pub at: usize,
 }
 

@@ -3,10 +3,12 @@
 
 mod answer;
 mod need;
+mod rule;
 mod scope;
 mod trace;
 
 pub use answer::{Break, Resolved};
 pub use need::{Gives, Need};
+pub use rule::Rule;
 pub use scope::{Found, FoundColumn, Scope, ScopeColumn};
 pub use trace::Trace;

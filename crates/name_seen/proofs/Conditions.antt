@@ -23,6 +23,7 @@ use Rattle.name_seen_from.specs.declared.facts.Facts.{Facts as Gathered}
 use Rattle.name_seen_cores.specs.Behind.{ConditionSeen, ConditionWhole, optional_part}
 use Rattle.name_seen_cores.specs.Expressed.{ExpressionSeen}
 use Rattle.name_seen_cores.proofs.Alone.{told-so}
+use Rattle.name_meaning.specs.declared.rule.Rule.TheVariants as rule
 
 pub no-condition : (here : Surroundings) (facts : Gathered) → ConditionSeen None (optional_meant here None) facts facts (Ok (tt {0}))
 no-condition here facts = record { whole = refl; adds = sym (both_facts-none (facts_in facts)) }
@@ -31,7 +32,7 @@ no-condition here facts = record { whole = refl; adds = sym (both_facts-none (fa
 abbrev TellsAll : ℕ → Result (Option Kind) Refusal → Result Unit Refusal → Type 0
 TellsAll at kind result = (meant : Meant) → Tells (seen meant) kind → Tells (first_or (condition_breaks at meant) tt) result
 
-none-fine : (at : ℕ) → first_or (condition_breaks at (breaking 11 at None)) (tt {0}) ≡ Ok (tt {0}) → ⊥
+none-fine : (at : ℕ) → first_or (condition_breaks at (breaking rule.UnknownColumn at None)) (tt {0}) ≡ Ok (tt {0}) → ⊥
 none-fine at fine = cc fine
 
 -- where it is answered, so was the kind
@@ -41,8 +42,8 @@ fine-condition m part at old new (Ok k) e is tells = record {
   whole = ap (λ (n : ℕ). condition_breaks n m) (sym e) ∙ none-broken (condition_breaks at m) tt tt (tells m is.found);
   adds = is.adds kind.Boolean nothing_before;
 }
-fine-condition m part at old new (Err (Broken b)) e is tells = absurd (cc (tells m is, first-stays m.breaks (broken_if (not (unites (Some kind.Boolean) (seen_kind m))) 20 at) m.kind (tt {0}) b is))
-fine-condition m part at old new (Err NoMemory) e is tells = absurd (none-fine at (tells (breaking 11 at None) tt))
+fine-condition m part at old new (Err (Broken b)) e is tells = absurd (cc (tells m is, first-stays m.breaks (broken_if (not (unites (Some kind.Boolean) (seen_kind m))) rule.UnfitKind at) m.kind (tt {0}) b is))
+fine-condition m part at old new (Err NoMemory) e is tells = absurd (none-fine at (tells (breaking rule.UnknownColumn at None) tt))
 
 condition-so : (m : Meant) (part : Part) (at : ℕ) (old new : Gathered) (kind : Result (Option Kind) Refusal) (result : Result Unit Refusal)
     → at ≡ part.at → ExpressionSeen m old new kind → TellsAll at kind result → ConditionSeen (Some part) (Some m) old new result

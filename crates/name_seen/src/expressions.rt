@@ -16,7 +16,7 @@ ghost use Rattle.name_seen_cores.specs.Expressed.{ExpressionSeen, OperandsBehind
 ghost use Rattle.name_seen.specs.Nodes.{NodeBehind};
 
 use crate::queries::query_seen;
-use name_meaning::{Break, Gives, Need};
+use name_meaning::{Break, Gives, Need, Rule};
 use name_seen_cores::{
     InnerColumns, add_inner, aggregated, answered, chain_gives, column, exists_over, first_need,
     in_argument, in_tested, kind_over, operands_with, scalar_over, tested_over, trace_below,
@@ -277,7 +277,10 @@ fn inner_seen(
     ensures { InnerLooked here.now.standing.sublinks (query_means_at (query_of here.now.catalog.now query.now) (around_of (surroundings here.now))) at facts.old facts.new result }
 {
     if !here.standing.sublinks {
-        return Err(Refusal::Break(Break { code: 24, at }));
+        return Err(Refusal::Break(Break {
+            rule: Rule::MisplacedSublink,
+            at,
+        }));
     }
     let around = Around {
         alloc: here.alloc,

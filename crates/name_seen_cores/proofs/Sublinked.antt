@@ -31,6 +31,7 @@ use Rattle.name_seen_cores.specs.declared.sublinks.InnerColumns.{InnerColumns}
 use Rattle.name_seen_cores.proofs.Alone.{alone}
 use Rattle.name_seen_cores.proofs.Behind.{answered-seen}
 use Rattle.name_seen_parts.proofs.Firsts.{first-stays, first-behind, first-stays_first, first-stays_second, first-behind_two}
+use Rattle.name_meaning.specs.declared.rule.Rule.TheVariants as rule
 
 first-so : {X Y : Type 0} (xs : List Break) (v : X) (w : Y) (first : Break) → first_or xs v ≡ Err first → first_or xs w ≡ Err first
 first-so [] v w first e = absurd (cc)
@@ -56,13 +57,13 @@ exists-seen here at q old new (Err NoMemory) broken = tt
 pub scalar-seen : (here : Surroundings) (at : ℕ) (q : QueryMeant) (old new : Gathered) (r : Result InnerColumns Refusal) → InnerSeen q old new r
     → ExpressionSeen (scalar_meant here at q) old new (scalar_over at r)
 scalar-seen here at q old new (Ok inner) is =
-    answered-seen (scalar_meant here at q) old new (first_or (broken_if (not inner.one) 21 at) inner.kind)
-    (first-behind q.breaks (broken_if (not (is_one_column q.columns)) 21 at) (first_kind q) is.whole
-    ∙ ap (λ (one : Bool). first_or (broken_if (not one) 21 at) (first_kind q)) is.one
-    ∙ ap (λ (k : Option Kind). first_or (broken_if (not inner.one) 21 at) k) is.kind)
+    answered-seen (scalar_meant here at q) old new (first_or (broken_if (not inner.one) rule.UnfitWidth at) inner.kind)
+    (first-behind q.breaks (broken_if (not (is_one_column q.columns)) rule.UnfitWidth at) (first_kind q) is.whole
+    ∙ ap (λ (one : Bool). first_or (broken_if (not one) rule.UnfitWidth at) (first_kind q)) is.one
+    ∙ ap (λ (k : Option Kind). first_or (broken_if (not inner.one) rule.UnfitWidth at) k) is.kind)
     (λ wanted before. one-sublink q old new inner is (settled (first_kind q) wanted ∷ []))
 scalar-seen here at q old new (Err (Broken first)) broken =
-    first-stays q.breaks (broken_if (not (is_one_column q.columns)) 21 at) tt (first_kind q) first broken
+    first-stays q.breaks (broken_if (not (is_one_column q.columns)) rule.UnfitWidth at) tt (first_kind q) first broken
 scalar-seen here at q old new (Err NoMemory) broken = tt
 
 looked-kind : (sub : SubKind) (tested : Meant) (k : Option Kind) (at : ℕ) (q : QueryMeant) (old new : Gathered) (r : Result InnerColumns Refusal) → IsSeenAs k tested → InnerSeen q old new r
@@ -71,11 +72,11 @@ looked-kind sub tested k at q old new (Ok inner) seen_as is =
     let whole : tested.breaks ≡ [] = ap (λ (m : Meant). m.breaks) seen_as in
     let same : seen_kind tested ≡ k = ap seen_kind seen_as in
     answered-seen (tested_looked sub tested at q) old new
-    (first_or (cond inner.one (broken_if (not (unites k inner.kind)) 20 at) (broken 21 at ∷ [])) (Some kind.Boolean))
+    (first_or (cond inner.one (broken_if (not (unites k inner.kind)) rule.UnfitKind at) (broken rule.UnfitWidth at ∷ [])) (Some kind.Boolean))
     (first-behind_two tested.breaks q.breaks (tested_break (seen_kind tested) at q) (Some kind.Boolean) whole is.whole
-    ∙ ap (λ (one : Bool). first_or (cond one (broken_if (not (unites (seen_kind tested) (first_kind q))) 20 at) (broken 21 at ∷ [])) (Some kind.Boolean)) is.one
-    ∙ ap (λ (k : Option Kind). first_or (cond inner.one (broken_if (not (unites k (first_kind q))) 20 at) (broken 21 at ∷ [])) (Some kind.Boolean)) same
-    ∙ ap (λ (l : Option Kind). first_or (cond inner.one (broken_if (not (unites k l)) 20 at) (broken 21 at ∷ [])) (Some kind.Boolean)) is.kind)
+    ∙ ap (λ (one : Bool). first_or (cond one (broken_if (not (unites (seen_kind tested) (first_kind q))) rule.UnfitKind at) (broken rule.UnfitWidth at ∷ [])) (Some kind.Boolean)) is.one
+    ∙ ap (λ (k : Option Kind). first_or (cond inner.one (broken_if (not (unites k (first_kind q))) rule.UnfitKind at) (broken rule.UnfitWidth at ∷ [])) (Some kind.Boolean)) same
+    ∙ ap (λ (l : Option Kind). first_or (cond inner.one (broken_if (not (unites k l)) rule.UnfitKind at) (broken rule.UnfitWidth at ∷ [])) (Some kind.Boolean)) is.kind)
     (λ wanted before. one-sublink q old new inner is (tested_kind tested q ∷ []))
 looked-kind sub tested k at q old new (Err (Broken first)) seen_as broken =
     first-stays_second tested.breaks q.breaks (tested_break (seen_kind tested) at q) tt (Some kind.Boolean) first (ap (λ (m : Meant). m.breaks) seen_as) broken
@@ -133,7 +134,7 @@ rows-seen here at word facts r told = alone (rows_counted here at word) facts r 
 pub argument-refused : (here : Surroundings) (at : ℕ) (word : AggWord) (argument_at : ℕ) (argument : Meant) (refusal : Refusal)
     → Tells (seen argument) (Err refusal) → Tells (seen (aggregated here at word argument_at argument)) (Err refusal)
 argument-refused here at word argument_at argument (Broken first) told =
-    first-stays_first argument.breaks (broken_if (not here.aggregates) 23 at) (broken_if (not (takes_kind word (seen_kind argument))) 20 argument_at)
+    first-stays_first argument.breaks (broken_if (not here.aggregates) rule.MisplacedAggregate at) (broken_if (not (takes_kind word (seen_kind argument))) rule.UnfitKind argument_at)
     argument.kind (Some (aggregate_kind word (seen_kind argument))) first told
 argument-refused here at word argument_at argument NoMemory told = tt
 
@@ -142,7 +143,7 @@ argument-refused here at word argument_at argument NoMemory told = tt
 pub looked_so : (b : Bool) (q : QueryMeant) (at : ℕ) (old new : Gathered) (r : Result InnerColumns Refusal) → b ≡ true → InnerSeen q old new r → InnerLooked b q at old new r
 looked_so b q at old new r e shown = subst (λ (b : Bool). InnerLooked b q at old new r) (sym e) shown
 
-pub looked_not : (b : Bool) (q : QueryMeant) (at : ℕ) (old new : Gathered) (r : Result InnerColumns Refusal) → b ≡ false → r ≡ Err (Broken (broken 24 at))
+pub looked_not : (b : Bool) (q : QueryMeant) (at : ℕ) (old new : Gathered) (r : Result InnerColumns Refusal) → b ≡ false → r ≡ Err (Broken (broken rule.MisplacedSublink at))
     → InnerLooked b q at old new r
 looked_not b q at old new r e broken = subst (λ (b : Bool). InnerLooked b q at old new r) (sym e) broken
 
@@ -150,10 +151,10 @@ pub result-so : (m : Meant) (old new : Gathered) (r s : Result (Option Kind) Ref
 result-so m old new r s e shown = subst (λ (r : Result (Option Kind) Refusal). ExpressionSeen m old new r) (sym e) shown
 
 exists-by : (allowed : Bool) (here : Surroundings) (at query_at : ℕ) (q : QueryMeant) (old new : Gathered) (r : Result InnerColumns Refusal)
-    → InnerLooked allowed q at old new r → ExpressionSeen (cond allowed (exists_meant here query_at q) (breaking 24 at (Some kind.Boolean))) old new (exists_over r)
+    → InnerLooked allowed q at old new r → ExpressionSeen (cond allowed (exists_meant here query_at q) (breaking rule.MisplacedSublink at (Some kind.Boolean))) old new (exists_over r)
 exists-by true here at query_at q old new r looked = exists-seen here query_at q old new r looked
 exists-by false here at query_at q old new r refused =
-    result-so (breaking 24 at (Some kind.Boolean)) old new (exists_over (Err (Broken (broken 24 at)))) (exists_over r) (ap exists_over refused) refl
+    result-so (breaking rule.MisplacedSublink at (Some kind.Boolean)) old new (exists_over (Err (Broken (broken rule.MisplacedSublink at)))) (exists_over r) (ap exists_over refused) refl
 
 pub exists-looked : (here : Surroundings) (at : ℕ) (query : QueryPart) (old new : Gathered) (r : Result InnerColumns Refusal)
     → InnerLooked here.sublinks (query_means_at query (around_of here)) at old new r
@@ -162,10 +163,10 @@ unfolding query_means_at
 exists-looked here at query old new r looked = exists-by here.sublinks here at query.at (query.means (around_of here)) old new r looked
 
 scalar-by : (allowed : Bool) (here : Surroundings) (at query_at : ℕ) (q : QueryMeant) (old new : Gathered) (r : Result InnerColumns Refusal)
-    → InnerLooked allowed q at old new r → ExpressionSeen (cond allowed (scalar_meant here query_at q) (breaking 24 at None)) old new (scalar_over query_at r)
+    → InnerLooked allowed q at old new r → ExpressionSeen (cond allowed (scalar_meant here query_at q) (breaking rule.MisplacedSublink at None)) old new (scalar_over query_at r)
 scalar-by true here at query_at q old new r looked = scalar-seen here query_at q old new r looked
 scalar-by false here at query_at q old new r refused =
-    result-so (breaking 24 at None) old new (scalar_over query_at (Err (Broken (broken 24 at)))) (scalar_over query_at r) (ap (scalar_over query_at) refused) refl
+    result-so (breaking rule.MisplacedSublink at None) old new (scalar_over query_at (Err (Broken (broken rule.MisplacedSublink at)))) (scalar_over query_at r) (ap (scalar_over query_at) refused) refl
 
 pub scalar-looked : (here : Surroundings) (at : ℕ) (query : QueryPart) (old new : Gathered) (r : Result InnerColumns Refusal)
     → InnerLooked here.sublinks (query_means_at query (around_of here)) at old new r
@@ -174,10 +175,10 @@ unfolding query_means_at
 scalar-looked here at query old new r looked = scalar-by here.sublinks here at query.at (query.means (around_of here)) old new r looked
 
 unlooked-seen : (tested : Meant) (at query_at : ℕ) (old new : Gathered) (t : Result (Option Kind) Refusal) → Tells (seen tested) t
-    → ExpressionSeen (tested_unlooked at tested) old new (tested_over t query_at (Err (Broken (broken 24 at))))
+    → ExpressionSeen (tested_unlooked at tested) old new (tested_over t query_at (Err (Broken (broken rule.MisplacedSublink at))))
 unlooked-seen tested at query_at old new (Ok k) told =
-    first-behind tested.breaks (broken 24 at ∷ []) (Some kind.Boolean) (ap (λ (m : Meant). m.breaks) (seen-as tested k told))
-unlooked-seen tested at query_at old new (Err (Broken first)) told = first-stays tested.breaks (broken 24 at ∷ []) tested.kind (Some kind.Boolean) first told
+    first-behind tested.breaks (broken rule.MisplacedSublink at ∷ []) (Some kind.Boolean) (ap (λ (m : Meant). m.breaks) (seen-as tested k told))
+unlooked-seen tested at query_at old new (Err (Broken first)) told = first-stays tested.breaks (broken rule.MisplacedSublink at ∷ []) tested.kind (Some kind.Boolean) first told
 unlooked-seen tested at query_at old new (Err NoMemory) told = tt
 
 tested-by-case : (allowed : Bool) (sub : SubKind) (tested : Meant) (at query_at : ℕ) (q : QueryMeant) (old new : Gathered) (t : Result (Option Kind) Refusal)
@@ -185,7 +186,7 @@ tested-by-case : (allowed : Bool) (sub : SubKind) (tested : Meant) (at query_at 
     → ExpressionSeen (cond allowed (tested_looked sub tested query_at q) (tested_unlooked at tested)) old new (tested_over t query_at r)
 tested-by-case true sub tested at query_at q old new t r told looked = looked-seen sub tested query_at q old new t r told looked
 tested-by-case false sub tested at query_at q old new t r told refused =
-    result-so (tested_unlooked at tested) old new (tested_over t query_at (Err (Broken (broken 24 at)))) (tested_over t query_at r)
+    result-so (tested_unlooked at tested) old new (tested_over t query_at (Err (Broken (broken rule.MisplacedSublink at)))) (tested_over t query_at r)
     (ap (tested_over t query_at) refused) (unlooked-seen tested at query_at old new t told)
 
 pub tested-seen : (here : Surroundings) (at : ℕ) (sub : SubKind) (part : Part) (query : QueryPart) (old new : Gathered) (t : Result (Option Kind) Refusal)

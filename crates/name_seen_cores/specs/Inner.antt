@@ -13,6 +13,7 @@ use Rattle.name_seen_cores.specs.Expressed.{answered}
 use Rattle.name_seen_from.specs.declared.facts.Facts.{Facts as Gathered}
 use Rattle.name_seen_parts.specs.declared.clauses.column.ShownColumn.{ShownColumn}
 use Rattle.name_seen_cores.specs.declared.sublinks.InnerColumns.{InnerColumns}
+use Rattle.name_meaning.specs.declared.rule.Rule.TheVariants as rule
 
 abbrev pub first_shown : List ShownColumn → Option Kind
 first_shown [] = None
@@ -33,7 +34,7 @@ InnerSeen q old new (Err NoMemory) = Unit {0}
 -- it is looked at where a sublink may stand
 abbrev pub InnerLooked : Bool → QueryMeant → ℕ → Gathered → Gathered → Result InnerColumns Refusal → Type 0
 InnerLooked true q at old new result = InnerSeen q old new result
-InnerLooked false q at old new result = result ≡ Err (Broken (broken 24 at))
+InnerLooked false q at old new result = result ≡ Err (Broken (broken rule.MisplacedSublink at))
 
 -- ---- what stands over the query
 
@@ -42,12 +43,12 @@ exists_over (Ok inner) = Ok (Some kind.Boolean)
 exists_over (Err refusal) = Err refusal
 
 abbrev pub scalar_over : ℕ → Result InnerColumns Refusal → Result (Option Kind) Refusal
-scalar_over at (Ok inner) = answered (first_or (broken_if (not inner.one) 21 at) inner.kind)
+scalar_over at (Ok inner) = answered (first_or (broken_if (not inner.one) rule.UnfitWidth at) inner.kind)
 scalar_over at (Err refusal) = Err refusal
 
 abbrev pub tested_by : Option Kind → ℕ → Result InnerColumns Refusal → Result (Option Kind) Refusal
 tested_by tested at (Ok inner) =
-    answered (first_or (cond inner.one (broken_if (not (unites tested inner.kind)) 20 at) (broken 21 at ∷ [])) (Some kind.Boolean))
+    answered (first_or (cond inner.one (broken_if (not (unites tested inner.kind)) rule.UnfitKind at) (broken rule.UnfitWidth at ∷ [])) (Some kind.Boolean))
 tested_by tested at (Err refusal) = Err refusal
 
 abbrev pub tested_over : Result (Option Kind) Refusal → ℕ → Result InnerColumns Refusal → Result (Option Kind) Refusal

@@ -7,7 +7,7 @@ ghost use Rattle.name_seen_parts.specs.Standing.{standing_in};
 ghost use Rattle.name_seen_cores.specs.Inner.{InnerSeen, exists_over, first_shown, scalar_over, tested_over, tested_by};
 ghost use Rattle.name_seen_from.specs.Queried.{QueryWhole};
 
-use name_meaning::{Break, Trace};
+use name_meaning::{Break, Rule, Trace};
 use name_seen_from::{Facts, QueryShown};
 use name_seen_parts::{Refusal, ShownColumn, Standing, unites};
 use perm_values::Kind;
@@ -85,7 +85,10 @@ pub fn scalar_over(at: usize, inner: Result<InnerColumns, Refusal>) -> Result<Op
     match inner {
         Ok(inner) => {
             if !inner.one {
-                return Err(Refusal::Break(Break { code: 21, at }));
+                return Err(Refusal::Break(Break {
+                    rule: Rule::UnfitWidth,
+                    at,
+                }));
             }
             Ok(inner.kind)
         }
@@ -118,10 +121,16 @@ fn tested_by(
     match inner {
         Ok(inner) => {
             if !inner.one {
-                return Err(Refusal::Break(Break { code: 21, at }));
+                return Err(Refusal::Break(Break {
+                    rule: Rule::UnfitWidth,
+                    at,
+                }));
             }
             if !unites(tested, inner.kind) {
-                return Err(Refusal::Break(Break { code: 20, at }));
+                return Err(Refusal::Break(Break {
+                    rule: Rule::UnfitKind,
+                    at,
+                }));
             }
             Ok(Some(Kind::Boolean))
         }

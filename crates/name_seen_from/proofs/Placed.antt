@@ -25,14 +25,15 @@ use Rattle.name_seen_from.specs.declared.facts.Facts.{Facts as Gathered}
 use Rattle.name_seen_from.specs.declared.reading.Reading.{Reading}
 use Rattle.name_seen_parts.proofs.Firsts.{both-none, first-behind, none-broken}
 use Rattle.name_seen_from.proofs.Sourced.{marked-is}
+use Rattle.name_meaning.specs.declared.rule.Rule.TheVariants as rule
 
 abbrev pub repeated_break : ℕ → List (List ℕ) → List ℕ → List Break
-repeated_break at earlier name = broken_if (list_any (named_so name) earlier) 15 at
+repeated_break at earlier name = broken_if (list_any (named_so name) earlier) rule.RepeatedItem at
 
 breaks-are : (at : ℕ) (mark : ScopeMark) (trace : Trace) (earlier : List (List ℕ)) (name label : List ℕ) (read : Read) (reading : Reading) → IsRead read reading
     → (item_meant at mark trace earlier name label read).breaks
     ≡ repeated_break at earlier name ++ mark_breaks mark (Some (known_names reading.columns))
-    ++ broken_if (is_out_of_scope trace reading.viewed (marked mark label (read_names read) read)) 25 at
+    ++ broken_if (is_out_of_scope trace reading.viewed (marked mark label (read_names read) read)) rule.MisplacedProvenance at
 breaks-are at mark trace earlier name label read reading is =
     ap (λ (breaks : List Break). breaks ++ repeated_break at earlier name ++ mark_breaks mark (option_map names_of read.columns)
     ++ scope_break breaks trace read.viewed (marked mark label (read_names read) read) at) is.whole
@@ -47,7 +48,7 @@ early_breaks at mark earlier name names = repeated_break at earlier name ++ mark
 -- where neither the name nor the mark breaks a rule
 pub early-none : (at : ℕ) (mark : ScopeMark) (earlier items found : List (List ℕ)) (name given : List ℕ) (columns shown : List Column)
     → given ≡ name → found ≡ items → shown ≡ columns
-    → Ok (tt {0}) ≡ first_or (broken_if (list_any (named_so given) (earlier ++ found)) 15 at ++ mark_breaks mark (Some (known_names shown))) (tt {0})
+    → Ok (tt {0}) ≡ first_or (broken_if (list_any (named_so given) (earlier ++ found)) rule.RepeatedItem at ++ mark_breaks mark (Some (known_names shown))) (tt {0})
     → early_breaks at mark (earlier ++ items) name (known_names columns) ≡ []
 early-none at mark earlier items found name given columns shown named held listed told =
     (λ i. early_breaks at mark (earlier ++ sym held i) (sym named i) (known_names (sym listed i)))
@@ -56,11 +57,11 @@ early-none at mark earlier items found name given columns shown named held liste
 -- what is told of the facts that the code has of it is told of the item
 pub scope-told : (result : Result Unit Break) (at : ℕ) (mark : ScopeMark) (trace : Trace) (label : List ℕ) (read : Read) (reading with_mark : Reading)
     → IsRead read reading → IsMarked mark label reading with_mark
-    → ((query : Query) → facts_in with_mark.plain ≡ facts_of query → result ≡ first_or (broken_if (is_out_of_scope trace with_mark.viewed query) 25 at) (tt {0}))
-    → result ≡ first_or (broken_if (is_out_of_scope trace reading.viewed (marked mark label (read_names read) read)) 25 at) (tt {0})
+    → ((query : Query) → facts_in with_mark.plain ≡ facts_of query → result ≡ first_or (broken_if (is_out_of_scope trace with_mark.viewed query) rule.MisplacedProvenance at) (tt {0}))
+    → result ≡ first_or (broken_if (is_out_of_scope trace reading.viewed (marked mark label (read_names read) read)) rule.MisplacedProvenance at) (tt {0})
 scope-told result at mark trace label read reading with_mark is by told =
     told (marked mark label (read_names read) read) (by.plain ∙ sym (marked-is mark label read reading is))
-    ∙ ap (λ (viewed : Bool). first_or (broken_if (is_out_of_scope trace viewed (marked mark label (read_names read) read)) 25 at) (tt {0})) by.viewed
+    ∙ ap (λ (viewed : Bool). first_or (broken_if (is_out_of_scope trace viewed (marked mark label (read_names read) read)) rule.MisplacedProvenance at) (tt {0})) by.viewed
 
 pub refused : (m : ItemMeant) (scope wider : Scope) (old new : Gathered) (result : Result Unit Refusal) (b : Break)
     → IsErrAnd result (λ (refusal : Refusal). refusal ≡ Broken b) → first_or m.breaks (tt {0}) ≡ Err b → ItemSeen m scope old new wider result
@@ -69,17 +70,17 @@ refused m scope wider old new (Err refusal) b is first = subst (λ (refusal : Re
 
 pub item-scoped : (at : ℕ) (mark : ScopeMark) (trace : Trace) (earlier : List (List ℕ)) (name label : List ℕ) (read : Read) (reading : Reading) (b : Break) → IsRead read reading
     → early_breaks at mark earlier name (known_names reading.columns) ≡ []
-    → first_or (broken_if (is_out_of_scope trace reading.viewed (marked mark label (read_names read) read)) 25 at) (tt {0}) ≡ Err b
+    → first_or (broken_if (is_out_of_scope trace reading.viewed (marked mark label (read_names read) read)) rule.MisplacedProvenance at) (tt {0}) ≡ Err b
     → first_or (item_meant at mark trace earlier name label read).breaks (tt {0}) ≡ Err b
 item-scoped at mark trace earlier name label read reading b is once broken =
     ap (λ (breaks : List Break). first_or breaks (tt {0})) (breaks-are at mark trace earlier name label read reading is)
     ∙ first-behind (early_breaks at mark earlier name (known_names reading.columns))
-    (broken_if (is_out_of_scope trace reading.viewed (marked mark label (read_names read) read)) 25 at) (tt {0}) once ∙ broken
+    (broken_if (is_out_of_scope trace reading.viewed (marked mark label (read_names read) read)) rule.MisplacedProvenance at) (tt {0}) once ∙ broken
 
 pub item-whole : (at : ℕ) (mark : ScopeMark) (trace : Trace) (earlier : List (List ℕ)) (name label : List ℕ) (read : Read) (reading with_mark : Reading)
     (scope wider : Scope) (old new : Gathered) → IsRead read reading
     → early_breaks at mark earlier name (known_names reading.columns) ≡ []
-    → broken_if (is_out_of_scope trace reading.viewed (marked mark label (read_names read) read)) 25 at ≡ []
+    → broken_if (is_out_of_scope trace reading.viewed (marked mark label (read_names read) read)) rule.MisplacedProvenance at ≡ []
     → IsMarked mark label reading with_mark
     → wider ≡ scope_beside scope (item_scope name with_mark.columns)
     → facts_in new ≡ both_facts (facts_in old) (facts_in with_mark.plain)
@@ -88,7 +89,7 @@ item-whole at mark trace earlier name label read reading with_mark scope wider o
     record {
       whole = breaks-are at mark trace earlier name label read reading is
           ∙ both-none (early_breaks at mark earlier name (known_names reading.columns))
-          (broken_if (is_out_of_scope trace reading.viewed (marked mark label (read_names read) read)) 25 at) once scoped;
+          (broken_if (is_out_of_scope trace reading.viewed (marked mark label (read_names read) read)) rule.MisplacedProvenance at) once scoped;
       columns = with_mark.columns;
       known = is.columns ∙ ap (λ (columns : List Column). Some (table_columns columns)) (sym by.columns);
       scope_is = wide;

@@ -19,7 +19,7 @@ use crate::facts::Facts;
 use crate::reading::{Reading, relation};
 use crate::viewed::kinds_at;
 use bag_algebra::{Label, Place};
-use name_meaning::{Break, Trace};
+use name_meaning::{Break, Rule, Trace};
 use name_seen_parts::{label_of, names_of, places_of, texts_of};
 use perm_values::NoMemory;
 use sql_tree::{FromItem, Name, ScopeMark};
@@ -92,7 +92,10 @@ pub(crate) fn scope_break(trace: Trace, viewed: bool, facts: &Facts, at: usize) 
     ensures { (query : Query) → facts_in facts.now ≡ facts_of query → result ≡ first_or (broken_if (is_out_of_scope trace viewed query) 25 at) tt }
 {
     if is_out_of_scope(trace, viewed, facts) {
-        return Err(Break { code: 25, at });
+        return Err(Break {
+            rule: Rule::MisplacedProvenance,
+            at,
+        });
     }
     Ok(())
 }

@@ -16,7 +16,7 @@ use crate::shown::QueryShown;
 use crate::viewed::{facts_of, is_table, kinds_at};
 use bag_algebra::{Label, Place};
 use contribution::kinds;
-use name_meaning::Break;
+use name_meaning::{Break, Rule};
 use name_seen_parts::{
     Refusal, all_places, kinds_of_columns, named_columns, names_at, names_of, settled_columns,
 };
@@ -69,7 +69,10 @@ pub fn read_named(alloc: Global, catalog: &Catalog, name: &Name) -> Result<Readi
             Some(view) => Ok(read_view(alloc, view)?),
             None => {
                 let at = name.at;
-                Err(Refusal::Break(Break { code: 10, at }))
+                Err(Refusal::Break(Break {
+                    rule: Rule::UnknownRelation,
+                    at,
+                }))
             }
         },
     }

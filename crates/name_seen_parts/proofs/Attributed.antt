@@ -12,6 +12,7 @@ use Rattle.name_meaning.specs.declared.answer.Break.{Break}
 use Rattle.name_seen_parts.specs.Seen.{first_or}
 use Rattle.name_seen_parts.specs.Marks.{attribute_break, is_among}
 use Rattle.name_seen_parts.proofs.Firsts.{dropped, first-stays}
+use Rattle.name_meaning.specs.declared.rule.Rule.TheVariants as rule
 
 -- ---- the order of names is of no account
 
@@ -43,10 +44,10 @@ texts-more attributes at attribute within e =
     ∙ reverse-append (texts_of (take at attributes)) (attribute.text ∷ [])
 
 abbrev breaks_behind : List (List ℕ) → List (List ℕ) → Name → List Break
-breaks_behind names earlier attribute = column_breaks attribute names ++ broken_if (list_any (named_so attribute.text) earlier) 14 attribute.at
+breaks_behind names earlier attribute = column_breaks attribute names ++ broken_if (list_any (named_so attribute.text) earlier) rule.RepeatedColumn attribute.at
 
 break-is : (names : List (List ℕ)) (earlier : List Name) (attribute : Name) → attribute_break names earlier attribute ≡ breaks_behind names (reverse (texts_of earlier)) attribute
-break-is names earlier attribute = ap (λ (b : Bool). column_breaks attribute names ++ broken_if b 14 attribute.at) (among-earlier attribute.text earlier)
+break-is names earlier attribute = ap (λ (b : Bool). column_breaks attribute names ++ broken_if b rule.RepeatedColumn attribute.at) (among-earlier attribute.text earlier)
 
 pub attributes-step : (names : List (List ℕ)) (attributes : List Name) (at : ℕ) (attribute : Name) → at < length attributes → attribute ≡ get_or attributes at attribute
     → attribute_break names (take at attributes) attribute ≡ []

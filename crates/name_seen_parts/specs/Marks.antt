@@ -6,13 +6,14 @@ use Rattle.sql_tree.specs.declared.name.Name.{Name}
 use Rattle.name_meaning.specs.Froms.{named_so, place_of, column_breaks, texts_of}
 use Rattle.name_meaning.specs.Meanings.{broken_if}
 use Rattle.name_meaning.specs.declared.answer.Break.{Break}
+use Rattle.name_meaning.specs.declared.rule.Rule.TheVariants as rule
 
 abbrev pub is_among : List Name → List ℕ → Bool
 is_among names name = list_any (λ (other : Name). named_so name other.text) names
 
 -- what one attribute breaks, behind others
 abbrev pub attribute_break : List (List ℕ) → List Name → Name → List Break
-attribute_break names earlier attribute = column_breaks attribute names ++ broken_if (is_among earlier attribute.text) 14 attribute.at
+attribute_break names earlier attribute = column_breaks attribute names ++ broken_if (is_among earlier attribute.text) rule.RepeatedColumn attribute.at
 
 -- the first column of this name
 abbrev pub first_named : List Column → List ℕ → Option ℕ

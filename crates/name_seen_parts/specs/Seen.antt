@@ -9,6 +9,7 @@ use Rattle.name_meaning.specs.declared.need.Gives.TheVariants.{Always, Common}
 use Rattle.name_meaning.specs.declared.need.Need.{Need}
 use Rattle.name_meaning.specs.declared.need.Need.TheVariants.{OfKind, Alike, Free}
 use Rattle.name_seen_parts.specs.declared.operands.Operands.{Operands}
+use Rattle.name_meaning.specs.declared.rule.Rule.TheVariants as rule
 
 abbrev pub first_or : {X : Type 0} → List Break → X → Result X Break
 first_or [] value = Ok value
@@ -42,7 +43,7 @@ kind_given Common common = common
 
 abbrev pub unfit_or : {X : Type 0} → Option ℕ → X → Result X Break
 unfit_or None value = Ok value
-unfit_or (Some at) value = Err (broken 20 at)
+unfit_or (Some at) value = Err (broken rule.UnfitKind at)
 
 abbrev pub whole_of : Gives → Operands → Result (Option Kind) Break
 whole_of gives operands = unfit_or operands.unfit (kind_given gives operands.common)

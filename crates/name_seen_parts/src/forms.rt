@@ -7,7 +7,7 @@ ghost use Rattle.name_meaning.specs.Sublinks.{column_meant, takes_kind, aggregat
 ghost use Rattle.name_seen_parts.specs.Seen.{first_or, seen, IsSeenAs};
 
 use crate::kinds::{is_same_kind, unites};
-use name_meaning::{Break, Found};
+use name_meaning::{Break, Found, Rule};
 use perm_values::Kind;
 use sql_tree::AggWord;
 
@@ -17,13 +17,25 @@ pub fn column_kind(argument: bool, at: usize, found: Found) -> Result<Option<Kin
     ensures { (here : Surroundings) → here.argument ≡ argument → result ≡ seen (column_meant here at found) }
 {
     match found {
-        Found::Absent => Err(Break { code: 11, at }),
-        Found::Ambiguous => Err(Break { code: 12, at }),
+        Found::Absent => Err(Break {
+            rule: Rule::UnknownColumn,
+            at,
+        }),
+        Found::Ambiguous => Err(Break {
+            rule: Rule::AmbiguousColumn,
+            at,
+        }),
         Found::Column(column) => match column.place {
-            None => Err(Break { code: 22, at }),
+            None => Err(Break {
+                rule: Rule::UngroupedColumn,
+                at,
+            }),
             Some(_) => {
                 if argument && column.level > 0 {
-                    return Err(Break { code: 23, at });
+                    return Err(Break {
+                        rule: Rule::MisplacedAggregate,
+                        at,
+                    });
                 }
                 Ok(Some(column.kind))
             }
@@ -83,7 +95,10 @@ pub fn count_kind(allowed: bool, at: usize, word: AggWord) -> Result<Option<Kind
     ensures { (here : Surroundings) → here.aggregates ≡ allowed → result ≡ seen (rows_counted here at word) }
 {
     if !allowed {
-        return Err(Break { code: 23, at });
+        return Err(Break {
+            rule: Rule::MisplacedAggregate,
+            at,
+        });
     }
     Ok(Some(aggregate_kind(word, None)))
 }
@@ -101,11 +116,14 @@ pub fn aggregated_kind(
         → result ≡ seen (aggregated here at word argument_at meant) }
 {
     if !allowed {
-        return Err(Break { code: 23, at });
+        return Err(Break {
+            rule: Rule::MisplacedAggregate,
+            at,
+        });
     }
     if !takes_kind(word, argument) {
         return Err(Break {
-            code: 20,
+            rule: Rule::UnfitKind,
             at: argument_at,
         });
     }
@@ -117,7 +135,10 @@ pub fn condition_kind(at: usize, kind: Option<Kind>) -> Result<(), Break>
     ensures { (meant : Meant) → IsSeenAs kind meant → result ≡ first_or (condition_breaks at meant) tt }
 {
     if !unites(Some(Kind::Boolean), kind) {
-        return Err(Break { code: 20, at });
+        return Err(Break {
+            rule: Rule::UnfitKind,
+            at,
+        });
     }
     Ok(())
 }

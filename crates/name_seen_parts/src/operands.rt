@@ -2,7 +2,7 @@ ghost use Rattle.std.specs.Prelude.{◌≡◌};
 ghost use Rattle.name_seen_parts.specs.Seen.{no_operand, with_operand, fitted, whole_of};
 
 use crate::kinds::{united_kind, unites};
-use name_meaning::{Break, Gives, Need};
+use name_meaning::{Break, Gives, Need, Rule};
 use perm_values::Kind;
 
 /// What the operands of a node come to so far: the kind to which those that are to be alike were united, and the offset
@@ -55,7 +55,10 @@ impl Operands {
         ensures { result ≡ whole_of gives self }
     {
         match self.unfit {
-            Some(at) => Err(Break { code: 20, at }),
+            Some(at) => Err(Break {
+                rule: Rule::UnfitKind,
+                at,
+            }),
             None => match gives {
                 Gives::Always(kind) => Ok(Some(kind)),
                 Gives::Common => Ok(self.common),

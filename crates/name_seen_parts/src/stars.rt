@@ -6,7 +6,7 @@ ghost use Rattle.name_seen_parts.specs.Stars.{is_in_item, columns_of};
 
 use crate::named::item_number;
 use crate::scopes::place_among;
-use name_meaning::{Break, Scope, ScopeColumn};
+use name_meaning::{Break, Rule, Scope, ScopeColumn};
 use sql_tree::Name;
 
 /// That `*` at this offset stands for no columns, or in a grouped core for one that is not grouped.
@@ -14,7 +14,10 @@ pub fn star(has_from: bool, scope: &Scope, at: usize) -> Result<(), Break>
     ensures { result ≡ first_or (star_meant has_from scope.now at).breaks tt }
 {
     if !has_from {
-        return Err(Break { code: 11, at });
+        return Err(Break {
+            rule: Rule::UnknownColumn,
+            at,
+        });
     }
     all_grouped(scope, None, at)
 }
@@ -25,7 +28,7 @@ pub fn table_star(scope: &Scope, table: &Name) -> Result<(), Break>
 {
     match item_number(scope, &table.text) {
         None => Err(Break {
-            code: 11,
+            rule: Rule::UnknownColumn,
             at: table.at,
         }),
         Some(number) => all_grouped(scope, Some(number), table.at),
@@ -37,7 +40,10 @@ fn all_grouped(scope: &Scope, item: Option<usize>, at: usize) -> Result<(), Brea
     ensures { result ≡ first_or (columns_meant scope.now at (columns_of item scope.now)).breaks tt }
 {
     if is_any_left_out(scope, item) {
-        return Err(Break { code: 22, at });
+        return Err(Break {
+            rule: Rule::UngroupedColumn,
+            at,
+        });
     }
     Ok(())
 }

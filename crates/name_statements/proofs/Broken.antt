@@ -28,6 +28,7 @@ use Rattle.name_seen_parts.specs.Columns.{columns_of}
 use Rattle.name_seen_parts.specs.declared.clauses.column.ShownColumn.{ShownColumn}
 use Rattle.name_seen_parts.proofs.Firsts.{dropped, first-stays, flat-first}
 use Rattle.name_statements.specs.Earlier.{column_break, is_defined, is_shown, texts_of}
+use Rattle.name_meaning.specs.declared.rule.Rule.TheVariants as rule
 
 -- ---- the order of names is of no account
 
@@ -60,8 +61,8 @@ texts-more columns at column within e =
     ∙ reverse-append (texts_of (take at columns)) (column.name.text ∷ [])
 
 column-found : (earlier : List ColumnDef) (column : ColumnDef)
-    → broken_if (list_any (named_so column.name.text) (reverse (texts_of earlier))) 14 column.name.at ≡ column_break earlier column
-column-found earlier column = ap (λ (b : Bool). broken_if b 14 column.name.at) (sym (any-named (named_so column.name.text) earlier))
+    → broken_if (list_any (named_so column.name.text) (reverse (texts_of earlier))) rule.RepeatedColumn column.name.at ≡ column_break earlier column
+column-found earlier column = ap (λ (b : Bool). broken_if b rule.RepeatedColumn column.name.at) (sym (any-named (named_so column.name.text) earlier))
 
 pub columns-step : (columns : List ColumnDef) (at : ℕ) (column : ColumnDef) → at < length columns → column ≡ get_or columns at column
     → column_break (take at columns) column ≡ []
@@ -162,16 +163,16 @@ kind-seen m found e = of m.breaks refl where
       absurd (cc (e, told))
 
 pub value-told : (kind : Kind) (at : ℕ) (m : Meant) (found : Option Kind) → seen m ≡ Ok found
-    → value_breaks kind at m ≡ broken_if (not (unites (Some kind) found)) 20 at
+    → value_breaks kind at m ≡ broken_if (not (unites (Some kind) found)) rule.UnfitKind at
 value-told kind at m found e =
     let are = kind-seen m found e in
-    ap (λ (breaks : List Break). breaks ++ broken_if (not (unites (Some kind) (seen_kind m))) 20 at) are.0
-    ∙ ap (λ (k : Option Kind). broken_if (not (unites (Some kind) k)) 20 at) are.1
+    ap (λ (breaks : List Break). breaks ++ broken_if (not (unites (Some kind) (seen_kind m))) rule.UnfitKind at) are.0
+    ∙ ap (λ (k : Option Kind). broken_if (not (unites (Some kind) k)) rule.UnfitKind at) are.1
 
 pub value-refused : (kind : Kind) (at : ℕ) (m : Meant) (refusal : Refusal) → Tells (seen m) (Err refusal)
     → Tells (first_or (value_breaks kind at m) (tt {0})) (Err refusal)
 value-refused kind at m (Broken first) e =
-    first-stays m.breaks (broken_if (not (unites (Some kind) (seen_kind m))) 20 at) m.kind (tt {0}) first e
+    first-stays m.breaks (broken_if (not (unites (Some kind) (seen_kind m))) rule.UnfitKind at) m.kind (tt {0}) first e
 value-refused kind at m NoMemory e = tt
 
 -- ---- refusals stay

@@ -19,6 +19,8 @@ use Rattle.sql_tree.specs.declared.query.OrderKey.{OrderKey}
 use Rattle.sql_tree.specs.declared.query.OrderKey.TheVariants.{Named as named_key, Position}
 use Rattle.sql_tree.specs.declared.query.OrderTree.{OrderTree}
 use Rattle.sql_tree.specs.declared.query.QueryTree.{QueryTree}
+use Rattle.name_meaning.specs.declared.rule.Rule.TheVariants as rule
+use Rattle.name_meaning.specs.declared.rule.Rule.{Rule}
 
 -- ---- the first place in a longer list
 
@@ -62,16 +64,16 @@ same-place p xs ys e =
 
 -- ---- keys
 
-unbroken : (b : Bool) (code at : ℕ) → broken_if b code at ≡ [] → b ≡ false
-unbroken true code at e = cc
-unbroken false code at e = refl
+unbroken : (b : Bool) (which : Rule) (at : ℕ) → broken_if b which at ≡ [] → b ≡ false
+unbroken true which at e = cc
+unbroken false which at e = refl
 
 key-same : (own more : List OutColumn) (key : OrderKey) (at : ℕ) (descending : Bool) → key_break own (record { at = at; key = key; descending = descending }) ≡ []
     → key_place (own ++ more) key ≡ key_place own key
 key-same own more (named_key name) at descending none =
     ap (λ (found : Option ℕ). option_map_or (λ place. place) found 0)
-    (same-place (is_named name) own more (unbroken (nat_eq (count_by (is_named name) own) 0) 11 at
-    (front-none (broken_if (nat_eq (count_by (is_named name) own) 0) 11 at) (broken_if (nat_lt 1 (count_by (is_named name) own)) 12 at) none)))
+    (same-place (is_named name) own more (unbroken (nat_eq (count_by (is_named name) own) 0) rule.UnknownColumn at
+    (front-none (broken_if (nat_eq (count_by (is_named name) own) 0) rule.UnknownColumn at) (broken_if (nat_lt 1 (count_by (is_named name) own)) rule.AmbiguousColumn at) none)))
 key-same own more (Position n) at descending none = refl
 
 keys-same : (own more : List OutColumn) (order : List OrderTree) → flat_map (key_break own) order ≡ [] → map (key_of (own ++ more)) order ≡ map (key_of own) order

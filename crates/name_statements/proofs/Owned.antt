@@ -19,10 +19,11 @@ use Rattle.name_seen_parts.specs.declared.refusal.Refusal.TheVariants.{Break as 
 use Rattle.name_statements.specs.Own.{TellsFirst, own_breaks}
 use Rattle.name_statements.specs.Resolves.{body_breaks}
 use Rattle.name_statements.proofs.Bodies.{names-first}
+use Rattle.name_meaning.specs.declared.rule.Rule.TheVariants as rule
 
 -- what stands on a table that isn't there
-on-first : (looked : TableEntry → List Break) (at : ℕ) (held : Option TableEntry) (first : Break) → first_or (broken_if (is_none held) 10 at) (tt {0}) ≡ Err first
-    → first_or (option_map_or looked held (broken 10 at ∷ [])) (tt {0}) ≡ Err first
+on-first : (looked : TableEntry → List Break) (at : ℕ) (held : Option TableEntry) (first : Break) → first_or (broken_if (is_none held) rule.UnknownRelation at) (tt {0}) ≡ Err first
+    → first_or (option_map_or looked held (broken rule.UnknownRelation at ∷ [])) (tt {0}) ≡ Err first
 on-first looked at None first e = e
 on-first looked at (Some entry) first e = absurd (cc)
 
@@ -31,7 +32,7 @@ own-first c (st.CreateTable table columns) first e = e
 own-first c (st.CreateTableAs table query) first e =
     names-first (words.name_breaks c (st.CreateTableAs table query)) (words.limit_breaks c (st.CreateTableAs table query)) first
     (first-stays_first (words.taken c table) (words.named_query_breaks query.at (words.query_meant c query))
-    (broken_if (words.has_boolean (words.columns_of (words.query_meant c query))) 20 query.at) (tt {0}) (tt {0}) first e)
+    (broken_if (words.has_boolean (words.columns_of (words.query_meant c query))) rule.UnfitKind query.at) (tt {0}) (tt {0}) first e)
 own-first c (st.CreateView view query) first e =
     names-first (words.name_breaks c (st.CreateView view query)) (words.limit_breaks c (st.CreateView view query)) first
     (first-stays (words.taken c view) (words.named_query_breaks query.at (words.query_meant c query)) (tt {0}) (tt {0}) first e)

@@ -23,6 +23,7 @@ use Rattle.name_statements.specs.declared.queries.Whole.{Whole}
 use Rattle.name_laws.proofs.Every.{back-none, front-none}
 use Rattle.name_statements.proofs.Bodies.{limited_by, limits-behind}
 use Rattle.name_statements.proofs.Refused.{Refuses, behind, by-whole, of-limits, of-names, resolves-not, stays}
+use Rattle.name_meaning.specs.declared.rule.Rule.TheVariants as rule
 
 module _ (c : Contents) (tree : QueryTree) where
   refused-as : (body : StatementBody) (refusal : Refusal) → Refuses (body_breaks c body) refusal → ResolvesBody c body (Err refusal)
@@ -60,10 +61,10 @@ module _ (c : Contents) (tree : QueryTree) where
 
   module _ (name : Name) where
     abbrev named_twice : List Break
-    named_twice = broken_if (words.repeats (names_of (words.columns_of (words.query_meant c tree)))) 14 tree.at
+    named_twice = broken_if (words.repeats (names_of (words.columns_of (words.query_meant c tree)))) rule.RepeatedColumn tree.at
 
     abbrev truths : List Break
-    truths = broken_if (words.has_boolean (words.columns_of (words.query_meant c tree))) 20 tree.at
+    truths = broken_if (words.has_boolean (words.columns_of (words.query_meant c tree))) rule.UnfitKind tree.at
 
     abbrev named_query : List Break
     named_query = words.named_query_breaks tree.at (words.query_meant c tree)
@@ -75,7 +76,7 @@ module _ (c : Contents) (tree : QueryTree) where
         (behind (words.taken c name) named_query refusal free (stays (words.query_meant c tree).breaks named_twice refusal e)))
 
     pub view-repeats : (refusal : Refusal) → words.taken c name ≡ [] → (words.query_meant c tree).breaks ≡ []
-        → Refuses (broken_if (words.repeats (names_of (words.columns_of (words.query_meant c tree)))) 14 tree.at) refusal → ResolvesBody c (st.CreateView name tree) (Err refusal)
+        → Refuses (broken_if (words.repeats (names_of (words.columns_of (words.query_meant c tree)))) rule.RepeatedColumn tree.at) refusal → ResolvesBody c (st.CreateView name tree) (Err refusal)
     view-repeats refusal free none e = refused-as (st.CreateView name tree) refusal (of-names (words.taken c name ++ named_query) _ refusal
         (behind (words.taken c name) named_query refusal free (behind (words.query_meant c tree).breaks named_twice refusal none e)))
 
@@ -83,12 +84,12 @@ module _ (c : Contents) (tree : QueryTree) where
     named-none free none once = both-none (words.taken c name) named_query free (both-none (words.query_meant c tree).breaks named_twice none once)
 
     pub view-limited : (refusal : Refusal) → words.taken c name ≡ [] → (words.query_meant c tree).breaks ≡ []
-        → broken_if (words.repeats (names_of (words.columns_of (words.query_meant c tree)))) 14 tree.at ≡ []
+        → broken_if (words.repeats (names_of (words.columns_of (words.query_meant c tree)))) rule.RepeatedColumn tree.at ≡ []
         → Refuses (words.query_limits tree.at (words.query_meant c tree)) refusal → ResolvesBody c (st.CreateView name tree) (Err refusal)
     view-limited refusal free none once e = refused-as (st.CreateView name tree) refusal (of-limits (words.taken c name ++ named_query) _ refusal (named-none free none once) e)
 
     pub view-made : (whole : Whole) (entry : ViewEntry) (text : List ℕ) → words.taken c name ≡ [] → (words.query_meant c tree).breaks ≡ []
-        → broken_if (words.repeats (names_of (words.columns_of (words.query_meant c tree)))) 14 tree.at ≡ []
+        → broken_if (words.repeats (names_of (words.columns_of (words.query_meant c tree)))) rule.RepeatedColumn tree.at ≡ []
         → IsWhole tree.at (words.query_meant c tree) whole
         → entry ≡ record { answer = whole.answer; places = whole.places; names_used = words.all_noted whole.names } → text ≡ name.text
         → ResolvesBody c (st.CreateView name tree) (Ok (r.CreateView text entry))

@@ -23,6 +23,7 @@ use Rattle.name_seen_from.specs.declared.shown.QueryShown.{QueryShown}
 use Rattle.name_statements.specs.Resolves.{IsWhole, Resolves, ResolvesBody, ResolvesBy, WholeSeen}
 use Rattle.name_statements.specs.declared.queries.Whole.{Whole}
 use Rattle.name_statements.proofs.Bodies.{limited_by, limits-behind, names-first}
+use Rattle.name_meaning.specs.declared.rule.Rule.TheVariants as rule
 
 -- the refusal is the first of these breaks, if it is one
 abbrev pub Refuses : List Break → Refusal → Type 0
@@ -95,10 +96,10 @@ pub known-here : (m : QueryMeant) (shown : QueryShown) (columns : List ShownColu
 known-here m shown columns whole same = known-columns m shown whole ∙ ap (λ (cs : List ShownColumn). settled_columns (columns_of cs)) (sym same)
 
 pub repeats-told : (m : QueryMeant) (shown : QueryShown) (columns : List ShownColumn) (at : ℕ) (told : Result Unit Break) → QueryWhole m shown → columns ≡ shown.columns
-    → told ≡ first_or (broken_if (words.repeats (names_of (settled_columns (columns_of columns)))) 14 at) (tt {0})
-    → first_or (broken_if (words.repeats (names_of (words.columns_of m))) 14 at) (tt {0}) ≡ told
+    → told ≡ first_or (broken_if (words.repeats (names_of (settled_columns (columns_of columns)))) rule.RepeatedColumn at) (tt {0})
+    → first_or (broken_if (words.repeats (names_of (words.columns_of m))) rule.RepeatedColumn at) (tt {0}) ≡ told
 repeats-told m shown columns at told whole same is =
-    ap (λ (cs : List KnownColumn). first_or (broken_if (words.repeats (names_of cs)) 14 at) (tt {0})) (known-here m shown columns whole same) ∙ sym is
+    ap (λ (cs : List KnownColumn). first_or (broken_if (words.repeats (names_of cs)) rule.RepeatedColumn at) (tt {0})) (known-here m shown columns whole same) ∙ sym is
 
 -- what a refusal of a part is answered as
 pub same-refused : {X : Type 0} (P : Result X Refusal → Type 0) (result : Result X Refusal) (refusal : Refusal) → IsErrAnd result (λ (r : Refusal). r ≡ refusal)

@@ -27,6 +27,7 @@ use Rattle.name_seen_parts.specs.declared.refusal.Refusal.TheVariants.{Break as 
 use Rattle.name_statements.specs.Resolves.{ConditionSeen, Resolves, ResolvesBody, ResolvesBy, body_breaks}
 use Rattle.name_statements.proofs.Bodies.{limited_by, limits-behind, names-first}
 use Rattle.name_statements.proofs.Refused.{Refuses, resolves-not}
+use Rattle.name_meaning.specs.declared.rule.Rule.TheVariants as rule
 
 pub err-is : (result : Result Unit Break) (first : Break) → IsErrAnd result (λ (other : Break). other ≡ first) → result ≡ Err first
 err-is (Ok x) first is = absurd is
@@ -96,24 +97,24 @@ module _ (c : Contents) (name : Name) where
 
 module _ (c : Contents) (table : Name) where
   -- the table isn't there
-  on-none : (looked : TableEntry → List Break) (wanted : Resolved) (first : Break) → table_named c table.text ≡ None → first ≡ broken 10 table.at
+  on-none : (looked : TableEntry → List Break) (wanted : Resolved) (first : Break) → table_named c table.text ≡ None → first ≡ broken rule.UnknownRelation table.at
       → Resolves (limited_by (words.on_table c table looked) []) wanted (Err (Broken first))
   on-none looked wanted first unknown is =
       refused-by (words.on_table c table looked) wanted (Broken first)
-      (ap (λ (held : Option TableEntry). first_or (option_map_or looked held (broken 10 table.at ∷ [])) (tt {0})) unknown ∙ ap Err (sym is))
+      (ap (λ (held : Option TableEntry). first_or (option_map_or looked held (broken rule.UnknownRelation table.at ∷ [])) (tt {0})) unknown ∙ ap Err (sym is))
 
-  pub copy-none : (file mark : List ℕ) (header : Bool) (first : Break) → table_named c table.text ≡ None → first ≡ broken 10 table.at
+  pub copy-none : (file mark : List ℕ) (header : Bool) (first : Break) → table_named c table.text ≡ None → first ≡ broken rule.UnknownRelation table.at
       → ResolvesBody c (st.Copy table file header mark) (Err (Broken first))
   copy-none file mark header first unknown is =
       refused-by (words.unknown_table c table) (words.resolved_body c (st.Copy table file header mark)) (Broken first)
-      (ap (λ (held : Option TableEntry). first_or (cond (is_none held) (broken 10 table.at ∷ []) []) (tt {0})) unknown ∙ ap Err (sym is))
+      (ap (λ (held : Option TableEntry). first_or (cond (is_none held) (broken rule.UnknownRelation table.at ∷ []) []) (tt {0})) unknown ∙ ap Err (sym is))
 
-  pub insert-none : (rows : List ValuesRow) (first : Break) → table_named c table.text ≡ None → first ≡ broken 10 table.at
+  pub insert-none : (rows : List ValuesRow) (first : Break) → table_named c table.text ≡ None → first ≡ broken rule.UnknownRelation table.at
       → ResolvesBody c (st.Insert table rows) (Err (Broken first))
   insert-none rows first unknown is =
       on-none (λ (entry : TableEntry). flat_map (words.row_breaks c (column_kinds entry.columns)) rows) (words.resolved_body c (st.Insert table rows)) first unknown is
 
-  pub delete-none : (condition : Option ExprTree) (first : Break) → table_named c table.text ≡ None → first ≡ broken 10 table.at
+  pub delete-none : (condition : Option ExprTree) (first : Break) → table_named c table.text ≡ None → first ≡ broken rule.UnknownRelation table.at
       → ResolvesBody c (st.Delete table condition) (Err (Broken first))
   delete-none condition first unknown is =
       on-none (words.delete_breaks c table condition) (words.resolved_body c (st.Delete table condition)) first unknown is
@@ -121,7 +122,7 @@ module _ (c : Contents) (table : Name) where
   -- the table is there
   module _ (entry : TableEntry) (known : table_named c table.text ≡ Some entry) where
     on-some : (looked : TableEntry → List Break) → words.on_table c table looked ≡ looked entry
-    on-some looked = ap (λ (held : Option TableEntry). option_map_or looked held (broken 10 table.at ∷ [])) known
+    on-some looked = ap (λ (held : Option TableEntry). option_map_or looked held (broken rule.UnknownRelation table.at ∷ [])) known
 
     kinds-are : words.kinds_of_table c table ≡ column_kinds entry.columns
     kinds-are = ap (λ (held : Option TableEntry). option_map_or (λ (there : TableEntry). column_kinds there.columns) held []) known
@@ -130,7 +131,7 @@ module _ (c : Contents) (table : Name) where
         → ResolvesBody c (st.Copy table file header mark) (Ok (r.Copy text kinds file mark header))
     copy-made file mark text header kinds same called =
         resolved-by (words.unknown_table c table) (words.resolved_body c (st.Copy table file header mark)) (r.Copy text kinds file mark header)
-        (ap (λ (held : Option TableEntry). cond (is_none held) (broken 10 table.at ∷ []) []) known)
+        (ap (λ (held : Option TableEntry). cond (is_none held) (broken rule.UnknownRelation table.at ∷ []) []) known)
         (λ i. r.Copy (called i) ((same ∙ sym kinds-are) i) file mark header)
 
     module _ (rows : List ValuesRow) where

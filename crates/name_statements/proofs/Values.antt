@@ -22,6 +22,7 @@ use Rattle.perm_catalog.specs.declared.entries.TableEntry.{TableEntry}
 use Rattle.sql_tree.specs.declared.expression.ExprTree.{ExprTree}
 use Rattle.sql_tree.specs.declared.name.Name.{Name}
 use Rattle.sql_tree.specs.declared.statement.ValuesRow.{ValuesRow}
+use Rattle.name_meaning.specs.declared.rule.Rule.TheVariants as rule
 
 -- ---- one value
 
@@ -55,7 +56,7 @@ each-none f xs i x within e none =
 
 pub row-whole : (c : Contents) (kinds : List Kind) (row : ValuesRow) → row_breaks c kinds row ≡ [] → values_breaks c kinds row.values ≡ []
 row-whole c kinds row none = chosen (nat_eq (length row.values) (length kinds)) none where
-  chosen : (b : Bool) → cond b (values_breaks c kinds row.values) (broken 21 row.at ∷ []) ≡ [] → values_breaks c kinds row.values ≡ []
+  chosen : (b : Bool) → cond b (values_breaks c kinds row.values) (broken rule.UnfitWidth row.at ∷ []) ≡ [] → values_breaks c kinds row.values ≡ []
   chosen true none = none
   chosen false none = absurd (cc)
 

@@ -6,6 +6,7 @@ use Rattle.sql_tree.specs.declared.statement.ColumnDef.{ColumnDef}
 use Rattle.name_meaning.specs.Froms.{named_so}
 use Rattle.name_meaning.specs.Meanings.{broken_if}
 use Rattle.name_meaning.specs.declared.answer.Break.{Break}
+use Rattle.name_meaning.specs.declared.rule.Rule.TheVariants as rule
 
 abbrev pub texts_of : List ColumnDef → List (List ℕ)
 texts_of columns = map (λ (column : ColumnDef). column.name.text) columns
@@ -19,4 +20,4 @@ is_shown columns name = list_any (λ (column : ShownColumn). named_so name colum
 
 -- what one column breaks, behind others
 abbrev pub column_break : List ColumnDef → ColumnDef → List Break
-column_break earlier column = broken_if (is_defined earlier column.name.text) 14 column.name.at
+column_break earlier column = broken_if (is_defined earlier column.name.text) rule.RepeatedColumn column.name.at

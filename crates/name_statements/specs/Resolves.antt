@@ -20,6 +20,7 @@ use Rattle.name_seen_parts.specs.Seen.{first_or}
 use Rattle.name_seen_parts.specs.declared.refusal.Refusal.{Refusal}
 use Rattle.name_seen_parts.specs.declared.refusal.Refusal.TheVariants.{Break as Broken, NoMemory}
 use Rattle.name_statements.specs.declared.queries.Whole.{Whole}
+use Rattle.name_meaning.specs.declared.rule.Rule.TheVariants as rule
 
 pub record IsResolved (breaks : List Break) (wanted made : Resolved) : Type 0 where
   pub whole : breaks ≡ []
@@ -45,7 +46,7 @@ ResolvesBy c body make (Err refusal) = ResolvesBody c body (Err refusal)
 -- what the columns of a query at this offset break as those of a table
 abbrev pub stored_breaks : Name → ℕ → List KnownColumn → List Break
 stored_breaks name at columns =
-    broken_if (repeats (names_of columns)) 14 at ++ broken_if (has_boolean columns) 20 at ++ table_limit name (length columns)
+    broken_if (repeats (names_of columns)) rule.RepeatedColumn at ++ broken_if (has_boolean columns) rule.UnfitKind at ++ table_limit name (length columns)
 
 -- ---- a query that breaks nothing
 

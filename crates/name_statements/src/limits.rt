@@ -5,7 +5,7 @@ ghost use Rattle.name_seen_parts.specs.declared.refusal.Refusal.TheVariants.{Bre
 ghost use Rattle.name_meaning.specs.Statements.{size_limit};
 
 use bag_algebra::{Query, height, size};
-use name_meaning::Break;
+use name_meaning::{Break, Rule};
 use name_seen_parts::Refusal;
 
 /// The greatest height of a query.
@@ -19,7 +19,10 @@ pub(crate) fn size_break(at: usize, query: &Query) -> Result<(), Break>
     ensures { result ≡ first_or (size_limit at query.now) tt }
 {
     if height(query) > GREATEST_HEIGHT || size(query) > MOST_OPERATORS {
-        return Err(Break { code: 27, at });
+        return Err(Break {
+            rule: Rule::TooLarge,
+            at,
+        });
     }
     Ok(())
 }

@@ -5,7 +5,7 @@ ghost use Rattle.perm_catalog.specs.Contents.{Contents};
 ghost use Rattle.sql_tree.specs.declared.statement.StatementBody.TheVariants as asked;
 ghost use Rattle.name_statements.specs.Resolves.{ResolvesBody, body_breaks};
 
-use name_meaning::{Break, Resolved};
+use name_meaning::{Break, Resolved, Rule};
 use name_seen_parts::{Refusal, kinds_of_columns};
 use perm_catalog::{Catalog, Column};
 use perm_values::{Chars, List, NoMemory};
@@ -68,7 +68,7 @@ pub fn copy(
 {
     match catalog.table(&table.text) {
         None => Err(Refusal::Break(Break {
-            code: 10,
+            rule: Rule::UnknownRelation,
             at: table.at,
         })),
         Some(entry) => {

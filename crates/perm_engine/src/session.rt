@@ -14,7 +14,7 @@ ghost use Rattle.perm_engine.specs.Due.{due_breaks};
 ghost use Rattle.perm_engine.specs.Sessions.{begun_with};
 
 use name_analysis::resolve;
-use name_meaning::{Break, Resolved};
+use name_meaning::{Break, Resolved, Rule};
 use name_seen_parts::Refusal;
 use name_statements::{let_catalog_go, let_resolved_go, let_statement_go};
 use perm_catalog::{Catalog, catalogs_stay_sound};
@@ -156,7 +156,10 @@ fn resolved_statement(
     let at = statement.at;
     if is_unbuilt(&statement) {
         let_statement_go(statement);
-        Err(StepRefusal::Break(Break { code: 29, at }))
+        Err(StepRefusal::Break(Break {
+            rule: Rule::UnbuiltForm,
+            at,
+        }))
     } else {
         looked_up(alloc, catalog, statement)
     }

@@ -9,14 +9,16 @@ use Rattle.sql_parser.specs.Spells.{Spells, IsUnexpected}
 use Rattle.sql_tree.specs.declared.statement.Script.{Script}
 use Rattle.name_meaning.specs.declared.answer.Break.{Break}
 use Rattle.run_meaning.specs.Scripts.{IsScriptOf, IsMisspelled, break_at, not_utf8, bad_character, unterminated, number_range, unexpected, too_deep}
+use Rattle.name_meaning.specs.declared.rule.Rule.TheVariants as rule
+use Rattle.name_meaning.specs.declared.rule.Rule.{Rule}
 
--- the break of a refusal of tokens
-abbrev code_of : LexError → ℕ
-code_of (NotUtf8 at) = 1
-code_of (BadCharacter at) = 2
-code_of (Unterminated at) = 3
-code_of (NumberRange at) = 4
-code_of NoMemory = 0
+-- the rule that a refusal of tokens names; want of memory names none, so any serves
+abbrev rule_of : LexError → Rule
+rule_of (NotUtf8 at) = rule.NotText
+rule_of (BadCharacter at) = rule.StrayCharacter
+rule_of (Unterminated at) = rule.OpenText
+rule_of (NumberRange at) = rule.LongNumber
+rule_of NoMemory = rule.NotText
 
 abbrev place_of : LexError → ℕ
 place_of (NotUtf8 at) = at
@@ -26,13 +28,13 @@ place_of (NumberRange at) = at
 place_of NoMemory = 0
 
 abbrev break_of : LexError → Break
-break_of e = break_at (code_of e) (place_of e)
+break_of e = break_at (rule_of e) (place_of e)
 
 -- why bytes are misspelled: their tokens are refused, or there are tokens, which nest too deeply or of which one is unexpected
 data Why (bytes : List ℕ) (b : Break) : Type 0 where
   refused : (e : LexError) → Refuses bytes e → b ≡ break_of e → Why bytes b
-  wrong : (tokens : List Token) (at : ℕ) → Lexes bytes tokens → nesting.too_deep tokens ≡ None → IsUnexpected tokens (length bytes) at → b ≡ break_at 5 at → Why bytes b
-  deep : (tokens : List Token) (at : ℕ) → Lexes bytes tokens → nesting.too_deep tokens ≡ Some at → b ≡ break_at 6 at → Why bytes b
+  wrong : (tokens : List Token) (at : ℕ) → Lexes bytes tokens → nesting.too_deep tokens ≡ None → IsUnexpected tokens (length bytes) at → b ≡ break_at rule.UnexpectedToken at → Why bytes b
+  deep : (tokens : List Token) (at : ℕ) → Lexes bytes tokens → nesting.too_deep tokens ≡ Some at → b ≡ break_at rule.DeepNesting at → Why bytes b
 
 why : (bytes : List ℕ) (b : Break) → IsMisspelled bytes b → Why bytes b
 why bytes b (not_utf8 {at = n} h) = refused (NotUtf8 n) h refl
@@ -58,14 +60,14 @@ module _ (one_list : (bytes : List ℕ) (ts us : List Token) → Lexes bytes ts 
   same bytes a b (refused d h p) (deep us n l nested q) = absurd (not_both bytes us d l h)
   same bytes a b (wrong ts m l shallow h p) (refused e k q) = absurd (not_both bytes ts e l k)
   same bytes a b (wrong ts m l shallow h p) (wrong us n l' shallow' k q) =
-      p ∙ ap (break_at 5) (one_offset us (length bytes) m n (subst (λ vs. IsUnexpected vs (length bytes) m) (one_list bytes ts us l l') h) k) ∙ sym q
+      p ∙ ap (break_at rule.UnexpectedToken) (one_offset us (length bytes) m n (subst (λ vs. IsUnexpected vs (length bytes) m) (one_list bytes ts us l l') h) k) ∙ sym q
   same bytes a b (wrong ts m l shallow h p) (deep us n l' nested q) =
       absurd (none≢some n (sym shallow ∙ ap nesting.too_deep (one_list bytes ts us l l') ∙ nested))
   same bytes a b (deep ts m l nested p) (refused e k q) = absurd (not_both bytes ts e l k)
   same bytes a b (deep ts m l nested p) (wrong us n l' shallow k q) =
       absurd (none≢some m (sym shallow ∙ ap nesting.too_deep (one_list bytes us ts l' l) ∙ nested))
   same bytes a b (deep ts m l nested p) (deep us n l' nested' q) =
-      p ∙ ap (break_at 6) (same_place m n (sym nested ∙ ap nesting.too_deep (one_list bytes ts us l l') ∙ nested')) ∙ sym q
+      p ∙ ap (break_at rule.DeepNesting) (same_place m n (sym nested ∙ ap nesting.too_deep (one_list bytes ts us l l') ∙ nested')) ∙ sym q
 
   pub same_break : (bytes : List ℕ) (a b : Break) → IsMisspelled bytes a → IsMisspelled bytes b → a ≡ b
   same_break bytes a b h k = same bytes a b (why bytes a h) (why bytes b k)
@@ -76,17 +78,17 @@ abbrev pub Spelled : List ℕ → Type 0
 Spelled bytes = ((script : Script) × IsScriptOf bytes script) ⊎ ((b : Break) × IsMisspelled bytes b)
 
 by_refusal : (bytes : List ℕ) (e : LexError) → Refuses bytes e → Spelled bytes
-by_refusal bytes (NotUtf8 at) h = inr (break_at 1 at, not_utf8 h)
-by_refusal bytes (BadCharacter at) h = inr (break_at 2 at, bad_character h)
-by_refusal bytes (Unterminated at) h = inr (break_at 3 at, unterminated h)
-by_refusal bytes (NumberRange at) h = inr (break_at 4 at, number_range h)
+by_refusal bytes (NotUtf8 at) h = inr (break_at rule.NotText at, not_utf8 h)
+by_refusal bytes (BadCharacter at) h = inr (break_at rule.StrayCharacter at, bad_character h)
+by_refusal bytes (Unterminated at) h = inr (break_at rule.OpenText at, unterminated h)
+by_refusal bytes (NumberRange at) h = inr (break_at rule.LongNumber at, number_range h)
 by_refusal bytes NoMemory h = absurd h
 
 by_depth : (bytes : List ℕ) (tokens : List Token) → Lexes bytes tokens
     → ((script : Script) × Spells tokens script) ⊎ ((at : ℕ) × IsUnexpected tokens (length bytes) at) → (depth : Option ℕ) → nesting.too_deep tokens ≡ depth → Spelled bytes
-by_depth bytes tokens lexes spelled (Some at) e = inr (break_at 6 at, too_deep lexes e)
+by_depth bytes tokens lexes spelled (Some at) e = inr (break_at rule.DeepNesting at, too_deep lexes e)
 by_depth bytes tokens lexes (inl (script, spells)) None e = inl (script, record { tokens = tokens; lexes = lexes; shallow = e; spells = spells })
-by_depth bytes tokens lexes (inr (at, wrongly)) None e = inr (break_at 5 at, unexpected lexes e wrongly)
+by_depth bytes tokens lexes (inr (at, wrongly)) None e = inr (break_at rule.UnexpectedToken at, unexpected lexes e wrongly)
 
 pub spelled_or_not : ((bytes : List ℕ) → ((ts : List Token) × Lexes bytes ts) ⊎ ((e : LexError) × Refuses bytes e))
     → ((tokens : List Token) (size : ℕ) → ((script : Script) × Spells tokens script) ⊎ ((at : ℕ) × IsUnexpected tokens size at)) → (bytes : List ℕ) → Spelled bytes

@@ -30,6 +30,7 @@ use Rattle.statement_meaning.specs.declared.refusal.StepRefusal.{StepRefusal}
 use Rattle.statement_meaning.specs.declared.refusal.StepRefusal.TheVariants as refusal
 use Rattle.bag_algebra.proofs.Outcomes.{union-first}
 use Rattle.query_laws.proofs.Caused.{Caused, caused-value, caused-denote}
+use Rattle.name_meaning.specs.declared.rule.Rule.TheVariants as rule
 
 abbrev pub is_told : StepRefusal → Bool
 is_told (refusal.Break b) = true
@@ -67,8 +68,8 @@ on_good-named at (Bad faults) next c h = (refusal.Run c.0 at, (faults, refl, c.1
 
 drawing-named : (c : Contents) (at : ℕ) (text : List ℕ) (new : Contents) → HasName (drawing c at (Stands text new))
 drawing-named c at text new = chosen (nat_eq c.next last_number) where
-  chosen : (spent : Bool) → HasName (cond spent (Refused (Broken (broken 17 at))) (Stands text new))
-  chosen true = broken-named (broken 17 at)
+  chosen : (spent : Bool) → HasName (cond spent (Refused (Broken (broken rule.NumbersSpent at))) (Stands text new))
+  chosen true = broken-named (broken rule.NumbersSpent at)
   chosen false = tt
 
 caused-both : {X : Type 0} (a : Outcome X) (b : Outcome (List X)) → Caused a → Caused b → Caused (both (λ y ys. y ∷ ys) a b)

@@ -31,6 +31,7 @@ use Rattle.statement_meaning.specs.declared.refusal.StepRefusal.TheVariants as r
 use Rattle.run_meaning.specs.Run.{StopsBy, StopsAsked, StopsAt}
 use Rattle.run_meaning.specs.Stops.{IsFirst, IsRefused}
 use Rattle.statement_laws.proofs.Unspent.{IsUnspent, breaks-unspent}
+use Rattle.name_meaning.specs.declared.rule.Rule.TheVariants as rule
 
 pub refused-turn : (Can : List ℕ → Found → Type 0) (a : Asked) (old new : Contents) (refused : StepRefusal) → TakesTurn Can a old new (Err refused) → IsRefused Can a refused
 refused-turn Can (Settled turn) old new refused h = h.0
@@ -56,7 +57,7 @@ same_number a b h = grind (arith, nat_tests)
 module _ (c : Contents) where
   frugal-drawing : (at : ℕ) (text : List ℕ) (new : Contents) → new.next ≡ c.next + 1 → IsFrugal c (drawing c at (Stands text new))
   frugal-drawing at text new h = chosen (nat_eq c.next last_number) refl where
-    chosen : (spent : Bool) → nat_eq c.next last_number ≡ spent → IsFrugal c (cond spent (Refused (Broken (broken 17 at))) (Stands text new))
+    chosen : (spent : Bool) → nat_eq c.next last_number ≡ spent → IsFrugal c (cond spent (Refused (Broken (broken rule.NumbersSpent at))) (Stands text new))
     chosen true e = same_number c.next last_number e
     chosen false e = omega (arith, h)
 
@@ -123,7 +124,7 @@ module _ (c : Contents) where
   unbroken Can (Begins name after) b thrifty few (file, can, h) = unbroken-turn (after file) b (thrifty file) few h
 
   first-of : (Can : List ℕ → Found → Type 0) (a : Asked) (all : List Break) (b : Break) → Every IsUnspent all → (all ≡ [] → IsThrifty c a) → c.next < last_number →
-      IsRefused Can (unless_broken all a) (refusal.Break b) → (first_or all (tt {0}) ≡ Err b) × (b.code ≢ 17)
+      IsRefused Can (unless_broken all a) (refusal.Break b) → (first_or all (tt {0}) ≡ Err b) × (b.rule ≢ rule.NumbersSpent)
   first-of Can a [] b unspent thrifty few h = absurd (unbroken Can a b (thrifty refl) few h)
   first-of Can a (first ∷ more) b unspent thrifty few h =
       let e = same_break first b h in (ap (λ (d : Break). Err d) e, subst IsUnspent e unspent.0)
@@ -147,12 +148,12 @@ module _ (c : Contents) where
   stops-turn (Stands text after) statements b frugal stops later = let l = later after stops in omega (arith, frugal, l)
   stops-turn (Refused cause) statements b frugal stops later = let spent = subst (IsFrugal c) stops frugal in omega (arith, spent)
 
-  stops-asked : (a : Asked) (all : List Break) (statements : List Statement) (b : Break) → Every IsUnspent all → (all ≡ [] → IsThrifty c a) → b.code ≡ 17 →
+  stops-asked : (a : Asked) (all : List Break) (statements : List Statement) (b : Break) → Every IsUnspent all → (all ≡ [] → IsThrifty c a) → b.rule ≡ rule.NumbersSpent →
       StopsAsked (unless_broken all a) (λ after. StopsAt after statements b) b →
       ((after : Contents) → StopsAt after statements b → last_number ≤ after.next + length statements) → last_number ≤ c.next + (length statements + 1)
-  stops-asked (Settled turn) [] statements b unspent thrifty code stops later = stops-turn turn statements b (thrifty refl) stops later
-  stops-asked (Begins name after) [] statements b unspent thrifty code (file, stops) later = stops-turn (after file) statements b (thrifty refl file) stops later
-  stops-asked a (first ∷ more) statements b unspent thrifty code stops later = absurd (unspent.0 (ap (λ (d : Break). d.code) (same_break first b stops) ∙ code))
+  stops-asked (Settled turn) [] statements b unspent thrifty spent stops later = stops-turn turn statements b (thrifty refl) stops later
+  stops-asked (Begins name after) [] statements b unspent thrifty spent (file, stops) later = stops-turn (after file) statements b (thrifty refl file) stops later
+  stops-asked a (first ∷ more) statements b unspent thrifty spent stops later = absurd (unspent.0 (ap (λ (d : Break). d.rule) (same_break first b stops) ∙ spent))
 
 -- over what a catalog holds whose next number isn't the last, a break is the first of the statement, and no want of a number
 pub stops-first : (Can : List ℕ → Found → Type 0) (c : Contents) (statement : Statement) (refused : StepRefusal) → c.next < last_number → refused ≢ refusal.NoMemory →
@@ -173,7 +174,7 @@ next-after Can c next statement text h =
     stood c Can (asks c statement.at (resolved c statement)) (all_breaks c statement) text next (thrifty-whole c statement) h
 
 -- what is left of a run wants the last number only where it has that many statements
-pub stops-late : (c : Contents) (statements : List Statement) (b : Break) → b.code ≡ 17 → StopsAt c statements b → last_number ≤ c.next + length statements
+pub stops-late : (c : Contents) (statements : List Statement) (b : Break) → b.rule ≡ rule.NumbersSpent → StopsAt c statements b → last_number ≤ c.next + length statements
 stops-late c [] b e stops = absurd stops
 stops-late c (statement ∷ statements) b e stops =
     let l = stops-asked c (asks c statement.at (resolved c statement)) (all_breaks c statement) statements b (all-unspent c statement) (thrifty-whole c statement) e stops

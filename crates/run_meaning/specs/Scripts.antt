@@ -11,6 +11,8 @@ use Rattle.sql_tree.specs.declared.statement.Script.{Script}
 use Rattle.name_meaning.specs.declared.answer.Break.{Break}
 use Rattle.name_seen_parts.specs.declared.refusal.Refusal.{Refusal}
 use Rattle.name_seen_parts.specs.declared.refusal.Refusal.TheVariants.{Break as Broken, NoMemory}
+use Rattle.name_meaning.specs.declared.rule.Rule.TheVariants as rule
+use Rattle.name_meaning.specs.declared.rule.Rule.{Rule}
 
 -- the bytes are split into tokens that nest within bounds and spell the script
 pub record IsScriptOf (bytes : List ℕ) (script : Script) : Type 0 where
@@ -19,27 +21,27 @@ pub record IsScriptOf (bytes : List ℕ) (script : Script) : Type 0 where
   pub shallow : nesting.too_deep tokens ≡ None
   pub spells : Spells tokens script
 
--- a cause by its number, at an offset
-abbrev pub break_at : ℕ → ℕ → Break
-break_at code at = record { code = code; at = at }
+-- a rule that is broken at an offset
+abbrev pub break_at : Rule → ℕ → Break
+break_at which at = record { rule = which; at = at }
 
 -- why the bytes are no script: no tokens, then nesting, then the first token that is wrong
 pub data IsMisspelled (bytes : List ℕ) : Break → Type 0 where
-  not_utf8 : {at : ℕ} → Refuses bytes (NotUtf8 at) → IsMisspelled bytes (break_at 1 at)
-  bad_character : {at : ℕ} → Refuses bytes (BadCharacter at) → IsMisspelled bytes (break_at 2 at)
-  unterminated : {at : ℕ} → Refuses bytes (Unterminated at) → IsMisspelled bytes (break_at 3 at)
-  number_range : {at : ℕ} → Refuses bytes (NumberRange at) → IsMisspelled bytes (break_at 4 at)
+  not_utf8 : {at : ℕ} → Refuses bytes (NotUtf8 at) → IsMisspelled bytes (break_at rule.NotText at)
+  bad_character : {at : ℕ} → Refuses bytes (BadCharacter at) → IsMisspelled bytes (break_at rule.StrayCharacter at)
+  unterminated : {at : ℕ} → Refuses bytes (Unterminated at) → IsMisspelled bytes (break_at rule.OpenText at)
+  number_range : {at : ℕ} → Refuses bytes (NumberRange at) → IsMisspelled bytes (break_at rule.LongNumber at)
   unexpected : {at : ℕ} {tokens : List Token} → Lexes bytes tokens → nesting.too_deep tokens ≡ None
-      → IsUnexpected tokens (length bytes) at → IsMisspelled bytes (break_at 5 at)
+      → IsUnexpected tokens (length bytes) at → IsMisspelled bytes (break_at rule.UnexpectedToken at)
   too_deep : {at : ℕ} {tokens : List Token} → Lexes bytes tokens → nesting.too_deep tokens ≡ Some at
-      → IsMisspelled bytes (break_at 6 at)
+      → IsMisspelled bytes (break_at rule.DeepNesting at)
 
 -- the refusal of bytes that have no tokens
 abbrev pub no_tokens : LexError → Refusal
-no_tokens (NotUtf8 at) = Broken (break_at 1 at)
-no_tokens (BadCharacter at) = Broken (break_at 2 at)
-no_tokens (Unterminated at) = Broken (break_at 3 at)
-no_tokens (NumberRange at) = Broken (break_at 4 at)
+no_tokens (NotUtf8 at) = Broken (break_at rule.NotText at)
+no_tokens (BadCharacter at) = Broken (break_at rule.StrayCharacter at)
+no_tokens (Unterminated at) = Broken (break_at rule.OpenText at)
+no_tokens (NumberRange at) = Broken (break_at rule.LongNumber at)
 no_tokens lexing.NoMemory = NoMemory
 
 -- the script, or why there is none

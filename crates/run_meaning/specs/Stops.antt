@@ -16,6 +16,8 @@ use Rattle.statement_meaning.specs.declared.refusal.StepRefusal.TheVariants as r
 use Rattle.run_meaning.specs.declared.script.TheConstants.{SCRIPT_LIMIT}
 use Rattle.run_meaning.specs.declared.status.Status.{Status}
 use Rattle.run_meaning.specs.declared.status.Status.TheVariants as status
+use Rattle.name_meaning.specs.Codes.{code_of}
+use Rattle.name_meaning.specs.declared.rule.Rule.TheVariants.{NumbersSpent}
 
 -- the greatest length of a script, in bytes
 abbrev pub script_limit : ℕ
@@ -39,7 +41,7 @@ fault_code SeveralRows = 32
 
 -- the line of a refusal; want of memory has none
 abbrev pub refusal_line : StepRefusal → List ℕ
-refusal_line (refusal.Break b) = error_line b.code b.at
+refusal_line (refusal.Break b) = error_line (code_of b.rule) b.at
 refusal_line (refusal.Run fault at) = error_line (fault_code fault) at
 refusal_line (refusal.Missing at) = error_line 40 at
 refusal_line (refusal.TooLarge at) = error_line 41 at
@@ -62,7 +64,7 @@ line_of Misused = codes "usage: perm SCRIPT\n"
 line_of NoFile = codes "error E40 script\n"
 line_of LongFile = codes "error E41 script\n"
 line_of FailedFile = codes "error E50\n"
-line_of (NoScript b) = error_line b.code b.at
+line_of (NoScript b) = error_line (code_of b.rule) b.at
 line_of (At c statement refused) = refusal_line refused
 
 abbrev pub status_of : Stop → Status
@@ -83,7 +85,7 @@ IsRefused Can (Begins name after) refused = (found : Found) × Can name found ×
 
 -- a break is the first of the statement, and no want of a number to draw; want of memory ends no run
 abbrev pub IsFirst : Contents → Statement → StepRefusal → Type 0
-IsFirst c statement (refusal.Break b) = (first_or (all_breaks c statement) (tt {0}) ≡ Err b) × (b.code ≢ 17)
+IsFirst c statement (refusal.Break b) = (first_or (all_breaks c statement) (tt {0}) ≡ Err b) × (b.rule ≢ NumbersSpent)
 IsFirst c statement (refusal.Run fault at) = Unit {0}
 IsFirst c statement (refusal.Missing at) = Unit {0}
 IsFirst c statement (refusal.TooLarge at) = Unit {0}

@@ -3,7 +3,7 @@ ghost use Rattle.sql_lexer.specs.Lexes.{Lexes};
 ghost use Rattle.name_seen_parts.specs.declared.refusal.Refusal.TheVariants.{Break as Broken};
 ghost use Rattle.run_meaning.specs.Scripts.{IsReading, break_at, no_tokens};
 
-use name_meaning::Break;
+use name_meaning::{Break, Rule};
 use name_seen_parts::Refusal;
 use perm_values::List;
 use sql_lexer::{LexError, Token, tokens};
@@ -29,10 +29,10 @@ fn no_tokens(error: LexError) -> Refusal
     ensures { result ≡ no_tokens error }
 {
     match error {
-        LexError::NotUtf8(at) => broken(1, at),
-        LexError::BadCharacter(at) => broken(2, at),
-        LexError::Unterminated(at) => broken(3, at),
-        LexError::NumberRange(at) => broken(4, at),
+        LexError::NotUtf8(at) => broken(Rule::NotText, at),
+        LexError::BadCharacter(at) => broken(Rule::StrayCharacter, at),
+        LexError::Unterminated(at) => broken(Rule::OpenText, at),
+        LexError::NumberRange(at) => broken(Rule::LongNumber, at),
         LexError::NoMemory => Refusal::NoMemory,
     }
 }
@@ -44,15 +44,15 @@ fn tree_of(alloc: Global, found: &List<Token<'_>>, bytes: &[u8]) -> Result<Scrip
 {
     match script(alloc, found, bytes.len()) {
         Ok(tree) => Ok(tree),
-        Err(SyntaxError::Unexpected(at)) => Err(broken(5, at)),
-        Err(SyntaxError::TooDeep(at)) => Err(broken(6, at)),
+        Err(SyntaxError::Unexpected(at)) => Err(broken(Rule::UnexpectedToken, at)),
+        Err(SyntaxError::TooDeep(at)) => Err(broken(Rule::DeepNesting, at)),
         Err(SyntaxError::NoMemory) => Err(Refusal::NoMemory),
     }
 }
 
-/// The refusal of a script by a cause at an offset.
-fn broken(code: u8, at: usize) -> Refusal
-    ensures { result ≡ Broken (break_at code at) }
+/// The refusal of a script by a rule that it breaks at an offset.
+fn broken(rule: Rule, at: usize) -> Refusal
+    ensures { result ≡ Broken (break_at rule at) }
 {
-    Refusal::Break(Break { code, at })
+    Refusal::Break(Break { rule, at })
 }

@@ -37,7 +37,7 @@ pub fn refuse<K: Sink>(refusal: Refusal, out: &mut K) -> Status
 {
     match refusal {
         Refusal::Break(found) => {
-            let line = error_line(found.code, found.at);
+            let line = error_line(found.rule.code(), found.at);
             finish(out, line.as_slice(), Status::Syntax)
         }
         Refusal::NoMemory => Status::NoMemory,
@@ -50,7 +50,11 @@ pub fn stop<K: Sink>(refusal: StepRefusal, out: &mut K) -> Status
     ensures status { (result ≡ refusal_status refusal) ⊎ (result ≡ Status.WriteFault) }
 {
     match refusal {
-        StepRefusal::Break(found) => end(Status::Refused, error_line(found.code, found.at), out),
+        StepRefusal::Break(found) => end(
+            Status::Refused,
+            error_line(found.rule.code(), found.at),
+            out,
+        ),
         StepRefusal::Run { fault, at } => {
             end(Status::RunFault, error_line(fault_code(fault), at), out)
         }

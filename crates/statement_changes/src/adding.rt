@@ -4,7 +4,7 @@ ghost use Rattle.statement_meaning.specs.Answers.{IsTurn};
 ghost use Rattle.statement_meaning.specs.Turns.{add_rows};
 
 use crate::text::counting;
-use name_meaning::Break;
+use name_meaning::{Break, Rule};
 use perm_catalog::{Catalog, CatalogRefusal};
 use perm_values::{Bytes, Chars, Rows};
 use statement_meaning::StepRefusal;
@@ -25,7 +25,10 @@ pub(crate) fn add_rows(
     let text = counting(alloc, word, rows.len())?;
     match catalog.insert_rows(name, rows) {
         Ok(()) => Ok(text),
-        Err(CatalogRefusal::VersionsSpent) => Err(StepRefusal::Break(Break { code: 17, at })),
+        Err(CatalogRefusal::VersionsSpent) => Err(StepRefusal::Break(Break {
+            rule: Rule::NumbersSpent,
+            at,
+        })),
         Err(CatalogRefusal::NoMemory) => Err(StepRefusal::NoMemory),
     }
 }

@@ -4,7 +4,7 @@ ghost use Rattle.statement_meaning.specs.Answers.{IsTurn};
 ghost use Rattle.statement_meaning.specs.Turns.{create_table, view_created};
 
 use crate::text::text_of;
-use name_meaning::Break;
+use name_meaning::{Break, Rule};
 use perm_catalog::{Catalog, CatalogRefusal, Column, ViewEntry};
 use perm_values::{Bytes, Chars, Copyable, List};
 use statement_meaning::StepRefusal;
@@ -26,7 +26,10 @@ pub fn create_table(
     let made = columns.copy(alloc)?;
     match catalog.create(alloc, name, made, List::new(alloc), None) {
         Ok(()) => Ok(text),
-        Err(CatalogRefusal::VersionsSpent) => Err(StepRefusal::Break(Break { code: 17, at })),
+        Err(CatalogRefusal::VersionsSpent) => Err(StepRefusal::Break(Break {
+            rule: Rule::NumbersSpent,
+            at,
+        })),
         Err(CatalogRefusal::NoMemory) => Err(StepRefusal::NoMemory),
     }
 }

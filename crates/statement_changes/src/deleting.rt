@@ -9,7 +9,7 @@ ghost use Rattle.statement_meaning.specs.Turns.{delete, drawing, goes, identity_
 
 use crate::text::counting;
 use bag_algebra::{Env, Expr, Tables};
-use name_meaning::Break;
+use name_meaning::{Break, Rule};
 use perm_catalog::{Catalog, CatalogRefusal};
 use perm_values::{Bytes, Chars, List, Row, Value};
 use row_values::{ExecError, eval, holds};
@@ -106,7 +106,10 @@ fn remove(
     let text = counting(alloc, b"DELETE ", flagged(doomed))?;
     match catalog.delete_rows(name, doomed) {
         Ok(_) => Ok(text),
-        Err(CatalogRefusal::VersionsSpent) => Err(StepRefusal::Break(Break { code: 17, at })),
+        Err(CatalogRefusal::VersionsSpent) => Err(StepRefusal::Break(Break {
+            rule: Rule::NumbersSpent,
+            at,
+        })),
         Err(CatalogRefusal::NoMemory) => Err(StepRefusal::NoMemory),
     }
 }

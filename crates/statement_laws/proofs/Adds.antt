@@ -40,6 +40,7 @@ use Rattle.name_laws.proofs.TreeLaws.{expr-formed, query-answer, query-closed, q
 use Rattle.name_laws.proofs.Named.{view-reads}
 use Rattle.statement_laws.proofs.Ready.{names-whole, unbroken, not-false}
 use Rattle.statement_laws.specs.Sounder.{AddsSoundly, HaveKinds, RowsHaveKinds}
+use Rattle.name_meaning.specs.declared.rule.Rule.TheVariants as rule
 
 all-of : {X : Type 0} (P : X → Type 0) (xs : List X) → Each P xs → All P xs
 all-of P xs each = All-weaker (Contains xs) P (λ x among. each x among) xs (All-contains_itself xs)
@@ -74,10 +75,10 @@ unfolding IsDistinct
 names-differ earlier [] e = (tt, tt)
 names-differ earlier (column ∷ columns) e =
     let name : List ℕ = column.name.text in
-    let first : List Break = broken_if (list_any (named_so name) earlier) 14 column.name.at in
+    let first : List Break = broken_if (list_any (named_so name) earlier) rule.RepeatedColumn column.name.at in
     let more : List Break = repeated_columns (name ∷ earlier) columns in
     let names : List (List ℕ) = column_names (defined_columns columns) in
-    let here = unbroken (list_any (named_so name) earlier) 14 column.name.at (front-none first more e) in
+    let here = unbroken (list_any (named_so name) earlier) rule.RepeatedColumn column.name.at (front-none first more e) in
     let rest = names-differ (name ∷ earlier) columns (back-none first more e) in
     ((here, earlier-apart name earlier names rest.0), (name-apart name earlier names rest.0, rest.1))
 
@@ -127,8 +128,8 @@ module _ (c : Contents) (sound : IsSound c) where
   made-kind k tree regular e =
       let m : Meant = means_at (part_of c tree) (bare []) in
       let differs : Bool = not (unites (Some k) (seen_kind m)) in
-      let whole = front-none m.breaks (broken_if differs 20 (part_of c tree).at) e in
-      let united = not-false (unites (Some k) (seen_kind m)) (unbroken differs 20 (part_of c tree).at (back-none m.breaks (broken_if differs 20 (part_of c tree).at) e)) in
+      let whole = front-none m.breaks (broken_if differs rule.UnfitKind (part_of c tree).at) e in
+      let united = not-false (unites (Some k) (seen_kind m)) (unbroken differs rule.UnfitKind (part_of c tree).at (back-none m.breaks (broken_if differs rule.UnfitKind (part_of c tree).at) e)) in
       let f : IsFormedExpr (bare []) nothing_before (m.make k nothing_before) (settled m.kind k) = expr-formed c tree (bare []) sound regular whole k nothing_before in
       subst (λ (found : Kind). HasKind ([] ∷ []) [] (made_alone k m) found)
       (united-settled k m.kind (subst (λ (o : Option Kind). unites (Some k) o ≡ true) (seen-whole m whole) united))
@@ -149,7 +150,7 @@ module _ (c : Contents) (sound : IsSound c) where
   row-has : (kinds : List Kind) (row : ValuesRow) → RegularRow row → row_breaks c kinds row ≡ []
       → HaveKinds (row_made c kinds row.values) kinds
   row-has kinds row regular = chosen (nat_eq (length row.values) (length kinds)) refl where
-    chosen : (b : Bool) → nat_eq (length row.values) (length kinds) ≡ b → cond b (values_breaks c kinds row.values) (broken 21 row.at ∷ []) ≡ []
+    chosen : (b : Bool) → nat_eq (length row.values) (length kinds) ≡ b → cond b (values_breaks c kinds row.values) (broken rule.UnfitWidth row.at ∷ []) ≡ []
         → HaveKinds (row_made c kinds row.values) kinds
     chosen true same e = values-have kinds row.values (same-length (length row.values) (length kinds) same) (all-of RegularExpr row.values regular.1) e
     chosen false same e = absurd (cc e)
@@ -166,7 +167,7 @@ module _ (c : Contents) (sound : IsSound c) where
       → on_table c table (λ (entry : TableEntry). flat_map (row_breaks c (column_kinds entry.columns)) rows) ≡ []
       → IfSome (table_named c table.text) (λ (entry : TableEntry). RowsHaveKinds (rows_made c (kinds_of_table c table) rows) (column_kinds entry.columns))
   insert-adds table rows regular = chosen (table_named c table.text) where
-    chosen : (o : Option TableEntry) → option_map_or (λ (entry : TableEntry). flat_map (row_breaks c (column_kinds entry.columns)) rows) o (broken 10 table.at ∷ []) ≡ []
+    chosen : (o : Option TableEntry) → option_map_or (λ (entry : TableEntry). flat_map (row_breaks c (column_kinds entry.columns)) rows) o (broken rule.UnknownRelation table.at ∷ []) ≡ []
         → IfSome o (λ (entry : TableEntry). RowsHaveKinds (rows_made c (option_map_or (λ (known : TableEntry). column_kinds known.columns) o []) rows) (column_kinds entry.columns))
     chosen None e = tt
     chosen (Some entry) e = rows-have (column_kinds entry.columns) rows regular e
@@ -198,7 +199,7 @@ module _ (c : Contents) (sound : IsSound c) where
   body-adds (st.CreateView name query) regular whole =
       let more : List Break = named_query_breaks query.at (query_meant c query) in
       view-sound query regular
-      (front-none (query_meant c query).breaks (broken_if (repeats (names_of (columns_of (query_meant c query)))) 14 query.at) (back-none (taken c name) more whole))
+      (front-none (query_meant c query).breaks (broken_if (repeats (names_of (columns_of (query_meant c query)))) rule.RepeatedColumn query.at) (back-none (taken c name) more whole))
   body-adds (st.Copy table file header mark) regular whole = copy-adds (table_named c table.text)
   body-adds (st.Insert table rows) regular whole = insert-adds table rows (all-of RegularRow rows regular.1) whole
   body-adds (st.Delete table condition) regular whole = tt

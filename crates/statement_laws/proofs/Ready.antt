@@ -22,6 +22,8 @@ use Rattle.name_laws.proofs.Trees.{query-in_scope}
 use Rattle.name_laws.proofs.TreeLaws.{query-closed}
 use Rattle.name_laws.proofs.FittingTables.{tables-fit}
 use Rattle.statement_meaning.specs.Ready.{CanRun, IsReady}
+use Rattle.name_meaning.specs.declared.rule.Rule.TheVariants as rule
+use Rattle.name_meaning.specs.declared.rule.Rule.{Rule}
 
 -- the rules of names are looked at first
 pub names-whole : (c : Contents) (statement : Statement) → breaks c statement ≡ [] → name_breaks c statement.body ≡ []
@@ -30,9 +32,9 @@ names-whole c statement = chosen (name_breaks c statement.body) (limit_breaks c 
   chosen [] limits e = refl
   chosen (first ∷ more) limits e = e
 
-pub unbroken : (is_broken : Bool) (code at : ℕ) → broken_if is_broken code at ≡ [] → is_broken ≡ false
-unbroken true code at e = absurd (cc e)
-unbroken false code at e = refl
+pub unbroken : (is_broken : Bool) (which : Rule) (at : ℕ) → broken_if is_broken which at ≡ [] → is_broken ≡ false
+unbroken true which at e = absurd (cc e)
+unbroken false which at e = refl
 
 pub not-false : (b : Bool) → not b ≡ false → b ≡ true
 not-false true e = refl
@@ -48,20 +50,20 @@ nothing (Some x) e = absurd (cc e)
 
 module _ (c : Contents) where
   free : (name : Name) → taken c name ≡ [] → is_free c name.text ≡ true
-  free name e = not-false (is_free c name.text) (unbroken (not (is_free c name.text)) 13 name.at e)
+  free name e = not-false (is_free c name.text) (unbroken (not (is_free c name.text)) rule.TakenName name.at e)
 
   known : (name : Name) → unknown_table c name ≡ [] → IsSome (table_named c name.text)
-  known name e = there (table_named c name.text) (unbroken (is_none (table_named c name.text)) 10 name.at e)
+  known name e = there (table_named c name.text) (unbroken (is_none (table_named c name.text)) rule.UnknownRelation name.at e)
 
   known-view : (name : Name) → unknown_view c name ≡ [] → IsSome (view_named c name.text)
-  known-view name e = there (view_named c name.text) (unbroken (is_none (view_named c name.text)) 10 name.at e)
+  known-view name e = there (view_named c name.text) (unbroken (is_none (view_named c name.text)) rule.UnknownRelation name.at e)
 
   unused : (name : Name) → used c name ≡ [] → first_user c name.text ≡ None
-  unused name e = nothing (first_user c name.text) (unbroken (is_some (first_user c name.text)) 16 name.at e)
+  unused name e = nothing (first_user c name.text) (unbroken (is_some (first_user c name.text)) rule.UsedByView name.at e)
 
   looked-at : (name : Name) (looked : TableEntry → List Break) → on_table c name looked ≡ [] → IsSome (table_named c name.text)
   looked-at name looked = chosen (table_named c name.text) where
-    chosen : (o : Option TableEntry) → option_map_or looked o (broken 10 name.at ∷ []) ≡ [] → IsSome o
+    chosen : (o : Option TableEntry) → option_map_or looked o (broken rule.UnknownRelation name.at ∷ []) ≡ [] → IsSome o
     chosen None e = absurd (cc e)
     chosen (Some entry) e = refl
 

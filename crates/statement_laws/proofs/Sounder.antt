@@ -33,12 +33,13 @@ use Rattle.statement_meaning.specs.Asking.{asks}
 use Rattle.statement_meaning.specs.Ready.{IsReady}
 use Rattle.statement_meaning.specs.Turns.{Turn, Stands, Refused, Broken, on_good, drawing, counting, identity_of, with_added, add_rows, add_unbroken, answered, copy, goes, row_value, rows_deleted}
 use Rattle.statement_laws.specs.Sounder.{HaveKinds, RowsHaveKinds, AddsSoundly, StandsSound, KeepsSound}
+use Rattle.name_meaning.specs.declared.rule.Rule.TheVariants as rule
 
 -- ---- turns
 
 drawn-sound : (c : Contents) (at : ℕ) (text : List ℕ) (new : Contents) → IsSound new → StandsSound (drawing c at (Stands text new))
 drawn-sound c at text new sound = chosen (nat_eq c.next last_number) where
-  chosen : (spent : Bool) → StandsSound (cond spent (Refused (Broken (broken 17 at))) (Stands text new))
+  chosen : (spent : Bool) → StandsSound (cond spent (Refused (Broken (broken rule.NumbersSpent at))) (Stands text new))
   chosen true = tt
   chosen false = sound
 

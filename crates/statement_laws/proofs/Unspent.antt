@@ -58,24 +58,27 @@ use Rattle.name_meaning.specs.declared.trace.Trace.{Trace}
 use Rattle.name_meaning.specs.declared.trace.Trace.TheVariants.{InProvenance as in_provenance}
 use Rattle.name_laws.proofs.Every.{Every, every-append, every-flat_map, every-map}
 use Rattle.name_laws.proofs.Induction.{BodyParts, ItemParts, SetParts, SourceParts, CoreParts, Optional, AreKept, kept-part, kept-query}
+use Rattle.name_meaning.specs.declared.rule.Rule.TheVariants as rule
+use Rattle.name_meaning.specs.declared.rule.Rule.{Rule}
+use Rattle.name_meaning.specs.Codes.{code_of}
 
 abbrev pub IsUnspent : Break → Type 0
-IsUnspent b = b.code ≢ 17
+IsUnspent b = b.rule ≢ rule.NumbersSpent
 
 abbrev pub Unspent : List Break → Type 0
 Unspent bs = Every IsUnspent bs
 
 -- ---- lists of breaks
 
-other_code : (code : ℕ) → nat_eq code 17 ≡ false → code ≢ 17
-other_code code h e = true≢false (ap (λ n. nat_eq n 17) (sym e) ∙ h)
+another : (which : Rule) → nat_eq (code_of which) 17 ≡ false → which ≢ rule.NumbersSpent
+another which h e = true≢false (ap (λ (other : Rule). nat_eq (code_of other) 17) (sym e) ∙ h)
 
-one : (code at : ℕ) → nat_eq code 17 ≡ false → Unspent (broken code at ∷ [])
-one code at h = (other_code code h, tt)
+one : (which : Rule) (at : ℕ) → nat_eq (code_of which) 17 ≡ false → Unspent (broken which at ∷ [])
+one which at h = (another which h, tt)
 
-one_if : (b : Bool) (code at : ℕ) → nat_eq code 17 ≡ false → Unspent (broken_if b code at)
-one_if true code at h = one code at h
-one_if false code at h = tt
+one_if : (b : Bool) (which : Rule) (at : ℕ) → nat_eq (code_of which) 17 ≡ false → Unspent (broken_if b which at)
+one_if true which at h = one which at h
+one_if false which at h = tt
 
 both : (xs ys : List Break) → Unspent xs → Unspent ys → Unspent (xs ++ ys)
 both xs ys h k = every-append IsUnspent xs ys h k
@@ -152,7 +155,7 @@ OperandUnspent o = Unspent o.meant.breaks
 
 unfit : (o : Option ℕ) → Unspent (unfit_break o)
 unfit None = tt
-unfit (Some at) = one 20 at refl
+unfit (Some at) = one rule.UnfitKind at refl
 
 unspent-node : (gives : Gives) (assembled : List Expr → Expr) (os : List Operand) → Every OperandUnspent os → Unspent (node gives assembled os).breaks
 unspent-node gives assembled os h =
@@ -164,25 +167,25 @@ unspent-operated op prefix assembled here parts h =
     (every-map UnspentPart OperandUnspent (operand here (need_of op prefix)) (λ part k. k here) parts h)
 
 unspent-column : (here : Surroundings) (at : ℕ) (found : Found) → Unspent (column_meant here at found).breaks
-unspent-column here at column.Absent = one 11 at refl
-unspent-column here at column.Ambiguous = one 12 at refl
-unspent-column here at (column.Column seen) = both _ _ (one_if (not (is_some seen.place)) 22 at refl) (one_if (here.argument && nat_lt 0 seen.level) 23 at refl)
+unspent-column here at column.Absent = one rule.UnknownColumn at refl
+unspent-column here at column.Ambiguous = one rule.AmbiguousColumn at refl
+unspent-column here at (column.Column seen) = both _ _ (one_if (not (is_some seen.place)) rule.UngroupedColumn at refl) (one_if (here.argument && nat_lt 0 seen.level) rule.MisplacedAggregate at refl)
 
 unspent-aggregate : (here : Surroundings) (at : ℕ) (word : AggWord) (argument : Option Part) → UnspentOptional argument → Unspent (aggregate_meant here at word argument).breaks
-unspent-aggregate here at word None h = one_if (not here.aggregates) 23 at refl
+unspent-aggregate here at word None h = one_if (not here.aggregates) rule.MisplacedAggregate at refl
 unspent-aggregate here at word (Some argument) h =
     let m = argument.means (in_argument here) in
-    three m.breaks (broken_if (not here.aggregates) 23 at) (broken_if (not (takes_kind word (seen_kind m))) 20 argument.at)
-    (h (in_argument here)) (one_if (not here.aggregates) 23 at refl) (one_if (not (takes_kind word (seen_kind m))) 20 argument.at refl)
+    three m.breaks (broken_if (not here.aggregates) rule.MisplacedAggregate at) (broken_if (not (takes_kind word (seen_kind m))) rule.UnfitKind argument.at)
+    (h (in_argument here)) (one_if (not here.aggregates) rule.MisplacedAggregate at refl) (one_if (not (takes_kind word (seen_kind m))) rule.UnfitKind argument.at refl)
 
 unspent-if_standing : (here : Surroundings) (at : ℕ) (kind : Option Kind) (m : Meant) → Unspent m.breaks → Unspent (if_standing here at kind m).breaks
 unspent-if_standing here at kind m h = by_place here.sublinks where
-  by_place : (b : Bool) → Unspent (cond b m (breaking 24 at kind)).breaks
+  by_place : (b : Bool) → Unspent (cond b m (breaking rule.MisplacedSublink at kind)).breaks
   by_place true = h
-  by_place false = one 24 at refl
+  by_place false = one rule.MisplacedSublink at refl
 
 unspent-scalar : (here : Surroundings) (at : ℕ) (query : QueryMeant) → Unspent query.breaks → Unspent (scalar_meant here at query).breaks
-unspent-scalar here at query h = both query.breaks (broken_if (not (is_one_column query.columns)) 21 at) h (one_if (not (is_one_column query.columns)) 21 at refl)
+unspent-scalar here at query h = both query.breaks (broken_if (not (is_one_column query.columns)) rule.UnfitWidth at) h (one_if (not (is_one_column query.columns)) rule.UnfitWidth at refl)
 
 unspent-tested : (here : Surroundings) (at : ℕ) (sub : SubKind) (part : Part) (query : QueryPart) → UnspentPart part → UnspentQuery query → Unspent (tested_meant here at sub part query).breaks
 unspent-tested here at sub part query h k = by_place here.sublinks where
@@ -194,8 +197,8 @@ unspent-tested here at sub part query h k = by_place here.sublinks where
 
   by_place : (b : Bool) → Unspent (cond b (tested_looked sub t query.at q) (tested_unlooked at t)).breaks
   by_place true = three t.breaks q.breaks (tested_break (seen_kind t) query.at q) (h (in_tested here)) (k (around_of here))
-      (chosen (is_one_column q.columns) _ _ (one_if (not (unites (seen_kind t) (first_kind q))) 20 query.at refl) (one 21 query.at refl))
-  by_place false = both t.breaks (broken 24 at ∷ []) (h (in_tested here)) (one 24 at refl)
+      (chosen (is_one_column q.columns) _ _ (one_if (not (unites (seen_kind t) (first_kind q))) rule.UnfitKind query.at refl) (one rule.UnfitWidth query.at refl))
+  by_place false = both t.breaks (broken rule.MisplacedSublink at ∷ []) (h (in_tested here)) (one rule.MisplacedSublink at refl)
 
 arm-operands : (here : Surroundings) (arms : List ArmPart) → Every UnspentArm arms → Every OperandUnspent (flat_map (arm_operands here) arms)
 arm-operands here arms h = every-flat_map UnspentArm OperandUnspent (arm_operands here) (λ arm k. (k.0 here, (k.1 here, tt))) arms h
@@ -208,7 +211,7 @@ case-operands here arms (Some part) h k = every-append OperandUnspent (flat_map 
 -- ---- queries
 
 unspent-condition : (at : ℕ) (m : Meant) → Unspent m.breaks → Unspent (condition_breaks at m)
-unspent-condition at m h = both m.breaks _ h (one_if (not (unites (Some kind.Boolean) (seen_kind m))) 20 at refl)
+unspent-condition at m h = both m.breaks _ h (one_if (not (unites (Some kind.Boolean) (seen_kind m))) rule.UnfitKind at refl)
 
 unspent-optional : (here : Surroundings) (part : Option Part) → UnspentOptional part → Unspent (optional_breaks part (optional_meant here part))
 unspent-optional here None h = tt
@@ -216,26 +219,26 @@ unspent-optional here (Some part) h = unspent-condition part.at (part.means here
 
 unspent-group : (scope : Scope) (group : ColRef) → Unspent (group_break scope group)
 unspent-group scope group = by_found (group_found scope group) where
-  by_found : (found : Found) → Unspent (elim found [ column.Absent ↦ broken 11 group.at ∷ [] | column.Ambiguous ↦ broken 12 group.at ∷ [] | column.Column c ↦ [] ])
-  by_found column.Absent = one 11 group.at refl
-  by_found column.Ambiguous = one 12 group.at refl
+  by_found : (found : Found) → Unspent (elim found [ column.Absent ↦ broken rule.UnknownColumn group.at ∷ [] | column.Ambiguous ↦ broken rule.AmbiguousColumn group.at ∷ [] | column.Column c ↦ [] ])
+  by_found column.Absent = one rule.UnknownColumn group.at refl
+  by_found column.Ambiguous = one rule.AmbiguousColumn group.at refl
   by_found (column.Column c) = tt
 
 unspent-columns : (scope : Scope) (at : ℕ) (columns : List _) → Unspent (columns_meant scope at columns).breaks
-unspent-columns scope at columns = one_if (list_any (is_ungrouped scope) columns) 22 at refl
+unspent-columns scope at columns = one_if (list_any (is_ungrouped scope) columns) rule.UngroupedColumn at refl
 
 unspent-star : (has_from : Bool) (scope : Scope) (at : ℕ) → Unspent (star_meant has_from scope at).breaks
 unspent-star true scope at = unspent-columns scope at (placed scope)
-unspent-star false scope at = one 11 at refl
+unspent-star false scope at = one rule.UnknownColumn at refl
 
 unspent-table_star : (scope : Scope) (table : Name) → Unspent (table_star_meant scope table).breaks
 unspent-table_star scope table = by_columns (item_columns table.text scope) where
   by_columns : (o : Option (List _)) → Unspent (option_map_or (columns_meant scope table.at) o (no_columns table.at)).breaks
-  by_columns None = one 11 table.at refl
+  by_columns None = one rule.UnknownColumn table.at refl
   by_columns (Some columns) = unspent-columns scope table.at columns
 
 unspent-word : (around : Around) (word : Option ℕ) → Unspent (word_breaks around word)
-unspent-word around word = chosen around.provable [] _ tt (if_there (λ at. broken 25 at ∷ []) word [] (λ at. one 25 at refl) tt)
+unspent-word around word = chosen around.provable [] _ tt (if_there (λ at. broken rule.MisplacedProvenance at ∷ []) word [] (λ at. one rule.MisplacedProvenance at refl) tt)
 
 unspent-items : (has_from : Bool) (scope : Scope) (here : Surroundings) (items : List SelectPart) → Every UnspentItem items →
     Unspent (items_breaks (map (λ (item : SelectPart). item.means has_from scope here) items))
@@ -263,7 +266,7 @@ module _ (around : Around) (word : Option ℕ) (input : FromMeant) (has_from is_
 unspent-operands : (at : ℕ) (left right : Option (List OutColumn)) → Unspent (operand_breaks at left right)
 unspent-operands at None right = tt
 unspent-operands at (Some left) None = tt
-unspent-operands at (Some left) (Some right) = chosen (nat_eq (length left) (length right)) _ _ (one_if (not (do_unite left right)) 20 at refl) (one 21 at refl)
+unspent-operands at (Some left) (Some right) = chosen (nat_eq (length left) (length right)) _ _ (one_if (not (do_unite left right)) rule.UnfitKind at refl) (one rule.UnfitWidth at refl)
 
 unspent-chain : (around : Around) (left : QueryMeant) (steps : List SetStepPart) → Unspent left.breaks → Every UnspentOperand steps → Unspent (set_chain around left steps).breaks
 unspent-chain around left [] h k = h
@@ -275,11 +278,11 @@ unspent-chain around left (step ∷ steps) h k =
 unspent-key : (columns : List OutColumn) (tree : OrderTree) → Unspent (key_break columns tree)
 unspent-key columns tree = by_key tree.key where
   by_key : (key : OrderKey) → Unspent (elim key [
-    | named_key name ↦ broken_if (nat_eq (count_by (is_named name) columns) 0) 11 tree.at ++ broken_if (nat_lt 1 (count_by (is_named name) columns)) 12 tree.at
-    | Position n ↦ broken_if (not (is_position n (length columns))) 11 tree.at
+    | named_key name ↦ broken_if (nat_eq (count_by (is_named name) columns) 0) rule.UnknownColumn tree.at ++ broken_if (nat_lt 1 (count_by (is_named name) columns)) rule.AmbiguousColumn tree.at
+    | Position n ↦ broken_if (not (is_position n (length columns))) rule.UnknownColumn tree.at
   ])
-  by_key (named_key name) = both _ _ (one_if (nat_eq (count_by (is_named name) columns) 0) 11 tree.at refl) (one_if (nat_lt 1 (count_by (is_named name) columns)) 12 tree.at refl)
-  by_key (Position n) = one_if (not (is_position n (length columns))) 11 tree.at refl
+  by_key (named_key name) = both _ _ (one_if (nat_eq (count_by (is_named name) columns) 0) rule.UnknownColumn tree.at refl) (one_if (nat_lt 1 (count_by (is_named name) columns)) rule.AmbiguousColumn tree.at refl)
+  by_key (Position n) = one_if (not (is_position n (length columns))) rule.UnknownColumn tree.at refl
 
 unspent-keys : (columns : Option (List OutColumn)) (order : List OrderTree) → Unspent (keys_breaks columns order)
 unspent-keys columns order = if_there (λ known. flat_map (key_break known) order) columns [] (λ known. all (key_break known) order (unspent-key known)) tt
@@ -296,9 +299,9 @@ unspent-query around at body order limit h =
 unspent-attributes : (names : Option (List (List ℕ))) (earlier : List (List ℕ)) (attributes : List Name) → Unspent (attribute_breaks names earlier attributes)
 unspent-attributes names earlier [] = tt
 unspent-attributes names earlier (attribute ∷ attributes) =
-    three (option_map_or (column_breaks attribute) names []) (broken_if (list_any (named_so attribute.text) earlier) 14 attribute.at) (attribute_breaks names (attribute.text ∷ earlier) attributes)
-    (if_there (column_breaks attribute) names [] (λ known. both _ _ (one_if (nat_eq (count_by (named_so attribute.text) known) 0) 11 attribute.at refl) (one_if (nat_lt 1 (count_by (named_so attribute.text) known)) 12 attribute.at refl)) tt)
-    (one_if (list_any (named_so attribute.text) earlier) 14 attribute.at refl) (unspent-attributes names (attribute.text ∷ earlier) attributes)
+    three (option_map_or (column_breaks attribute) names []) (broken_if (list_any (named_so attribute.text) earlier) rule.RepeatedColumn attribute.at) (attribute_breaks names (attribute.text ∷ earlier) attributes)
+    (if_there (column_breaks attribute) names [] (λ known. both _ _ (one_if (nat_eq (count_by (named_so attribute.text) known) 0) rule.UnknownColumn attribute.at refl) (one_if (nat_lt 1 (count_by (named_so attribute.text) known)) rule.AmbiguousColumn attribute.at refl)) tt)
+    (one_if (list_any (named_so attribute.text) earlier) rule.RepeatedColumn attribute.at refl) (unspent-attributes names (attribute.text ∷ earlier) attributes)
 
 unspent-mark : (m : ScopeMark) (names : Option (List (List ℕ))) → Unspent (mark_breaks m names)
 unspent-mark mark.Plain names = tt
@@ -312,7 +315,7 @@ module _ (c : Contents) where
         Unspent (option_map_or (read_table name.text) table (option_map_or (read_view name.text) view (read_nothing name))).breaks
     by_table (Some table) view = tt
     by_table None (Some view) = tt
-    by_table None None = one 10 name.at refl
+    by_table None None = one rule.UnknownRelation name.at refl
 
   unspent-read : (m : ScopeMark) (outer : List Scope) (trace : Trace) (source : SourcePart) → UnspentSource source → Unspent (read_of c m outer trace source).breaks
   unspent-read m outer trace (named name) h = unspent-read_named name
@@ -321,9 +324,9 @@ module _ (c : Contents) where
 unspent-item_meant : (at : ℕ) (m : ScopeMark) (trace : Trace) (earlier : List (List ℕ)) (name label : List ℕ) (read : Read) → Unspent read.breaks →
     Unspent (item_meant at m trace earlier name label read).breaks
 unspent-item_meant at m trace earlier name label read h =
-    four read.breaks (broken_if (list_any (named_so name) earlier) 15 at) (mark_breaks m _) (scope_break read.breaks trace read.viewed (marked m label (read_names read) read) at)
-    h (one_if (list_any (named_so name) earlier) 15 at refl) (unspent-mark m _)
-    (chosen (is_whole read.breaks) _ [] (one_if (is_out_of_scope trace read.viewed (marked m label (read_names read) read)) 25 at refl) tt)
+    four read.breaks (broken_if (list_any (named_so name) earlier) rule.RepeatedItem at) (mark_breaks m _) (scope_break read.breaks trace read.viewed (marked m label (read_names read) read) at)
+    h (one_if (list_any (named_so name) earlier) rule.RepeatedItem at refl) (unspent-mark m _)
+    (chosen (is_whole read.breaks) _ [] (one_if (is_out_of_scope trace read.viewed (marked m label (read_names read) read)) rule.MisplacedProvenance at refl) tt)
 
 unspent-on : (outer : List Scope) (trace : Trace) (items : Option (List ScopeItem)) (condition : Option Part) → UnspentOptional condition → Unspent (on_breaks condition (on_meant outer trace items condition))
 unspent-on outer trace None None h = tt
@@ -467,45 +470,45 @@ module _ (c : Contents) where
   unspent-values (kind ∷ kinds) [] = tt
   unspent-values (kind ∷ kinds) (tree ∷ trees) =
       let m = means_at (part_of c tree) (bare []) in
-      both (value_breaks kind (part_of c tree).at m) _ (both m.breaks _ (unspent-meant tree (bare [])) (one_if (not (unites (Some kind) (seen_kind m))) 20 (part_of c tree).at refl))
+      both (value_breaks kind (part_of c tree).at m) _ (both m.breaks _ (unspent-meant tree (bare [])) (one_if (not (unites (Some kind) (seen_kind m))) rule.UnfitKind (part_of c tree).at refl))
       (unspent-values kinds trees)
 
   unspent-row : (kinds : List Kind) (row : ValuesRow) → Unspent (row_breaks c kinds row)
-  unspent-row kinds row = chosen (nat_eq (length row.values) (length kinds)) _ _ (unspent-values kinds row.values) (one 21 row.at refl)
+  unspent-row kinds row = chosen (nat_eq (length row.values) (length kinds)) _ _ (unspent-values kinds row.values) (one rule.UnfitWidth row.at refl)
 
   unspent-repeated : (earlier : List (List ℕ)) (columns : List ColumnDef) → Unspent (repeated_columns earlier columns)
   unspent-repeated earlier [] = tt
   unspent-repeated earlier (column ∷ columns) =
-      both _ _ (one_if (list_any (named_so column.name.text) earlier) 14 column.name.at refl) (unspent-repeated (column.name.text ∷ earlier) columns)
+      both _ _ (one_if (list_any (named_so column.name.text) earlier) rule.RepeatedColumn column.name.at refl) (unspent-repeated (column.name.text ∷ earlier) columns)
 
   unspent-named_query : (query : QueryTree) → Unspent (named_query_breaks query.at (query_meant c query))
-  unspent-named_query query = both (query_meant c query).breaks _ (unspent-query_meant query) (one_if (repeats (names_of (columns_of (query_meant c query)))) 14 query.at refl)
+  unspent-named_query query = both (query_meant c query).breaks _ (unspent-query_meant query) (one_if (repeats (names_of (columns_of (query_meant c query)))) rule.RepeatedColumn query.at refl)
 
   unspent-taken : (name : Name) → Unspent (taken c name)
-  unspent-taken name = one_if (not (is_free c name.text)) 13 name.at refl
+  unspent-taken name = one_if (not (is_free c name.text)) rule.TakenName name.at refl
 
   unspent-unknown : (name : Name) → Unspent (unknown_table c name)
-  unspent-unknown name = one_if (is_none (table_named c name.text)) 10 name.at refl
+  unspent-unknown name = one_if (is_none (table_named c name.text)) rule.UnknownRelation name.at refl
 
   unspent-used : (name : Name) → Unspent (used c name)
-  unspent-used name = one_if (is_some (first_user c name.text)) 16 name.at refl
+  unspent-used name = one_if (is_some (first_user c name.text)) rule.UsedByView name.at refl
 
   unspent-names : (body : StatementBody) → Unspent (name_breaks c body)
   unspent-names (st.CreateTable table columns) = both _ _ (unspent-taken table) (unspent-repeated [] columns)
   unspent-names (st.CreateTableAs table query) =
-      three _ _ _ (unspent-taken table) (unspent-named_query query) (one_if (has_boolean (columns_of (query_meant c query))) 20 query.at refl)
+      three _ _ _ (unspent-taken table) (unspent-named_query query) (one_if (has_boolean (columns_of (query_meant c query))) rule.UnfitKind query.at refl)
   unspent-names (st.CreateView view query) = both _ _ (unspent-taken view) (unspent-named_query query)
   unspent-names (st.Copy table file header mark) = unspent-unknown table
   unspent-names (st.Insert table rows) =
-      if_there (λ (entry : TableEntry). flat_map (row_breaks c (column_kinds entry.columns)) rows) (table_named c table.text) (broken 10 table.at ∷ [])
-      (λ entry. all (row_breaks c (column_kinds entry.columns)) rows (unspent-row (column_kinds entry.columns))) (one 10 table.at refl)
+      if_there (λ (entry : TableEntry). flat_map (row_breaks c (column_kinds entry.columns)) rows) (table_named c table.text) (broken rule.UnknownRelation table.at ∷ [])
+      (λ entry. all (row_breaks c (column_kinds entry.columns)) rows (unspent-row (column_kinds entry.columns))) (one rule.UnknownRelation table.at refl)
   unspent-names (st.Delete table condition) =
-      if_there (delete_breaks c table condition) (table_named c table.text) (broken 10 table.at ∷ [])
+      if_there (delete_breaks c table condition) (table_named c table.text) (broken rule.UnknownRelation table.at ∷ [])
       (λ entry. if_there (λ tree. condition_breaks (part_of c tree).at (means_at (part_of c tree) (bare (table_scope table entry ∷ [])))) condition []
       (λ tree. unspent-condition (part_of c tree).at (means_at (part_of c tree) (bare (table_scope table entry ∷ []))) (unspent-meant tree (bare (table_scope table entry ∷ [])))) tt)
-      (one 10 table.at refl)
+      (one rule.UnknownRelation table.at refl)
   unspent-names (st.DropTable table) = both _ _ (unspent-unknown table) (unspent-used table)
-  unspent-names (st.DropView view) = both _ _ (one_if (is_none (view_named c view.text)) 10 view.at refl) (unspent-used view)
+  unspent-names (st.DropView view) = both _ _ (one_if (is_none (view_named c view.text)) rule.UnknownRelation view.at refl) (unspent-used view)
   unspent-names (st.Select query) = unspent-query_meant query
   unspent-names (st.Explain query) = unspent-query_meant query
   unspent-names (st.ShowFresh table) = unspent-unknown table
@@ -513,13 +516,13 @@ module _ (c : Contents) where
   unspent-query_limits : (at : ℕ) (m : QueryMeant) → Unspent (query_limits at m)
   unspent-query_limits at m =
       both (width_limit m.inside.queries) (size_limit at (m.make []))
-      (if_there (λ (query : ℕ × ℕ). broken 26 query.0 ∷ []) (find (λ (query : ℕ × ℕ). nat_lt most_query_columns query.1) m.inside.queries) [] (λ query. one 26 query.0 refl) tt)
-      (one_if _ 27 at refl)
+      (if_there (λ (query : ℕ × ℕ). broken rule.TooManyColumns query.0 ∷ []) (find (λ (query : ℕ × ℕ). nat_lt most_query_columns query.1) m.inside.queries) [] (λ query. one rule.TooManyColumns query.0 refl) tt)
+      (one_if _ rule.TooLarge at refl)
 
   unspent-limits : (body : StatementBody) → Unspent (limit_breaks c body)
-  unspent-limits (st.CreateTable table columns) = one_if (nat_lt most_table_columns (length columns)) 26 table.at refl
+  unspent-limits (st.CreateTable table columns) = one_if (nat_lt most_table_columns (length columns)) rule.TooManyColumns table.at refl
   unspent-limits (st.CreateTableAs table query) =
-      both _ _ (one_if (nat_lt most_table_columns (length (columns_of (query_meant c query)))) 26 table.at refl) (unspent-query_limits query.at (query_meant c query))
+      both _ _ (one_if (nat_lt most_table_columns (length (columns_of (query_meant c query)))) rule.TooManyColumns table.at refl) (unspent-query_limits query.at (query_meant c query))
   unspent-limits (st.CreateView view query) = unspent-query_limits query.at (query_meant c query)
   unspent-limits (st.Copy table file header mark) = tt
   unspent-limits (st.Insert table rows) = tt
@@ -538,5 +541,5 @@ every-in P x [] h k = absurd k
 every-in P x (y ∷ ys) h (inl e) = subst P e h.0
 every-in P x (y ∷ ys) h (inr k) = every-in P x ys h.1 k
 
-pub no-number : (c : Contents) (statement : Statement) (b : Break) → Contains (breaks c statement) b → b.code ≢ 17
+pub no-number : (c : Contents) (statement : Statement) (b : Break) → Contains (breaks c statement) b → b.rule ≢ rule.NumbersSpent
 no-number c statement b h = every-in IsUnspent b (breaks c statement) (breaks-unspent c statement) (in-from_contains b (breaks c statement) h)

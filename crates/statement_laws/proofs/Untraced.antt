@@ -22,6 +22,7 @@ use Rattle.name_meaning.specs.declared.scope.Found.TheVariants.{Absent as absent
 use Rattle.name_meaning.specs.declared.scope.Scope.{Scope}
 use Rattle.name_meaning.specs.declared.trace.Trace.TheVariants.{Untraced as untraced}
 use Rattle.name_laws.proofs.Every.{Every, front-none, back-none}
+use Rattle.name_meaning.specs.declared.rule.Rule.TheVariants as rule
 
 -- the same place, where nothing is traced
 abbrev pub untraced_at : Surroundings → Surroundings
@@ -133,14 +134,14 @@ pub same-aggregate : (here : Surroundings) (at : ℕ) (word : AggWord) (argument
 same-aggregate here at word None h whole = refl
 same-aggregate here at word (Some argument) h whole =
     let m : Meant = argument.means (in_argument here) in
-    let own : List Break = broken_if (not here.aggregates) 23 at in
-    let unfit : List Break = broken_if (not (takes_kind word (seen_kind m))) 20 argument.at in
+    let own : List Break = broken_if (not here.aggregates) rule.MisplacedAggregate at in
+    let unfit : List Break = broken_if (not (takes_kind word (seen_kind m))) rule.UnfitKind argument.at in
     ap (aggregated here at word argument.at) (h (in_argument here) (front-none m.breaks own (front-none (m.breaks ++ own) unfit whole)))
 
 pub same-if_standing : (here : Surroundings) (at : ℕ) (kind : Option Kind) (m n : Meant) → MeantSame m n
     → MeantSame (if_standing here at kind m) (if_standing (untraced_at here) at kind n)
 same-if_standing here at kind m n h = chosen here.sublinks where
-  chosen : (b : Bool) → MeantSame (cond b m (breaking 24 at kind)) (cond b n (breaking 24 at kind))
+  chosen : (b : Bool) → MeantSame (cond b m (breaking rule.MisplacedSublink at kind)) (cond b n (breaking rule.MisplacedSublink at kind))
   chosen true = h
   chosen false = λ whole. refl
 
@@ -148,7 +149,7 @@ pub same-exists : (here : Surroundings) (at : ℕ) (q r : QueryMeant) → QueryS
 same-exists here at q r h whole = ap (exists_meant here at) (h whole)
 
 pub same-scalar : (here : Surroundings) (at : ℕ) (q r : QueryMeant) → QuerySame q r → MeantSame (scalar_meant here at q) (scalar_meant (untraced_at here) at r)
-same-scalar here at q r h whole = ap (scalar_meant here at) (h (front-none q.breaks (broken_if (not (is_one_column q.columns)) 21 at) whole))
+same-scalar here at q r h whole = ap (scalar_meant here at) (h (front-none q.breaks (broken_if (not (is_one_column q.columns)) rule.UnfitWidth at) whole))
 
 same-looked : (sub : SubKind) (m n : Meant) (at : ℕ) (q r : QueryMeant) → MeantSame m n → QuerySame q r → MeantSame (tested_looked sub m at q) (tested_looked sub n at r)
 same-looked sub m n at q r h k whole =
@@ -156,7 +157,7 @@ same-looked sub m n at q r h k whole =
     λ i. tested_looked sub (h (front-none m.breaks q.breaks both) i) at (k (back-none m.breaks q.breaks both) i)
 
 same-unlooked : (at : ℕ) (m n : Meant) → MeantSame m n → MeantSame (tested_unlooked at m) (tested_unlooked at n)
-same-unlooked at m n h whole = ap (tested_unlooked at) (h (front-none m.breaks (broken 24 at ∷ []) whole))
+same-unlooked at m n h whole = ap (tested_unlooked at) (h (front-none m.breaks (broken rule.MisplacedSublink at ∷ []) whole))
 
 pub same-tested : (here : Surroundings) (at : ℕ) (sub : SubKind) (part : Part) (query : QueryPart) → PartSame part → QueryPartSame query
     → MeantSame (tested_meant here at sub part query) (tested_meant (untraced_at here) at sub part query)

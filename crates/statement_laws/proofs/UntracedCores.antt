@@ -18,6 +18,7 @@ use Rattle.name_meaning.specs.declared.trace.Trace.TheVariants.{Untraced as untr
 use Rattle.name_laws.proofs.Every.{Every, front-none, back-none}
 use Rattle.statement_laws.proofs.Untraced.{ItemSame, OptionalSame, QuerySame, untraced_around, untraced_at, same-list}
 use Rattle.statement_laws.proofs.UntracedFroms.{FromPartSame, same-from_all}
+use Rattle.name_meaning.specs.declared.rule.Rule.TheVariants as rule
 
 -- ---- the clauses of a core
 
@@ -26,7 +27,7 @@ same-optional : (here : Surroundings) (part : Option Part) → OptionalSame part
 same-optional here None good whole = refl
 same-optional here (Some part) good whole =
     let m : Meant = part.means here in
-    ap (λ (n : Meant). Some n) (good here (front-none m.breaks (broken_if (not (unites (Some kind.Boolean) (seen_kind m))) 20 part.at) whole))
+    ap (λ (n : Meant). Some n) (good here (front-none m.breaks (broken_if (not (unites (Some kind.Boolean) (seen_kind m))) rule.UnfitKind part.at) whole))
 
 same-core_over : (outer : List Scope) (t : Trace) (words : List Break) (input : FromMeant) (has_from is_distinct : Bool) (items : List SelectPart)
     (condition : Option Part) (groups : List ColRef) (having : Option Part) (scope_items : List ScopeItem)

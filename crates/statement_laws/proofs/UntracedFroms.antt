@@ -16,6 +16,7 @@ use Rattle.name_meaning.specs.declared.trace.Trace.{Trace}
 use Rattle.name_meaning.specs.declared.trace.Trace.TheVariants.{Untraced as untraced}
 use Rattle.name_laws.proofs.Every.{Every, front-none, back-none}
 use Rattle.statement_laws.proofs.Untraced.{OptionalSame, QueryPartSame}
+use Rattle.name_meaning.specs.declared.rule.Rule.TheVariants as rule
 
 abbrev pub SourceSame : SourcePart → Type 0
 SourceSame (named_source name) = ⊤
@@ -45,7 +46,7 @@ module _ (c : Contents) where
 -- the item, with the breaks of what can't be traced
 abbrev item_with : ℕ → ScopeMark → List (List ℕ) → List ℕ → List ℕ → Read → List Break → ItemMeant
 item_with at m earlier name label read untraceable = record {
-  breaks = read.breaks ++ broken_if (list_any (named_so name) earlier) 15 at ++ mark_breaks m (option_map names_of read.columns) ++ untraceable;
+  breaks = read.breaks ++ broken_if (list_any (named_so name) earlier) rule.RepeatedItem at ++ mark_breaks m (option_map names_of read.columns) ++ untraceable;
   name = name;
   columns = read.columns;
   query = marked m label (read_names read) read;
@@ -54,7 +55,7 @@ item_with at m earlier name label read untraceable = record {
 
 nothing-untraceable : (earlier : List Break) (viewed : Bool) (query : Query) (at : ℕ) → [] ≡ scope_break earlier untraced viewed query at
 nothing-untraceable earlier viewed query at = chosen (is_whole earlier) where
-  chosen : (b : Bool) → [] ≡ cond b (broken_if false 25 at) []
+  chosen : (b : Bool) → [] ≡ cond b (broken_if false rule.MisplacedProvenance at) []
   chosen true = refl
   chosen false = refl
 
@@ -62,7 +63,7 @@ pub same-item_meant : (at : ℕ) (m : ScopeMark) (t : Trace) (earlier : List (Li
     → (read.breaks ≡ [] → read ≡ other) → (item_meant at m t earlier name label read).breaks ≡ []
     → item_meant at m t earlier name label read ≡ item_meant at m untraced earlier name label other
 same-item_meant at m t earlier name label read other same whole =
-    let same_name : List Break = broken_if (list_any (named_so name) earlier) 15 at in
+    let same_name : List Break = broken_if (list_any (named_so name) earlier) rule.RepeatedItem at in
     let attributes : List Break = mark_breaks m (option_map names_of read.columns) in
     let query : Query = marked m label (read_names read) read in
     let untraceable : List Break = scope_break read.breaks t read.viewed query at in
@@ -79,7 +80,7 @@ same-on outer t None condition good whole = refl
 same-on outer t (Some items) None good whole = refl
 same-on outer t (Some items) (Some condition) good whole =
     let m : Meant = condition.means (in_on items outer t) in
-    ap (λ (n : Meant). Some n) (good (in_on items outer t) (front-none m.breaks (broken_if (not (unites (Some kind.Boolean) (seen_kind m))) 20 condition.at) whole))
+    ap (λ (n : Meant). Some n) (good (in_on items outer t) (front-none m.breaks (broken_if (not (unites (Some kind.Boolean) (seen_kind m))) rule.UnfitKind condition.at) whole))
 
 same-joined : (outer : List Scope) (t : Trace) (left right : FromMeant) (step : JoinPart) → JoinSame step → (left.breaks ≡ [] → left ≡ right)
     → (join_item outer t left step (step.item.means outer t left.names)).breaks ≡ []

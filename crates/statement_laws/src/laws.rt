@@ -5,6 +5,7 @@ ghost use Rattle.bag_algebra.specs.Outcome.{Good, each};
 ghost use Rattle.bag_algebra.specs.declared.expr.Expr.{Expr};
 ghost use Rattle.name_meaning.specs.Statements.{breaks, resolved};
 ghost use Rattle.name_meaning.specs.declared.answer.Break.{Break};
+ghost use Rattle.name_meaning.specs.declared.rule.Rule.TheVariants.{NumbersSpent};
 ghost use Rattle.name_meaning.specs.declared.answer.Resolved.{Resolved};
 ghost use Rattle.perm_catalog.specs.Contents.{Contents};
 ghost use Rattle.perm_catalog.specs.Sound.{IsSound};
@@ -45,5 +46,5 @@ pub fn whole_statements_add_soundly()
 
 /// No rule of names and kinds is the want of a number to draw.
 pub fn no_rule_wants_a_number()
-    ensures { (c : Contents) (statement : Statement) (b : Break) → Contains (breaks c statement) b → b.code ≢ 17 }
+    ensures { (c : Contents) (statement : Statement) (b : Break) → Contains (breaks c statement) b → b.rule ≢ NumbersSpent }
 {}

@@ -11,6 +11,7 @@ use Rattle.name_meaning.specs.declared.answer.Break.{Break}
 use Rattle.name_meaning.specs.declared.answer.Resolved.{Resolved}
 use Rattle.name_meaning.specs.declared.answer.Resolved.TheVariants as r
 use Rattle.statement_meaning.specs.Turns.{Turn, Refused, Broken, create_table, view_created, table_dropped, view_dropped, insert, copy, delete, select}
+use Rattle.name_meaning.specs.declared.rule.Rule.TheVariants as rule
 
 -- it is settled, or it begins the file of this name and goes on by what became of that
 pub data Asked : Type 0 where
@@ -19,7 +20,7 @@ pub data Asked : Type 0 where
 
 -- a statement of a form that isn't run yet
 abbrev pub unbuilt : ℕ → Break
-unbuilt at = broken 29 at
+unbuilt at = broken rule.UnbuiltForm at
 
 abbrev pub unbuilt_turn : ℕ → Turn
 unbuilt_turn at = Refused (Broken (unbuilt at))

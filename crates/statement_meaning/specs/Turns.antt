@@ -27,6 +27,7 @@ use Rattle.perm_io.specs.Found.{Found}
 use Rattle.perm_io.specs.Found as found
 use Rattle.name_meaning.specs.Meanings.{broken}
 use Rattle.name_meaning.specs.declared.answer.Break.{Break}
+use Rattle.name_meaning.specs.declared.rule.Rule.TheVariants as rule
 
 -- why a statement is refused: a rule of names and kinds is broken, or no number is left to draw; it meets faults; its file
 -- isn't there, is too large, has a record that breaks a rule, or failed. The numbers are the statement's offset
@@ -50,7 +51,7 @@ on_good at (Bad faults) next = Refused (Meets faults at)
 
 -- a statement that draws a number; the last one is never drawn
 abbrev pub drawing : Contents → ℕ → Turn → Turn
-drawing c at turn = cond (nat_eq c.next last_number) (Refused (Broken (broken 17 at))) turn
+drawing c at turn = cond (nat_eq c.next last_number) (Refused (Broken (broken rule.NumbersSpent at))) turn
 
 -- the text of a statement that counts rows
 abbrev pub counting : List ℕ → ℕ → List ℕ

@@ -18,6 +18,7 @@ use Rattle.statement_meaning.specs.Turns.{Turn, Stands, Refused, Broken, Meets, 
 use Rattle.statement_meaning.specs.declared.refusal.StepRefusal.{StepRefusal}
 use Rattle.statement_meaning.specs.declared.refusal.StepRefusal.TheVariants as refusal
 use Rattle.statement_steps.specs.Settling.{IsSettled}
+use Rattle.name_meaning.specs.declared.rule.Rule.TheVariants.{NumbersSpent}
 
 abbrev pub of_file : Turn → Bool
 of_file (Stands text c) = false
@@ -30,7 +31,7 @@ of_file (Refused Failed) = true
 
 drawn : (c : Contents) (at : ℕ) (text : List ℕ) (new : Contents) → of_file (drawing c at (Stands text new)) ≡ false
 drawn c at text new = chosen (nat_eq c.next last_number) where
-  chosen : (spent : Bool) → of_file (cond spent (Refused (Broken (broken 17 at))) (Stands text new)) ≡ false
+  chosen : (spent : Bool) → of_file (cond spent (Refused (Broken (broken NumbersSpent at))) (Stands text new)) ≡ false
   chosen true = refl
   chosen false = refl
 

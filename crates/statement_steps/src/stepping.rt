@@ -8,7 +8,7 @@ ghost use Rattle.statement_steps.specs.Settling.{IsSettled};
 
 use crate::answering::select;
 use crate::runner::Runner;
-use name_meaning::{Break, Resolved};
+use name_meaning::{Break, Resolved, Rule};
 use perm_catalog::Catalog;
 use perm_io::Files;
 use perm_values::Bytes;
@@ -107,7 +107,10 @@ fn settled(
         Resolved::DropView { name } => drop_view(alloc, catalog, name),
         Resolved::Select { answer } => select(alloc, catalog, at, answer, runner),
         Resolved::CreateTableAs { .. } | Resolved::Explain { .. } | Resolved::ShowFresh { .. } => {
-            Err(StepRefusal::Break(Break { code: 29, at }))
+            Err(StepRefusal::Break(Break {
+                rule: Rule::UnbuiltForm,
+                at,
+            }))
         }
         Resolved::Copy { .. } => unreachable!(),
     }

@@ -13,36 +13,37 @@ use Rattle.sql_tree.specs.declared.query.SetWord.TheVariants as set_word
 use Rattle.sql_tree.specs.declared.source.FromSource.TheVariants as source
 use Rattle.sql_tree.specs.declared.source.ScopeMark.TheVariants as mark
 use Rattle.sql_tree.specs.declared.statement.StatementBody.TheVariants as st
+use Rattle.name_meaning.specs.declared.rule.Rule.TheVariants as rule
 
 -- SELECT 1 WHERE EXISTS (SELECT PROVENANCE 1)
 pub provenance_in_sublink :
     name_breaks contents (st.Select (query 0 (core (record (select 0 (item (number 7 1) ∷ []) []) { condition = Some (expr 15 (e.Exists (query 23 (core (record (select 23 (item (number 41 1) ∷ []) []) { provenance = Some 30 }))))) }))))
-    ≡ broken 25 30 ∷ []
+    ≡ broken rule.MisplacedProvenance 30 ∷ []
 provenance_in_sublink = simp (tree_equations, name_breaks) (rw token-given refl)
 
 -- then FROM alone, where it breaks: SELECT 1 UNION SELECT PROVENANCE zz FROM nosuch
 pub provenance_behind_union :
     name_breaks contents (st.Select (query 0 (set.Chain (core (select 0 (item (number 7 1) ∷ []) [])) (operand set_word.Union false 15 (core (record (select 15 (item (column 33 (codes "zz")) ∷ []) (from (table 41 (codes "nosuch")) [] ∷ [])) { provenance = Some 22 })) ∷ []))))
-    ≡ broken 25 22 ∷ broken 10 41 ∷ []
+    ≡ broken rule.MisplacedProvenance 22 ∷ broken rule.UnknownRelation 41 ∷ []
 provenance_behind_union = simp (tree_equations, name_breaks) (rw token-given refl)
 
 -- (SELECT PROVENANCE a FROM r)
 pub provenance_in_parentheses :
     name_breaks contents (st.Select (query 0 (set.Paren (query 1 (core (record (select 1 (item (column 19 (codes "a")) ∷ []) (from (table 26 (codes "r")) [] ∷ [])) { provenance = Some 8 }))))))
-    ≡ broken 25 8 ∷ []
+    ≡ broken rule.MisplacedProvenance 8 ∷ []
 provenance_in_parentheses = simp (tree_equations, name_breaks) (rw token-given refl)
 
 -- in a sublink that is traced, a source over anything but a table: SELECT PROVENANCE a FROM r WHERE EXISTS (SELECT 1 FROM (SELECT c FROM s) x BASERELATION)
 pub source_in_traced_sublink :
     name_breaks contents (st.Select (query 0 (core (record (select 0 (item (column 18 (codes "a")) ∷ []) (from (table 25 (codes "r")) [] ∷ [])) { provenance = Some 7; condition = Some (expr 33 (e.Exists (query 41 (core (select 41 (item (number 48 1) ∷ []) (from (reads 55 (source.Inner (query 56 (core (select 56 (item (column 63 (codes "c")) ∷ []) (from (table 70 (codes "s")) [] ∷ []))))) (Some (name 73 (codes "x"))) mark.BaseRelation) [] ∷ [])))))) }))))
-    ≡ broken 25 55 ∷ []
+    ≡ broken rule.MisplacedProvenance 55 ∷ []
 unfolding shape-the_row-Query-0 hidden-the_row-Query-0 shape-the_row-Sublink-1 hidden-the_row-Sublink-1 package.denote.Hole.Carrier.hidden
 source_in_traced_sublink = simp (tree_equations, name_breaks) (rw token-given refl)
 
 -- a view with a sublink that has such a source: SELECT PROVENANCE a FROM e
 pub view_in_traced_query :
     name_breaks contents (st.Select (query 0 (core (record (select 0 (item (column 18 (codes "a")) ∷ []) (from (table 25 (codes "e")) [] ∷ [])) { provenance = Some 7 }))))
-    ≡ broken 25 25 ∷ []
+    ≡ broken rule.MisplacedProvenance 25 ∷ []
 unfolding shape-the_row-Query-0 hidden-the_row-Query-0 shape-the_row-Sublink-1 hidden-the_row-Sublink-1 package.denote.Hole.Carrier.hidden
 view_in_traced_query = simp (tree_equations, name_breaks) (rw token-given refl)
 
@@ -56,18 +57,18 @@ view_untraced = simp (tree_equations, name_breaks) (rw token-given refl)
 -- at the innermost item that breaks the rule: SELECT PROVENANCE a FROM r WHERE EXISTS (SELECT 1 FROM (SELECT 1 FROM t, w) x)
 pub innermost_item :
     name_breaks contents (st.Select (query 0 (core (record (select 0 (item (column 18 (codes "a")) ∷ []) (from (table 25 (codes "r")) [] ∷ [])) { provenance = Some 7; condition = Some (expr 33 (e.Exists (query 41 (core (select 41 (item (number 48 1) ∷ []) (from (reads 55 (source.Inner (query 56 (core (select 56 (item (number 63 1) ∷ []) (from (table 70 (codes "t")) [] ∷ from (table 73 (codes "w")) [] ∷ []))))) (Some (name 76 (codes "x"))) mark.Plain) [] ∷ [])))))) }))))
-    ≡ broken 25 73 ∷ []
+    ≡ broken rule.MisplacedProvenance 73 ∷ []
 unfolding shape-the_row-Query-0 hidden-the_row-Query-0 shape-the_row-Sublink-1 hidden-the_row-Sublink-1 package.denote.Hole.Carrier.hidden
 innermost_item = simp (tree_equations, name_breaks) (rw token-given refl)
 
 -- each from the left: no such column, two such columns, named before: SELECT 1 FROM (SELECT a, a, b FROM r) x PROVENANCE (nosuch, a, b, b)
 pub attributes :
     name_breaks contents (st.Select (query 0 (core (select 0 (item (number 7 1) ∷ []) (from (reads 14 (source.Inner (query 15 (core (select 15 (item (column 22 (codes "a")) ∷ item (column 25 (codes "a")) ∷ item (column 28 (codes "b")) ∷ []) (from (table 35 (codes "r")) [] ∷ []))))) (Some (name 38 (codes "x"))) (mark.External (name 52 (codes "nosuch") ∷ name 60 (codes "a") ∷ name 63 (codes "b") ∷ name 66 (codes "b") ∷ []))) [] ∷ [])))))
-    ≡ broken 11 52 ∷ broken 12 60 ∷ broken 14 66 ∷ []
+    ≡ broken rule.UnknownColumn 52 ∷ broken rule.AmbiguousColumn 60 ∷ broken rule.RepeatedColumn 66 ∷ []
 attributes = simp (tree_equations, name_breaks) (rw token-given refl)
 
 -- which are named twice is known where the columns are not: SELECT 1 FROM nosuch PROVENANCE (a, a)
 pub attributes_of_unknown :
     name_breaks contents (st.Select (query 0 (core (select 0 (item (number 7 1) ∷ []) (from (reads 14 (source.Named (name 14 (codes "nosuch"))) None (mark.External (name 33 (codes "a") ∷ name 36 (codes "a") ∷ []))) [] ∷ [])))))
-    ≡ broken 10 14 ∷ broken 14 36 ∷ []
+    ≡ broken rule.UnknownRelation 14 ∷ broken rule.RepeatedColumn 36 ∷ []
 attributes_of_unknown = simp (tree_equations, name_breaks) (rw token-given refl)

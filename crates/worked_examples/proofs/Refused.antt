@@ -28,6 +28,7 @@ use Rattle.statement_meaning.specs.Turns.{Cause, Stands, Refused, Broken, Meets,
 use Rattle.worked_examples.specs.NamedTrees.{name, statement, defined, values, query, core, from, table}
 use Rattle.worked_examples.specs.NamedTrees as tree
 use Rattle.worked_examples.specs.HeldRows.{answering, column, compared, drawing_next, holding, item, number, reckoned, rows-r, rows-s, select, selected, source_s, text, whole, with_v}
+use Rattle.name_meaning.specs.declared.rule.Rule.TheVariants as rule
 
 abbrev refused : Cause → Asked
 refused cause = Settled (Refused cause)
@@ -50,34 +51,34 @@ too_much = reckoned Add (number 9223372036854775807) (number 1)
 -- ---- names and kinds
 
 -- INSERT INTO nosuch VALUES (1)
-pub unknown : asked (holding [] []) (statement (st.Insert (name 12 (codes "nosuch")) (values 26 (tree.number 27 1 ∷ []) ∷ []))) ≡ refused (Broken (broken 10 12))
+pub unknown : asked (holding [] []) (statement (st.Insert (name 12 (codes "nosuch")) (values 26 (tree.number 27 1 ∷ []) ∷ []))) ≡ refused (Broken (broken rule.UnknownRelation 12))
 unknown = refl
 
 -- CREATE TABLE r (a INTEGER)
-pub taken : asked (holding [] []) (statement (st.CreateTable (name 13 (codes "r")) (defined (name 16 (codes "a")) kind.Integer ∷ []))) ≡ refused (Broken (broken 13 13))
+pub taken : asked (holding [] []) (statement (st.CreateTable (name 13 (codes "r")) (defined (name 16 (codes "a")) kind.Integer ∷ []))) ≡ refused (Broken (broken rule.TakenName 13))
 taken = refl
 
 -- a view names it: DROP TABLE r
-pub used : asked (with_v (holding [] [])) (statement (st.DropTable (name 11 (codes "r")))) ≡ refused (Broken (broken 16 11))
+pub used : asked (with_v (holding [] [])) (statement (st.DropTable (name 11 (codes "r")))) ≡ refused (Broken (broken rule.UsedByView 11))
 used = refl
 
 -- the first of two breaks: INSERT INTO r VALUES (1), (1, 2, 3)
 pub width : asked (holding [] []) (statement (st.Insert (name 12 (codes "r")) (values 21 (tree.number 22 1 ∷ []) ∷ values 26 (tree.number 27 1 ∷ tree.number 30 2 ∷ tree.number 33 3 ∷ []) ∷ [])))
-    ≡ refused (Broken (broken 21 21))
+    ≡ refused (Broken (broken rule.UnfitWidth 21))
 width = refl
 
 -- ---- what isn't run yet hides every other break
 
 -- EXPLAIN REWRITE SELECT 1 FROM nosuch
-pub unbuilt_explain : asked (holding [] []) (standing 7 (st.Explain (query 23 (core (tree.select 23 (tree.item (tree.number 30 1) ∷ []) (from (table 37 (codes "nosuch")) [] ∷ [])))))) ≡ refused (Broken (broken 29 7))
+pub unbuilt_explain : asked (holding [] []) (standing 7 (st.Explain (query 23 (core (tree.select 23 (tree.item (tree.number 30 1) ∷ []) (from (table 37 (codes "nosuch")) [] ∷ [])))))) ≡ refused (Broken (broken rule.UnbuiltForm 7))
 unbuilt_explain = refl
 
 -- CREATE TABLE r AS SELECT 1
-pub unbuilt_stored : asked (holding [] []) (standing 7 (st.CreateTableAs (name 20 (codes "r")) (query 25 (core (tree.select 25 (tree.item (tree.number 32 1) ∷ []) []))))) ≡ refused (Broken (broken 29 7))
+pub unbuilt_stored : asked (holding [] []) (standing 7 (st.CreateTableAs (name 20 (codes "r")) (query 25 (core (tree.select 25 (tree.item (tree.number 32 1) ∷ []) []))))) ≡ refused (Broken (broken rule.UnbuiltForm 7))
 unbuilt_stored = refl
 
 -- SHOW FRESH nosuch
-pub unbuilt_fresh : asked (holding [] []) (standing 7 (st.ShowFresh (name 18 (codes "nosuch")))) ≡ refused (Broken (broken 29 7))
+pub unbuilt_fresh : asked (holding [] []) (standing 7 (st.ShowFresh (name 18 (codes "nosuch")))) ≡ refused (Broken (broken rule.UnbuiltForm 7))
 unbuilt_fresh = refl
 
 -- ---- faults, at the statement's offset
@@ -137,11 +138,11 @@ third_record = refl
 -- ---- the last number is never drawn, which comes behind all other causes
 
 -- CREATE TABLE t (a INTEGER)
-pub spent : asked (nothing_held last_number) (standing 3 (st.CreateTable (name 13 (codes "t")) (defined (name 16 (codes "a")) kind.Integer ∷ []))) ≡ refused (Broken (broken 17 3))
+pub spent : asked (nothing_held last_number) (standing 3 (st.CreateTable (name 13 (codes "t")) (defined (name 16 (codes "a")) kind.Integer ∷ []))) ≡ refused (Broken (broken rule.NumbersSpent 3))
 spent = refl
 
 -- though no row goes: DELETE FROM r
-pub spent_by_delete : asked (drawing_next last_number [] []) (standing 3 (st.Delete (name 12 (codes "r")) None)) ≡ refused (Broken (broken 17 3))
+pub spent_by_delete : asked (drawing_next last_number [] []) (standing 3 (st.Delete (name 12 (codes "r")) None)) ≡ refused (Broken (broken rule.NumbersSpent 3))
 spent_by_delete = rw rows-r refl
 
 -- INSERT INTO r VALUES (1 / 0, 'x')
@@ -154,6 +155,6 @@ pub file_before_spent : copy (drawing_next last_number [] []) 7 (codes "r") kind
 unfolding records_from strip_bom next_record
 file_before_spent = refl
 
-pub copy_spent : copy (drawing_next last_number [] []) 7 (codes "r") kinds [] false (found.Read (codes "1,1\n")) ≡ Refused (Broken (broken 17 7))
+pub copy_spent : copy (drawing_next last_number [] []) 7 (codes "r") kinds [] false (found.Read (codes "1,1\n")) ≡ Refused (Broken (broken rule.NumbersSpent 7))
 unfolding records_from strip_bom next_record
 copy_spent = refl

@@ -10,7 +10,7 @@ ghost use Rattle.name_seen_parts.specs.Told.{Tells};
 use crate::forms::condition_kind;
 use crate::refusal::Refusal;
 use crate::scopes::{Scopes, look_up};
-use name_meaning::{Break, Found, Scope};
+use name_meaning::{Break, Found, Rule, Scope};
 use perm_values::{Kind, List, NoMemory};
 use sql_tree::ColRef;
 use std::alloc::Global;
@@ -24,7 +24,10 @@ pub fn word_break(provable: bool, word: Option<usize>) -> Result<(), Break>
     }
     match word {
         None => Ok(()),
-        Some(at) => Err(Break { code: 25, at }),
+        Some(at) => Err(Break {
+            rule: Rule::MisplacedProvenance,
+            at,
+        }),
     }
 }
 
@@ -57,8 +60,14 @@ fn group_break(scope: &Scope, group: &ColRef) -> Result<(), Break>
 {
     let at = group.at;
     match group_found(scope, group) {
-        Found::Absent => Err(Break { code: 11, at }),
-        Found::Ambiguous => Err(Break { code: 12, at }),
+        Found::Absent => Err(Break {
+            rule: Rule::UnknownColumn,
+            at,
+        }),
+        Found::Ambiguous => Err(Break {
+            rule: Rule::AmbiguousColumn,
+            at,
+        }),
         Found::Column(_) => Ok(()),
     }
 }

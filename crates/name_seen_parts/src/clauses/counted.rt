@@ -2,17 +2,23 @@ ghost use Rattle.std.specs.Prelude.{◌≡◌, ◌++◌, nat_eq, nat_lt};
 ghost use Rattle.name_seen_parts.specs.Seen.{first_or};
 ghost use Rattle.name_meaning.specs.Meanings.{broken_if};
 
-use name_meaning::Break;
+use name_meaning::{Break, Rule};
 
 /// That a name at this offset names no column, or more than one.
 pub fn count_break(count: usize, at: usize) -> Result<(), Break>
     ensures { result ≡ first_or (broken_if (nat_eq count 0) 11 at ++ broken_if (nat_lt 1 count) 12 at) tt }
 {
     if count == 0 {
-        return Err(Break { code: 11, at });
+        return Err(Break {
+            rule: Rule::UnknownColumn,
+            at,
+        });
     }
     if count > 1 {
-        return Err(Break { code: 12, at });
+        return Err(Break {
+            rule: Rule::AmbiguousColumn,
+            at,
+        });
     }
     Ok(())
 }

@@ -7,7 +7,7 @@ ghost use Rattle.name_seen_parts.specs.Columns.{columns_of};
 
 use crate::clauses::column::ShownColumn;
 use crate::clauses::counted::count_break;
-use name_meaning::Break;
+use name_meaning::{Break, Rule};
 use perm_values::Chars;
 use sql_tree::{OrderKey, OrderTree};
 
@@ -43,7 +43,10 @@ fn position_break(place: i64, width: usize, at: usize) -> Result<(), Break>
     ensures { result ≡ first_or (broken_if (not (is_position place width)) 11 at) tt }
 {
     if !is_position(place, width) {
-        return Err(Break { code: 11, at });
+        return Err(Break {
+            rule: Rule::UnknownColumn,
+            at,
+        });
     }
     Ok(())
 }

@@ -6,17 +6,23 @@ ghost use Rattle.name_seen_parts.specs.Columns.{columns_of};
 
 use crate::clauses::column::ShownColumn;
 use crate::kinds::{united_kind, unites};
-use name_meaning::Break;
+use name_meaning::{Break, Rule};
 
 /// That the columns of an operand at this offset are not as many as those before it, or don't unite with them.
 pub fn operand_break(at: usize, left: &[ShownColumn], right: &[ShownColumn]) -> Result<(), Break>
     ensures { result ≡ first_or (operand_break at (columns_of left.now) (columns_of right.now)) tt }
 {
     if left.len() != right.len() {
-        return Err(Break { code: 21, at });
+        return Err(Break {
+            rule: Rule::UnfitWidth,
+            at,
+        });
     }
     if !do_unite(left, right) {
-        return Err(Break { code: 20, at });
+        return Err(Break {
+            rule: Rule::UnfitKind,
+            at,
+        });
     }
     Ok(())
 }

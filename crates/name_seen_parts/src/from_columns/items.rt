@@ -9,7 +9,7 @@ ghost use Rattle.perm_catalog.specs.Contents.{Contents};
 ghost use Rattle.name_seen_parts.specs.FromColumns.{known_names};
 
 use crate::from_columns::marks::mark_break;
-use name_meaning::Break;
+use name_meaning::{Break, Rule};
 use perm_catalog::Column;
 use perm_values::{Chars, Copyable, NoMemory};
 use sql_tree::{FromItem, FromSource};
@@ -51,7 +51,7 @@ pub fn item_break(
 {
     if is_among(name, earlier) || is_among(name, items) {
         return Err(Break {
-            code: 15,
+            rule: Rule::RepeatedItem,
             at: item.at,
         });
     }

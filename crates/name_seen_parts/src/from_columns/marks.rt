@@ -6,7 +6,7 @@ ghost use Rattle.name_seen_parts.specs.FromColumns.{known_names};
 ghost use Rattle.name_seen_parts.specs.Marks.{attribute_break, first_named, is_among, places_of};
 
 use crate::clauses::count_break;
-use name_meaning::Break;
+use name_meaning::{Break, Rule};
 use perm_catalog::Column;
 use perm_values::{Chars, Copyable, List, NoMemory};
 use sql_tree::{Name, ScopeMark};
@@ -41,7 +41,7 @@ fn attribute_break(attribute: &Name, earlier: &[Name], columns: &[Column]) -> Re
     count_break(count_named(columns, &attribute.text), attribute.at)?;
     if is_among(earlier, &attribute.text) {
         return Err(Break {
-            code: 14,
+            rule: Rule::RepeatedColumn,
             at: attribute.at,
         });
     }

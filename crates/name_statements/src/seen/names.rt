@@ -5,7 +5,7 @@ ghost use Rattle.name_seen_parts.specs.Seen.{first_or};
 ghost use Rattle.perm_catalog.specs.Changes.{is_free};
 ghost use Rattle.name_statements.specs.Earlier.{column_break, is_defined};
 
-use name_meaning::Break;
+use name_meaning::{Break, Rule};
 use perm_catalog::Catalog;
 use perm_values::Chars;
 use sql_tree::{ColumnDef, Name};
@@ -19,7 +19,7 @@ pub fn taken(catalog: &Catalog, name: &Name) -> Result<(), Break>
 {
     if !is_free(catalog, &name.text) {
         return Err(Break {
-            code: 13,
+            rule: Rule::TakenName,
             at: name.at,
         });
     }
@@ -39,7 +39,7 @@ pub fn unknown_table(catalog: &Catalog, name: &Name) -> Result<(), Break>
     match catalog.table(&name.text) {
         Some(_) => Ok(()),
         None => Err(Break {
-            code: 10,
+            rule: Rule::UnknownRelation,
             at: name.at,
         }),
     }
@@ -52,7 +52,7 @@ pub fn unknown_view(catalog: &Catalog, name: &Name) -> Result<(), Break>
     match catalog.view(&name.text) {
         Some(_) => Ok(()),
         None => Err(Break {
-            code: 10,
+            rule: Rule::UnknownRelation,
             at: name.at,
         }),
     }
@@ -65,7 +65,7 @@ pub fn used(catalog: &Catalog, name: &Name) -> Result<(), Break>
     match catalog.user_of(&name.text) {
         None => Ok(()),
         Some(_) => Err(Break {
-            code: 16,
+            rule: Rule::UsedByView,
             at: name.at,
         }),
     }
@@ -77,7 +77,7 @@ pub fn table_limit(name: &Name, width: usize) -> Result<(), Break>
 {
     if width > MOST_COLUMNS {
         return Err(Break {
-            code: 26,
+            rule: Rule::TooManyColumns,
             at: name.at,
         });
     }
@@ -102,7 +102,7 @@ fn repeated_column(earlier: &[ColumnDef], column: &ColumnDef) -> Result<(), Brea
 {
     if is_among(earlier, &column.name.text) {
         return Err(Break {
-            code: 14,
+            rule: Rule::RepeatedColumn,
             at: column.name.at,
         });
     }

@@ -8,7 +8,7 @@ ghost use Rattle.name_seen_parts.specs.Seen.{first_or};
 ghost use Rattle.name_seen_parts.specs.Columns.{columns_of};
 ghost use Rattle.name_statements.specs.Earlier.{is_shown};
 
-use name_meaning::Break;
+use name_meaning::{Break, Rule};
 use name_seen_parts::ShownColumn;
 use perm_values::Kind;
 
@@ -17,7 +17,10 @@ pub fn repeats_break(at: usize, columns: &[ShownColumn]) -> Result<(), Break>
     ensures { result ≡ first_or (broken_if (repeats (names_of (settled_columns (columns_of columns.now)))) 14 at) tt }
 {
     if do_repeat(columns) {
-        return Err(Break { code: 14, at });
+        return Err(Break {
+            rule: Rule::RepeatedColumn,
+            at,
+        });
     }
     Ok(())
 }
@@ -45,7 +48,10 @@ pub fn boolean_break(at: usize, columns: &[ShownColumn]) -> Result<(), Break>
     ensures { result ≡ first_or (broken_if (has_boolean (settled_columns (columns_of columns.now))) 20 at) tt }
 {
     if has_boolean(columns) {
-        return Err(Break { code: 20, at });
+        return Err(Break {
+            rule: Rule::UnfitKind,
+            at,
+        });
     }
     Ok(())
 }

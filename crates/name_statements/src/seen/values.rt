@@ -10,7 +10,7 @@ ghost use Rattle.name_meaning.specs.declared.scope.Scope.{Scope as Sight};
 ghost use Rattle.perm_catalog.specs.Columns.{column_kinds};
 ghost use Rattle.perm_catalog.specs.Sound.{IsSound};
 
-use name_meaning::{Break, Trace};
+use name_meaning::{Break, Rule, Trace};
 use name_seen::kind_of;
 use name_seen_parts::{Here, Refusal, Scopes, Standing, unites};
 use perm_catalog::{Catalog, Column};
@@ -49,7 +49,10 @@ fn row_break(here: &Here, columns: &[Column], row: &ValuesRow) -> Result<(), Ref
     let values = row.values.as_slice();
     if values.len() != columns.len() {
         let at = row.at;
-        return Err(Refusal::Break(Break { code: 21, at }));
+        return Err(Refusal::Break(Break {
+            rule: Rule::UnfitWidth,
+            at,
+        }));
     }
     values_break(here, columns, values)
 }
@@ -84,7 +87,10 @@ fn value_over(kind: Kind, at: usize, answer: Result<Option<Kind>, Refusal>) -> R
     match answer {
         Ok(found) => {
             if !unites(Some(kind), found) {
-                return Err(Refusal::Break(Break { code: 20, at }));
+                return Err(Refusal::Break(Break {
+                    rule: Rule::UnfitKind,
+                    at,
+                }));
             }
             Ok(())
         }

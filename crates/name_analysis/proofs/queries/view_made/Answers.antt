@@ -12,6 +12,7 @@ use Rattle.name_statements.specs.Resolves.{ResolvesBy}
 use Rattle.name_statements.proofs.Queried.{view-limited, view-made, view-repeats, view-seen}
 use Rattle.name_statements.proofs.Refused.{by-limit, is-whole, limits-refused, query-refused, query-whole, repeats-told, same-refused}
 use Rattle.name_analysis.proofs.queries.view_made.Goals as goal
+use Rattle.name_meaning.specs.declared.rule.Rule.TheVariants as rule
 
 pub whole_of-requires-clause-seen : goal.whole_of-requires-clause-seen
 whole_of-requires-clause-seen c =
@@ -46,7 +47,7 @@ returns-in_err-whole c = λ view free.
     let seen = query-whole held place.result.catalog.now tree (around_of place.result) (place.ensures.place refl) place.ensures.catalog c.in_ok-shown.shown c.in_ok-shown.ensures in
     same-refused (ResolvesBy held (st.CreateView view tree) (r.CreateView view.text)) c.from_residual-in_err-whole.result c.in_err-whole.field-0.0 c.from_residual-in_err-whole.ensures.1
     (view-limited held tree view c.in_err-whole.field-0.0 free seen.whole
-    (none-broken (broken_if (words.repeats (names_of (words.columns_of (words.query_meant held tree)))) 14 tree.at) (tt {0}) (tt {0})
+    (none-broken (broken_if (words.repeats (names_of (words.columns_of (words.query_meant held tree)))) rule.RepeatedColumn tree.at) (tt {0}) (tt {0})
     (repeats-told (words.query_meant held tree) c.in_ok-shown.shown c.as_slice.result.now tree.at c.repeats_break-repeats.result seen c.as_slice.ensures c.repeats_break-repeats.ensures
     ∙ c.in_ok-named.ensures.kept.1))
     (limits-refused held place.result.catalog.now tree (around_of place.result) (place.ensures.place refl) place.ensures.catalog c.in_err-whole.field-0.0 c.in_err-whole.ensures))
@@ -59,7 +60,7 @@ returns c = λ view free.
     let seen = query-whole held place.result.catalog.now tree (around_of place.result) (place.ensures.place refl) place.ensures.catalog c.in_ok-shown.shown c.in_ok-shown.ensures in
     view-made held tree view c.in_ok-whole.whole c.in_ok-entry.entry view.text
     free seen.whole
-    (none-broken (broken_if (words.repeats (names_of (words.columns_of (words.query_meant held tree)))) 14 tree.at) (tt {0}) (tt {0})
+    (none-broken (broken_if (words.repeats (names_of (words.columns_of (words.query_meant held tree)))) rule.RepeatedColumn tree.at) (tt {0}) (tt {0})
     (repeats-told (words.query_meant held tree) c.in_ok-shown.shown c.as_slice.result.now tree.at c.repeats_break-repeats.result seen c.as_slice.ensures c.repeats_break-repeats.ensures
     ∙ c.in_ok-named.ensures.kept.1))
     (is-whole held place.result.catalog.now tree (around_of place.result) (place.ensures.place refl) place.ensures.catalog c.in_ok-whole.whole c.in_ok-whole.ensures)

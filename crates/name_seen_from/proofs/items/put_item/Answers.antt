@@ -7,6 +7,7 @@ use Rattle.name_seen_parts.proofs.Firsts.{none-broken}
 use Rattle.name_seen_parts.specs.Scopes.{item_scope, scope_beside}
 use Rattle.name_seen_from.proofs.Placed.{early-none, item-scoped, item-whole, refused, scope-told}
 use Rattle.name_seen_from.proofs.items.put_item.Goals as goal
+use Rattle.name_meaning.specs.declared.rule.Rule.TheVariants as rule
 
 pub returns-in_err-scope_break : goal.returns-in_err-scope_break
 returns-in_err-scope_break c = λ contents read is.
@@ -33,7 +34,7 @@ returns c = λ contents read is.
     item-whole item.at item.mark trace held name label read c.args.reading c.in_ok-marked.marked c.args.scope.now c.put_read.new.scope c.args.facts.now c.put_read.new.facts is
     (early-none item.at item.mark c.args.earlier.now c.args.scope.now.items c.as_slice.result.now name c.in_ok-name.name c.args.reading.columns c.as_slice-2.result.now
     (c.in_ok-name.ensures contents) c.as_slice.ensures c.as_slice-2.ensures c.in_ok-item_break.ensures)
-    (none-broken (broken_if (is_out_of_scope trace c.args.reading.viewed (marked item.mark label (read_names read) read)) 25 item.at) (tt {0}) (tt {0})
+    (none-broken (broken_if (is_out_of_scope trace c.args.reading.viewed (marked item.mark label (read_names read) read)) rule.MisplacedProvenance item.at) (tt {0}) (tt {0})
     (sym (scope-told (Ok (tt {0})) item.at item.mark trace label read c.args.reading c.in_ok-marked.marked is (c.in_ok-marked.ensures contents) c.in_ok-scope_break.ensures)))
     (c.in_ok-marked.ensures contents)
     (c.in_ok-put_read.ensures.wider
