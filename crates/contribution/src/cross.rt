@@ -13,17 +13,18 @@ ghost use Rattle.bag_algebra.specs.WellFormed.{WellFormed};
 ghost use Rattle.bag_algebra.specs.declared.query.JoinKind.TheVariants.{Inner};
 ghost use Rattle.bag_algebra.specs.declared.query.Query.{end_of-Sublink};
 ghost use Rattle.bag_algebra.specs.declared.query.Query.TheVariants.{Single, Table};
-ghost use Rattle.contribution.specs.CrossBase.{base_source, table_sources, subs_table_sources, source_query, always, crossed, cross_base_of};
+ghost use Rattle.contribution.specs.CrossBase.{base_source, table_sources, subs_table_sources, source_query, crossed, cross_base_of};
 ghost use Rattle.bag_algebra.specs.ColumnItems.{column_items};
 ghost use Rattle.contribution.specs.NullRow.{null_row_of};
+ghost use Rattle.contribution.specs.Conjunctions.{always};
 ghost use Rattle.contribution.specs.HeldRows.{held_rows, StandAt};
 ghost use Rattle.perm_values.specs.declared.kind.Kind.{Kind as Sort};
 
 use crate::blank::null_row;
-use crate::parts::{column_items, joined, projection};
-use crate::places::add_picked;
-use bag_algebra::{Expr, JoinKind, Query, Sublink};
-use perm_values::{Copyable, Kind, List, NoMemory, Value, both, boxes};
+use crate::parts::{always, column_items, join_on, projection};
+use crate::places::kinds_at;
+use bag_algebra::{JoinKind, Query, Sublink};
+use perm_values::{Copyable, Kind, List, NoMemory, both};
 use std::alloc::Global;
 
 /// A source over a table: the table, and the places of the source.
@@ -172,16 +173,7 @@ fn beside(alloc: Global, source: &TableSource, rest: Query) -> Result<Query, NoM
         drop(rest);
         return Err(NoMemory);
     };
-    joined(alloc, JoinKind::Inner, left, rest, always())
-}
-
-fn always() -> Expr
-    ensures { result ≡ always }
-{
-    Expr::Lit {
-        value: Value::Boolean(true),
-        kind: Kind::Boolean,
-    }
+    join_on(alloc, JoinKind::Inner, left, rest, always())
 }
 
 /// The rows of the table at the source's places, and one row of NULLs.
@@ -189,12 +181,7 @@ fn source_query(alloc: Global, source: &TableSource) -> Result<Query, NoMemory>
     ensures { IfOk result (λ p. p ≡ source_query source.now) }
 {
     let (rows, blank) = both(source_rows(alloc, source), blank_row(alloc, source))?;
-    let (left, right) = boxes(alloc, rows, blank)?;
-    Ok(Query::Union {
-        all: true,
-        left,
-        right,
-    })
+    Query::union(alloc, true, rows, blank)
 }
 
 fn source_rows(alloc: Global, source: &TableSource) -> Result<Query, NoMemory>
@@ -216,11 +203,6 @@ fn source_rows(alloc: Global, source: &TableSource) -> Result<Query, NoMemory>
 fn blank_row(alloc: Global, source: &TableSource) -> Result<Query, NoMemory>
     ensures { IfOk result (λ p. p ≡ null_row_of (kinds_in source.now.kinds source.now.places)) }
 {
-    let mut kinds = List::new(alloc);
-    add_picked(
-        &mut kinds,
-        source.kinds.as_slice(),
-        source.places.as_slice(),
-    )?;
+    let kinds = kinds_at(alloc, source.kinds.as_slice(), source.places.as_slice())?;
     null_row(alloc, kinds.as_slice())
 }

@@ -16,7 +16,6 @@ ghost use Rattle.contribution.specs.Longer.{Longer};
 ghost use Rattle.contribution.specs.SublinkValues.{contributing_value};
 ghost use Rattle.perm_values.specs.declared.kind.Kind.{Kind as Sort};
 
-use crate::parts::kind_or_text;
 use bag_algebra::{Aggr, Item, Label, Place, Query, Sublink};
 use perm_values::{Copyable, Kind, List, NoMemory};
 use std::alloc::Global;
@@ -25,14 +24,6 @@ use std::alloc::Global;
 #[derive(Drop)]
 pub struct PlaceList {
     pub places: List<Place>,
-}
-
-impl Copyable for PlaceList {
-    fn copy(&self, alloc: Global) -> Result<PlaceList, NoMemory> {
-        Ok(PlaceList {
-            places: self.places.copy(alloc)?,
-        })
-    }
 }
 
 /// The places of the query's witness lists: one for each source. Each entry of a witness list stands at its place: it is
@@ -64,6 +55,28 @@ pub fn kinds(alloc: Global, query: &Query) -> Result<List<Kind>, NoMemory>
     Ok(found)
 }
 
+/// The kind at a place; one out of range counts as a text. It takes no memory.
+pub fn kind_or_text(kinds: &[Kind], place: usize) -> Kind
+    ensures { result ≡ kind_in kinds.now place }
+{
+    if place < kinds.len() {
+        kinds[place]
+    } else {
+        Kind::Text
+    }
+}
+
+/// The kinds at the places; a place out of range counts as a text. It fails only for want of memory.
+pub fn kinds_at(alloc: Global, kinds: &[Kind], places: &[usize]) -> Result<List<Kind>, NoMemory>
+    ensures { IfOk result (λ found. found ≡ kinds_in kinds.now places.now) }
+{
+    let mut found = List::new(alloc);
+    for place in places {
+        found.push(kind_or_text(kinds, *place))?;
+    }
+    Ok(found)
+}
+
 #[cycle(shape)]
 fn add_kinds(alloc: Global, query: &Query, found: &mut List<Kind>) -> Result<(), NoMemory>
     ensures { OnOk result (found.new ≡ found.old ++ kinds_of query.now) }
@@ -89,7 +102,7 @@ fn add_kinds(alloc: Global, query: &Query, found: &mut List<Kind>) -> Result<(),
         } => {
             let mut below = List::new(alloc);
             add_kinds(alloc, input.get(), &mut below)?;
-            add_picked(found, below.as_slice(), groups.as_slice())?;
+            found.append(kinds_at(alloc, below.as_slice(), groups.as_slice())?)?;
             add_aggregate_kinds(found, aggregates.as_slice())
         }
         Query::Limit { input, .. } => add_kinds(alloc, input.get(), found),
@@ -177,8 +190,7 @@ fn add_source(
     ensures { OnOk result (found.new ≡
         found.old ++ (record { label = label.now; kinds = kinds_in below.now places.now }) ∷ []) }
 {
-    let mut kinds = List::new(alloc);
-    add_picked(&mut kinds, below, places)?;
+    let kinds = kinds_at(alloc, below, places)?;
     let label = label.copy(alloc)?;
     found.push(Place { label, kinds })
 }
@@ -188,20 +200,6 @@ fn add_all(found: &mut List<Kind>, kinds: &[Kind]) -> Result<(), NoMemory>
 {
     for kind in kinds {
         found.push(*kind)?;
-    }
-    Ok(())
-}
-
-/// The kinds at the places; a place out of range counts as a text.
-pub(crate) fn add_picked(
-    found: &mut List<Kind>,
-    below: &[Kind],
-    places: &[usize],
-) -> Result<(), NoMemory>
-    ensures { OnOk result (found.new ≡ found.old ++ kinds_in below.now places.now) }
-{
-    for place in places {
-        found.push(kind_or_text(below, *place))?;
     }
     Ok(())
 }
