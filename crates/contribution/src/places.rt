@@ -36,10 +36,12 @@ pub fn shape(alloc: Global, query: &Query) -> Result<PlaceList, NoMemory>
         All (StandAt list.places (held_rows query.now db (Some env))) (witnesses query.now db env t)) }
     ensures no_row_lost { (db : Database) (env : Items Cells) (bag : Bag) (t : Cells) →
         meaning query.now db env ≡ Good bag → IsTrue (member t bag) ↔ (witnesses query.now db env t ≢ []) }
-    ensures truth_kept { (subs : Items Tested) (db : Database) (env : Items Cells) (u : Cells) → HasSublinks query.now subs →
+    ensures truth_kept { (subs : Items Tested) (db : Database) (env : Items Cells) (u : Cells) →
+        HasSublinks query.now subs →
         each (contributing_value db env u) subs ≡ each (sublink_value db env u) subs }
     ensures growth { (outer : Items (Items Sort)) (db : Database) (env other : Items Cells) →
-        WellFormed outer query.now → IsTrue (env_fits env outer) → Longer env other → denote query.now db env ≡ denote query.now db other }
+        WellFormed outer query.now → IsTrue (env_fits env outer) → Longer env other →
+        denote query.now db env ≡ denote query.now db other }
 {
     let mut places = List::new(alloc);
     add_places(alloc, query, &mut places)?;
@@ -214,7 +216,8 @@ fn add_item_kinds(found: &mut List<Kind>, items: &[Item]) -> Result<(), NoMemory
 }
 
 fn add_aggregate_kinds(found: &mut List<Kind>, aggregates: &[Aggr]) -> Result<(), NoMemory>
-    ensures { OnOk result (found.new ≡ found.old ++ map (λ (aggregate : Aggregated). aggregate.kind) aggregates.now) }
+    ensures { OnOk result (found.new ≡
+        found.old ++ map (λ (aggregate : Aggregated). aggregate.kind) aggregates.now) }
 {
     for aggregate in aggregates {
         found.push(aggregate.kind)?;

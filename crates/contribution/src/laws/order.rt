@@ -11,7 +11,8 @@ ghost use Rattle.contribution.specs.SameMeaning.{EqualTables, SameTables, SameMe
 pub fn order_of_rows_is_free()
     ensures meaning { (q : Query) (db other : Database) (env : List (List Cell)) →
         SameTables db other q → SameMeaning (denote q db env) (denote q other env) }
-    ensures fitting { (q : Query) (db other : Database) → SameTables db other q → TablesFit db q → TablesFit other q }
+    ensures fitting { (q : Query) (db other : Database) → SameTables db other q → TablesFit db q →
+        TablesFit other q }
 {}
 
 /// A query reads its own tables alone: where databases have the same rows for each of them, it means the same.

@@ -48,10 +48,13 @@ pub fn provenance_stands_once()
     ensures pairs { (q : Query) (db : Database) (env : List Cells) (bag found : Bag) (u : Cells) →
         meaning q db env ≡ Good bag → meaning (ProvOf q) db env ≡ Good found →
         IsTrue (member u found) ↔
-        ((t : Cells) × (w : Witness) × IsTrue (member t bag) × Contains (witnesses q db env t) w × (t ++ flat w ≡ u)) }
-    ensures first_columns { (outer : List (List Kind)) (q : Query) (db : Database) (env : List Cells) (bag found : Bag) →
+        ((t : Cells) × (w : Witness) × IsTrue (member t bag) × Contains (witnesses q db env t) w ×
+        (t ++ flat w ≡ u)) }
+    ensures first_columns { (outer : List (List Kind)) (q : Query) (db : Database) (env : List Cells)
+        (bag found : Bag) →
         Fitting outer q db env → meaning q db env ≡ Good bag → meaning (ProvOf q) db env ≡ Good found →
-        (t : Cells) → IsTrue (member t bag) ↔ ((u : Cells) × IsTrue (member u found) × (take (width_of q) u ≡ t)) }
+        (t : Cells) → IsTrue (member t bag) ↔
+        ((u : Cells) × IsTrue (member u found) × (take (width_of q) u ≡ t)) }
     ensures faults { (q : Query) (db : Database) (env : List Cells) (faults : Faults) →
         (meaning (ProvOf q) db env ≡ Bad faults) ↔ (meaning q db env ≡ Bad faults) }
 {}

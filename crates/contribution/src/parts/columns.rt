@@ -26,7 +26,8 @@ use std::alloc::Global;
 /// the same faults. Where the places are in range it is well formed under all outer kinds under which the query is; it is
 /// plain where the query is, and reads the same tables. It fails only for want of memory.
 pub fn regroup(alloc: Global, query: Query, order: &[usize]) -> Result<Query, NoMemory>
-    ensures made { IfOk result (λ p. p ≡ ProjectOf query (column_items (kinds_of query) order.now) [] end_of-Sublink) }
+    ensures made { IfOk result (λ p.
+        p ≡ ProjectOf query (column_items (kinds_of query) order.now) [] end_of-Sublink) }
     ensures kinds { IfOk result (λ p. kinds_of p ≡ kinds_in (kinds_of query) order.now) }
     ensures rows { IfOk result (λ p. (db : Database) (env : Items Cells) →
         meaning p db env ≡ mapped (map (picked order.now)) (meaning query db env)) }

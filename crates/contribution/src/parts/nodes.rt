@@ -39,7 +39,8 @@ pub fn selection(alloc: Global, query: Query, condition: Expr) -> Result<Query, 
     ensures made { IfOk result (λ p. p ≡ FilterOf query condition [] end_of-Sublink) }
     ensures kinds { IfOk result (λ p. kinds_of p ≡ kinds_of query) }
     ensures rows { IfOk result (λ p. (db : Database) (env : Items Cells) →
-        meaning p db env ≡ and_then (meaning query db env) (gather (kept (condition_on condition env no_subs)))) }
+        meaning p db env ≡ and_then (meaning query db env)
+        (gather (kept (condition_on condition env no_subs)))) }
     ensures formed { IfOk result (λ p. (outer : Items (Items Sort)) →
         WellFormed outer query → HasKind (kinds_of query ∷ outer) [] condition Boolean → WellFormed outer p) }
     ensures plain { IfOk result (λ p. is_plain p ≡ is_plain query) }
@@ -62,7 +63,8 @@ pub fn join_on(
     ensures rows { IfOk result (λ p. (db : Database) (env : Items Cells) →
         meaning p db env ≡ both_then (meaning left db env) (meaning right db env)
         (joined_rows kind (condition_on condition env no_subs) (width_of left) (width_of right))) }
-    ensures formed { IfOk result (λ p. (outer : Items (Items Sort)) → WellFormed outer left → WellFormed outer right →
+    ensures formed { IfOk result (λ p. (outer : Items (Items Sort)) → WellFormed outer left →
+        WellFormed outer right →
         HasKind ((kinds_of left ++ kinds_of right) ∷ outer) [] condition Boolean → WellFormed outer p) }
     ensures plain { IfOk result (λ p. is_plain p ≡ (is_plain left && is_plain right)) }
     ensures tables { IfOk result (λ p. tables_read p ≡ tables_read left ++ tables_read right) }

@@ -33,7 +33,8 @@ pub fn same_columns(
     ensures value { IfOk result (λ test. (u : Cells) (env : Items Cells) (subs : Items Cell) →
         value test u env subs ≡
         Good (Truth (same_row (picked theirs.now (row_at (u ∷ env) level)) (picked own.now u)))) }
-    ensures kind { IfOk result (λ test. (kinds others : Items Sort) (outer : Items (Items Sort)) (subs : Items Sort) →
+    ensures kind { IfOk result (λ test.
+        (kinds others : Items Sort) (outer : Items (Items Sort)) (subs : Items Sort) →
         slice_get (kinds ∷ outer) level ≡ Some others →
         PlacesIn (length others) theirs.now → PlacesIn (length kinds) own.now →
         kinds_in others theirs.now ≡ kinds_in kinds own.now → HasKind (kinds ∷ outer) subs test Boolean) }
