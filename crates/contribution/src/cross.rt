@@ -1,6 +1,6 @@
 //! All rows that the sources of a query could contribute, in all combinations.
-ghost use Rattle.std.specs.Prelude.{◌≡◌, ◌++◌, ◌↔◌, [], ◌∷◌, List as Items, None, Contains, IfOk, OnOk, IsTrue};
-ghost use Rattle.bag_algebra.specs.Bags.{Row as Cells, Bag, member};
+ghost use Rattle.std.specs.Prelude.{◌≡◌, ◌++◌, ◌↔◌, [], ◌∷◌, List, None, Contains, IfOk, OnOk, IsTrue};
+ghost use Rattle.bag_algebra.specs.Bags.{Row, Bag, member};
 ghost use Rattle.bag_algebra.specs.Kinds.{kinds_of, kinds_in, shape, place_kinds};
 ghost use Rattle.bag_algebra.specs.Meaning.{Database, meaning, witnesses};
 ghost use Rattle.bag_algebra.specs.Means.{Witness, flat};
@@ -18,7 +18,7 @@ ghost use Rattle.bag_algebra.specs.ColumnItems.{column_items};
 ghost use Rattle.contribution.specs.NullRow.{null_row_of};
 ghost use Rattle.contribution.specs.Conjunctions.{always};
 ghost use Rattle.contribution.specs.HeldRows.{held_rows, StandAt};
-ghost use Rattle.perm_values.specs.declared.kind.Kind.{Kind as Sort};
+ghost use Rattle.perm_values.specs.declared.kind.Kind.{Kind};
 
 use crate::blank::null_row;
 use crate::parts::{always, column_items, join_on, projection};
@@ -43,13 +43,13 @@ pub fn cross_base(alloc: Global, query: &Query) -> Result<Query, NoMemory>
     requires { IsTrue (over_tables query.now) }
     ensures made { IfOk result (λ p. p ≡ cross_base_of query.now) }
     ensures kinds { IfOk result (λ p. kinds_of p ≡ place_kinds (shape query.now)) }
-    ensures rows { IfOk result (λ p. (db : Database) (env : Items Cells) →
-        (found : Bag) × (meaning p db env ≡ Good found) × ((u : Cells) → IsTrue (member u found) ↔
+    ensures rows { IfOk result (λ p. (db : Database) (env : List Row) →
+        (found : Bag) × (meaning p db env ≡ Good found) × ((u : Row) → IsTrue (member u found) ↔
         ((w : Witness) × StandAt (shape query.now) (held_rows query.now db None) w × (flat w ≡ u)))) }
-    ensures lists { IfOk result (λ p. (db : Database) (env other : Items Cells) (t : Cells) (w : Witness) →
+    ensures lists { IfOk result (λ p. (db : Database) (env other : List Row) (t : Row) (w : Witness) →
         Contains (witnesses query.now db env t) w →
         (found : Bag) × (meaning p db other ≡ Good found) × IsTrue (member (flat w) found)) }
-    ensures formed { IfOk result (λ p. (outer other : Items (Items Sort)) →
+    ensures formed { IfOk result (λ p. (outer other : List (List Kind)) →
         WellFormed outer query.now → WellFormed other p) }
     ensures plain { IfOk result (λ p. IsTrue (is_plain p)) }
     ensures tables { IfOk result (λ p. ReadsAmong p query.now) }

@@ -1,20 +1,20 @@
 //! The places of a query's witness lists, and the kinds of its columns.
-ghost use Rattle.std.specs.Prelude.{◌≡◌, ◌≢◌, ◌↔◌, ◌++◌, [], ◌∷◌, List as Items, Some, All, IfOk, OnOk, IsTrue, map};
-ghost use Rattle.bag_algebra.specs.Bags.{Row as Cells, Bag, member};
+ghost use Rattle.std.specs.Prelude.{◌≡◌, ◌≢◌, ◌↔◌, ◌++◌, [], ◌∷◌, List, Some, All, IfOk, OnOk, IsTrue, map};
+ghost use Rattle.bag_algebra.specs.Bags.{Row, Bag, member};
 ghost use Rattle.bag_algebra.specs.Children.{subs_shape, sublink_value};
 ghost use Rattle.bag_algebra.specs.Fits.{env_fits};
 ghost use Rattle.bag_algebra.specs.Kinds.{kinds_of, kind_in, kinds_in, shape, place_kinds};
 ghost use Rattle.bag_algebra.specs.Meaning.{Database, denote, meaning, witnesses};
 ghost use Rattle.bag_algebra.specs.Outcome.{Good, each};
 ghost use Rattle.bag_algebra.specs.WellFormed.{WellFormed};
-ghost use Rattle.bag_algebra.specs.declared.expr.Item.{Item as Column};
-ghost use Rattle.bag_algebra.specs.declared.query.Aggr.{Aggr as Aggregated};
-ghost use Rattle.bag_algebra.specs.declared.query.Sublink.{Sublink as Tested};
+ghost use Rattle.bag_algebra.specs.declared.expr.Item.{Item};
+ghost use Rattle.bag_algebra.specs.declared.query.Aggr.{Aggr};
+ghost use Rattle.bag_algebra.specs.declared.query.Sublink.{Sublink};
 ghost use Rattle.contribution.specs.HasSublinks.{HasSublinks};
 ghost use Rattle.contribution.specs.HeldRows.{held_rows, StandAt};
 ghost use Rattle.contribution.specs.Longer.{Longer};
 ghost use Rattle.contribution.specs.SublinkValues.{contributing_value};
-ghost use Rattle.perm_values.specs.declared.kind.Kind.{Kind as Sort};
+ghost use Rattle.perm_values.specs.declared.kind.Kind.{Kind};
 
 use bag_algebra::{Aggr, Item, Label, Place, Query, Sublink};
 use perm_values::{Copyable, Kind, List, NoMemory};
@@ -32,14 +32,14 @@ pub struct PlaceList {
 /// It fails only for want of memory.
 pub fn shape(alloc: Global, query: &Query) -> Result<PlaceList, NoMemory>
     ensures places { IfOk result (λ list. list.places ≡ shape query.now) }
-    ensures entries { IfOk result (λ list. (db : Database) (env : Items Cells) (t : Cells) →
+    ensures entries { IfOk result (λ list. (db : Database) (env : List Row) (t : Row) →
         All (StandAt list.places (held_rows query.now db (Some env))) (witnesses query.now db env t)) }
-    ensures no_row_lost { (db : Database) (env : Items Cells) (bag : Bag) (t : Cells) →
+    ensures no_row_lost { (db : Database) (env : List Row) (bag : Bag) (t : Row) →
         meaning query.now db env ≡ Good bag → IsTrue (member t bag) ↔ (witnesses query.now db env t ≢ []) }
-    ensures truth_kept { (subs : Items Tested) (db : Database) (env : Items Cells) (u : Cells) →
+    ensures truth_kept { (subs : List Sublink) (db : Database) (env : List Row) (u : Row) →
         HasSublinks query.now subs →
         each (contributing_value db env u) subs ≡ each (sublink_value db env u) subs }
-    ensures growth { (outer : Items (Items Sort)) (db : Database) (env other : Items Cells) →
+    ensures growth { (outer : List (List Kind)) (db : Database) (env other : List Row) →
         WellFormed outer query.now → IsTrue (env_fits env outer) → Longer env other →
         denote query.now db env ≡ denote query.now db other }
 {
@@ -207,7 +207,7 @@ fn add_all(found: &mut List<Kind>, kinds: &[Kind]) -> Result<(), NoMemory>
 }
 
 fn add_item_kinds(found: &mut List<Kind>, items: &[Item]) -> Result<(), NoMemory>
-    ensures { OnOk result (found.new ≡ found.old ++ map (λ (item : Column). item.kind) items.now) }
+    ensures { OnOk result (found.new ≡ found.old ++ map (λ (item : Item). item.kind) items.now) }
 {
     for item in items {
         found.push(item.kind)?;
@@ -217,7 +217,7 @@ fn add_item_kinds(found: &mut List<Kind>, items: &[Item]) -> Result<(), NoMemory
 
 fn add_aggregate_kinds(found: &mut List<Kind>, aggregates: &[Aggr]) -> Result<(), NoMemory>
     ensures { OnOk result (found.new ≡
-        found.old ++ map (λ (aggregate : Aggregated). aggregate.kind) aggregates.now) }
+        found.old ++ map (λ (aggregate : Aggr). aggregate.kind) aggregates.now) }
 {
     for aggregate in aggregates {
         found.push(aggregate.kind)?;

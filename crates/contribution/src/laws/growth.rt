@@ -1,7 +1,7 @@
 //! A query rests on the columns that its outer kinds name, and on nothing else of the outer rows.
 ghost use Rattle.perm_values.specs.declared.kind.Kind.{Kind};
 ghost use Rattle.perm_values.specs.declared.kind.Kind.TheVariants.{Boolean};
-ghost use Rattle.perm_values.specs.declared.value.Value.{Value as Cell};
+ghost use Rattle.perm_values.specs.declared.value.Value.{Value};
 ghost use Rattle.std.specs.Prelude.{◌≡◌, List, [], ◌∷◌, ◌++◌, IsTrue};
 ghost use Rattle.bag_algebra.specs.Bags.{Row};
 ghost use Rattle.bag_algebra.specs.Built.{row_of_subs};
@@ -32,7 +32,7 @@ pub fn longer_outer_kinds_serve_too()
 /// lists; and so an expression has one value, where its own row may differ elsewhere too.
 pub fn meaning_rests_on_named_columns()
     ensures expressions { (scopes : List (List Kind)) (subs : List Kind) (e : Expr) (kind : Kind) (u v : Row)
-        (env other : List Row) (answers : List Cell) →
+        (env other : List Row) (answers : List Value) →
         HasKind scopes subs e kind → SameColumns scopes (u ∷ env) (v ∷ other) →
         value e u env answers ≡ value e v other answers }
     ensures queries { (outer : List (List Kind)) (q : Query) (db : Database) (env other : List Row) →

@@ -2,7 +2,7 @@
 ghost use Rattle.perm_values.specs.Rows.{row_fits};
 ghost use Rattle.perm_values.specs.Values.{fits};
 ghost use Rattle.perm_values.specs.declared.kind.Kind.{Kind};
-ghost use Rattle.perm_values.specs.declared.value.Value.{Value as Cell};
+ghost use Rattle.perm_values.specs.declared.value.Value.{Value};
 ghost use Rattle.std.specs.Prelude.{◌≡◌, List, ◌∷◌, length, All, Contains, IsTrue};
 ghost use Rattle.bag_algebra.specs.Bags.{Row, Bag};
 ghost use Rattle.bag_algebra.specs.Expressions.{value};
@@ -21,7 +21,7 @@ ghost use Rattle.contribution.specs.FitsPlaces.{FitsPlaces};
 /// of the node's sublinks that fit theirs.
 pub fn values_have_their_kinds()
     ensures { (scopes : List (List Kind)) (subs : List Kind) (e : Expr) (kind : Kind) (u : Row)
-        (env : List Row) (answers : List Cell) (v : Cell) →
+        (env : List Row) (answers : List Value) (v : Value) →
         HasKind scopes subs e kind → IsTrue (env_fits (u ∷ env) scopes) → IsTrue (row_fits answers subs) →
         value e u env answers ≡ Good v → IsTrue (fits v kind) }
 {}

@@ -1,7 +1,7 @@
 //! Columns as items, and the columns of a query in another order.
-ghost use Rattle.std.specs.Prelude.{◌≡◌, [], ◌∷◌, List as Items, IfOk, map, length};
+ghost use Rattle.std.specs.Prelude.{◌≡◌, [], ◌∷◌, List, IfOk, map, length};
 ghost use Rattle.perm_values.specs.Rows.{picked};
-ghost use Rattle.bag_algebra.specs.Bags.{Row as Cells};
+ghost use Rattle.bag_algebra.specs.Bags.{Row};
 ghost use Rattle.bag_algebra.specs.ColumnItems.{column_items};
 ghost use Rattle.bag_algebra.specs.Kinds.{kinds_of, kinds_in, width_of};
 ghost use Rattle.bag_algebra.specs.Meaning.{Database, meaning, items_on};
@@ -12,7 +12,7 @@ ghost use Rattle.bag_algebra.specs.Rewriting.{is_plain};
 ghost use Rattle.bag_algebra.specs.TablesRead.{tables_read};
 ghost use Rattle.bag_algebra.specs.WellFormed.{WellFormed, ItemsForm, PlacesIn};
 ghost use Rattle.bag_algebra.specs.declared.query.Query.{end_of-Sublink};
-ghost use Rattle.perm_values.specs.declared.kind.Kind.{Kind as Sort};
+ghost use Rattle.perm_values.specs.declared.kind.Kind.{Kind};
 ghost use Rattle.contribution.specs.ItemKinds.{item_kinds, column_of};
 
 use crate::parts::nodes::projection;
@@ -29,9 +29,9 @@ pub fn regroup(alloc: Global, query: Query, order: &[usize]) -> Result<Query, No
     ensures made { IfOk result (λ p.
         p ≡ ProjectOf query (column_items (kinds_of query) order.now) [] end_of-Sublink) }
     ensures kinds { IfOk result (λ p. kinds_of p ≡ kinds_in (kinds_of query) order.now) }
-    ensures rows { IfOk result (λ p. (db : Database) (env : Items Cells) →
+    ensures rows { IfOk result (λ p. (db : Database) (env : List Row) →
         meaning p db env ≡ mapped (map (picked order.now)) (meaning query db env)) }
-    ensures formed { IfOk result (λ p. PlacesIn (width_of query) order.now → (outer : Items (Items Sort)) →
+    ensures formed { IfOk result (λ p. PlacesIn (width_of query) order.now → (outer : List (List Kind)) →
         WellFormed outer query → WellFormed outer p) }
     ensures plain { IfOk result (λ p. is_plain p ≡ is_plain query) }
     ensures tables { IfOk result (λ p. tables_read p ≡ tables_read query) }
@@ -56,10 +56,10 @@ pub fn columns_at(alloc: Global, query: &Query, order: &[usize]) -> Result<List<
 pub fn column_items(alloc: Global, kinds: &[Kind], order: &[usize]) -> Result<List<Item>, NoMemory>
     ensures made { IfOk result (λ items. items ≡ column_items kinds.now order.now) }
     ensures kinds { IfOk result (λ items. item_kinds items ≡ kinds_in kinds.now order.now) }
-    ensures values { IfOk result (λ items. (env : Items Cells) (u : Cells) →
+    ensures values { IfOk result (λ items. (env : List Row) (u : Row) →
         items_on items env no_subs u ≡ Good (picked order.now u)) }
     ensures formed { IfOk result (λ items. PlacesIn (length kinds.now) order.now →
-        (outer : Items (Items Sort)) → ItemsForm (kinds.now ∷ outer) [] items) }
+        (outer : List (List Kind)) → ItemsForm (kinds.now ∷ outer) [] items) }
 {
     let mut items = List::new(alloc);
     for place in order {

@@ -1,6 +1,6 @@
 //! Projections, filters and joins without sublinks.
-ghost use Rattle.std.specs.Prelude.{◌≡◌, ◌&&◌, ◌++◌, [], ◌∷◌, List as Items, IfOk};
-ghost use Rattle.bag_algebra.specs.Bags.{Row as Cells};
+ghost use Rattle.std.specs.Prelude.{◌≡◌, ◌&&◌, ◌++◌, [], ◌∷◌, List, IfOk};
+ghost use Rattle.bag_algebra.specs.Bags.{Row};
 ghost use Rattle.bag_algebra.specs.Kinds.{kinds_of, width_of};
 ghost use Rattle.bag_algebra.specs.Meaning.{Database, meaning, condition_on, items_on};
 ghost use Rattle.bag_algebra.specs.Means.{no_subs, kept, joined_rows};
@@ -10,7 +10,7 @@ ghost use Rattle.bag_algebra.specs.Rewriting.{is_plain};
 ghost use Rattle.bag_algebra.specs.TablesRead.{tables_read};
 ghost use Rattle.bag_algebra.specs.WellFormed.{WellFormed, HasKind, ItemsForm};
 ghost use Rattle.bag_algebra.specs.declared.query.Query.{end_of-Sublink};
-ghost use Rattle.perm_values.specs.declared.kind.Kind.{Kind as Sort};
+ghost use Rattle.perm_values.specs.declared.kind.Kind.{Kind};
 ghost use Rattle.perm_values.specs.declared.kind.Kind.TheVariants.{Boolean};
 ghost use Rattle.contribution.specs.ItemKinds.{item_kinds};
 
@@ -23,9 +23,9 @@ use std::alloc::Global;
 pub fn projection(alloc: Global, query: Query, items: List<Item>) -> Result<Query, NoMemory>
     ensures made { IfOk result (λ p. p ≡ ProjectOf query items [] end_of-Sublink) }
     ensures kinds { IfOk result (λ p. kinds_of p ≡ item_kinds items) }
-    ensures rows { IfOk result (λ p. (db : Database) (env : Items Cells) →
+    ensures rows { IfOk result (λ p. (db : Database) (env : List Row) →
         meaning p db env ≡ and_then (meaning query db env) (each (items_on items env no_subs))) }
-    ensures formed { IfOk result (λ p. (outer : Items (Items Sort)) →
+    ensures formed { IfOk result (λ p. (outer : List (List Kind)) →
         WellFormed outer query → ItemsForm (kinds_of query ∷ outer) [] items → WellFormed outer p) }
     ensures plain { IfOk result (λ p. is_plain p ≡ is_plain query) }
     ensures tables { IfOk result (λ p. tables_read p ≡ tables_read query) }
@@ -38,10 +38,10 @@ pub fn projection(alloc: Global, query: Query, items: List<Item>) -> Result<Quer
 pub fn selection(alloc: Global, query: Query, condition: Expr) -> Result<Query, NoMemory>
     ensures made { IfOk result (λ p. p ≡ FilterOf query condition [] end_of-Sublink) }
     ensures kinds { IfOk result (λ p. kinds_of p ≡ kinds_of query) }
-    ensures rows { IfOk result (λ p. (db : Database) (env : Items Cells) →
+    ensures rows { IfOk result (λ p. (db : Database) (env : List Row) →
         meaning p db env ≡ and_then (meaning query db env)
         (gather (kept (condition_on condition env no_subs)))) }
-    ensures formed { IfOk result (λ p. (outer : Items (Items Sort)) →
+    ensures formed { IfOk result (λ p. (outer : List (List Kind)) →
         WellFormed outer query → HasKind (kinds_of query ∷ outer) [] condition Boolean → WellFormed outer p) }
     ensures plain { IfOk result (λ p. is_plain p ≡ is_plain query) }
     ensures tables { IfOk result (λ p. tables_read p ≡ tables_read query) }
@@ -60,10 +60,10 @@ pub fn join_on(
 ) -> Result<Query, NoMemory>
     ensures made { IfOk result (λ p. p ≡ JoinOf kind left right condition [] end_of-Sublink) }
     ensures kinds { IfOk result (λ p. kinds_of p ≡ kinds_of left ++ kinds_of right) }
-    ensures rows { IfOk result (λ p. (db : Database) (env : Items Cells) →
+    ensures rows { IfOk result (λ p. (db : Database) (env : List Row) →
         meaning p db env ≡ both_then (meaning left db env) (meaning right db env)
         (joined_rows kind (condition_on condition env no_subs) (width_of left) (width_of right))) }
-    ensures formed { IfOk result (λ p. (outer : Items (Items Sort)) → WellFormed outer left →
+    ensures formed { IfOk result (λ p. (outer : List (List Kind)) → WellFormed outer left →
         WellFormed outer right →
         HasKind ((kinds_of left ++ kinds_of right) ∷ outer) [] condition Boolean → WellFormed outer p) }
     ensures plain { IfOk result (λ p. is_plain p ≡ (is_plain left && is_plain right)) }

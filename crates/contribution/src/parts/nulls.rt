@@ -1,11 +1,11 @@
 //! NULLs as items.
-ghost use Rattle.std.specs.Prelude.{◌≡◌, [], List as Items, IfOk, map, length};
-ghost use Rattle.bag_algebra.specs.Bags.{Row as Cells, nulls};
+ghost use Rattle.std.specs.Prelude.{◌≡◌, [], List, IfOk, map, length};
+ghost use Rattle.bag_algebra.specs.Bags.{Row, nulls};
 ghost use Rattle.bag_algebra.specs.Meaning.{items_on};
 ghost use Rattle.bag_algebra.specs.Means.{no_subs};
 ghost use Rattle.bag_algebra.specs.Outcome.{Good};
 ghost use Rattle.bag_algebra.specs.WellFormed.{ItemsForm};
-ghost use Rattle.perm_values.specs.declared.kind.Kind.{Kind as Sort};
+ghost use Rattle.perm_values.specs.declared.kind.Kind.{Kind};
 ghost use Rattle.contribution.specs.ItemKinds.{item_kinds};
 ghost use Rattle.contribution.specs.NullItems.{null_item};
 
@@ -18,9 +18,9 @@ use std::alloc::Global;
 pub fn null_items(alloc: Global, kinds: &[Kind]) -> Result<List<Item>, NoMemory>
     ensures made { IfOk result (λ items. items ≡ map null_item kinds.now) }
     ensures kinds { IfOk result (λ items. item_kinds items ≡ kinds.now) }
-    ensures values { IfOk result (λ items. (env : Items Cells) (u : Cells) →
+    ensures values { IfOk result (λ items. (env : List Row) (u : Row) →
         items_on items env no_subs u ≡ Good (nulls (length kinds.now))) }
-    ensures formed { IfOk result (λ items. (scopes : Items (Items Sort)) → ItemsForm scopes [] items) }
+    ensures formed { IfOk result (λ items. (scopes : List (List Kind)) → ItemsForm scopes [] items) }
 {
     let mut items = List::new(alloc);
     for kind in kinds {

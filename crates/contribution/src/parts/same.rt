@@ -1,16 +1,16 @@
 //! The test that columns are the same, two NULLs included, and TRUE.
-ghost use Rattle.std.specs.Prelude.{◌≡◌, ◌∷◌, List as Items, IfOk, IsTrue, Some, length, slice_get};
-ghost use Rattle.bag_algebra.specs.Bags.{Row as Cells};
+ghost use Rattle.std.specs.Prelude.{◌≡◌, ◌∷◌, List, IfOk, IsTrue, Some, length, slice_get};
+ghost use Rattle.bag_algebra.specs.Bags.{Row};
 ghost use Rattle.bag_algebra.specs.Expressions.{row_at, value};
 ghost use Rattle.bag_algebra.specs.FaultFree.{faultless};
 ghost use Rattle.bag_algebra.specs.Kinds.{kinds_in};
 ghost use Rattle.bag_algebra.specs.Outcome.{Good};
 ghost use Rattle.bag_algebra.specs.WellFormed.{HasKind, PlacesIn};
 ghost use Rattle.perm_values.specs.Rows.{picked, same_row};
-ghost use Rattle.perm_values.specs.declared.kind.Kind.{Kind as Sort};
-ghost use Rattle.perm_values.specs.declared.kind.Kind.TheVariants.{Boolean};
-ghost use Rattle.perm_values.specs.declared.value.Value.{Value as Cell};
-ghost use Rattle.perm_values.specs.declared.value.Value.TheVariants.{Boolean as Truth};
+ghost use Rattle.perm_values.specs.declared.kind.Kind.{Kind};
+ghost use Rattle.perm_values.specs.declared.kind.Kind.TheVariants as kind;
+ghost use Rattle.perm_values.specs.declared.value.Value.{Value};
+ghost use Rattle.perm_values.specs.declared.value.Value.TheVariants.{Boolean};
 ghost use Rattle.contribution.specs.Conjunctions.{all_hold, always, same_test, same_tests};
 
 use bag_algebra::Expr;
@@ -30,14 +30,14 @@ pub fn same_columns(
 ) -> Result<Expr, NoMemory>
     requires { length theirs.now ≡ length own.now }
     ensures made { IfOk result (λ test. test ≡ all_hold (same_tests level theirs.now own.now)) }
-    ensures value { IfOk result (λ test. (u : Cells) (env : Items Cells) (subs : Items Cell) →
+    ensures value { IfOk result (λ test. (u : Row) (env : List Row) (subs : List Value) →
         value test u env subs ≡
-        Good (Truth (same_row (picked theirs.now (row_at (u ∷ env) level)) (picked own.now u)))) }
+        Good (Boolean (same_row (picked theirs.now (row_at (u ∷ env) level)) (picked own.now u)))) }
     ensures kind { IfOk result (λ test.
-        (kinds others : Items Sort) (outer : Items (Items Sort)) (subs : Items Sort) →
+        (kinds others : List Kind) (outer : List (List Kind)) (subs : List Kind) →
         slice_get (kinds ∷ outer) level ≡ Some others →
         PlacesIn (length others) theirs.now → PlacesIn (length kinds) own.now →
-        kinds_in others theirs.now ≡ kinds_in kinds own.now → HasKind (kinds ∷ outer) subs test Boolean) }
+        kinds_in others theirs.now ≡ kinds_in kinds own.now → HasKind (kinds ∷ outer) subs test kind.Boolean) }
     ensures faultless { IfOk result (λ test. IsTrue (faultless test)) }
 {
     let tests = same_tests(alloc, level, theirs, own)?;
