@@ -14,7 +14,8 @@ use Rattle.bag_algebra.specs.declared.query.Query.TheVariants.{Base, Filter, Pro
 use Rattle.bag_algebra.specs.declared.query.Sublink.{Sublink}
 use Rattle.bag_algebra.specs.Patterns.{JoinOf}
 use Rattle.contribution.proofs.Added.{one_more}
-use Rattle.contribution.specs.CrossBase.{base_source, table_sources, sub_table_sources, subs_table_sources, source_query, crossed, always}
+use Rattle.contribution.specs.CrossBase.{base_source, table_sources, sub_table_sources, subs_table_sources, source_query, crossed}
+use Rattle.contribution.specs.Conjunctions.{always}
 use Rattle.contribution.specs.declared.cross.TableSource.{TableSource}
 
 sub_table_sources-row_of_subs : (subs : List Sublink) → sub_table_sources (row_of_subs subs) ≡ subs_table_sources subs

@@ -16,7 +16,8 @@ use Rattle.bag_algebra.specs.declared.query.Query.TheVariants.{Table, Single}
 use Rattle.contribution.proofs.ColumnQueries.{meaning-columns}
 use Rattle.contribution.proofs.EntriesAtPlaces.{Rows}
 use Rattle.contribution.proofs.NullRows.{meaning-null_row}
-use Rattle.contribution.specs.CrossBase.{source_query, crossed, always}
+use Rattle.contribution.specs.CrossBase.{source_query, crossed}
+use Rattle.contribution.specs.Conjunctions.{always}
 use Rattle.contribution.specs.HeldRows.{StandAt}
 use Rattle.contribution.specs.declared.cross.TableSource.{TableSource}
 use Rattle.bag_algebra.specs.Built.{rows-with_lists}

@@ -5,7 +5,6 @@ use Rattle.perm_values.specs.declared.kind.Kind.TheVariants.{Boolean}
 use Rattle.perm_values.specs.declared.no_memory.NoMemory.{NoMemory}
 use Rattle.bag_algebra.specs.Bags.{Row}
 use Rattle.bag_algebra.specs.Built.{rows-with_lists}
-use Rattle.bag_algebra.specs.EveryNode.{no_open_sublink}
 use Rattle.bag_algebra.specs.Kinds.{kinds_of, width_of}
 use Rattle.bag_algebra.specs.Meaning.{Database, meaning, condition_on, items_on}
 use Rattle.bag_algebra.specs.Means.{no_subs, kept, joined_rows}
@@ -43,9 +42,6 @@ module _ (q : Query) (items : List Item) where
   pub tables-projected : tables_read projected ≡ tables_read q
   tables-projected = append-nil (tables_read q)
 
-  pub closed-projected : no_open_sublink projected ≡ no_open_sublink q
-  closed-projected = and_true (no_open_sublink q)
-
 module _ (q : Query) (condition : Expr) where
   abbrev chosen : Query
   chosen = FilterOf q condition [] end_of-Sublink
@@ -61,9 +57,6 @@ module _ (q : Query) (condition : Expr) where
 
   pub tables-chosen : tables_read chosen ≡ tables_read q
   tables-chosen = append-nil (tables_read q)
-
-  pub closed-chosen : no_open_sublink chosen ≡ no_open_sublink q
-  closed-chosen = and_true (no_open_sublink q)
 
 module _ (kind : JoinKind) (left right : Query) (condition : Expr) where
   abbrev pairs : Query
@@ -83,6 +76,3 @@ module _ (kind : JoinKind) (left right : Query) (condition : Expr) where
 
   pub tables-pairs : tables_read pairs ≡ tables_read left ++ tables_read right
   tables-pairs = append-nil (tables_read left ++ tables_read right)
-
-  pub closed-pairs : no_open_sublink pairs ≡ (no_open_sublink left && no_open_sublink right)
-  closed-pairs = and_true (no_open_sublink left && no_open_sublink right)

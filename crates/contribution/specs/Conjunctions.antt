@@ -6,18 +6,21 @@ use Rattle.perm_values.specs.declared.value.Value.TheVariants.{Boolean}
 use Rattle.bag_algebra.specs.declared.expr.Expr.{Expr}
 use Rattle.bag_algebra.specs.declared.expr.Expr.TheVariants.{Col, Lit, Op, Same}
 
--- the columns of the node's own row at two places are the same
-abbrev pub same_test : ℕ → ℕ → Expr
-same_test left right = Same (Col 0 left) (Col 0 right)
+abbrev pub always : Expr
+always = Lit (Boolean true) kind.Boolean
+
+-- a column of a row, the node's own one at level 0 and else that outer one, is the same as a column of the node's own row
+abbrev pub same_test : (level theirs own : ℕ) → Expr
+same_test level theirs own = Same (Col level theirs) (Col 0 own)
 
 -- place by place
-abbrev pub same_tests : List ℕ → List ℕ → List Expr
-same_tests [] rights = []
-same_tests (left ∷ lefts) [] = []
-same_tests (left ∷ lefts) (right ∷ rights) = same_test left right ∷ same_tests lefts rights
+abbrev pub same_tests : ℕ → List ℕ → List ℕ → List Expr
+same_tests level [] own = []
+same_tests level (place ∷ theirs) [] = []
+same_tests level (place ∷ theirs) (mine ∷ own) = same_test level place mine ∷ same_tests level theirs own
 
 -- TRUE for none, the test itself for one
 abbrev pub all_hold : List Expr → Expr
-all_hold [] = Lit (Boolean true) kind.Boolean
+all_hold [] = always
 all_hold (test ∷ []) = test
 all_hold (test ∷ other ∷ tests) = Op And (test ∷ other ∷ tests)

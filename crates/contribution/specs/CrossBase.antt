@@ -1,18 +1,15 @@
 -- All rows that the sources of a query could contribute, in all combinations (the cross base of the strategy Gen: Glavic
 -- and Alonso, EDBT 2009).
 use Rattle.std.specs.Prelude.{ℕ, true, List, [], ◌∷◌, ◌++◌}
-use Rattle.perm_values.specs.declared.kind.Kind.TheVariants as kind
-use Rattle.perm_values.specs.declared.value.Value.TheVariants.{Boolean}
 use Rattle.bag_algebra.specs.ColumnItems.{column_items}
 use Rattle.bag_algebra.specs.Kinds.{kinds_in}
 use Rattle.bag_algebra.specs.Patterns.{BaseOf, FilterOf, ProjectOf, JoinOf, UnionOf, IntersectOf, ExceptOf, DistinctOf, AggregateOf, LimitOf, ProvOf}
-use Rattle.bag_algebra.specs.declared.expr.Expr.{Expr}
-use Rattle.bag_algebra.specs.declared.expr.Expr.TheVariants.{Lit}
 use Rattle.bag_algebra.specs.declared.query.JoinKind.TheVariants.{Inner}
 use Rattle.bag_algebra.specs.declared.query.Query.{Query, Row_of-Sublink, more_of-Sublink, end_of-Sublink}
 use Rattle.bag_algebra.specs.declared.query.Query.TheVariants.{Table, Single}
 use Rattle.bag_algebra.specs.declared.query.Sublink.{Sublink}
 use Rattle.contribution.specs.NullRow.{null_row_of}
+use Rattle.contribution.specs.Conjunctions.{always}
 use Rattle.contribution.specs.declared.cross.TableSource.{TableSource}
 
 -- a source with that input, where it is a table
@@ -51,9 +48,6 @@ abbrev pub source_query : TableSource → Query
 source_query source =
     UnionOf true (ProjectOf (Table source.id source.kinds) (column_items source.kinds source.places) [] end_of-Sublink)
     (null_row_of (kinds_in source.kinds source.places))
-
-abbrev pub always : Expr
-always = Lit (Boolean true) kind.Boolean
 
 -- the sources beside one another, in front of the rest
 abbrev pub crossed : List TableSource → Query → Query

@@ -1,6 +1,6 @@
 //! All rows that the sources of a query could contribute, in all combinations.
-ghost use Rattle.std.specs.Prelude.{◌≡◌, ◌++◌, ◌↔◌, [], ◌∷◌, List as Items, None, Contains, IfOk, OnOk, IsTrue};
-ghost use Rattle.bag_algebra.specs.Bags.{Row as Cells, Bag, member};
+ghost use Rattle.std.specs.Prelude.{◌≡◌, ◌++◌, ◌↔◌, [], ◌∷◌, List, None, Contains, IfOk, OnOk, IsTrue};
+ghost use Rattle.bag_algebra.specs.Bags.{Row, Bag, member};
 ghost use Rattle.bag_algebra.specs.Kinds.{kinds_of, kinds_in, shape, place_kinds};
 ghost use Rattle.bag_algebra.specs.Meaning.{Database, meaning, witnesses};
 ghost use Rattle.bag_algebra.specs.Means.{Witness, flat};
@@ -13,17 +13,18 @@ ghost use Rattle.bag_algebra.specs.WellFormed.{WellFormed};
 ghost use Rattle.bag_algebra.specs.declared.query.JoinKind.TheVariants.{Inner};
 ghost use Rattle.bag_algebra.specs.declared.query.Query.{end_of-Sublink};
 ghost use Rattle.bag_algebra.specs.declared.query.Query.TheVariants.{Single, Table};
-ghost use Rattle.contribution.specs.CrossBase.{base_source, table_sources, subs_table_sources, source_query, always, crossed, cross_base_of};
+ghost use Rattle.contribution.specs.CrossBase.{base_source, table_sources, subs_table_sources, source_query, crossed, cross_base_of};
 ghost use Rattle.bag_algebra.specs.ColumnItems.{column_items};
 ghost use Rattle.contribution.specs.NullRow.{null_row_of};
+ghost use Rattle.contribution.specs.Conjunctions.{always};
 ghost use Rattle.contribution.specs.HeldRows.{held_rows, StandAt};
-ghost use Rattle.perm_values.specs.declared.kind.Kind.{Kind as Sort};
+ghost use Rattle.perm_values.specs.declared.kind.Kind.{Kind};
 
 use crate::blank::null_row;
-use crate::parts::{column_items, joined, projection};
-use crate::places::add_picked;
-use bag_algebra::{Expr, JoinKind, Query, Sublink};
-use perm_values::{Copyable, Kind, List, NoMemory, Value, both, boxes};
+use crate::parts::{always, column_items, join_on, projection};
+use crate::places::kinds_at;
+use bag_algebra::{JoinKind, Query, Sublink};
+use perm_values::{Copyable, Kind, List, NoMemory, both};
 use std::alloc::Global;
 
 /// A source over a table: the table, and the places of the source.
@@ -42,13 +43,13 @@ pub fn cross_base(alloc: Global, query: &Query) -> Result<Query, NoMemory>
     requires { IsTrue (over_tables query.now) }
     ensures made { IfOk result (λ p. p ≡ cross_base_of query.now) }
     ensures kinds { IfOk result (λ p. kinds_of p ≡ place_kinds (shape query.now)) }
-    ensures rows { IfOk result (λ p. (db : Database) (env : Items Cells) →
-        (found : Bag) × (meaning p db env ≡ Good found) × ((u : Cells) → IsTrue (member u found) ↔
+    ensures rows { IfOk result (λ p. (db : Database) (env : List Row) →
+        (found : Bag) × (meaning p db env ≡ Good found) × ((u : Row) → IsTrue (member u found) ↔
         ((w : Witness) × StandAt (shape query.now) (held_rows query.now db None) w × (flat w ≡ u)))) }
-    ensures lists { IfOk result (λ p. (db : Database) (env other : Items Cells) (t : Cells) (w : Witness) →
+    ensures lists { IfOk result (λ p. (db : Database) (env other : List Row) (t : Row) (w : Witness) →
         Contains (witnesses query.now db env t) w →
         (found : Bag) × (meaning p db other ≡ Good found) × IsTrue (member (flat w) found)) }
-    ensures formed { IfOk result (λ p. (outer other : Items (Items Sort)) →
+    ensures formed { IfOk result (λ p. (outer other : List (List Kind)) →
         WellFormed outer query.now → WellFormed other p) }
     ensures plain { IfOk result (λ p. IsTrue (is_plain p)) }
     ensures tables { IfOk result (λ p. ReadsAmong p query.now) }
@@ -172,16 +173,7 @@ fn beside(alloc: Global, source: &TableSource, rest: Query) -> Result<Query, NoM
         drop(rest);
         return Err(NoMemory);
     };
-    joined(alloc, JoinKind::Inner, left, rest, always())
-}
-
-fn always() -> Expr
-    ensures { result ≡ always }
-{
-    Expr::Lit {
-        value: Value::Boolean(true),
-        kind: Kind::Boolean,
-    }
+    join_on(alloc, JoinKind::Inner, left, rest, always())
 }
 
 /// The rows of the table at the source's places, and one row of NULLs.
@@ -189,12 +181,7 @@ fn source_query(alloc: Global, source: &TableSource) -> Result<Query, NoMemory>
     ensures { IfOk result (λ p. p ≡ source_query source.now) }
 {
     let (rows, blank) = both(source_rows(alloc, source), blank_row(alloc, source))?;
-    let (left, right) = boxes(alloc, rows, blank)?;
-    Ok(Query::Union {
-        all: true,
-        left,
-        right,
-    })
+    Query::union(alloc, true, rows, blank)
 }
 
 fn source_rows(alloc: Global, source: &TableSource) -> Result<Query, NoMemory>
@@ -216,11 +203,6 @@ fn source_rows(alloc: Global, source: &TableSource) -> Result<Query, NoMemory>
 fn blank_row(alloc: Global, source: &TableSource) -> Result<Query, NoMemory>
     ensures { IfOk result (λ p. p ≡ null_row_of (kinds_in source.now.kinds source.now.places)) }
 {
-    let mut kinds = List::new(alloc);
-    add_picked(
-        &mut kinds,
-        source.kinds.as_slice(),
-        source.places.as_slice(),
-    )?;
+    let kinds = kinds_at(alloc, source.kinds.as_slice(), source.places.as_slice())?;
     null_row(alloc, kinds.as_slice())
 }

@@ -9,7 +9,6 @@ mod names;
 mod parts;
 mod places;
 
-pub use crate::parts::regroup;
 pub use blank::null_row;
 pub use cross::{TableSource, cross_base};
 pub use laws::{
@@ -21,7 +20,7 @@ pub use laws::{
 };
 pub use names::prov_names;
 pub use parts::{
-    column_items, filtered, joined, kind_or_text, moved, null_items, padded, projection,
-    same_columns,
+    always, column_items, columns_at, join_on, moved, null_items, projection, regroup,
+    same_columns, selection,
 };
-pub use places::{PlaceList, kinds, shape};
+pub use places::{PlaceList, kind_or_text, kinds, kinds_at, shape};

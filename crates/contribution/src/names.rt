@@ -30,7 +30,8 @@ fn add_names(
     earlier: &[Place],
     label: &Label,
 ) -> Result<(), NoMemory>
-    ensures { OnOk result (names.new ≡ names.old ++ label_names (flat_map relations_of earlier.now) label.now) }
+    ensures { OnOk result (names.new ≡
+        names.old ++ label_names (flat_map relations_of earlier.now) label.now) }
 {
     match label {
         Label::Relation { name, columns } => {

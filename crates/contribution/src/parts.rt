@@ -7,8 +7,8 @@ mod nodes;
 mod nulls;
 mod same;
 
-pub use columns::{column_items, kind_or_text, regroup};
+pub use columns::{column_items, columns_at, regroup};
 pub use moving::moved;
-pub use nodes::{filtered, joined, projection};
-pub use nulls::{null_items, padded};
-pub use same::same_columns;
+pub use nodes::{join_on, projection, selection};
+pub use nulls::null_items;
+pub use same::{always, same_columns};

@@ -1,22 +1,21 @@
 //! The places of a query's witness lists, and the kinds of its columns.
-ghost use Rattle.std.specs.Prelude.{◌≡◌, ◌≢◌, ◌↔◌, ◌++◌, [], ◌∷◌, List as Items, Some, All, IfOk, OnOk, IsTrue, map};
-ghost use Rattle.bag_algebra.specs.Bags.{Row as Cells, Bag, member};
+ghost use Rattle.std.specs.Prelude.{◌≡◌, ◌≢◌, ◌↔◌, ◌++◌, [], ◌∷◌, List, Some, All, IfOk, OnOk, IsTrue, map};
+ghost use Rattle.bag_algebra.specs.Bags.{Row, Bag, member};
 ghost use Rattle.bag_algebra.specs.Children.{subs_shape, sublink_value};
 ghost use Rattle.bag_algebra.specs.Fits.{env_fits};
 ghost use Rattle.bag_algebra.specs.Kinds.{kinds_of, kind_in, kinds_in, shape, place_kinds};
 ghost use Rattle.bag_algebra.specs.Meaning.{Database, denote, meaning, witnesses};
 ghost use Rattle.bag_algebra.specs.Outcome.{Good, each};
 ghost use Rattle.bag_algebra.specs.WellFormed.{WellFormed};
-ghost use Rattle.bag_algebra.specs.declared.expr.Item.{Item as Column};
-ghost use Rattle.bag_algebra.specs.declared.query.Aggr.{Aggr as Aggregated};
-ghost use Rattle.bag_algebra.specs.declared.query.Sublink.{Sublink as Tested};
+ghost use Rattle.bag_algebra.specs.declared.expr.Item.{Item};
+ghost use Rattle.bag_algebra.specs.declared.query.Aggr.{Aggr};
+ghost use Rattle.bag_algebra.specs.declared.query.Sublink.{Sublink};
 ghost use Rattle.contribution.specs.HasSublinks.{HasSublinks};
 ghost use Rattle.contribution.specs.HeldRows.{held_rows, StandAt};
 ghost use Rattle.contribution.specs.Longer.{Longer};
 ghost use Rattle.contribution.specs.SublinkValues.{contributing_value};
-ghost use Rattle.perm_values.specs.declared.kind.Kind.{Kind as Sort};
+ghost use Rattle.perm_values.specs.declared.kind.Kind.{Kind};
 
-use crate::parts::kind_or_text;
 use bag_algebra::{Aggr, Item, Label, Place, Query, Sublink};
 use perm_values::{Copyable, Kind, List, NoMemory};
 use std::alloc::Global;
@@ -27,28 +26,22 @@ pub struct PlaceList {
     pub places: List<Place>,
 }
 
-impl Copyable for PlaceList {
-    fn copy(&self, alloc: Global) -> Result<PlaceList, NoMemory> {
-        Ok(PlaceList {
-            places: self.places.copy(alloc)?,
-        })
-    }
-}
-
 /// The places of the query's witness lists: one for each source. Each entry of a witness list stands at its place: it is
 /// empty, or one of the rows that the source holds. No row of a good answer is without a list, each of the query's
 /// sublinks has its value over the contributing rows alone, and values added to outer rows change neither rows nor lists.
 /// It fails only for want of memory.
 pub fn shape(alloc: Global, query: &Query) -> Result<PlaceList, NoMemory>
     ensures places { IfOk result (λ list. list.places ≡ shape query.now) }
-    ensures entries { IfOk result (λ list. (db : Database) (env : Items Cells) (t : Cells) →
+    ensures entries { IfOk result (λ list. (db : Database) (env : List Row) (t : Row) →
         All (StandAt list.places (held_rows query.now db (Some env))) (witnesses query.now db env t)) }
-    ensures no_row_lost { (db : Database) (env : Items Cells) (bag : Bag) (t : Cells) →
+    ensures no_row_lost { (db : Database) (env : List Row) (bag : Bag) (t : Row) →
         meaning query.now db env ≡ Good bag → IsTrue (member t bag) ↔ (witnesses query.now db env t ≢ []) }
-    ensures truth_kept { (subs : Items Tested) (db : Database) (env : Items Cells) (u : Cells) → HasSublinks query.now subs →
+    ensures truth_kept { (subs : List Sublink) (db : Database) (env : List Row) (u : Row) →
+        HasSublinks query.now subs →
         each (contributing_value db env u) subs ≡ each (sublink_value db env u) subs }
-    ensures growth { (outer : Items (Items Sort)) (db : Database) (env other : Items Cells) →
-        WellFormed outer query.now → IsTrue (env_fits env outer) → Longer env other → denote query.now db env ≡ denote query.now db other }
+    ensures growth { (outer : List (List Kind)) (db : Database) (env other : List Row) →
+        WellFormed outer query.now → IsTrue (env_fits env outer) → Longer env other →
+        denote query.now db env ≡ denote query.now db other }
 {
     let mut places = List::new(alloc);
     add_places(alloc, query, &mut places)?;
@@ -61,6 +54,28 @@ pub fn kinds(alloc: Global, query: &Query) -> Result<List<Kind>, NoMemory>
 {
     let mut found = List::new(alloc);
     add_kinds(alloc, query, &mut found)?;
+    Ok(found)
+}
+
+/// The kind at a place; one out of range counts as a text. It takes no memory.
+pub fn kind_or_text(kinds: &[Kind], place: usize) -> Kind
+    ensures { result ≡ kind_in kinds.now place }
+{
+    if place < kinds.len() {
+        kinds[place]
+    } else {
+        Kind::Text
+    }
+}
+
+/// The kinds at the places; a place out of range counts as a text. It fails only for want of memory.
+pub fn kinds_at(alloc: Global, kinds: &[Kind], places: &[usize]) -> Result<List<Kind>, NoMemory>
+    ensures { IfOk result (λ found. found ≡ kinds_in kinds.now places.now) }
+{
+    let mut found = List::new(alloc);
+    for place in places {
+        found.push(kind_or_text(kinds, *place))?;
+    }
     Ok(found)
 }
 
@@ -89,7 +104,7 @@ fn add_kinds(alloc: Global, query: &Query, found: &mut List<Kind>) -> Result<(),
         } => {
             let mut below = List::new(alloc);
             add_kinds(alloc, input.get(), &mut below)?;
-            add_picked(found, below.as_slice(), groups.as_slice())?;
+            found.append(kinds_at(alloc, below.as_slice(), groups.as_slice())?)?;
             add_aggregate_kinds(found, aggregates.as_slice())
         }
         Query::Limit { input, .. } => add_kinds(alloc, input.get(), found),
@@ -177,8 +192,7 @@ fn add_source(
     ensures { OnOk result (found.new ≡
         found.old ++ (record { label = label.now; kinds = kinds_in below.now places.now }) ∷ []) }
 {
-    let mut kinds = List::new(alloc);
-    add_picked(&mut kinds, below, places)?;
+    let kinds = kinds_at(alloc, below, places)?;
     let label = label.copy(alloc)?;
     found.push(Place { label, kinds })
 }
@@ -192,22 +206,8 @@ fn add_all(found: &mut List<Kind>, kinds: &[Kind]) -> Result<(), NoMemory>
     Ok(())
 }
 
-/// The kinds at the places; a place out of range counts as a text.
-pub(crate) fn add_picked(
-    found: &mut List<Kind>,
-    below: &[Kind],
-    places: &[usize],
-) -> Result<(), NoMemory>
-    ensures { OnOk result (found.new ≡ found.old ++ kinds_in below.now places.now) }
-{
-    for place in places {
-        found.push(kind_or_text(below, *place))?;
-    }
-    Ok(())
-}
-
 fn add_item_kinds(found: &mut List<Kind>, items: &[Item]) -> Result<(), NoMemory>
-    ensures { OnOk result (found.new ≡ found.old ++ map (λ (item : Column). item.kind) items.now) }
+    ensures { OnOk result (found.new ≡ found.old ++ map (λ (item : Item). item.kind) items.now) }
 {
     for item in items {
         found.push(item.kind)?;
@@ -216,7 +216,8 @@ fn add_item_kinds(found: &mut List<Kind>, items: &[Item]) -> Result<(), NoMemory
 }
 
 fn add_aggregate_kinds(found: &mut List<Kind>, aggregates: &[Aggr]) -> Result<(), NoMemory>
-    ensures { OnOk result (found.new ≡ found.old ++ map (λ (aggregate : Aggregated). aggregate.kind) aggregates.now) }
+    ensures { OnOk result (found.new ≡
+        found.old ++ map (λ (aggregate : Aggr). aggregate.kind) aggregates.now) }
 {
     for aggregate in aggregates {
         found.push(aggregate.kind)?;

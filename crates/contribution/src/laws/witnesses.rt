@@ -1,7 +1,7 @@
 //! Laws of witness lists.
 ghost use Rattle.std.specs.Prelude.{◌≡◌, ◌≢◌, ◌↔◌, ◌≤◌, ◌++◌, List, [], All, Contains, IsTrue, Some, take};
 ghost use Rattle.perm_values.specs.declared.kind.Kind.{Kind};
-ghost use Rattle.bag_algebra.specs.Bags.{Row as Cells, Bag, member, count};
+ghost use Rattle.bag_algebra.specs.Bags.{Row, Bag, member, count};
 ghost use Rattle.bag_algebra.specs.Children.{subs_denote, sublink_value};
 ghost use Rattle.bag_algebra.specs.Kinds.{shape, width_of};
 ghost use Rattle.bag_algebra.specs.Meaning.{Database, meaning, witnesses};
@@ -17,18 +17,18 @@ ghost use Rattle.contribution.specs.SublinkValues.{contributing_value};
 /// No row is lost: where a query is good, a row is in its answer exactly where it has a witness list. Where it is bad no
 /// row has one.
 pub fn no_row_is_lost()
-    ensures good { (q : Query) (db : Database) (env : List Cells) (bag : Bag) (t : Cells) →
+    ensures good { (q : Query) (db : Database) (env : List Row) (bag : Bag) (t : Row) →
         meaning q db env ≡ Good bag → IsTrue (member t bag) ↔ (witnesses q db env t ≢ []) }
-    ensures bad { (q : Query) (db : Database) (env : List Cells) (faults : Faults) (t : Cells) →
+    ensures bad { (q : Query) (db : Database) (env : List Row) (faults : Faults) (t : Row) →
         meaning q db env ≡ Bad faults → witnesses q db env t ≡ [] }
 {}
 
 /// Truth is kept: on each row of a node, each of its sublinks has the same value over the rows that contribute alone, with
 /// their counts, as over all rows of its query.
 pub fn contributing_rows_keep_the_value()
-    ensures all_rows { (subs : List Sublink) (db : Database) (env : List Cells) (u : Cells) →
+    ensures all_rows { (subs : List Sublink) (db : Database) (env : List Row) (u : Row) →
         (subs_denote subs db env).answers u ≡ each (sublink_value db env u) subs }
-    ensures contributing_rows { (subs : List Sublink) (db : Database) (env : List Cells) (u : Cells) →
+    ensures contributing_rows { (subs : List Sublink) (db : Database) (env : List Row) (u : Row) →
         (subs_denote subs db env).answers u ≡ each (contributing_value db env u) subs }
 {}
 
@@ -36,22 +36,25 @@ pub fn contributing_rows_keep_the_value()
 /// to the source's places. Where the source is outside all sublinks it may be over any input, and the row is one of that
 /// input's under the same outer rows.
 pub fn entries_stand_at_their_places()
-    ensures { (q : Query) (db : Database) (env : List Cells) (t : Cells) →
+    ensures { (q : Query) (db : Database) (env : List Row) (t : Row) →
         All (StandAt (shape q) (held_rows q db (Some env))) (witnesses q db env t) }
 {}
 
 /// PROVENANCE of a query holds each of its rows beside each of the row's flattened witness lists, and each such pair once.
 /// So its first columns are, as a set, the rows of the query. It is bad exactly where the query is, with the same faults.
 pub fn provenance_stands_once()
-    ensures once { (q : Query) (db : Database) (env : List Cells) (found : Bag) (u : Cells) →
+    ensures once { (q : Query) (db : Database) (env : List Row) (found : Bag) (u : Row) →
         meaning (ProvOf q) db env ≡ Good found → count u found ≤ 1 }
-    ensures pairs { (q : Query) (db : Database) (env : List Cells) (bag found : Bag) (u : Cells) →
+    ensures pairs { (q : Query) (db : Database) (env : List Row) (bag found : Bag) (u : Row) →
         meaning q db env ≡ Good bag → meaning (ProvOf q) db env ≡ Good found →
         IsTrue (member u found) ↔
-        ((t : Cells) × (w : Witness) × IsTrue (member t bag) × Contains (witnesses q db env t) w × (t ++ flat w ≡ u)) }
-    ensures first_columns { (outer : List (List Kind)) (q : Query) (db : Database) (env : List Cells) (bag found : Bag) →
+        ((t : Row) × (w : Witness) × IsTrue (member t bag) × Contains (witnesses q db env t) w ×
+        (t ++ flat w ≡ u)) }
+    ensures first_columns { (outer : List (List Kind)) (q : Query) (db : Database) (env : List Row)
+        (bag found : Bag) →
         Fitting outer q db env → meaning q db env ≡ Good bag → meaning (ProvOf q) db env ≡ Good found →
-        (t : Cells) → IsTrue (member t bag) ↔ ((u : Cells) × IsTrue (member u found) × (take (width_of q) u ≡ t)) }
-    ensures faults { (q : Query) (db : Database) (env : List Cells) (faults : Faults) →
+        (t : Row) → IsTrue (member t bag) ↔
+        ((u : Row) × IsTrue (member u found) × (take (width_of q) u ≡ t)) }
+    ensures faults { (q : Query) (db : Database) (env : List Row) (faults : Faults) →
         (meaning (ProvOf q) db env ≡ Bad faults) ↔ (meaning q db env ≡ Bad faults) }
 {}

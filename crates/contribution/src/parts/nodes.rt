@@ -1,7 +1,6 @@
 //! Projections, filters and joins without sublinks.
-ghost use Rattle.std.specs.Prelude.{◌≡◌, ◌&&◌, ◌++◌, [], ◌∷◌, List as Items, IfOk};
-ghost use Rattle.bag_algebra.specs.Bags.{Row as Cells};
-ghost use Rattle.bag_algebra.specs.EveryNode.{no_open_sublink};
+ghost use Rattle.std.specs.Prelude.{◌≡◌, ◌&&◌, ◌++◌, [], ◌∷◌, List, IfOk};
+ghost use Rattle.bag_algebra.specs.Bags.{Row};
 ghost use Rattle.bag_algebra.specs.Kinds.{kinds_of, width_of};
 ghost use Rattle.bag_algebra.specs.Meaning.{Database, meaning, condition_on, items_on};
 ghost use Rattle.bag_algebra.specs.Means.{no_subs, kept, joined_rows};
@@ -11,68 +10,48 @@ ghost use Rattle.bag_algebra.specs.Rewriting.{is_plain};
 ghost use Rattle.bag_algebra.specs.TablesRead.{tables_read};
 ghost use Rattle.bag_algebra.specs.WellFormed.{WellFormed, HasKind, ItemsForm};
 ghost use Rattle.bag_algebra.specs.declared.query.Query.{end_of-Sublink};
-ghost use Rattle.perm_values.specs.declared.kind.Kind.{Kind as Sort};
+ghost use Rattle.perm_values.specs.declared.kind.Kind.{Kind};
 ghost use Rattle.perm_values.specs.declared.kind.Kind.TheVariants.{Boolean};
 ghost use Rattle.contribution.specs.ItemKinds.{item_kinds};
 
 use bag_algebra::{Expr, Item, JoinKind, Query};
-use perm_values::{Boxed, List, NoMemory, boxes};
+use perm_values::{List, NoMemory};
 use std::alloc::Global;
 
 /// A projection of the query to the items, without sublinks. It is well formed where the query and the items are, plain
-/// where the query is, reads the same tables, and has an open sublink where the query has one. It fails only for want of
-/// memory.
+/// where the query is, and reads the same tables. It fails only for want of memory.
 pub fn projection(alloc: Global, query: Query, items: List<Item>) -> Result<Query, NoMemory>
     ensures made { IfOk result (λ p. p ≡ ProjectOf query items [] end_of-Sublink) }
     ensures kinds { IfOk result (λ p. kinds_of p ≡ item_kinds items) }
-    ensures rows { IfOk result (λ p. (db : Database) (env : Items Cells) →
+    ensures rows { IfOk result (λ p. (db : Database) (env : List Row) →
         meaning p db env ≡ and_then (meaning query db env) (each (items_on items env no_subs))) }
-    ensures formed { IfOk result (λ p. (outer : Items (Items Sort)) →
+    ensures formed { IfOk result (λ p. (outer : List (List Kind)) →
         WellFormed outer query → ItemsForm (kinds_of query ∷ outer) [] items → WellFormed outer p) }
     ensures plain { IfOk result (λ p. is_plain p ≡ is_plain query) }
     ensures tables { IfOk result (λ p. tables_read p ≡ tables_read query) }
-    ensures closed { IfOk result (λ p. no_open_sublink p ≡ no_open_sublink query) }
 {
-    let Ok(input) = Boxed::new(alloc, query) else {
-        drop(items);
-        return Err(NoMemory);
-    };
-    Ok(Query::Project {
-        input,
-        items,
-        subs: List::new(alloc),
-    })
+    Query::project(alloc, query, items, List::new(alloc))
 }
 
 /// The rows of the query on which the condition is true, without sublinks. It is well formed where the query and the
-/// condition are, plain where the query is, reads the same tables, and has an open sublink where the query has one. It
-/// fails only for want of memory.
-pub fn filtered(alloc: Global, query: Query, condition: Expr) -> Result<Query, NoMemory>
+/// condition are, plain where the query is, and reads the same tables. It fails only for want of memory.
+pub fn selection(alloc: Global, query: Query, condition: Expr) -> Result<Query, NoMemory>
     ensures made { IfOk result (λ p. p ≡ FilterOf query condition [] end_of-Sublink) }
     ensures kinds { IfOk result (λ p. kinds_of p ≡ kinds_of query) }
-    ensures rows { IfOk result (λ p. (db : Database) (env : Items Cells) →
-        meaning p db env ≡ and_then (meaning query db env) (gather (kept (condition_on condition env no_subs)))) }
-    ensures formed { IfOk result (λ p. (outer : Items (Items Sort)) →
+    ensures rows { IfOk result (λ p. (db : Database) (env : List Row) →
+        meaning p db env ≡ and_then (meaning query db env)
+        (gather (kept (condition_on condition env no_subs)))) }
+    ensures formed { IfOk result (λ p. (outer : List (List Kind)) →
         WellFormed outer query → HasKind (kinds_of query ∷ outer) [] condition Boolean → WellFormed outer p) }
     ensures plain { IfOk result (λ p. is_plain p ≡ is_plain query) }
     ensures tables { IfOk result (λ p. tables_read p ≡ tables_read query) }
-    ensures closed { IfOk result (λ p. no_open_sublink p ≡ no_open_sublink query) }
 {
-    let Ok(input) = Boxed::new(alloc, query) else {
-        drop(condition);
-        return Err(NoMemory);
-    };
-    Ok(Query::Filter {
-        input,
-        condition,
-        subs: List::new(alloc),
-    })
+    Query::filter(alloc, query, condition, List::new(alloc))
 }
 
 /// The join of the queries on the condition, without sublinks. It is well formed where the queries and the condition are,
-/// plain where both queries are, reads the tables of both, and has an open sublink where one of them has. It fails only
-/// for want of memory.
-pub fn joined(
+/// plain where both queries are, and reads the tables of both. It fails only for want of memory.
+pub fn join_on(
     alloc: Global,
     kind: JoinKind,
     left: Query,
@@ -81,24 +60,14 @@ pub fn joined(
 ) -> Result<Query, NoMemory>
     ensures made { IfOk result (λ p. p ≡ JoinOf kind left right condition [] end_of-Sublink) }
     ensures kinds { IfOk result (λ p. kinds_of p ≡ kinds_of left ++ kinds_of right) }
-    ensures rows { IfOk result (λ p. (db : Database) (env : Items Cells) →
+    ensures rows { IfOk result (λ p. (db : Database) (env : List Row) →
         meaning p db env ≡ both_then (meaning left db env) (meaning right db env)
         (joined_rows kind (condition_on condition env no_subs) (width_of left) (width_of right))) }
-    ensures formed { IfOk result (λ p. (outer : Items (Items Sort)) → WellFormed outer left → WellFormed outer right →
+    ensures formed { IfOk result (λ p. (outer : List (List Kind)) → WellFormed outer left →
+        WellFormed outer right →
         HasKind ((kinds_of left ++ kinds_of right) ∷ outer) [] condition Boolean → WellFormed outer p) }
     ensures plain { IfOk result (λ p. is_plain p ≡ (is_plain left && is_plain right)) }
     ensures tables { IfOk result (λ p. tables_read p ≡ tables_read left ++ tables_read right) }
-    ensures closed { IfOk result (λ p. no_open_sublink p ≡ (no_open_sublink left && no_open_sublink right)) }
 {
-    let Ok((left, right)) = boxes(alloc, left, right) else {
-        drop(condition);
-        return Err(NoMemory);
-    };
-    Ok(Query::Join {
-        kind,
-        left,
-        right,
-        condition,
-        subs: List::new(alloc),
-    })
+    Query::join(alloc, kind, left, right, condition, List::new(alloc))
 }

@@ -8,6 +8,6 @@ use Rattle.contribution.proofs.cross.beside.Goals as goal
 
 pub returns : goal.returns
 returns c =
-    subst (λ (test : Expr). IfOk c.joined.result (λ p. p ≡ JoinOf Inner (source_query c.args.source.now) c.args.rest test [] end_of-Sublink)) c.always.ensures
-    (subst (λ (left : Query). IfOk c.joined.result (λ p. p ≡ JoinOf Inner left c.args.rest c.always.result [] end_of-Sublink)) c.in-Ok.ensures
-    c.joined.ensures.made)
+    subst (λ (test : Expr). IfOk c.join_on.result (λ p. p ≡ JoinOf Inner (source_query c.args.source.now) c.args.rest test [] end_of-Sublink)) c.always.ensures
+    (subst (λ (left : Query). IfOk c.join_on.result (λ p. p ≡ JoinOf Inner left c.args.rest c.always.result [] end_of-Sublink)) c.in-Ok.ensures
+    c.join_on.ensures.made)

@@ -1,4 +1,4 @@
-use Rattle.std.proofs.Common.{◌≡◌, true, ◌∙◌, []}
+use Rattle.std.proofs.Common.{◌≡◌, true, IfOk, ◌∙◌, [], subst}
 use Rattle.perm_values.proofs.Taken.{opened}
 use Rattle.bag_algebra.specs.Built.{Union-is}
 use Rattle.bag_algebra.specs.ColumnItems.{column_items}
@@ -11,10 +11,9 @@ use Rattle.contribution.proofs.cross.source_query.Goals as goal
 
 pub returns : goal.returns
 returns c =
-    (λ i. Union true
-    ((c.in_ok-left.ensures.first_kept
-    ∙ opened (λ (p : Query). p ≡ ProjectOf (Table c.args.source.now.id c.args.source.now.kinds) (column_items c.args.source.now.kinds c.args.source.now.places) [] end_of-Sublink)
-    c.source_rows.result _ c.in_ok-rows.ensures.first_was c.source_rows.ensures) i)
-    ((c.in_ok-left.ensures.second_kept
-    ∙ opened (λ (p : Query). p ≡ null_row_of (kinds_in c.args.source.now.kinds c.args.source.now.places)) c.blank_row.result _ c.in_ok-rows.ensures.second_was c.blank_row.ensures) i))
-    ∙ Union-is true _ _
+    let rows =
+    opened (λ (p : Query). p ≡ ProjectOf (Table c.args.source.now.id c.args.source.now.kinds) (column_items c.args.source.now.kinds c.args.source.now.places) [] end_of-Sublink)
+    c.source_rows.result _ c.in_ok-rows.ensures.first_was c.source_rows.ensures in
+    let blank =
+    opened (λ (p : Query). p ≡ null_row_of (kinds_in c.args.source.now.kinds c.args.source.now.places)) c.blank_row.result _ c.in_ok-rows.ensures.second_was c.blank_row.ensures in
+    subst (λ (made : Query). IfOk c.union.result (λ p. p ≡ made)) ((λ i. Union true (rows i) (blank i)) ∙ Union-is true _ _) c.union.ensures

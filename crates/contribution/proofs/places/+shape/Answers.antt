@@ -37,10 +37,11 @@ add_kinds-returns-in_ok-add_kinds-in-Join t c =
     added-behind c.add_kinds-in-Join-2.result _ _ c.args.found.now _ _ _ c.in_ok-add_kinds-in-Join.ensures
     ((λ i. kinds_of (c.get-in-Join.ensures i) ++ kinds_of (c.get-in-Join-2.ensures i)) ∙ sym (ap kinds_of c.in-Join.is ∙ kinds_of-Join c.in-Join.kind c.in-Join.left c.in-Join.right c.in-Join.condition c.in-Join.subs)) c.add_kinds-in-Join-2.ensures
 
-pub add_kinds-returns-in_ok-add_picked-in-Aggregate : goal.add_kinds-returns-in_ok-add_picked-in-Aggregate
-add_kinds-returns-in_ok-add_picked-in-Aggregate t c =
+pub add_kinds-returns-in_ok-append-in-Aggregate : goal.add_kinds-returns-in_ok-append-in-Aggregate
+add_kinds-returns-in_ok-append-in-Aggregate t c =
     let below = c.as_slice-in-Aggregate.ensures ∙ c.in_ok-add_kinds-in-Aggregate.ensures ∙ ap (λ before. before ++ kinds_of c.get-in-Aggregate.result.now) c.new-below.ensures ∙ ap kinds_of c.get-in-Aggregate.ensures in
-    added-behind c.add_aggregate_kinds.result _ _ c.args.found.now _ _ _ c.in_ok-add_picked-in-Aggregate.ensures
+    let grouped = c.in_ok-append-in-Aggregate.ensures.ok ∙ ap (λ more. c.args.found.now ++ more) c.in_ok-kinds_at-in-Aggregate.ensures in
+    added-behind c.add_aggregate_kinds.result _ _ c.args.found.now _ _ _ grouped
     ((λ i. kinds_in (below i) (c.as_slice-in-Aggregate-2.ensures i) ++ map (λ (aggregate : Aggr). aggregate.kind) (c.as_slice-in-Aggregate-3.ensures i))
     ∙ sym (ap kinds_of c.in-Aggregate.is ∙ kinds_of-Aggregate c.in-Aggregate.input c.in-Aggregate.groups c.in-Aggregate.aggregates)) c.add_aggregate_kinds.ensures
 

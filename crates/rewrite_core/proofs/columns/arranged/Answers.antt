@@ -1,8 +1,0 @@
-use Rattle.std.proofs.Common.{◌≡◌, [], IfOk, subst}
-use Rattle.bag_algebra.specs.Patterns.{ProjectOf}
-use Rattle.bag_algebra.specs.declared.query.Query.{end_of-Sublink}
-use Rattle.rewrite_core.proofs.columns.arranged.Goals as goal
-
-pub returns-clause-made : goal.returns-clause-made
-returns-clause-made c =
-    subst (λ items. IfOk c.projection.result (λ p. p ≡ ProjectOf c.args.query items [] end_of-Sublink)) c.in-Ok.ensures c.projection.ensures.made
