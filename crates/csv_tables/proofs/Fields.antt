@@ -64,33 +64,33 @@ is_utf8-some field found text valid e = is_utf8-from_IsUtf8 field (valid.0 (rw e
 pub is_utf8-none : (field : List ℕ) (found : Option (List ℕ)) → IsSome found ↔ IsUtf8 field → found ≡ None → is_utf8 field ≡ false
 is_utf8-none field found valid e = false_from (is_utf8 field) (λ yes. let some = rw e at (valid.1 (IsUtf8-from_is_utf8 field yes)) in cc some)
 
-pub text-spelled : (mark : List ℕ) (row place : ℕ) (k : Kind) (field text : List ℕ) (found : Option (List ℕ)) (marked : Bool) → k ≡ kind.Text → marked ≡ false → marked ≡ bytes_eq field mark →
-    IsSome found ↔ IsUtf8 field → IfSome found (λ t. t ≡ field) → found ≡ Some text → (field_breaks mark row place k field ≡ []) × (Text text ≡ field_value mark k field)
-text-spelled mark row place k field text found marked e unmarked tested valid value is =
+pub text-spelled : (null_field : List ℕ) (row place : ℕ) (k : Kind) (field text : List ℕ) (found : Option (List ℕ)) (equal : Bool) → k ≡ kind.Text → equal ≡ false → equal ≡ bytes_eq field null_field →
+    IsSome found ↔ IsUtf8 field → IfSome found (λ t. t ≡ field) → found ≡ Some text → (field_breaks null_field row place k field ≡ []) × (Text text ≡ field_value null_field k field)
+text-spelled null_field row place k field text found equal e unequal tested valid value is =
     let utf8 : is_utf8 field ≡ true = is_utf8-some field found text valid is in
     let same : text ≡ field = rw is at value in
-    let none : bytes_eq field mark ≡ false = sym tested ∙ unmarked in
+    let none : bytes_eq field null_field ≡ false = sym tested ∙ unequal in
     rw (e, none, utf8, same) (refl, refl)
 
-pub text-broken : (mark : List ℕ) (row place : ℕ) (k : Kind) (field : List ℕ) (found : Option (List ℕ)) (marked : Bool) → k ≡ kind.Text → marked ≡ false → marked ≡ bytes_eq field mark →
-    IsSome found ↔ IsUtf8 field → found ≡ None → first_of (field_breaks mark row place k field) ≡ Some (NotText row place)
-text-broken mark row place k field found marked e unmarked tested valid is =
+pub text-broken : (null_field : List ℕ) (row place : ℕ) (k : Kind) (field : List ℕ) (found : Option (List ℕ)) (equal : Bool) → k ≡ kind.Text → equal ≡ false → equal ≡ bytes_eq field null_field →
+    IsSome found ↔ IsUtf8 field → found ≡ None → first_of (field_breaks null_field row place k field) ≡ Some (NotText row place)
+text-broken null_field row place k field found equal e unequal tested valid is =
     let binary : is_utf8 field ≡ false = is_utf8-none field found valid is in
-    let none : bytes_eq field mark ≡ false = sym tested ∙ unmarked in
+    let none : bytes_eq field null_field ≡ false = sym tested ∙ unequal in
     rw (e, none, binary) refl
 
 -- ---- the rule that a field of a text column breaks, by its test alone
 
-pub text-whole : (mark : List ℕ) (row place : ℕ) (k : Kind) (field : List ℕ) (marked : Bool) → k ≡ kind.Text → marked ≡ false → marked ≡ bytes_eq field mark →
-    IsUtf8 field → None ≡ first_of (field_breaks mark row place k field)
-text-whole mark row place k field marked e unmarked tested valid =
+pub text-whole : (null_field : List ℕ) (row place : ℕ) (k : Kind) (field : List ℕ) (equal : Bool) → k ≡ kind.Text → equal ≡ false → equal ≡ bytes_eq field null_field →
+    IsUtf8 field → None ≡ first_of (field_breaks null_field row place k field)
+text-whole null_field row place k field equal e unequal tested valid =
     let utf8 : is_utf8 field ≡ true = is_utf8-from_IsUtf8 field valid in
-    let none : bytes_eq field mark ≡ false = sym tested ∙ unmarked in
+    let none : bytes_eq field null_field ≡ false = sym tested ∙ unequal in
     rw (e, none, utf8) refl
 
-pub text-faulty : (mark : List ℕ) (row place : ℕ) (k : Kind) (field : List ℕ) (marked : Bool) → k ≡ kind.Text → marked ≡ false → marked ≡ bytes_eq field mark →
-    ¬ (IsUtf8 field) → Some (NotText row place) ≡ first_of (field_breaks mark row place k field)
-text-faulty mark row place k field marked e unmarked tested faulty =
+pub text-faulty : (null_field : List ℕ) (row place : ℕ) (k : Kind) (field : List ℕ) (equal : Bool) → k ≡ kind.Text → equal ≡ false → equal ≡ bytes_eq field null_field →
+    ¬ (IsUtf8 field) → Some (NotText row place) ≡ first_of (field_breaks null_field row place k field)
+text-faulty null_field row place k field equal e unequal tested faulty =
     let binary : is_utf8 field ≡ false = false_from (is_utf8 field) (λ yes. faulty (IsUtf8-from_is_utf8 field yes)) in
-    let none : bytes_eq field mark ≡ false = sym tested ∙ unmarked in
+    let none : bytes_eq field null_field ≡ false = sym tested ∙ unequal in
     rw (e, none, binary) refl

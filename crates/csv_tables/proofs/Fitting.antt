@@ -28,16 +28,16 @@ null-fits kind.Integer = refl
 null-fits kind.Text = refl
 null-fits kind.Boolean = refl
 
-field_value-fits : (mark : List ℕ) (k : Kind) (field : List ℕ) → fits (field_value mark k field) k ≡ true
-field_value-fits mark k field = choose (bytes_eq field mark) where
+field_value-fits : (null_field : List ℕ) (k : Kind) (field : List ℕ) → fits (field_value null_field k field) k ≡ true
+field_value-fits null_field k field = choose (bytes_eq field null_field) where
   choose : (b : Bool) → fits (if b then Null else spelled k field) k ≡ true
   choose true = null-fits k
   choose false = spelled-fits k field
 
-row_values-fits : (mark : List ℕ) (kinds : List Kind) (fields : List (List ℕ)) → length fields ≡ length kinds → row_fits (row_values mark kinds fields) kinds ≡ true
-row_values-fits mark [] fields wide = refl
-row_values-fits mark (k ∷ kinds) [] wide = absurd (omega arith)
-row_values-fits mark (k ∷ kinds) (f ∷ fields) wide = rw (field_value-fits mark k f) (row_values-fits mark kinds fields (omega arith))
+row_values-fits : (null_field : List ℕ) (kinds : List Kind) (fields : List (List ℕ)) → length fields ≡ length kinds → row_fits (row_values null_field kinds fields) kinds ≡ true
+row_values-fits null_field [] fields wide = refl
+row_values-fits null_field (k ∷ kinds) [] wide = absurd (omega arith)
+row_values-fits null_field (k ∷ kinds) (f ∷ fields) wide = rw (field_value-fits null_field k f) (row_values-fits null_field kinds fields (omega arith))
 
 wide-of : (row : ℕ) (kinds : List Kind) (fields : List (List ℕ)) → width_breaks row kinds fields ≡ [] → length fields ≡ length kinds
 wide-of row kinds fields e = elim (cases_Bool (length fields == length kinds)) [
@@ -45,13 +45,13 @@ wide-of row kinds fields e = elim (cases_Bool (length fields == length kinds)) [
   | inr other ↦ let broken = rw other at e in cc broken
 ]
 
-records-fit : (mark : List ℕ) (kinds : List Kind) (row : ℕ) (records : List (List (List ℕ))) → records_breaks mark kinds row records ≡ [] → bag_fits (map (row_values mark kinds) records) kinds ≡ true
-records-fit mark kinds row [] e = refl
-records-fit mark kinds row (fields ∷ more) e =
-    let here : record_breaks mark kinds row fields ≡ [] = front-none _ _ e in
+records-fit : (null_field : List ℕ) (kinds : List Kind) (row : ℕ) (records : List (List (List ℕ))) → records_breaks null_field kinds row records ≡ [] → bag_fits (map (row_values null_field kinds) records) kinds ≡ true
+records-fit null_field kinds row [] e = refl
+records-fit null_field kinds row (fields ∷ more) e =
+    let here : record_breaks null_field kinds row fields ≡ [] = front-none _ _ e in
     let wide : length fields ≡ length kinds = wide-of row kinds fields (front-none _ _ here) in
-    rw (row_values-fits mark kinds fields wide) (records-fit mark kinds (row + 1) more (back-none _ _ e))
+    rw (row_values-fits null_field kinds fields wide) (records-fit null_field kinds (row + 1) more (back-none _ _ e))
 
 -- where a file breaks no rule, the rows that it spells fit
-pub bag_fits-spelled : (mark : List ℕ) (kinds : List Kind) (header : Bool) (bytes : List ℕ) → broken_rules mark kinds header bytes ≡ [] → bag_fits (spelled_rows mark kinds header bytes) kinds ≡ true
-bag_fits-spelled mark kinds header bytes e = records-fit mark kinds (skipped header + 1) (row_records header bytes) e
+pub bag_fits-spelled : (null_field : List ℕ) (kinds : List Kind) (header : Bool) (bytes : List ℕ) → broken_rules null_field kinds header bytes ≡ [] → bag_fits (spelled_rows null_field kinds header bytes) kinds ≡ true
+bag_fits-spelled null_field kinds header bytes e = records-fit null_field kinds (skipped header + 1) (row_records header bytes) e

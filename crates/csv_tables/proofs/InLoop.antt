@@ -14,7 +14,7 @@ use Rattle.csv_tables.specs.Loading.{IsFirstBroken, broken_rules, record_breaks,
 use Rattle.csv_tables.specs.declared.data_error.DataError.{DataError}
 
 -- the reader has given the records `done`, those that stand for rows break no rule, and `rows` are what they spell
-pub record InLoop {R : Type 0} (rem : R → Option (List ℕ)) (mark : List ℕ) (kinds : List Kind) (header : Bool) (bytes : List ℕ)
+pub record InLoop {R : Type 0} (rem : R → Option (List ℕ)) (null_field : List ℕ) (kinds : List Kind) (header : Bool) (bytes : List ℕ)
     (rdr : Reader R) (turns : ℕ) (skip : Bool) (rows : List (List Value)) : Type 0 where
   pub untrimmed : reader_trim rdr ≡ trim.None
   pub ready : Ready rdr
@@ -26,8 +26,8 @@ pub record InLoop {R : Type 0} (rem : R → Option (List ℕ)) (mark : List ℕ)
   pub reached : Reached default_config st.StartRecord (strip_bom bytes) done (reader_state rdr) left
   pub waiting : skip ≡ true → (header ≡ true) × (done ≡ [])
   pub begun : skip ≡ false → skipped header ≤ length done
-  pub spelled : rows ≡ map (row_values mark kinds) (drop (skipped header) done)
-  pub unbroken : records_breaks mark kinds (skipped header + 1) (drop (skipped header) done) ≡ []
+  pub spelled : rows ≡ map (row_values null_field kinds) (drop (skipped header) done)
+  pub unbroken : records_breaks null_field kinds (skipped header + 1) (drop (skipped header) done) ≡ []
 
 no_records : (header : Bool) → drop (skipped header) (◌++◌ {A = List (List ℕ)} [] []) ≡ []
 no_records true = refl
@@ -43,11 +43,11 @@ skips_one : (header : Bool) → skipped header ≤ 1
 skips_one true = omega arith
 skips_one false = omega arith
 
-pub InLoop-start : {R : Type 0} (rem : R → Option (List ℕ)) (mark : List ℕ) (kinds : List Kind) (header : Bool) (bytes : List ℕ) (rdr : Reader R) (turns : ℕ) →
+pub InLoop-start : {R : Type 0} (rem : R → Option (List ℕ)) (null_field : List ℕ) (kinds : List Kind) (header : Bool) (bytes : List ℕ) (rdr : Reader R) (turns : ℕ) →
     reader_trim rdr ≡ trim.None → Ready rdr → 0 < turns → reader_config rdr ≡ default_config → source_of rem rdr ≡ Some (strip_bom bytes) → reader_state rdr ≡ st.StartRecord →
-    InLoop rem mark kinds header bytes rdr turns header []
+    InLoop rem null_field kinds header bytes rdr turns header []
 unfolding Reached
-InLoop-start rem mark kinds header bytes rdr turns untrimmed ready more config source state = record {
+InLoop-start rem null_field kinds header bytes rdr turns untrimmed ready more config source state = record {
   untrimmed = untrimmed;
   ready = ready;
   more_turns = more;
@@ -62,12 +62,12 @@ InLoop-start rem mark kinds header bytes rdr turns untrimmed ready more config s
   unbroken = rw (no_records header) refl;
 }
 
-module _ {R : Type 0} (rem : R → Option (List ℕ)) (mark : List ℕ) (kinds : List Kind) (header : Bool) (bytes : List ℕ) (rdr next : Reader R) (turns : ℕ)
-    (skip : Bool) (rows : List (List Value)) (inv : InLoop rem mark kinds header bytes rdr turns skip rows) where
+module _ {R : Type 0} (rem : R → Option (List ℕ)) (null_field : List ℕ) (kinds : List Kind) (header : Bool) (bytes : List ℕ) (rdr next : Reader R) (turns : ℕ)
+    (skip : Bool) (rows : List (List Value)) (inv : InLoop rem null_field kinds header bytes rdr turns skip rows) where
   -- the number of the next record
   record_number : (number : ℕ) → number ≡ length rows + skipped header + 1 → skipped header + 1 + length (drop (skipped header) inv.done) ≡ number
   record_number number counted =
-      let long : length rows ≡ length (drop (skipped header) inv.done) = ap length inv.spelled ∙ length-map (drop (skipped header) inv.done) (row_values mark kinds) in
+      let long : length rows ≡ length (drop (skipped header) inv.done) = ap length inv.spelled ∙ length-map (drop (skipped header) inv.done) (row_values null_field kinds) in
       omega (arith, counted, long)
 
   module _ (fields : List (List ℕ)) (read : ReadRecord rem rdr next true fields) where
@@ -77,7 +77,7 @@ module _ {R : Type 0} (rem : R → Option (List ℕ)) (mark : List ℕ) (kinds :
 
     module _ (first : took_first next ≡ true) (next_turns : ℕ) (more : 0 < next_turns) where
       -- the header gives no row
-      pub InLoop-header : skip ≡ true → InLoop rem mark kinds header bytes next next_turns false rows
+      pub InLoop-header : skip ≡ true → InLoop rem null_field kinds header bytes next next_turns false rows
       InLoop-header skips =
           let alone : inv.done ++ (fields ∷ []) ≡ fields ∷ [] = ap (λ d. d ++ (fields ∷ [])) (inv.waiting skips).1 in
           let none : drop (skipped header) (inv.done ++ (fields ∷ [])) ≡ [] = ap (λ d. drop (skipped header) d) alone ∙ header_alone header fields (inv.waiting skips).0 in
@@ -98,8 +98,8 @@ module _ {R : Type 0} (rem : R → Option (List ℕ)) (mark : List ℕ) (kinds :
           }
 
       -- another record gives a row
-      pub InLoop-row : (number : ℕ) (row : List Value) → skip ≡ false → number ≡ length rows + skipped header + 1 → record_breaks mark kinds number fields ≡ [] → row ≡ row_values mark kinds fields →
-          InLoop rem mark kinds header bytes next next_turns skip (rows ++ (row ∷ []))
+      pub InLoop-row : (number : ℕ) (row : List Value) → skip ≡ false → number ≡ length rows + skipped header + 1 → record_breaks null_field kinds number fields ≡ [] → row ≡ row_values null_field kinds fields →
+          InLoop rem null_field kinds header bytes next next_turns skip (rows ++ (row ∷ []))
       InLoop-row number row reads counted whole value =
           let before = drop (skipped header) inv.done in
           let seen : drop (skipped header) (inv.done ++ (fields ∷ [])) ≡ before ++ (fields ∷ []) = drop-append-le (skipped header) inv.done (fields ∷ []) (inv.begun reads) in
@@ -114,26 +114,26 @@ module _ {R : Type 0} (rem : R → Option (List ℕ)) (mark : List ℕ) (kinds :
             reached = next_reached.2;
             waiting = λ e. let no : false ≡ true = sym reads ∙ e in cc no;
             begun = λ e. omega (arith, inv.begun reads, length-append inv.done (fields ∷ []));
-            spelled = rw (seen, map-append (row_values mark kinds) before (fields ∷ []), inv.spelled, value) refl;
-            unbroken = rw (seen, records_breaks-append mark kinds (skipped header + 1) before (fields ∷ []), inv.unbroken, record_number number counted, whole) refl;
+            spelled = rw (seen, map-append (row_values null_field kinds) before (fields ∷ []), inv.spelled, value) refl;
+            unbroken = rw (seen, records_breaks-append null_field kinds (skipped header + 1) before (fields ∷ []), inv.unbroken, record_number number counted, whole) refl;
           }
 
     -- the first rule that the record breaks is the file's first
-    pub InLoop-broken : (number : ℕ) (e : DataError) → skip ≡ false → number ≡ length rows + skipped header + 1 → IsFirstBroken (record_breaks mark kinds number fields) e →
-        IsFirstBroken (broken_rules mark kinds header bytes) e
+    pub InLoop-broken : (number : ℕ) (e : DataError) → skip ≡ false → number ≡ length rows + skipped header + 1 → IsFirstBroken (record_breaks null_field kinds number fields) e →
+        IsFirstBroken (broken_rules null_field kinds header bytes) e
     InLoop-broken number e reads counted broken =
         let before = drop (skipped header) inv.done in
         let found = records-begin default_config (reader_state next) (strip_bom bytes) next_reached.0 (inv.done ++ (fields ∷ [])) next_reached.2 in
         let seen : row_records header bytes ≡ before ++ (fields ∷ found.0) =
         ap (λ r. drop (skipped header) r) (found.1 ∙ append_assoc inv.done (fields ∷ []) found.0)
         ∙ drop-append-le (skipped header) inv.done (fields ∷ found.0) (inv.begun reads) in
-        let rules : broken_rules mark kinds header bytes ≡ record_breaks mark kinds number fields ++ records_breaks mark kinds (number + 1) found.0 =
-        ap (λ r. records_breaks mark kinds (skipped header + 1) r) seen
-        ∙ rw (records_breaks-append mark kinds (skipped header + 1) before (fields ∷ found.0), inv.unbroken, record_number number counted) refl in
+        let rules : broken_rules null_field kinds header bytes ≡ record_breaks null_field kinds number fields ++ records_breaks null_field kinds (number + 1) found.0 =
+        ap (λ r. records_breaks null_field kinds (skipped header + 1) r) seen
+        ∙ rw (records_breaks-append null_field kinds (skipped header + 1) before (fields ∷ found.0), inv.unbroken, record_number number counted) refl in
         subst (λ (b : List DataError). IsFirstBroken b e) (sym rules) (broken-append _ _ e broken)
 
   -- where there are no more records, these are all
-  pub InLoop-end : ReadRecord rem rdr next false [] → (broken_rules mark kinds header bytes ≡ []) × (rows ≡ spelled_rows mark kinds header bytes)
+  pub InLoop-end : ReadRecord rem rdr next false [] → (broken_rules null_field kinds header bytes ≡ []) × (rows ≡ spelled_rows null_field kinds header bytes)
   InLoop-end read =
       let all : records default_config (strip_bom bytes) ≡ inv.done =
       records-all default_config (reader_state rdr) (strip_bom bytes) inv.left inv.done inv.reached (rows-end rem rdr next [] default_config inv.left inv.config inv.source read) in

@@ -223,16 +223,16 @@ unfolding AllPlain
 all-append [] ys h k = k
 all-append (x ∷ xs) ys h k = (h.0, all-append xs ys h.1 k)
 
-mark-plain : (b : ℕ) → (b == 44) ≡ false → (b == 34) ≡ false → (b == 13) ≡ false → (b == 10) ≡ false → IsPlain b
-mark-plain b c q r n = record { comma = c; quote = q; carriage_return = r; line_feed = n }
+null_field-plain : (b : ℕ) → (b == 44) ≡ false → (b == 34) ≡ false → (b == 13) ≡ false → (b == 10) ≡ false → IsPlain b
+null_field-plain b c q r n = record { comma = c; quote = q; carriage_return = r; line_feed = n }
 
 rows_word-plain : AllPlain (codes " rows)")
 unfolding AllPlain
-rows_word-plain = (mark-plain 32 refl refl refl refl, (plain-above 114 (omega arith), (plain-above 111 (omega arith), (plain-above 119 (omega arith), (plain-above 115 (omega arith), (mark-plain 41 refl refl refl refl, tt))))))
+rows_word-plain = (null_field-plain 32 refl refl refl refl, (plain-above 114 (omega arith), (plain-above 111 (omega arith), (plain-above 119 (omega arith), (plain-above 115 (omega arith), (null_field-plain 41 refl refl refl refl, tt))))))
 
 count_text-plain : (n : ℕ) → AllPlain (count_text n)
 unfolding AllPlain
-count_text-plain n = (mark-plain 40 refl refl refl refl, all-append (decimal n) (codes " rows)") (decimal-plain n) rows_word-plain)
+count_text-plain n = (null_field-plain 40 refl refl refl refl, all-append (decimal n) (codes " rows)") (decimal-plain n) rows_word-plain)
 
 count-read : (n : ℕ) → next_record default_config st.StartRecord [] [] (count_line n) ≡ Some (count_text n ∷ [], st.StartRecord, [])
 unfolding next_record Spells

@@ -56,58 +56,58 @@ item-at items i d h = rw add-one (drop-cons items i d h)
 pub field-at : (fields : List (List ℕ)) (i : ℕ) (field : List ℕ) → i < length fields → field_at fields i ≡ Some field → drop i fields ≡ field ∷ drop (i + 1) fields
 field-at fields i field h e = item-at fields i [] h ∙ ap (λ f. f ∷ drop (i + 1) fields) (field-get fields i field e)
 
-record_breaks-wide : (mark : List ℕ) (kinds : List Kind) (row : ℕ) (fields : List (List ℕ)) → length fields ≡ length kinds → record_breaks mark kinds row fields ≡ fields_breaks mark row 1 kinds fields
-record_breaks-wide mark kinds row fields wide =
+record_breaks-wide : (null_field : List ℕ) (kinds : List Kind) (row : ℕ) (fields : List (List ℕ)) → length fields ≡ length kinds → record_breaks null_field kinds row fields ≡ fields_breaks null_field row 1 kinds fields
+record_breaks-wide null_field kinds row fields wide =
     let same : (length fields == length kinds) ≡ true = eq-eqb _ _ wide in
     rw same refl
 
 -- the fields before a place break no rule
 abbrev pub Unbroken : List ℕ → List Kind → ℕ → List (List ℕ) → ℕ → Type 0
-Unbroken mark kinds row fields place = fields_breaks mark row 1 kinds fields ≡ fields_breaks mark row (place + 1) (drop place kinds) (drop place fields)
+Unbroken null_field kinds row fields place = fields_breaks null_field row 1 kinds fields ≡ fields_breaks null_field row (place + 1) (drop place kinds) (drop place fields)
 
 -- so it is, and their values are those of the row so far
-pub record FieldsRead (mark : List ℕ) (kinds : List Kind) (row : ℕ) (fields : List (List ℕ)) (found : List Value) (place : ℕ) : Type 0 where
-  pub values : found ++ row_values mark (drop place kinds) (drop place fields) ≡ row_values mark kinds fields
-  pub breaks : Unbroken mark kinds row fields place
+pub record FieldsRead (null_field : List ℕ) (kinds : List Kind) (row : ℕ) (fields : List (List ℕ)) (found : List Value) (place : ℕ) : Type 0 where
+  pub values : found ++ row_values null_field (drop place kinds) (drop place fields) ≡ row_values null_field kinds fields
+  pub breaks : Unbroken null_field kinds row fields place
 
-pub FieldsRead-start : (mark : List ℕ) (kinds : List Kind) (row : ℕ) (fields : List (List ℕ)) → FieldsRead mark kinds row fields [] 0
-FieldsRead-start mark kinds row fields = record { values = refl; breaks = refl }
+pub FieldsRead-start : (null_field : List ℕ) (kinds : List Kind) (row : ℕ) (fields : List (List ℕ)) → FieldsRead null_field kinds row fields [] 0
+FieldsRead-start null_field kinds row fields = record { values = refl; breaks = refl }
 
-module _ (mark : List ℕ) (kinds : List Kind) (row : ℕ) (fields : List (List ℕ)) (found : List Value) (place : ℕ)
-    (k : Kind) (f : List ℕ) (read : FieldsRead mark kinds row fields found place)
+module _ (null_field : List ℕ) (kinds : List Kind) (row : ℕ) (fields : List (List ℕ)) (found : List Value) (place : ℕ)
+    (k : Kind) (f : List ℕ) (read : FieldsRead null_field kinds row fields found place)
     (kinds_at : drop place kinds ≡ k ∷ drop (place + 1) kinds) (fields_at : drop place fields ≡ f ∷ drop (place + 1) fields) where
-  pub FieldsRead-more : (v : Value) → field_breaks mark row (place + 1) k f ≡ [] → v ≡ field_value mark k f → FieldsRead mark kinds row fields (found ++ v ∷ []) (place + 1)
+  pub FieldsRead-more : (v : Value) → field_breaks null_field row (place + 1) k f ≡ [] → v ≡ field_value null_field k f → FieldsRead null_field kinds row fields (found ++ v ∷ []) (place + 1)
   FieldsRead-more v unbroken value = record {
     values = rw (value, append_assoc found) (rw (kinds_at, fields_at) at read.values);
     breaks = read.breaks ∙ rw (kinds_at, fields_at, unbroken) refl;
   }
 
-  pub FieldsRead-broken : (e : DataError) → length fields ≡ length kinds → IsFirstBroken (field_breaks mark row (place + 1) k f) e → IsFirstBroken (record_breaks mark kinds row fields) e
+  pub FieldsRead-broken : (e : DataError) → length fields ≡ length kinds → IsFirstBroken (field_breaks null_field row (place + 1) k f) e → IsFirstBroken (record_breaks null_field kinds row fields) e
   FieldsRead-broken e wide first =
-      let split : record_breaks mark kinds row fields ≡ field_breaks mark row (place + 1) k f ++ fields_breaks mark row (place + 1 + 1) (drop (place + 1) kinds) (drop (place + 1) fields) =
-      record_breaks-wide mark kinds row fields wide ∙ read.breaks ∙ rw (kinds_at, fields_at) refl in
+      let split : record_breaks null_field kinds row fields ≡ field_breaks null_field row (place + 1) k f ++ fields_breaks null_field row (place + 1 + 1) (drop (place + 1) kinds) (drop (place + 1) fields) =
+      record_breaks-wide null_field kinds row fields wide ∙ read.breaks ∙ rw (kinds_at, fields_at) refl in
       subst (λ (broken : List DataError). IsFirstBroken broken e) (sym split) (broken-append _ _ e first)
 
 -- ---- the first rule alone
 
-module _ (mark : List ℕ) (kinds : List Kind) (row : ℕ) (fields : List (List ℕ)) (place : ℕ) (k : Kind) (f : List ℕ) (before : Unbroken mark kinds row fields place)
+module _ (null_field : List ℕ) (kinds : List Kind) (row : ℕ) (fields : List (List ℕ)) (place : ℕ) (k : Kind) (f : List ℕ) (before : Unbroken null_field kinds row fields place)
     (kinds_at : drop place kinds ≡ k ∷ drop (place + 1) kinds) (fields_at : drop place fields ≡ f ∷ drop (place + 1) fields)
-    (found : Option DataError) (first : found ≡ first_of (field_breaks mark row (place + 1) k f)) where
-  pub Unbroken-more : is_some found ≡ false → Unbroken mark kinds row fields (place + 1)
+    (found : Option DataError) (first : found ≡ first_of (field_breaks null_field row (place + 1) k f)) where
+  pub Unbroken-more : is_some found ≡ false → Unbroken null_field kinds row fields (place + 1)
   Unbroken-more none =
-      let unbroken : field_breaks mark row (place + 1) k f ≡ [] = first-none _ (is_none-is _ (rw first at none)) in
+      let unbroken : field_breaks null_field row (place + 1) k f ≡ [] = first-none _ (is_none-is _ (rw first at none)) in
       before ∙ rw (kinds_at, fields_at, unbroken) refl
 
-  pub Unbroken-found : is_some found ≡ true → length fields ≡ length kinds → found ≡ first_of (record_breaks mark kinds row fields)
+  pub Unbroken-found : is_some found ≡ true → length fields ≡ length kinds → found ≡ first_of (record_breaks null_field kinds row fields)
   Unbroken-found some wide =
-      let split : record_breaks mark kinds row fields ≡ field_breaks mark row (place + 1) k f ++ fields_breaks mark row (place + 1 + 1) (drop (place + 1) kinds) (drop (place + 1) fields) =
-      record_breaks-wide mark kinds row fields wide ∙ before ∙ rw (kinds_at, fields_at) refl in
+      let split : record_breaks null_field kinds row fields ≡ field_breaks null_field row (place + 1) k f ++ fields_breaks null_field row (place + 1 + 1) (drop (place + 1) kinds) (drop (place + 1) fields) =
+      record_breaks-wide null_field kinds row fields wide ∙ before ∙ rw (kinds_at, fields_at) refl in
       rw (split, first) (first-some _ _ (rw first at some))
 
-pub Unbroken-end : (mark : List ℕ) (kinds : List Kind) (row : ℕ) (fields : List (List ℕ)) (place : ℕ) → Unbroken mark kinds row fields place → length kinds ≤ place → length fields ≡ length kinds →
-    None ≡ first_of (record_breaks mark kinds row fields)
-Unbroken-end mark kinds row fields place whole all wide =
-    let none : record_breaks mark kinds row fields ≡ [] = record_breaks-wide mark kinds row fields wide ∙ whole ∙ rw (drop_all place kinds all) refl in
+pub Unbroken-end : (null_field : List ℕ) (kinds : List Kind) (row : ℕ) (fields : List (List ℕ)) (place : ℕ) → Unbroken null_field kinds row fields place → length kinds ≤ place → length fields ≡ length kinds →
+    None ≡ first_of (record_breaks null_field kinds row fields)
+Unbroken-end null_field kinds row fields place whole all wide =
+    let none : record_breaks null_field kinds row fields ≡ [] = record_breaks-wide null_field kinds row fields wide ∙ whole ∙ rw (drop_all place kinds all) refl in
     rw none refl
 
 -- ---- want of memory breaks no rule
@@ -128,42 +128,42 @@ kind_breaks-named row place kind.Integer field = named-unless (is_integer field)
 kind_breaks-named row place kind.Text field = named-unless (is_utf8 field) (NotText row place ∷ []) (λ e. cc e)
 kind_breaks-named row place kind.Boolean field = λ e. cc e
 
-fields_breaks-named : (mark : List ℕ) (row place : ℕ) (kinds : List Kind) (fields : List (List ℕ)) → Named (fields_breaks mark row place kinds fields)
-fields_breaks-named mark row place [] fields = λ e. cc e
-fields_breaks-named mark row place (k ∷ kinds) [] = λ e. cc e
-fields_breaks-named mark row place (k ∷ kinds) (f ∷ fields) =
-    named-append (field_breaks mark row place k f) (fields_breaks mark row (place + 1) kinds fields)
-    (named-unless (bytes_eq f mark) (kind_breaks row place k f) (kind_breaks-named row place k f))
-    (fields_breaks-named mark row (place + 1) kinds fields)
+fields_breaks-named : (null_field : List ℕ) (row place : ℕ) (kinds : List Kind) (fields : List (List ℕ)) → Named (fields_breaks null_field row place kinds fields)
+fields_breaks-named null_field row place [] fields = λ e. cc e
+fields_breaks-named null_field row place (k ∷ kinds) [] = λ e. cc e
+fields_breaks-named null_field row place (k ∷ kinds) (f ∷ fields) =
+    named-append (field_breaks null_field row place k f) (fields_breaks null_field row (place + 1) kinds fields)
+    (named-unless (bytes_eq f null_field) (kind_breaks row place k f) (kind_breaks-named row place k f))
+    (fields_breaks-named null_field row (place + 1) kinds fields)
 
-record_breaks-named : (mark : List ℕ) (kinds : List Kind) (row : ℕ) (fields : List (List ℕ)) → Named (record_breaks mark kinds row fields)
-record_breaks-named mark kinds row fields =
-    named-append (width_breaks row kinds fields) (fields_breaks mark row 1 kinds fields)
-    (named-unless (length fields == length kinds) (Width row ∷ []) (λ e. cc e)) (fields_breaks-named mark row 1 kinds fields)
+record_breaks-named : (null_field : List ℕ) (kinds : List Kind) (row : ℕ) (fields : List (List ℕ)) → Named (record_breaks null_field kinds row fields)
+record_breaks-named null_field kinds row fields =
+    named-append (width_breaks row kinds fields) (fields_breaks null_field row 1 kinds fields)
+    (named-unless (length fields == length kinds) (Width row ∷ []) (λ e. cc e)) (fields_breaks-named null_field row 1 kinds fields)
 
 -- ---- the records of a file
 
-pub records_breaks-append : (mark : List ℕ) (kinds : List Kind) (row : ℕ) (before after : List (List (List ℕ))) →
-    records_breaks mark kinds row (before ++ after) ≡ records_breaks mark kinds row before ++ records_breaks mark kinds (row + length before) after
-records_breaks-append mark kinds row [] after = rw add-zero refl
-records_breaks-append mark kinds row (r ∷ before) after =
-    let here = record_breaks mark kinds row r in
+pub records_breaks-append : (null_field : List ℕ) (kinds : List Kind) (row : ℕ) (before after : List (List (List ℕ))) →
+    records_breaks null_field kinds row (before ++ after) ≡ records_breaks null_field kinds row before ++ records_breaks null_field kinds (row + length before) after
+records_breaks-append null_field kinds row [] after = rw add-zero refl
+records_breaks-append null_field kinds row (r ∷ before) after =
+    let here = record_breaks null_field kinds row r in
     let later : row + 1 + length before ≡ row + suc (length before) = omega arith in
-    ap (λ more. here ++ more) (records_breaks-append mark kinds (row + 1) before after)
-    ∙ sym (append_assoc here (records_breaks mark kinds (row + 1) before) (records_breaks mark kinds (row + 1 + length before) after))
-    ∙ ap (λ n. (here ++ records_breaks mark kinds (row + 1) before) ++ records_breaks mark kinds n after) later
+    ap (λ more. here ++ more) (records_breaks-append null_field kinds (row + 1) before after)
+    ∙ sym (append_assoc here (records_breaks null_field kinds (row + 1) before) (records_breaks null_field kinds (row + 1 + length before) after))
+    ∙ ap (λ n. (here ++ records_breaks null_field kinds (row + 1) before) ++ records_breaks null_field kinds n after) later
 
 -- ---- a record of which want of memory said nothing
 
 -- what the search for the first rule found
-pub found-broken : (mark : List ℕ) (kinds : List Kind) (row : ℕ) (fields : List (List ℕ)) (found : Option DataError) (e : DataError) →
-    found ≡ first_of (record_breaks mark kinds row fields) → found ≡ Some e → IsFirstBroken (record_breaks mark kinds row fields) e
-found-broken mark kinds row fields found e first is = first-broken _ e (sym first ∙ is)
+pub found-broken : (null_field : List ℕ) (kinds : List Kind) (row : ℕ) (fields : List (List ℕ)) (found : Option DataError) (e : DataError) →
+    found ≡ first_of (record_breaks null_field kinds row fields) → found ≡ Some e → IsFirstBroken (record_breaks null_field kinds row fields) e
+found-broken null_field kinds row fields found e first is = first-broken _ e (sym first ∙ is)
 
-pub found-no_memory : (mark : List ℕ) (kinds : List Kind) (row : ℕ) (fields : List (List ℕ)) (found : Option DataError) (e : DataError) →
-    found ≡ first_of (record_breaks mark kinds row fields) → found ≡ Some e → e ≡ NoMemory → record_breaks mark kinds row fields ≡ []
-found-no_memory mark kinds row fields found e first is memory = absurd (record_breaks-named mark kinds row fields (sym first ∙ is ∙ ap Some memory))
+pub found-no_memory : (null_field : List ℕ) (kinds : List Kind) (row : ℕ) (fields : List (List ℕ)) (found : Option DataError) (e : DataError) →
+    found ≡ first_of (record_breaks null_field kinds row fields) → found ≡ Some e → e ≡ NoMemory → record_breaks null_field kinds row fields ≡ []
+found-no_memory null_field kinds row fields found e first is memory = absurd (record_breaks-named null_field kinds row fields (sym first ∙ is ∙ ap Some memory))
 
-pub found-none : (mark : List ℕ) (kinds : List Kind) (row : ℕ) (fields : List (List ℕ)) (found : Option DataError) →
-    found ≡ first_of (record_breaks mark kinds row fields) → found ≡ None → record_breaks mark kinds row fields ≡ []
-found-none mark kinds row fields found first is = first-none _ (sym first ∙ is)
+pub found-none : (null_field : List ℕ) (kinds : List Kind) (row : ℕ) (fields : List (List ℕ)) (found : Option DataError) →
+    found ≡ first_of (record_breaks null_field kinds row fields) → found ≡ None → record_breaks null_field kinds row fields ≡ []
+found-none null_field kinds row fields found first is = first-none _ (sym first ∙ is)

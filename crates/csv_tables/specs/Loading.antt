@@ -27,36 +27,37 @@ is_integer field = is_numeral (without_leading_sign field) && fits_64_bits (sign
 abbrev pub integer_of : List ℕ → Option ℤ
 integer_of field = if is_integer field then Some (signed_digits_value 10 field) else None
 
--- what a field that isn't the mark stands for; no field spells a boolean, and no table has a column of them
+-- what a field that isn't the null field stands for; no field spells a boolean, and no table has a column of them
 abbrev pub spelled : Kind → List ℕ → Value
 spelled kind.Integer field = Integer (signed_digits_value 10 field)
 spelled kind.Text field = Text field
 spelled kind.Boolean field = Null
 
--- the mark stands for NULL, in a column of texts too
+-- the null field stands for NULL, in a column of texts too
 abbrev pub field_value : List ℕ → Kind → List ℕ → Value
-field_value mark kind field = if bytes_eq field mark then Null else spelled kind field
+field_value null_field kind field = if bytes_eq field null_field then Null else spelled kind field
 
 -- the values of a record, field by field
 abbrev pub row_values : List ℕ → List Kind → List (List ℕ) → List Value
-row_values mark [] fields = []
-row_values mark (kind ∷ kinds) [] = []
-row_values mark (kind ∷ kinds) (field ∷ fields) = field_value mark kind field ∷ row_values mark kinds fields
+row_values null_field [] fields = []
+row_values null_field (kind ∷ kinds) [] = []
+row_values null_field (kind ∷ kinds) (field ∷ fields) = field_value null_field kind field ∷ row_values null_field kinds fields
 
--- the rule that the field at a place of a record breaks, where it isn't the mark
+-- the rule that the field at a place of a record breaks, where it isn't the null field
 abbrev pub kind_breaks : ℕ → ℕ → Kind → List ℕ → List DataError
 kind_breaks row place kind.Integer field = if is_integer field then [] else NotInteger row place ∷ []
 kind_breaks row place kind.Text field = if is_utf8 field then [] else NotText row place ∷ []
 kind_breaks row place kind.Boolean field = []
 
 abbrev pub field_breaks : List ℕ → ℕ → ℕ → Kind → List ℕ → List DataError
-field_breaks mark row place kind field = if bytes_eq field mark then [] else kind_breaks row place kind field
+field_breaks null_field row place kind field = if bytes_eq field null_field then [] else kind_breaks row place kind field
 
 -- the rules that the fields of a record break from a place on, from left to right
 abbrev pub fields_breaks : List ℕ → ℕ → ℕ → List Kind → List (List ℕ) → List DataError
-fields_breaks mark row place [] fields = []
-fields_breaks mark row place (kind ∷ kinds) [] = []
-fields_breaks mark row place (kind ∷ kinds) (field ∷ fields) = field_breaks mark row place kind field ++ fields_breaks mark row (place + 1) kinds fields
+fields_breaks null_field row place [] fields = []
+fields_breaks null_field row place (kind ∷ kinds) [] = []
+fields_breaks null_field row place (kind ∷ kinds) (field ∷ fields) =
+    field_breaks null_field row place kind field ++ fields_breaks null_field row (place + 1) kinds fields
 
 -- a record has as many fields as there are columns
 abbrev pub width_breaks : ℕ → List Kind → List (List ℕ) → List DataError
@@ -64,12 +65,13 @@ width_breaks row kinds fields = if length fields == length kinds then [] else Wi
 
 -- the rules that a record breaks: its width comes first, then its fields, which count from 1
 abbrev pub record_breaks : List ℕ → List Kind → ℕ → List (List ℕ) → List DataError
-record_breaks mark kinds row fields = width_breaks row kinds fields ++ fields_breaks mark row 1 kinds fields
+record_breaks null_field kinds row fields = width_breaks row kinds fields ++ fields_breaks null_field row 1 kinds fields
 
 -- the rules that records break, of which the first has this number
 abbrev pub records_breaks : List ℕ → List Kind → ℕ → List (List (List ℕ)) → List DataError
-records_breaks mark kinds row [] = []
-records_breaks mark kinds row (fields ∷ more) = record_breaks mark kinds row fields ++ records_breaks mark kinds (row + 1) more
+records_breaks null_field kinds row [] = []
+records_breaks null_field kinds row (fields ∷ more) =
+    record_breaks null_field kinds row fields ++ records_breaks null_field kinds (row + 1) more
 
 -- how many records stand before the rows
 abbrev pub skipped : Bool → ℕ
@@ -82,11 +84,11 @@ row_records header bytes = drop (skipped header) (records default_config (strip_
 
 -- the whole list of the rules that a file breaks; its records count from 1, the header too
 abbrev pub broken_rules : List ℕ → List Kind → Bool → List ℕ → List DataError
-broken_rules mark kinds header bytes = records_breaks mark kinds (skipped header + 1) (row_records header bytes)
+broken_rules null_field kinds header bytes = records_breaks null_field kinds (skipped header + 1) (row_records header bytes)
 
 -- the rows that a file spells
 abbrev pub spelled_rows : List ℕ → List Kind → Bool → List ℕ → List (List Value)
-spelled_rows mark kinds header bytes = map (row_values mark kinds) (row_records header bytes)
+spelled_rows null_field kinds header bytes = map (row_values null_field kinds) (row_records header bytes)
 
 abbrev pub first_of : {X : Type 0} → List X → Option X
 first_of [] = None

@@ -14,7 +14,7 @@ use std::alloc::Global;
 struct Columns<'a> {
     alloc: Global,
     kinds: &'a [Kind],
-    mark: &'a [u8],
+    null_field: &'a [u8],
 }
 
 /// The number that a field spells, if it is an integer.
@@ -30,11 +30,13 @@ fn integer(field: &[u8]) -> Option<i64>
 impl Columns<'_> {
     /// The value that a field spells, or the rule that it breaks.
     fn value(&self, kind: Kind, field: &[u8], row: u64, place: u64) -> Result<Value, DataError>
-        ensures ok { IfOk result (λ value. (field_breaks self.now.mark.now row place kind field.now ≡ [])
-            × (value ≡ field_value self.now.mark.now kind field.now)) }
-        ensures err { IfErr result (IsFirstBroken (field_breaks self.now.mark.now row place kind field.now)) }
+        ensures ok { IfOk result (λ value.
+            (field_breaks self.now.null_field.now row place kind field.now ≡ [])
+            × (value ≡ field_value self.now.null_field.now kind field.now)) }
+        ensures err { IfErr result
+            (IsFirstBroken (field_breaks self.now.null_field.now row place kind field.now)) }
     {
-        if field == self.mark {
+        if field == self.null_field {
             return Ok(Value::Null);
         }
         match kind {
@@ -52,9 +54,9 @@ impl Columns<'_> {
 
     /// The rule that a field breaks, if it breaks one. It takes no memory.
     fn broken_by(&self, kind: Kind, field: &[u8], row: u64, place: u64) -> Option<DataError>
-        ensures { result ≡ first_of (field_breaks self.now.mark.now row place kind field.now) }
+        ensures { result ≡ first_of (field_breaks self.now.null_field.now row place kind field.now) }
     {
-        if field == self.mark {
+        if field == self.null_field {
             return None;
         }
         match kind {
@@ -72,7 +74,8 @@ impl Columns<'_> {
 
     /// The first rule that a record breaks, if it breaks one. It takes no memory.
     fn first_broken(&self, fields: &ByteRecord, number: u64) -> Option<DataError>
-        ensures { result ≡ first_of (record_breaks self.now.mark.now self.now.kinds.now number (fields_of fields.now)) }
+        ensures { result ≡ first_of
+            (record_breaks self.now.null_field.now self.now.kinds.now number (fields_of fields.now)) }
     {
         if fields.len() != self.kinds.len() {
             return Some(DataError::Width { row: number });
@@ -91,10 +94,11 @@ impl Columns<'_> {
 
     /// The row that a record spells, or the first rule that it breaks, where there is memory to read so far.
     fn read(&self, fields: &ByteRecord, number: u64) -> Result<Row, DataError>
-        ensures ok { IfOk result (λ row. (record_breaks self.now.mark.now self.now.kinds.now number (fields_of fields.now) ≡ [])
-            × (row ≡ row_values self.now.mark.now self.now.kinds.now (fields_of fields.now))) }
-        ensures err { IfErr result
-            (IsFirstBroken (record_breaks self.now.mark.now self.now.kinds.now number (fields_of fields.now))) }
+        ensures ok { IfOk result (λ row.
+            (record_breaks self.now.null_field.now self.now.kinds.now number (fields_of fields.now) ≡ [])
+            × (row ≡ row_values self.now.null_field.now self.now.kinds.now (fields_of fields.now))) }
+        ensures err { IfErr result (IsFirstBroken
+            (record_breaks self.now.null_field.now self.now.kinds.now number (fields_of fields.now))) }
     {
         if fields.len() != self.kinds.len() {
             return Err(DataError::Width { row: number });
@@ -111,12 +115,13 @@ impl Columns<'_> {
 
     /// The row that a record spells, or the first rule that it breaks. Want of memory hides no broken rule of the record.
     fn row(&self, fields: &ByteRecord, number: u64) -> Result<Row, DataError>
-        ensures ok { IfOk result (λ row. (record_breaks self.now.mark.now self.now.kinds.now number (fields_of fields.now) ≡ [])
-            × (row ≡ row_values self.now.mark.now self.now.kinds.now (fields_of fields.now))) }
-        ensures err { IfErr result
-            (IsFirstBroken (record_breaks self.now.mark.now self.now.kinds.now number (fields_of fields.now))) }
+        ensures ok { IfOk result (λ row.
+            (record_breaks self.now.null_field.now self.now.kinds.now number (fields_of fields.now) ≡ [])
+            × (row ≡ row_values self.now.null_field.now self.now.kinds.now (fields_of fields.now))) }
+        ensures err { IfErr result (IsFirstBroken
+            (record_breaks self.now.null_field.now self.now.kinds.now number (fields_of fields.now))) }
         ensures memory { result ≡ Err fault.NoMemory
-            → record_breaks self.now.mark.now self.now.kinds.now number (fields_of fields.now) ≡ [] }
+            → record_breaks self.now.null_field.now self.now.kinds.now number (fields_of fields.now) ≡ [] }
     {
         match self.read(fields, number) {
             Ok(row) => Ok(row),
@@ -133,7 +138,7 @@ impl Columns<'_> {
 ///
 /// Records and fields are those that the `csv` crate reads by default (RFC 4180, with any line end, and without blank
 /// lines and a byte order mark). With `header` the first record is left out, whatever it holds, and still counts. A
-/// field whose bytes equal `mark` is NULL in every column; quotes around it are no part of it. Any other field is an
+/// field whose bytes equal `null_field` is NULL in every column; quotes around it are no part of it. Any other field is an
 /// optional sign and digits that fit 64 bits in a column of integers, and UTF-8 in one of texts. No field spells a
 /// boolean: in a column of booleans, which no table has, each reads as NULL.
 ///
@@ -143,15 +148,19 @@ pub fn load(
     alloc: Global,
     bytes: &[u8],
     kinds: &[Kind],
-    mark: &[u8],
+    null_field: &[u8],
     header: bool,
 ) -> Result<Rows, DataError>
-    ensures ok { IfOk result (λ rows. (broken_rules mark.now kinds.now header bytes.now ≡ [])
-        × (rows ≡ spelled_rows mark.now kinds.now header bytes.now)) }
+    ensures ok { IfOk result (λ rows. (broken_rules null_field.now kinds.now header bytes.now ≡ [])
+        × (rows ≡ spelled_rows null_field.now kinds.now header bytes.now)) }
     ensures fit { IfOk result (λ rows. IsTrue (bag_fits rows kinds.now)) }
-    ensures err { IfErr result (IsFirstBroken (broken_rules mark.now kinds.now header bytes.now)) }
+    ensures err { IfErr result (IsFirstBroken (broken_rules null_field.now kinds.now header bytes.now)) }
 {
-    let columns = Columns { alloc, kinds, mark };
+    let columns = Columns {
+        alloc,
+        kinds,
+        null_field,
+    };
     let reader = ReaderBuilder::new()
         .has_headers(false)
         .flexible(true)

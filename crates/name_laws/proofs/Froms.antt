@@ -174,9 +174,9 @@ module _ (c : Contents) (sound : IsSound c) where
     columns = table_columns table.columns;
     known = refl;
     kinds = kinds-table_columns table.columns;
-    plain_kinds = kinds-table table.id name table.columns table.mark ∙ kinds-table_columns table.columns;
+    plain_kinds = kinds-table table.id name table.columns table.stored ∙ kinds-table_columns table.columns;
     formed = λ rows hold. tt;
-    plain_formed = λ rows hold. table-formed rows table.id name table.columns table.mark is.unmarked;
+    plain_formed = λ rows hold. table-formed rows table.id name table.columns table.stored is.unstored;
   }
 
   good-read_view : (outer : List Scope) (name : List ℕ) (view : ViewEntry) → IsSoundView c view → GoodRead outer (read_view name view)

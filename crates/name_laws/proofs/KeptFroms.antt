@@ -107,9 +107,9 @@ module _ (c : Contents) where
       columns = table_columns table.columns;
       known = refl;
       kinds = kinds-table_columns table.columns;
-      plain = kinds-table_plain table.id name table.columns table.mark ∙ kinds-table_columns table.columns;
+      plain = kinds-table_plain table.id name table.columns table.stored ∙ kinds-table_columns table.columns;
     };
-    named = λ sound. named-table_plain table.id name table.columns table.mark;
+    named = λ sound. named-table_plain table.id name table.columns table.stored;
   }
 
   good-read_view : (name : List ℕ) (view : ViewEntry) → (IsSound c → IsSoundView c view) → GoodRead (read_view name view)

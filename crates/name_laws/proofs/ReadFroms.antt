@@ -55,7 +55,7 @@ module _ (P : List (List ℕ) → ℕ → List Kind → Type 0) (g : Grows P) wh
   reads-table : (name : List ℕ) (table : TableEntry) → P (name ∷ []) table.id (column_kinds table.columns) → ReadHolds (read_table name table)
   reads-table name table h = record {
     query = h;
-    plain = reads-source (name ∷ []) (Table table.id (column_kinds table.columns)) name (names_of (table_columns table.columns)) (all_places table.columns) table.mark h;
+    plain = reads-source (name ∷ []) (Table table.id (column_kinds table.columns)) name (names_of (table_columns table.columns)) (all_places table.columns) table.stored h;
   }
 
   reads-view : (name : List ℕ) (view : ViewEntry) → EachTable (P (name ∷ view.names_used)) view.answer.query → ReadHolds (read_view name view)

@@ -98,8 +98,8 @@ module _ (c : Contents) where
       let names : List (List ℕ) = names_of (table_columns table.columns) in
       record {
         query = refl;
-        plain = scoped-source own name names (all_places table.columns) table.mark refl;
-        traced = λ viewed. when-traced t _ (traceable-source own name names (all_places table.columns) table.mark);
+        plain = scoped-source own name names (all_places table.columns) table.stored refl;
+        traced = λ viewed. when-traced t _ (traceable-source own name names (all_places table.columns) table.stored);
       }
 
   fits-read_view : (t : Trace) (name : List ℕ) (view : ViewEntry) → (IsSound c → IsSoundView c view) → ReadFits t (read_view name view)

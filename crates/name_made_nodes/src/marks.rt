@@ -208,7 +208,7 @@ pub fn table_plain(alloc: Global, name: &Chars, table: &TableEntry) -> Result<Qu
         drop(names);
         return Err(NoMemory);
     };
-    match &table.mark {
+    match &table.stored {
         None => whole_source(alloc, rows, name, names),
         Some(mark) => {
             let made = external(alloc, rows, names.as_slice(), mark.places.as_slice());

@@ -78,7 +78,7 @@ external query names places = Base query places (External (names_at names places
 -- a table is a source of all its columns, and one that stores provenance a source of its provenance columns
 abbrev pub table_plain : List ℕ → TableEntry → Query
 table_plain name table = option_map_or
-    (λ (stored : Mark). external (Table table.id (column_kinds table.columns)) (names_of (table_columns table.columns)) stored.places) table.mark
+    (λ (stored : Mark). external (Table table.id (column_kinds table.columns)) (names_of (table_columns table.columns)) stored.places) table.stored
     (Base (Table table.id (column_kinds table.columns)) (all_places table.columns) (Relation name (names_of (table_columns table.columns))))
 
 abbrev pub read_table : List ℕ → TableEntry → Read

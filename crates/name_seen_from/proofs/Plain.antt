@@ -48,7 +48,7 @@ plain-at name table mark = option_map_or
     (whole-table name table (all_places table.columns))
 
 pub table-source : (name : List ℕ) (table : TableEntry) (names : List (List ℕ)) (kinds : List Kind) (places : List ℕ) (stored : Mark)
-    → names ≡ known_names table.columns → kinds ≡ column_kinds table.columns → table.mark ≡ Some stored → places ≡ stored.places
+    → names ≡ known_names table.columns → kinds ≡ column_kinds table.columns → table.stored ≡ Some stored → places ≡ stored.places
     → external_facts names kinds true places ≡ facts_of (table_plain name table)
 table-source name table names kinds places stored named sorts marked at =
     (λ i. external_facts (named i) (sorts i) true (at i))
@@ -56,7 +56,7 @@ table-source name table names kinds places stored named sorts marked at =
     ∙ ap (λ (mark : Option Mark). facts_of (plain-at name table mark)) (sym marked)
 
 pub table-whole : (name : List ℕ) (table : TableEntry) (names : List (List ℕ)) (kinds : List Kind)
-    → names ≡ known_names table.columns → kinds ≡ column_kinds table.columns → table.mark ≡ None → relation_facts name names kinds true ≡ facts_of (table_plain name table)
+    → names ≡ known_names table.columns → kinds ≡ column_kinds table.columns → table.stored ≡ None → relation_facts name names kinds true ≡ facts_of (table_plain name table)
 table-whole name table names kinds named sorts unmarked =
     (λ i. relation_facts name (named i) (sorts i) true)
     ∙ sym (facts-based (Table table.id (column_kinds table.columns)) (all_places (known_names table.columns)) (Relation name (known_names table.columns)) (column_kinds table.columns) true refl refl)

@@ -103,7 +103,7 @@ fn table_plain(
     ensures { kinds.now ≡ column_kinds table.now.columns → IfOk result (λ facts. facts_in facts ≡ facts_of (table_plain name.now table.now)) }
 {
     let names = names_of(alloc, table.columns.as_slice())?;
-    match &table.mark {
+    match &table.stored {
         Some(mark) => external(alloc, names.as_slice(), kinds, true, mark.places.as_slice()),
         None => relation(alloc, name, names, kinds, true),
     }

@@ -28,7 +28,7 @@ use Rattle.perm_catalog.proofs.Soundness.{none_is_some, some_is_some, kept-table
 module _ (c : Contents) (name : List ℕ) (columns : List Column) (rows : Bag) (s : IsSound c)
     (free : is_free c name ≡ true) (new : IsNewTable columns rows) where
   abbrev made : TableEntry
-  made = record { id = c.next; version = c.next; columns = columns; mark = None }
+  made = record { id = c.next; version = c.next; columns = columns; stored = None }
 
   abbrev after : Contents
   after = with_table c name columns rows None
@@ -53,7 +53,7 @@ module _ (c : Contents) (name : List ℕ) (columns : List Column) (rows : Bag) (
     rows = rows;
     held = get-put c.rows c.next rows;
     fitting = new.fitting;
-    unmarked = refl;
+    unstored = refl;
   }
 
   old-below : (q : List ℕ) (t : TableEntry) → table_named c q ≡ Some t → t.id < c.next
@@ -127,7 +127,7 @@ module _ (c : Contents) (name : List ℕ) (table : TableEntry) (rows : FinMap na
         rows = bag;
         held = ap (λ (m : FinMap nat_cmp Bag). map.get m table.id) put ∙ get-put c.rows table.id bag;
         fitting = fit;
-        unmarked = refl;
+        unstored = refl;
       }
 
   other-id : (q : List ℕ) (t : TableEntry) → name ≢ q → table_named c q ≡ Some t → t.id ≢ table.id

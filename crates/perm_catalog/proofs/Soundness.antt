@@ -33,7 +33,7 @@ kept-table c d table later same s = record {
   rows = s.rows;
   held = same ∙ s.held;
   fitting = s.fitting;
-  unmarked = s.unmarked;
+  unstored = s.unstored;
 }
 
 -- a table has the name still, with the identity and the columns that it had

@@ -39,8 +39,8 @@ with_entry c name entry rows = record c { tables = c.tables ++ (name, entry) ∷
 
 -- a table comes last, with the number drawn as its identity and version
 abbrev pub with_table : Contents → List ℕ → List Column → Bag → Option Mark → Contents
-with_table c name columns rows mark = record {
-  tables = c.tables ++ (name, record { id = c.next; version = c.next; columns = columns; mark = mark }) ∷ [];
+with_table c name columns rows stored = record {
+  tables = c.tables ++ (name, record { id = c.next; version = c.next; columns = columns; stored = stored }) ∷ [];
   views = c.views;
   rows = map.insert c.rows c.next rows;
   next = c.next + 1;
@@ -53,7 +53,7 @@ changed f name (e ∷ es) = cond (pointwise nat_eq name e.0) ((e.0, f e.1) ∷ e
 
 -- the number drawn is the new version, and what provenance the table stored it stores no more
 abbrev pub renewed : ℕ → TableEntry → TableEntry
-renewed version entry = record entry { version = version; mark = None }
+renewed version entry = record entry { version = version; stored = None }
 
 -- the rows of a table replaced, before the number is drawn: its version is the next number
 abbrev pub with_rows_undrawn : Contents → List ℕ → FinMap nat_cmp Bag → Contents

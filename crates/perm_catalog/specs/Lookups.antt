@@ -23,4 +23,4 @@ name_of_id c id = option_map (λ (e : List ℕ × TableEntry). e.0) (find (λ (e
 
 -- the places of the provenance columns that the table of this name stores
 abbrev pub declared_places : Contents → List ℕ → Option (List ℕ)
-declared_places c name = option_map (λ (mark : Mark). mark.places) (option_and_then (λ (entry : TableEntry). entry.mark) (table_named c name))
+declared_places c name = option_map (λ (stored : Mark). stored.places) (option_and_then (λ (entry : TableEntry). entry.stored) (table_named c name))

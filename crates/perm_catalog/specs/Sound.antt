@@ -27,7 +27,7 @@ pub record IsSoundTable (c : Contents) (table : TableEntry) : Type 0 where
   pub rows : Bag
   pub held : map.get c.rows table.id ≡ Some rows
   pub fitting : bag_fits rows (column_kinds table.columns) ≡ true
-  pub unmarked : table.mark ≡ None
+  pub unstored : table.stored ≡ None
 
 -- the catalog holds the table that is read, with columns of these kinds, and the view names it
 pub record IsHeldRead (c : Contents) (view : ViewEntry) (read : TableRead) : Type 0 where

@@ -54,7 +54,12 @@ impl Model for Catalog {
 
     ghost coded = { contents_code table.the_row.coded view_entry.the_row.coded cell.the_row.coded };
 
-    ghost view = { λ c. record { tables = c.tables.entries; views = c.views.entries; rows = c.rows; next = c.next } };
+    ghost view = { λ c. record {
+      tables = c.tables.entries;
+      views = c.views.entries;
+      rows = c.rows;
+      next = c.next;
+    } };
 }
 
 impl Catalog {
@@ -91,12 +96,13 @@ impl Catalog {
         &self.rows
     }
 
-    /// The places of the provenance columns that a table stores; `None` exactly where no table of that name has a mark.
+    /// The places of the provenance columns that a table stores; `None` exactly where no table of that name
+    /// stores any.
     pub fn declared(&self, name: &Chars) -> Option<&[usize]>
         ensures { option_copied result ≡ declared_places self.now name.now }
     {
-        match &self.tables.get(name)?.mark {
-            Some(mark) => Some(mark.places.as_slice()),
+        match &self.tables.get(name)?.stored {
+            Some(stored) => Some(stored.places.as_slice()),
             None => None,
         }
     }
@@ -133,24 +139,24 @@ impl Catalog {
         name: &Chars,
         columns: List<Column>,
         rows: Rows,
-        mark: Option<Mark>,
+        stored: Option<Mark>,
     ) -> Result<(), CatalogRefusal>
         requires { IsTrue (is_free self.old name.now) }
-        ensures ok { OnOk result (self.new ≡ with_table self.old name.now columns rows mark) }
+        ensures ok { OnOk result (self.new ≡ with_table self.old name.now columns rows stored) }
         ensures spent { IsErrOf result CatalogRefusal.VersionsSpent ↔ (self.old.next ≡ last_number) }
         ensures err { OnErr result (self.new ≡ self.old) }
     {
         if self.next == u64::MAX {
             drop(columns);
             drop(rows);
-            drop(mark);
+            drop(stored);
             return Err(CatalogRefusal::VersionsSpent);
         }
         let entry = TableEntry {
             id: self.next,
             version: self.next,
             columns,
-            mark,
+            stored,
         };
         self.add_table(alloc, name, entry, rows)?;
         self.next += 1;
@@ -187,7 +193,8 @@ impl Catalog {
     /// `VersionsSpent` comes exactly where that number is the last one. After a refusal nothing has changed.
     pub fn insert_rows(&mut self, name: &Chars, rows: Rows) -> Result<(), CatalogRefusal>
         requires { IsSome (table_named self.old name.now) }
-        ensures ok { OnOk result (IfSome (table_named self.old name.now) (λ entry. self.new ≡ with_more_rows self.old name.now entry.id rows)) }
+        ensures ok { OnOk result (IfSome (table_named self.old name.now) (λ entry.
+            self.new ≡ with_more_rows self.old name.now entry.id rows)) }
         ensures spent { IsErrOf result CatalogRefusal.VersionsSpent ↔ (self.old.next ≡ last_number) }
         ensures err { OnErr result (self.new ≡ self.old) }
     {
@@ -200,10 +207,11 @@ impl Catalog {
         Ok(())
     }
 
-    /// Adds rows to a table and marks them with the next number, which isn't drawn.
+    /// Adds rows to a table and gives it the next number as its version, which isn't drawn.
     fn add_to_table(&mut self, name: &Chars, rows: Rows) -> Result<(), NoMemory>
         requires { IsSome (table_named self.old name.now) }
-        ensures ok { OnOk result (IfSome (table_named self.old name.now) (λ entry. self.new ≡ with_more_rows_undrawn self.old name.now entry.id rows)) }
+        ensures ok { OnOk result (IfSome (table_named self.old name.now) (λ entry.
+            self.new ≡ with_more_rows_undrawn self.old name.now entry.id rows)) }
         ensures err { OnErr result (self.new ≡ self.old) }
     {
         let Some(entry) = self.tables.get(name) else {
@@ -220,8 +228,10 @@ impl Catalog {
     /// number is the last one, and then nothing has changed.
     pub fn delete_rows(&mut self, name: &Chars, doomed: &[bool]) -> Result<u64, CatalogRefusal>
         requires table { IsSome (table_named self.old name.now) }
-        requires flags { IfSome (table_named self.old name.now) (λ entry. length doomed.now ≡ length (rows_at self.old entry.id)) }
-        ensures ok { OnOk result (IfSome (table_named self.old name.now) (λ entry. self.new ≡ with_fewer_rows self.old name.now entry.id doomed.now)) }
+        requires flags { IfSome (table_named self.old name.now) (λ entry.
+            length doomed.now ≡ length (rows_at self.old entry.id)) }
+        ensures ok { OnOk result (IfSome (table_named self.old name.now) (λ entry.
+            self.new ≡ with_fewer_rows self.old name.now entry.id doomed.now)) }
         ensures counted { IfOk result (λ removed. removed ≡ count_by (λ flag. flag) doomed.now) }
         ensures spent { IsErrOf result CatalogRefusal.VersionsSpent ↔ (self.old.next ≡ last_number) }
         ensures err { OnErr result ((result ≡ Err CatalogRefusal.VersionsSpent) × (self.new ≡ self.old)) }
@@ -234,11 +244,13 @@ impl Catalog {
         Ok(removed)
     }
 
-    /// Removes flagged rows of a table and marks it with the next number, which isn't drawn.
+    /// Removes flagged rows of a table and gives it the next number as its version, which isn't drawn.
     fn drop_from_table(&mut self, name: &Chars, doomed: &[bool]) -> u64
         requires table { IsSome (table_named self.old name.now) }
-        requires flags { IfSome (table_named self.old name.now) (λ entry. length doomed.now ≡ length (rows_at self.old entry.id)) }
-        ensures fewer { IfSome (table_named self.old name.now) (λ entry. self.new ≡ with_fewer_rows_undrawn self.old name.now entry.id doomed.now) }
+        requires flags { IfSome (table_named self.old name.now) (λ entry.
+            length doomed.now ≡ length (rows_at self.old entry.id)) }
+        ensures fewer { IfSome (table_named self.old name.now) (λ entry.
+            self.new ≡ with_fewer_rows_undrawn self.old name.now entry.id doomed.now) }
         ensures counted { result ≡ count_by (λ flag. flag) doomed.now }
     {
         let Some(entry) = self.tables.get(name) else {
@@ -272,7 +284,8 @@ impl Catalog {
     pub fn drop_table(&mut self, name: &Chars)
         requires held { IsSome (table_named self.old name.now) }
         requires unused { first_user self.old name.now ≡ None }
-        ensures dropped { IfSome (table_named self.old name.now) (λ entry. self.new ≡ without_table self.old name.now entry.id) }
+        ensures dropped { IfSome (table_named self.old name.now) (λ entry.
+            self.new ≡ without_table self.old name.now entry.id) }
         ensures gone { table_named self.new name.now ≡ None }
     {
         if let Some(entry) = self.tables.get(name) {

@@ -21,14 +21,14 @@ pub struct Mark {
     pub kept: List<Kept>,
 }
 
-/// A table: its identity, which no other table has, the version of its rows, its columns, and its mark where it
-/// stores provenance.
+/// A table: its identity, which no other table has, the version of its rows, its columns, and what it remembers where
+/// it stores provenance.
 #[derive(Drop)]
 pub struct TableEntry {
     pub id: u64,
     pub version: u64,
     pub columns: List<Column>,
-    pub mark: Option<Mark>,
+    pub stored: Option<Mark>,
 }
 
 /// A view as it was resolved: its answer, the places of its provenance columns where it has any, and the names of the
@@ -79,13 +79,13 @@ impl Copyable for Mark {
 impl Copyable for TableEntry {
     fn copy(&self, alloc: Global) -> Result<TableEntry, NoMemory> {
         let columns = self.columns.copy(alloc);
-        let mark = self.mark.copy(alloc);
-        let (columns, mark) = both(columns, mark)?;
+        let stored = self.stored.copy(alloc);
+        let (columns, stored) = both(columns, stored)?;
         Ok(TableEntry {
             id: self.id,
             version: self.version,
             columns,
-            mark,
+            stored,
         })
     }
 }

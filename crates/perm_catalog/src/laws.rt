@@ -15,15 +15,17 @@ ghost use Rattle.perm_catalog.specs.declared.entries.ViewEntry.{ViewEntry as Vie
 /// sound catalog sound: their contracts say that they make of it what stands here.
 pub fn catalogs_stay_sound()
     ensures new { (next : ℕ) → IsSound (nothing_held next) }
-    ensures create { (c : Contents) (name : List ℕ) (columns : List Column) (rows : Bag) → IsSound c → is_free c name ≡ true
-        → IsNewTable columns rows → IsSound (with_table c name columns rows None) }
-    ensures insert_rows { (c : Contents) (name : List ℕ) (table : Table) (rows : Bag) → IsSound c → table_named c name ≡ Some table
-        → bag_fits rows (column_kinds table.columns) ≡ true → IsSound (with_more_rows c name table.id rows) }
+    ensures create { (c : Contents) (name : List ℕ) (columns : List Column) (rows : Bag)
+        → IsSound c → is_free c name ≡ true → IsNewTable columns rows → IsSound (with_table c name columns rows None) }
+    ensures insert_rows { (c : Contents) (name : List ℕ) (table : Table) (rows : Bag)
+        → IsSound c → table_named c name ≡ Some table → bag_fits rows (column_kinds table.columns) ≡ true
+        → IsSound (with_more_rows c name table.id rows) }
     ensures delete_rows { (c : Contents) (name : List ℕ) (table : Table) (doomed : List Bool) → IsSound c
         → table_named c name ≡ Some table → IsSound (with_fewer_rows c name table.id doomed) }
-    ensures add_view { (c : Contents) (name : List ℕ) (view : View) → IsSound c → is_free c name ≡ true → IsSoundView c view
-        → IsSound (with_view c name view) }
-    ensures drop_table { (c : Contents) (name : List ℕ) (table : Table) → IsSound c → table_named c name ≡ Some table
-        → first_user c name ≡ None → IsSound (without_table c name table.id) }
+    ensures add_view { (c : Contents) (name : List ℕ) (view : View)
+        → IsSound c → is_free c name ≡ true → IsSoundView c view → IsSound (with_view c name view) }
+    ensures drop_table { (c : Contents) (name : List ℕ) (table : Table)
+        → IsSound c → table_named c name ≡ Some table → first_user c name ≡ None
+        → IsSound (without_table c name table.id) }
     ensures drop_view { (c : Contents) (name : List ℕ) → IsSound c → IsSound (without_view c name) }
 {}

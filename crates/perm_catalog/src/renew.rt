@@ -12,6 +12,6 @@ pub(crate) fn renew(entries: &mut IndexMap<Chars, TableEntry>, name: &Chars, ver
 {
     if let Some(entry) = entries.get_mut(name) {
         entry.version = version;
-        drop(entry.mark.take());
+        drop(entry.stored.take());
     }
 }

@@ -25,13 +25,13 @@ fn run_statements<F: Files, K: Sink>(
     out: &mut K,
 ) -> Status
     requires { Each RegularStatement statements }
-    ensures ends { EndsSome (can_be (seen F.held F.faults F.begun F.absent F.taken files.old files.new))
-        (RunsFrom (can_be (seen F.held F.faults F.begun F.absent F.taken files.old files.new)) (nothing_held 1) statements)
-        (over K.written K.faults K.unflushed out.old out.new) (seen F.held F.faults F.begun F.absent F.taken files.old files.new) result }
+    ensures ends { EndsSome (can_be (seen (F.told files.old) (F.told files.new)))
+        (RunsFrom (can_be (seen (F.told files.old) (F.told files.new))) (nothing_held 1) statements)
+        (over (K.told out.old) (K.told out.new)) (seen (F.told files.old) (F.told files.new)) result }
     ensures status { IsOfScript result }
-    ensures read_fault { result ≡ Status.ReadFault → HasRisen (F.faults files.old) (F.faults files.new) }
-    ensures steady { IsSteady result → F.faults files.new ≡ F.faults files.old }
-    ensures held { F.held files.new ≡ F.held files.old }
+    ensures read_fault { result ≡ Status.ReadFault → HasRisen (F.told files.old).faults (F.told files.new).faults }
+    ensures steady { IsSteady result → (F.told files.new).faults ≡ (F.told files.old).faults }
+    ensures held { (F.told files.new).held ≡ (F.told files.old).held }
 {
     let mut session = Session::new(alloc);
     // What is left is let go in a call: a loop that owned it would drop trees here.
@@ -60,13 +60,13 @@ fn run_statements<F: Files, K: Sink>(
 
 /// Runs the script that the bytes spell, or refuses it as a whole.
 fn run_script<F: Files, K: Sink>(alloc: Global, bytes: &[u8], files: &mut F, out: &mut K) -> Status
-    ensures ends { EndsOne 0 (can_be (seen F.held F.faults F.begun F.absent F.taken files.old files.new))
-        (RunsScript (can_be (seen F.held F.faults F.begun F.absent F.taken files.old files.new)) bytes.now)
-        (over K.written K.faults K.unflushed out.old out.new) (seen F.held F.faults F.begun F.absent F.taken files.old files.new) result }
+    ensures ends { EndsOne 0 (can_be (seen (F.told files.old) (F.told files.new)))
+        (RunsScript (can_be (seen (F.told files.old) (F.told files.new))) bytes.now)
+        (over (K.told out.old) (K.told out.new)) (seen (F.told files.old) (F.told files.new)) result }
     ensures status { IsOfScript result }
-    ensures read_fault { result ≡ Status.ReadFault → HasRisen (F.faults files.old) (F.faults files.new) }
-    ensures steady { IsSteady result → F.faults files.new ≡ F.faults files.old }
-    ensures held { F.held files.new ≡ F.held files.old }
+    ensures read_fault { result ≡ Status.ReadFault → HasRisen (F.told files.old).faults (F.told files.new).faults }
+    ensures steady { IsSteady result → (F.told files.new).faults ≡ (F.told files.old).faults }
+    ensures held { (F.told files.new).held ≡ (F.told files.old).held }
 {
     a_spelled_script_is_regular();
     match script_of(alloc, bytes) {
@@ -78,36 +78,36 @@ fn run_script<F: Files, K: Sink>(alloc: Global, bytes: &[u8], files: &mut F, out
 /// Runs `perm SCRIPT`: reads the script's file, runs it, and writes what its statements answer.
 pub fn perm<F: Files, K: Sink>(alloc: Global, words: &[Chars], files: &mut F, out: &mut K) -> Status
     // The run that the words and files stand for is what is written, and its status is answered.
-    ensures run { EndsOne 1 (can_be (seen F.held F.faults F.begun F.absent F.taken files.old files.new))
-        (Runs words.now (F.held files.old) (HasRisen (F.faults files.old) (F.faults files.new)))
-        (over K.written K.faults K.unflushed out.old out.new) (seen F.held F.faults F.begun F.absent F.taken files.old files.new) result }
+    ensures run { EndsOne 1 (can_be (seen (F.told files.old) (F.told files.new)))
+        (Runs words.now (F.told files.old).held (HasRisen (F.told files.old).faults (F.told files.new).faults))
+        (over (K.told out.old) (K.told out.new)) (seen (F.told files.old) (F.told files.new)) result }
 
     // Where no file and no write failed, it is a whole run in which none failed, unless memory was wanting.
-    ensures complete { (HasRisen (F.faults files.old) (F.faults files.new) → ⊥) → (HasRisen (K.faults out.old) (K.faults out.new) → ⊥)
-        → Completes (Runs words.now (F.held files.old) ⊥) (over K.written K.faults K.unflushed out.old out.new)
-        (seen F.held F.faults F.begun F.absent F.taken files.old files.new) result }
+    ensures complete { (HasRisen (F.told files.old).faults (F.told files.new).faults → ⊥) → (HasRisen (K.told out.old).faults (K.told out.new).faults → ⊥)
+        → Completes (Runs words.now (F.told files.old).held ⊥) (over (K.told out.old) (K.told out.new))
+        (seen (F.told files.old) (F.told files.new)) result }
 
     // When each status comes.
     ensures usage { result ≡ Status.Usage → is_one words.now ≡ false }
     ensures misused { is_one words.now ≡ false → (result ≡ Status.Usage) ⊎ (result ≡ Status.WriteFault) }
-    ensures refused { result ≡ Status.Refused → EndsBroken (can_be (seen F.held F.faults F.begun F.absent F.taken files.old files.new))
-        (Runs words.now (F.held files.old) (HasRisen (F.faults files.old) (F.faults files.new)))
-        (over K.written K.faults K.unflushed out.old out.new) (seen F.held F.faults F.begun F.absent F.taken files.old files.new) }
-    ensures run_fault { result ≡ Status.RunFault → EndsFaulty (can_be (seen F.held F.faults F.begun F.absent F.taken files.old files.new))
-        (Runs words.now (F.held files.old) (HasRisen (F.faults files.old) (F.faults files.new)))
-        (over K.written K.faults K.unflushed out.old out.new) (seen F.held F.faults F.begun F.absent F.taken files.old files.new) }
-    ensures bad_data { result ≡ Status.BadData → IsBadScript (seen F.held F.faults F.begun F.absent F.taken files.old files.new)
-        ⊎ IsBadFile 1 (can_be (seen F.held F.faults F.begun F.absent F.taken files.old files.new))
-        (Runs words.now (F.held files.old) (HasRisen (F.faults files.old) (F.faults files.new)))
-        (over K.written K.faults K.unflushed out.old out.new) (seen F.held F.faults F.begun F.absent F.taken files.old files.new) }
-    ensures read_fault { result ≡ Status.ReadFault → HasRisen (F.faults files.old) (F.faults files.new) }
-    ensures write_fault { result ≡ Status.WriteFault → HasRisen (K.faults out.old) (K.faults out.new) }
-    ensures steady { IsSteady result → (F.faults files.new ≡ F.faults files.old) × (K.faults out.new ≡ K.faults out.old) }
-    ensures flushed { IsWhole result → K.unflushed out.new ≡ false }
+    ensures refused { result ≡ Status.Refused → EndsBroken (can_be (seen (F.told files.old) (F.told files.new)))
+        (Runs words.now (F.told files.old).held (HasRisen (F.told files.old).faults (F.told files.new).faults))
+        (over (K.told out.old) (K.told out.new)) (seen (F.told files.old) (F.told files.new)) }
+    ensures run_fault { result ≡ Status.RunFault → EndsFaulty (can_be (seen (F.told files.old) (F.told files.new)))
+        (Runs words.now (F.told files.old).held (HasRisen (F.told files.old).faults (F.told files.new).faults))
+        (over (K.told out.old) (K.told out.new)) (seen (F.told files.old) (F.told files.new)) }
+    ensures bad_data { result ≡ Status.BadData → IsBadScript (seen (F.told files.old) (F.told files.new))
+        ⊎ IsBadFile 1 (can_be (seen (F.told files.old) (F.told files.new)))
+        (Runs words.now (F.told files.old).held (HasRisen (F.told files.old).faults (F.told files.new).faults))
+        (over (K.told out.old) (K.told out.new)) (seen (F.told files.old) (F.told files.new)) }
+    ensures read_fault { result ≡ Status.ReadFault → HasRisen (F.told files.old).faults (F.told files.new).faults }
+    ensures write_fault { result ≡ Status.WriteFault → HasRisen (K.told out.old).faults (K.told out.new).faults }
+    ensures steady { IsSteady result → ((F.told files.new).faults ≡ (F.told files.old).faults) × ((K.told out.new).faults ≡ (K.told out.old).faults) }
+    ensures flushed { IsWhole result → (K.told out.new).unflushed ≡ false }
 
     // No file is begun without a script's name, and no file is changed.
-    ensures begun { is_one words.now ≡ false → F.begun files.new ≡ F.begun files.old }
-    ensures held { F.held files.new ≡ F.held files.old }
+    ensures begun { is_one words.now ≡ false → (F.told files.new).begun ≡ (F.told files.old).begun }
+    ensures held { (F.told files.new).held ≡ (F.told files.old).held }
 {
     if words.len() != 1 {
         return finish(out, b"usage: perm SCRIPT\n", Status::Usage);

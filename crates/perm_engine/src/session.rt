@@ -112,7 +112,7 @@ impl Session {
         files: &mut F,
     ) -> Result<Bytes, StepRefusal>
         requires regular { RegularStatement statement }
-        ensures turn { TakesTurn (can_be (over F.held F.faults F.begun F.absent F.taken files.old files.new))
+        ensures turn { TakesTurn (can_be (over (F.told files.old) (F.told files.new)))
             (asked self.old.contents statement) self.old.contents self.new.contents result }
         ensures sound { IsSound self.new.contents }
 
@@ -120,14 +120,14 @@ impl Session {
         ensures due { IsDue (due_breaks self.old.contents statement) result }
 
         // When the refusals come that files decide.
-        ensures backed { IsBacked result (over F.held F.faults F.begun F.absent F.taken files.old files.new) }
-        ensures faults { CountsFault (F.faults files.old) (F.faults files.new) (has_failed result) }
+        ensures backed { IsBacked result (over (F.told files.old) (F.told files.new)) }
+        ensures faults { CountsFault (F.told files.old).faults (F.told files.new).faults (has_failed result) }
 
         // The file is begun, unless memory was wanting before.
         ensures begun { IsTrue (begins (asked self.old.contents statement)) →
-            (F.begun files.new ≡ next_count (F.begun files.old)) ⊎ ((result ≡ Err OutOfMemory) × (F.begun files.new ≡ F.begun files.old)) }
+            ((F.told files.new).begun ≡ next_count (F.told files.old).begun) ⊎ ((result ≡ Err OutOfMemory) × ((F.told files.new).begun ≡ (F.told files.old).begun)) }
         ensures unbegun { begins (asked self.old.contents statement) ≡ false → files.new ≡ files.old }
-        ensures held { F.held files.new ≡ F.held files.old }
+        ensures held { (F.told files.new).held ≡ (F.told files.old).held }
 
         // The run that gave a query's rows.
         ensures ran { KeepsRun self.old.contents (resolved self.old.contents statement) result self.old.last self.new.last }

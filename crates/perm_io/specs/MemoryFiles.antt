@@ -1,6 +1,7 @@
 -- What files in memory keep.
-use Rattle.std.specs.Prelude.{ℕ, Bool, List}
+use Rattle.std.specs.Prelude.{ℕ, Bool, List, Some}
 use Rattle.perm_io.specs.Shelves.{left_of}
+use Rattle.perm_io.specs.Told.{FilesTold}
 use Rattle.perm_io.specs.declared.named_file.NamedFile.{NamedFile}
 use Rattle.perm_io.specs.declared.memory_files.MemoryFiles.{MemoryFiles}
 
@@ -35,3 +36,14 @@ failing_of files = files.failures.listed.items
 -- how many calls were made
 abbrev pub calls_of : MemoryFiles → ℕ
 calls_of files = files.failures.calls
+
+-- all of that in the words of every kind of files
+abbrev pub told_by : MemoryFiles → FilesTold
+told_by files = record {
+  held = Some (files_of files);
+  rest = Some (left_in files);
+  faults = faults_of files;
+  begun = begun_of files;
+  taken = taken_of files;
+  absent = is_absent_in files;
+}

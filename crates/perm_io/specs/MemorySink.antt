@@ -1,5 +1,6 @@
 -- What an output into memory keeps.
-use Rattle.std.specs.Prelude.{ℕ, ◌-◌, Bool, List, length}
+use Rattle.std.specs.Prelude.{ℕ, ◌-◌, Bool, List, length, Some}
+use Rattle.perm_io.specs.Told.{SinkTold}
 use Rattle.perm_io.specs.declared.memory_sink.MemorySink.{MemorySink}
 
 -- the bytes written
@@ -25,3 +26,7 @@ failing_of sink = sink.failures.listed.items
 -- how many calls were made
 abbrev pub calls_of : MemorySink → ℕ
 calls_of sink = sink.failures.calls
+
+-- all of that in the words of every output
+abbrev pub told_by : MemorySink → SinkTold
+told_by sink = record { written = Some (bytes_in sink); faults = faults_of sink; unflushed = is_unflushed sink }

@@ -23,10 +23,10 @@ pub struct DiskFiles<'a, R: rt::Files> {
 impl<'a, R: rt::Files> DiskFiles<'a, R> {
     /// No file is begun, and no call failed.
     pub fn new(rt: &'a R) -> DiskFiles<'a, R>
-        ensures faults { ⟦<DiskFiles<'a, R> as Files>⟧.faults result ≡ 0 }
-        ensures begun { ⟦<DiskFiles<'a, R> as Files>⟧.begun result ≡ 0 }
-        ensures taken { ⟦<DiskFiles<'a, R> as Files>⟧.taken result ≡ 0 }
-        ensures absent { ⟦<DiskFiles<'a, R> as Files>⟧.absent result ≡ false }
+        ensures faults { (⟦<DiskFiles<'a, R> as Files>⟧.told result).faults ≡ 0 }
+        ensures begun { (⟦<DiskFiles<'a, R> as Files>⟧.told result).begun ≡ 0 }
+        ensures taken { (⟦<DiskFiles<'a, R> as Files>⟧.told result).taken ≡ 0 }
+        ensures absent { (⟦<DiskFiles<'a, R> as Files>⟧.told result).absent ≡ false }
     {
         DiskFiles {
             rt,
@@ -45,17 +45,14 @@ impl<'a, R: rt::Files> Files for DiskFiles<'a, R> {
     ghost use Rattle.perm_io.specs.Counts.{raised, CountsFault};
     ghost use Rattle.perm_io.specs.Told.{left_in, untold};
 
-    ghost held = { λ _. None };
-
-    ghost rest = { λ _. untold };
-
-    ghost faults = { λ f. f.faults };
-
-    ghost begun = { λ f. f.begun };
-
-    ghost taken = { λ f. f.taken };
-
-    ghost absent = { λ f. f.absent };
+    ghost told = { λ f. record {
+      held = None;
+      rest = untold;
+      faults = f.faults;
+      begun = f.begun;
+      taken = f.taken;
+      absent = f.absent;
+    } };
 
     fn begin(&mut self, _alloc: Global, name: &Chars) -> Result<bool, BeginError> {
         self.begun = next_count(self.begun);

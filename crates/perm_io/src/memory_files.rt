@@ -43,23 +43,13 @@ impl MemoryFiles {
 }
 
 impl Files for MemoryFiles {
-    ghost use Rattle.std.specs.Prelude.{Some};
-    ghost use Rattle.perm_io.specs.MemoryFiles.{files_of, left_in, faults_of, begun_of, taken_of, is_absent_in, failing_of, calls_of};
+    ghost use Rattle.perm_io.specs.MemoryFiles.{files_of, left_in, faults_of, begun_of, taken_of, is_absent_in, failing_of, calls_of, told_by};
 
-    ghost held = { λ f. Some (files_of f) };
-
-    ghost rest = { λ f. Some (left_in f) };
-
-    ghost faults = { faults_of };
-
-    ghost begun = { begun_of };
-
-    ghost taken = { taken_of };
-
-    ghost absent = { is_absent_in };
+    ghost told = { told_by };
 
     fn begin(&mut self, _alloc: Global, name: &Chars) -> Result<bool, BeginError>
-        ensures fails { IsTrue (is_err result) ↔ Contains (failing_of self.old) (next_count (calls_of self.old)) }
+        ensures fails { IsTrue (is_err result)
+            ↔ Contains (failing_of self.old) (next_count (calls_of self.old)) }
         ensures failed { IfErr result (λ error. error ≡ BeginError.Failed) }
         ensures failing { failing_of self.new ≡ failing_of self.old }
         ensures calls { calls_of self.new ≡ next_count (calls_of self.old) }
@@ -81,7 +71,8 @@ impl Files for MemoryFiles {
     }
 
     fn read(&mut self, into: &mut [u8]) -> Result<usize, Failed>
-        ensures fails { IsTrue (is_err result) ↔ Contains (failing_of self.old) (next_count (calls_of self.old)) }
+        ensures fails { IsTrue (is_err result)
+            ↔ Contains (failing_of self.old) (next_count (calls_of self.old)) }
         ensures failing { failing_of self.new ≡ failing_of self.old }
         ensures calls { calls_of self.new ≡ next_count (calls_of self.old) }
         ensures faults { CountsFault (faults_of self.old) (faults_of self.new) (is_err result) }
@@ -91,7 +82,8 @@ impl Files for MemoryFiles {
         ensures moved { IfOk result (λ count. left_in self.old ≡ take count into.new ++ left_in self.new) }
         ensures end { IfOk result (λ count. count ≡ 0 → 0 < length into.new → left_in self.old ≡ []) }
         ensures taken { IfOk result (λ count. taken_of self.new ≡ raised (taken_of self.old) count) }
-        ensures stays { OnErr result ((left_in self.new ≡ left_in self.old) × (taken_of self.new ≡ taken_of self.old)) }
+        ensures stays { OnErr result ((left_in self.new ≡ left_in self.old)
+            × (taken_of self.new ≡ taken_of self.old)) }
         ensures held { files_of self.new ≡ files_of self.old }
         ensures begun { begun_of self.new ≡ begun_of self.old }
         ensures absent { is_absent_in self.new ≡ is_absent_in self.old }

@@ -49,18 +49,14 @@ impl MemorySink {
 }
 
 impl Sink for MemorySink {
-    ghost use Rattle.std.specs.Prelude.{Some};
-    ghost use Rattle.perm_io.specs.MemorySink.{bytes_in, room_in, is_unflushed, faults_of, failing_of, calls_of};
+    ghost use Rattle.perm_io.specs.MemorySink.{bytes_in, room_in, is_unflushed, faults_of, failing_of, calls_of, told_by};
 
-    ghost written = { λ s. Some (bytes_in s) };
-
-    ghost faults = { faults_of };
-
-    ghost unflushed = { is_unflushed };
+    ghost told = { told_by };
 
     fn write(&mut self, from: &[u8]) -> Result<usize, Failed>
         // A call fails where it is listed, and where none of some bytes have room.
-        ensures fails { IsTrue (is_err result) ↔ (Contains (failing_of self.old) (next_count (calls_of self.old))
+        ensures fails { IsTrue (is_err result) ↔
+            (Contains (failing_of self.old) (next_count (calls_of self.old))
             ⊎ ((room_in self.old ≡ 0) × (0 < length from.now))) }
         ensures failing { failing_of self.new ≡ failing_of self.old }
         ensures calls { calls_of self.new ≡ next_count (calls_of self.old) }
@@ -71,8 +67,10 @@ impl Sink for MemorySink {
         ensures fits { IfOk result (λ count. count ≡ min (length from.now) (room_in self.old)) }
         ensures taken { IfOk result (λ count. bytes_in self.new ≡ bytes_in self.old ++ take count from.now) }
         ensures room { IfOk result (λ count. room_in self.new + count ≡ room_in self.old) }
-        ensures unflushed { IfOk result (λ count. is_unflushed self.new ≡ (is_unflushed self.old || nat_lt 0 count)) }
-        ensures failed { OnErr result ((bytes_in self.new ≡ bytes_in self.old) × (room_in self.new ≡ room_in self.old)
+        ensures unflushed { IfOk result (λ count.
+            is_unflushed self.new ≡ (is_unflushed self.old || nat_lt 0 count)) }
+        ensures failed { OnErr result ((bytes_in self.new ≡ bytes_in self.old)
+            × (room_in self.new ≡ room_in self.old)
             × (is_unflushed self.new ≡ is_unflushed self.old)) }
     {
         if self.failures.next_fails() {
@@ -89,7 +87,8 @@ impl Sink for MemorySink {
     }
 
     fn flush(&mut self) -> Result<(), Failed>
-        ensures fails { IsTrue (is_err result) ↔ Contains (failing_of self.old) (next_count (calls_of self.old)) }
+        ensures fails { IsTrue (is_err result)
+            ↔ Contains (failing_of self.old) (next_count (calls_of self.old)) }
         ensures failing { failing_of self.new ≡ failing_of self.old }
         ensures calls { calls_of self.new ≡ next_count (calls_of self.old) }
         ensures faults { CountsFault (faults_of self.old) (faults_of self.new) (is_err result) }

@@ -32,20 +32,9 @@ impl NeverFiles {
 }
 
 impl Files for NeverFiles {
-    ghost use Rattle.std.specs.Prelude.{Some};
-    ghost use Rattle.perm_io.specs.NeverFiles.{files_of, left_in, begun_of, taken_of, is_absent_in};
+    ghost use Rattle.perm_io.specs.NeverFiles.{files_of, left_in, begun_of, taken_of, is_absent_in, told_by};
 
-    ghost held = { λ f. Some (files_of f) };
-
-    ghost rest = { λ f. Some (left_in f) };
-
-    ghost faults = { λ _. 0 };
-
-    ghost begun = { begun_of };
-
-    ghost taken = { taken_of };
-
-    ghost absent = { is_absent_in };
+    ghost told = { told_by };
 
     fn begin(&mut self, _alloc: Global, name: &Chars) -> Result<bool, BeginError>
         ensures sure { IsOk result }

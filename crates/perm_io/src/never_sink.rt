@@ -33,14 +33,9 @@ impl NeverSink {
 }
 
 impl Sink for NeverSink {
-    ghost use Rattle.perm_io.specs.NeverSink.{taken_by, is_unflushed};
-    ghost use Rattle.std.specs.Prelude.{None};
+    ghost use Rattle.perm_io.specs.NeverSink.{taken_by, is_unflushed, told_by};
 
-    ghost written = { λ _. None };
-
-    ghost faults = { λ _. 0 };
-
-    ghost unflushed = { is_unflushed };
+    ghost told = { told_by };
 
     fn write(&mut self, from: &[u8]) -> Result<usize, Failed>
         ensures whole { result ≡ Ok (length from.now) }

@@ -48,21 +48,23 @@ pub fn read_all<F: Files>(
     name: &Chars,
     limit: usize,
 ) -> Result<Bytes, ReadError>
-    ensures begun { F.begun files.new ≡ next_count (F.begun files.old) }
-    ensures held { F.held files.new ≡ F.held files.old }
-    ensures faults { CountsFault (F.faults files.old) (F.faults files.new) (is_fault result) }
+    ensures begun { (F.told files.new).begun ≡ next_count (F.told files.old).begun }
+    ensures held { (F.told files.new).held ≡ (F.told files.old).held }
+    ensures faults { CountsFault (F.told files.old).faults (F.told files.new).faults (is_fault result) }
 
-    ensures whole { IfOk result (λ bytes. IfSome (F.held files.old) (λ held. file_named held name.now ≡ Some bytes)) }
+    ensures whole { IfOk result (λ bytes.
+        IfSome (F.told files.old).held (λ held. file_named held name.now ≡ Some bytes)) }
     ensures within { IfOk result (λ bytes. length bytes ≤ limit) }
-    ensures counted { IfOk result (λ bytes. F.taken files.new ≡ length bytes) }
+    ensures counted { IfOk result (λ bytes. (F.told files.new).taken ≡ length bytes) }
 
-    ensures missing { IsErrOf result ReadError.Missing ↔ IsTrue (F.absent files.new) }
-    ensures lacking { IsErrOf result ReadError.Missing → IfSome (F.held files.old) (λ held. file_named held name.now ≡ None) }
+    ensures missing { IsErrOf result ReadError.Missing ↔ IsTrue (F.told files.new).absent }
+    ensures lacking { IsErrOf result ReadError.Missing → IfSome (F.told files.old).held (λ held.
+        file_named held name.now ≡ None) }
 
-    ensures too_large { IsErrOf result ReadError.TooLarge ↔ (limit < F.taken files.new) }
-    ensures longer { IsErrOf result ReadError.TooLarge → IfSome (F.held files.old) (λ held.
+    ensures too_large { IsErrOf result ReadError.TooLarge ↔ (limit < (F.told files.new).taken) }
+    ensures longer { IsErrOf result ReadError.TooLarge → IfSome (F.told files.old).held (λ held.
         IsSomeAnd (file_named held name.now) (λ bytes. limit < length bytes)) }
-    ensures no_more { F.taken files.new ≤ limit + 1 }
+    ensures no_more { (F.told files.new).taken ≤ limit + 1 }
 {
     if !files.begin(alloc, name)? {
         return Err(ReadError::Missing);
@@ -75,21 +77,22 @@ const PIECE: usize = 4096;
 
 /// The bytes that are left of the file begun, if they are at most `limit`.
 fn read_rest<F: Files>(alloc: Global, files: &mut F, limit: usize) -> Result<Bytes, ReadError>
-    requires { F.taken files.old ≡ 0 }
+    requires { (F.told files.old).taken ≡ 0 }
 
-    ensures begun { F.begun files.new ≡ F.begun files.old }
-    ensures held { F.held files.new ≡ F.held files.old }
-    ensures absent { F.absent files.new ≡ F.absent files.old }
-    ensures faults { CountsFault (F.faults files.old) (F.faults files.new) (is_fault result) }
+    ensures begun { (F.told files.new).begun ≡ (F.told files.old).begun }
+    ensures held { (F.told files.new).held ≡ (F.told files.old).held }
+    ensures absent { (F.told files.new).absent ≡ (F.told files.old).absent }
+    ensures faults { CountsFault (F.told files.old).faults (F.told files.new).faults (is_fault result) }
 
-    ensures whole { IfOk result (λ bytes. IfSome (F.rest files.old) (λ left. left ≡ bytes)) }
+    ensures whole { IfOk result (λ bytes. IfSome (F.told files.old).rest (λ left. left ≡ bytes)) }
     ensures within { IfOk result (λ bytes. length bytes ≤ limit) }
-    ensures counted { IfOk result (λ bytes. F.taken files.new ≡ length bytes) }
+    ensures counted { IfOk result (λ bytes. (F.told files.new).taken ≡ length bytes) }
 
     ensures not_missing { result ≢ Err ReadError.Missing }
-    ensures too_large { IsErrOf result ReadError.TooLarge ↔ (limit < F.taken files.new) }
-    ensures longer { IsErrOf result ReadError.TooLarge → IfSome (F.rest files.old) (λ left. limit < length left) }
-    ensures no_more { F.taken files.new ≤ limit + 1 }
+    ensures too_large { IsErrOf result ReadError.TooLarge ↔ (limit < (F.told files.new).taken) }
+    ensures longer { IsErrOf result ReadError.TooLarge → IfSome (F.told files.old).rest (λ left.
+        limit < length left) }
+    ensures no_more { (F.told files.new).taken ≤ limit + 1 }
 {
     let mut piece = [0; PIECE];
     let mut bytes = Bytes::new(alloc);

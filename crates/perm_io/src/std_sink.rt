@@ -17,8 +17,8 @@ impl<W: Write + Drop> StdSink<W> {
     /// Nothing is taken, and no call failed.
     pub fn new(out: W) -> StdSink<W>
         ensures out { result.out ≡ out }
-        ensures faults { ⟦<StdSink<W> as Sink>⟧.faults result ≡ 0 }
-        ensures unflushed { ⟦<StdSink<W> as Sink>⟧.unflushed result ≡ false }
+        ensures faults { (⟦<StdSink<W> as Sink>⟧.told result).faults ≡ 0 }
+        ensures unflushed { (⟦<StdSink<W> as Sink>⟧.told result).unflushed ≡ false }
     {
         StdSink {
             out,
@@ -33,16 +33,13 @@ impl<W: Write + Drop> Sink for StdSink<W> {
     ghost use Rattle.std.specs.Io.KnownBytes.{Keeps, WriteAppends};
     ghost use Rattle.perm_io.specs.Counts.{CountsFault};
 
-    ghost written = { λ _. None };
-
-    ghost faults = { λ s. s.faults };
-
-    ghost unflushed = { λ s. s.unflushed };
+    ghost told = { λ s. record { written = None; faults = s.faults; unflushed = s.unflushed } };
 
     fn write(&mut self, from: &[u8]) -> Result<usize, Failed>
         ensures bound { IfOk result (λ count. count ≤ length from.now) }
         ensures some { IfOk result (λ count. 0 < length from.now → 0 < count) }
-        ensures unflushed { IfOk result (λ count. self.new.unflushed ≡ (self.old.unflushed || nat_lt 0 count)) }
+        ensures unflushed { IfOk result (λ count.
+            self.new.unflushed ≡ (self.old.unflushed || nat_lt 0 count)) }
         ensures failed { OnErr result (self.new.unflushed ≡ self.old.unflushed) }
         ensures faults { CountsFault self.old.faults self.new.faults (is_err result) }
         ensures bytes { WriteAppends (W.contents self.old.out) (W.contents self.new.out) result from.now }

@@ -5,6 +5,7 @@ use Rattle.std.specs.List.{flat_map}
 use Rattle.perm_catalog.specs.Contents.{Contents}
 use Rattle.perm_io.specs.Counts.{HasRisen, next_count}
 use Rattle.perm_io.specs.Found.{Found}
+use Rattle.perm_io.specs.Told.{SinkTold}
 use Rattle.sql_tree.specs.declared.statement.Statement.{Statement}
 use Rattle.name_seen_parts.specs.declared.refusal.Refusal.{Refusal}
 use Rattle.name_seen_parts.specs.declared.refusal.Refusal.TheVariants.{Break as Broken, NoMemory}
@@ -27,14 +28,14 @@ pub record Written : Type 0 where
   pub faults_after : ℕ
   pub unflushed : Bool
 
--- the same by the words that tell of an output
-abbrev pub over : {Output : Type 0} → (Output → Option (List ℕ)) → (Output → ℕ) → (Output → Bool) → Output → Output → Written
-over written faults unflushed old new = record {
-  before = written old;
-  after = written new;
-  faults_before = faults old;
-  faults_after = faults new;
-  unflushed = unflushed new;
+-- the same of what an output told before and after
+abbrev pub over : SinkTold → SinkTold → Written
+over old new = record {
+  before = old.written;
+  after = new.written;
+  faults_before = old.faults;
+  faults_after = new.faults;
+  unflushed = new.unflushed;
 }
 
 abbrev pub joined : List (List ℕ) → List ℕ

@@ -18,7 +18,7 @@ use statement_meaning::StepRefusal;
 pub fn finish<K: Sink>(out: &mut K, line: &[u8], status: Status) -> Status
     requires { IsWhole status }
     ensures ends { (stop : Stop) → line_of stop ≡ line.now → status_of stop ≡ status
-        → Ends (ended stop) (over K.written K.faults K.unflushed out.old out.new) result }
+        → Ends (ended stop) (over (K.told out.old) (K.told out.new)) result }
     ensures status { (result ≡ status) ⊎ (result ≡ Status.WriteFault) }
 {
     match write_all(out, line) {
@@ -32,7 +32,7 @@ pub fn finish<K: Sink>(out: &mut K, line: &[u8], status: Status) -> Status
 
 /// Ends the output with what the refusal of a script says.
 pub fn refuse<K: Sink>(refusal: Refusal, out: &mut K) -> Status
-    ensures ends { EndsRefused refusal (over K.written K.faults K.unflushed out.old out.new) result }
+    ensures ends { EndsRefused refusal (over (K.told out.old) (K.told out.new)) result }
     ensures status { (result ≡ Status.Syntax) ⊎ ((result ≡ Status.WriteFault) ⊎ (result ≡ Status.NoMemory)) }
 {
     match refusal {
@@ -46,7 +46,7 @@ pub fn refuse<K: Sink>(refusal: Refusal, out: &mut K) -> Status
 
 /// Ends the output with what the refusal of a statement says.
 pub fn stop<K: Sink>(refusal: StepRefusal, out: &mut K) -> Status
-    ensures ends { (c : Contents) (statement : Statement) → EndsStopped c statement refusal (over K.written K.faults K.unflushed out.old out.new) result }
+    ensures ends { (c : Contents) (statement : Statement) → EndsStopped c statement refusal (over (K.told out.old) (K.told out.new)) result }
     ensures status { (result ≡ refusal_status refusal) ⊎ (result ≡ Status.WriteFault) }
 {
     match refusal {
@@ -70,7 +70,7 @@ pub fn stop<K: Sink>(refusal: StepRefusal, out: &mut K) -> Status
 fn end<K: Sink>(status: Status, line: Line, out: &mut K) -> Status
     requires { IsWhole status }
     ensures ends { (stop : Stop) → line_of stop ≡ line → status_of stop ≡ status
-        → Ends (ended stop) (over K.written K.faults K.unflushed out.old out.new) result }
+        → Ends (ended stop) (over (K.told out.old) (K.told out.new)) result }
     ensures status { (result ≡ status) ⊎ (result ≡ Status.WriteFault) }
 {
     finish(out, line.as_slice(), status)

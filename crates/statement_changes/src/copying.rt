@@ -23,12 +23,12 @@ pub fn copy<F: Files>(
     file: &RowFile,
 ) -> Result<Bytes, StepRefusal>
     requires { IsSome (table_named catalog.old name.now) }
-    ensures turn { TakesTurn (can_be (over F.held F.faults F.begun F.absent F.taken files.old files.new))
+    ensures turn { TakesTurn (can_be (over (F.told files.old) (F.told files.new)))
         (Begins file.now.name.now (copy catalog.old at name.now file.now.kinds.now file.now.mark.now file.now.header)) catalog.old catalog.new result }
-    ensures backed { IsBacked result (over F.held F.faults F.begun F.absent F.taken files.old files.new) }
-    ensures faults { CountsFault (F.faults files.old) (F.faults files.new) (has_failed result) }
-    ensures begun { F.begun files.new ≡ next_count (F.begun files.old) }
-    ensures held { F.held files.new ≡ F.held files.old }
+    ensures backed { IsBacked result (over (F.told files.old) (F.told files.new)) }
+    ensures faults { CountsFault (F.told files.old).faults (F.told files.new).faults (has_failed result) }
+    ensures begun { (F.told files.new).begun ≡ next_count (F.told files.old).begun }
+    ensures held { (F.told files.new).held ≡ (F.told files.old).held }
 {
     match file_rows(alloc, files, at, file) {
         Ok(rows) => add_rows(alloc, catalog, at, b"COPY ", name, rows),

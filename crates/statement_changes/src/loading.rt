@@ -29,12 +29,12 @@ pub(crate) fn file_rows<F: Files>(
     at: usize,
     file: &RowFile,
 ) -> Result<Rows, StepRefusal>
-    ensures loaded { IsLoaded (can_be (over F.held F.faults F.begun F.absent F.taken files.old files.new) file.now.name.now)
+    ensures loaded { IsLoaded (can_be (over (F.told files.old) (F.told files.new)) file.now.name.now)
         at file.now.kinds.now file.now.mark.now file.now.header result }
-    ensures backed { IsBacked result (over F.held F.faults F.begun F.absent F.taken files.old files.new) }
-    ensures faults { CountsFault (F.faults files.old) (F.faults files.new) (has_failed result) }
-    ensures begun { F.begun files.new ≡ next_count (F.begun files.old) }
-    ensures held { F.held files.new ≡ F.held files.old }
+    ensures backed { IsBacked result (over (F.told files.old) (F.told files.new)) }
+    ensures faults { CountsFault (F.told files.old).faults (F.told files.new).faults (has_failed result) }
+    ensures begun { (F.told files.new).begun ≡ next_count (F.told files.old).begun }
+    ensures held { (F.told files.new).held ≡ (F.told files.old).held }
 {
     match read_all(alloc, files, file.name, FILE_LIMIT) {
         Ok(bytes) => loaded(alloc, bytes.as_slice(), file),

@@ -5,6 +5,7 @@ use Rattle.csv_tables.specs.declared.data_error.DataError.TheVariants as broken_
 use Rattle.perm_catalog.specs.Contents.{Contents}
 use Rattle.perm_io.specs.Counts.{HasRisen, CountsFault, next_count}
 use Rattle.perm_io.specs.Found.{Found, CanBe}
+use Rattle.perm_io.specs.Told.{FilesTold}
 use Rattle.perm_io.specs.declared.named_file.NamedFile.{NamedFile}
 use Rattle.row_values.specs.declared.error.ExecError.{ExecError}
 use Rattle.row_values.specs.declared.error.ExecError.TheVariants as exec
@@ -66,17 +67,17 @@ pub record Files : Type 0 where
   pub absent : Bool
   pub taken : ℕ
 
--- the same by the words that tell of files
-abbrev pub over : {F : Type 0} → (F → Option (List NamedFile)) → (F → ℕ) → (F → ℕ) → (F → Bool) → (F → ℕ) → F → F → Files
-over held faults begun absent taken old new = record {
-  held = held old;
-  held_after = held new;
-  faults = faults old;
-  faults_after = faults new;
-  begun = begun old;
-  begun_after = begun new;
-  absent = absent new;
-  taken = taken new;
+-- the same of what files told before and after
+abbrev pub over : FilesTold → FilesTold → Files
+over old new = record {
+  held = old.held;
+  held_after = new.held;
+  faults = old.faults;
+  faults_after = new.faults;
+  begun = old.begun;
+  begun_after = new.begun;
+  absent = new.absent;
+  taken = new.taken;
 }
 
 -- what can have become of the file of a name

@@ -30,13 +30,13 @@ pub fn step<F: Files>(
     runner: &mut Runner,
 ) -> Result<Bytes, StepRefusal>
     requires { IsReady catalog.old statement.now }
-    ensures turn { TakesTurn (can_be (over F.held F.faults F.begun F.absent F.taken files.old files.new))
+    ensures turn { TakesTurn (can_be (over (F.told files.old) (F.told files.new)))
         (asks catalog.old at statement.now) catalog.old catalog.new result }
-    ensures backed { IsBacked result (over F.held F.faults F.begun F.absent F.taken files.old files.new) }
-    ensures faults { CountsFault (F.faults files.old) (F.faults files.new) (has_failed result) }
-    ensures begun { IsTrue (begins (asks catalog.old at statement.now)) → F.begun files.new ≡ next_count (F.begun files.old) }
+    ensures backed { IsBacked result (over (F.told files.old) (F.told files.new)) }
+    ensures faults { CountsFault (F.told files.old).faults (F.told files.new).faults (has_failed result) }
+    ensures begun { IsTrue (begins (asks catalog.old at statement.now)) → (F.told files.new).begun ≡ next_count (F.told files.old).begun }
     ensures unbegun { begins (asks catalog.old at statement.now) ≡ false → files.new ≡ files.old }
-    ensures held { F.held files.new ≡ F.held files.old }
+    ensures held { (F.told files.new).held ≡ (F.told files.old).held }
     ensures ran { KeepsRun catalog.old statement.now result runner.old runner.new }
 {
     match statement {

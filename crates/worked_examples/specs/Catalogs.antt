@@ -19,7 +19,7 @@ use Rattle.perm_catalog.specs.declared.entries.TableEntry.{TableEntry}
 use Rattle.perm_catalog.specs.declared.entries.ViewEntry.{ViewEntry}
 
 abbrev table : ℕ → ℕ → TableEntry
-table id version = record { id = id; version = version; columns = []; mark = None }
+table id version = record { id = id; version = version; columns = []; stored = None }
 
 abbrev view : List (List ℕ) → ViewEntry
 view names = record { answer = record { query = Single; names = []; keys = [] }; places = None; names_used = names }

@@ -23,7 +23,7 @@ abbrev pub stored : List ℕ → Kind → Column
 stored name kind = record { name = name; kind = kind }
 
 abbrev pub plain_table : ℕ → List Column → TableEntry
-plain_table id columns = record { id = id; version = id; columns = columns; mark = None }
+plain_table id columns = record { id = id; version = id; columns = columns; stored = None }
 
 abbrev pub table_r : TableEntry
 table_r = plain_table 1 (stored (codes "a") kind.Integer ∷ stored (codes "b") kind.Text ∷ [])
@@ -36,7 +36,7 @@ table_t = record {
   id = 3;
   version = 3;
   columns = stored (codes "z") kind.Integer ∷ stored (codes "prov_r_a") kind.Integer ∷ [];
-  mark = Some (record { places = 1 ∷ []; query = Prov Single; kept = [] });
+  stored = Some (record { places = 1 ∷ []; query = Prov Single; kept = [] });
 }
 
 -- its columns have names of one character

@@ -27,7 +27,7 @@ pub fn carried_out<F: Files>(
     requires before { IsSound catalog.old }
     requires ready { IsReady catalog.old resolved.now }
     requires sound { KeepsSound (asks catalog.old at resolved.now) }
-    ensures done { IsCarriedOut (asks catalog.old at resolved.now) catalog.old catalog.new result (over F.held F.faults F.begun F.absent F.taken files.old files.new)
+    ensures done { IsCarriedOut (asks catalog.old at resolved.now) catalog.old catalog.new result (over (F.told files.old) (F.told files.new))
         (files.new ≡ files.old) }
     ensures ran { KeepsRun catalog.old resolved.now result runner.old runner.new }
 {

@@ -11,8 +11,8 @@ run_statements-requires g c =
 
 pub returns-in-Ok : goal.returns-in-Ok
 returns-in-Ok g c =
-    let files = over g.F.Files.held g.F.Files.faults g.F.Files.begun g.F.Files.absent g.F.Files.taken c.args.files.now c.run_statements.new.files in
-    let w = output g.K.Sink.written g.K.Sink.faults g.K.Sink.unflushed c.args.out.now c.run_statements.new.out in record {
+    let files = over (g.F.Files.told c.args.files.now) (g.F.Files.told c.run_statements.new.files) in
+    let w = output (g.K.Sink.told c.args.out.now) (g.K.Sink.told c.run_statements.new.out) in record {
       ends = EndsOne-script (can_be files) c.args.bytes.now c.in-Ok.script w files c.run_statements.result c.in-Ok.ensures c.run_statements.ensures.ends;
       status = c.run_statements.ensures.status;
       read_fault = c.run_statements.ensures.read_fault;
@@ -23,8 +23,8 @@ returns-in-Ok g c =
 pub returns-in-Err : goal.returns-in-Err
 returns-in-Err g c =
     let here = c.args.files.now in
-    let files = over g.F.Files.held g.F.Files.faults g.F.Files.begun g.F.Files.absent g.F.Files.taken here here in
-    let w = output g.K.Sink.written g.K.Sink.faults g.K.Sink.unflushed c.args.out.now c.refuse.new.out in record {
+    let files = over (g.F.Files.told here) (g.F.Files.told here) in
+    let w = output (g.K.Sink.told c.args.out.now) (g.K.Sink.told c.refuse.new.out) in record {
       ends = EndsOne-refused (can_be files) c.args.bytes.now c.in-Err.refusal w files c.refuse.result refl c.in-Err.ensures c.refuse.ensures.ends;
       status = misspelled-of_script c.refuse.result c.refuse.ensures.status;
       read_fault = λ e. absurd (misspelled-unfailed c.refuse.result c.refuse.ensures.status e);

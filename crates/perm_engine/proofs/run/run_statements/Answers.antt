@@ -28,9 +28,9 @@ loop-statement-init g c =
     let vec = c.into_vec.result in
     let files = c.args.files.now in
     let out = c.args.out.now in record {
-      has_run = subst (λ (p : List Statement × Contents). HasRun (g.F.Files.held files) (g.F.Files.faults files) c.args.statements (nothing_held 1) p.0 p.1 (g.K.Sink.written out) (g.K.Sink.written out)
-          (g.K.Sink.faults out) (g.K.Sink.faults out) (g.F.Files.begun files) (g.F.Files.begun files)) (λ i. (whole i, fresh i))
-          (HasRun-nothing (g.F.Files.held files) (g.F.Files.faults files) c.args.statements (nothing_held 1) (g.K.Sink.written out) (g.K.Sink.faults out) (g.F.Files.begun files));
+      has_run = subst (λ (p : List Statement × Contents). HasRun (g.F.Files.told files).held (g.F.Files.told files).faults c.args.statements (nothing_held 1) p.0 p.1 (g.K.Sink.told out).written (g.K.Sink.told out).written
+          (g.K.Sink.told out).faults (g.K.Sink.told out).faults (g.F.Files.told files).begun (g.F.Files.told files).begun) (λ i. (whole i, fresh i))
+          (HasRun-nothing (g.F.Files.told files).held (g.F.Files.told files).faults c.args.statements (nothing_held 1) (g.K.Sink.told out).written (g.K.Sink.told out).faults (g.F.Files.told files).begun);
       calm = refl;
       held = refl;
       regular = subst (Each RegularStatement) whole c.requires;
@@ -58,20 +58,20 @@ returns-in-Err-write_all g c =
     let old = c.loop-statement.out in
     let new = c.write_all.new.out in
     let before = c.args.out.now in
-    let files = over g.F.Files.held g.F.Files.faults g.F.Files.begun g.F.Files.absent g.F.Files.taken c.args.files.now c.step.new.files in
-    let met = over g.F.Files.held g.F.Files.faults g.F.Files.begun g.F.Files.absent g.F.Files.taken was c.step.new.files in
+    let files = over (g.F.Files.told c.args.files.now) (g.F.Files.told c.step.new.files) in
+    let met = over (g.F.Files.told was) (g.F.Files.told c.step.new.files) in
     let quiet = record files { faults_after = files.faults } in
     let still = c.in-Ok.ensures.faults ∙ kept.calm in
-    let has_run = subst (λ ss. HasRun files.held files.faults c.args.statements (nothing_held 1) ss now (g.K.Sink.written before) (g.K.Sink.written old)
-    (g.K.Sink.faults before) (g.K.Sink.faults old) files.begun met.begun) taken kept.has_run in
+    let has_run = subst (λ ss. HasRun files.held files.faults c.args.statements (nothing_held 1) ss now (g.K.Sink.told before).written (g.K.Sink.told old).written
+    (g.K.Sink.told before).faults (g.K.Sink.told old).faults files.begun met.begun) taken kept.has_run in
     let turn = takes-wider (can_be met) (can_be quiet)
     (CanBe-moved file_limit met.held files.held met.faults files.faults met.faults_after files.faults kept.held kept.calm still) (asked now statement) now next (Ok text) c.in-Ok.ensures.turn in
-    let counted = begun-told (asked now statement) met.begun files.begun_after _ c.in-Ok.ensures.begun (λ e. ap g.F.Files.begun (c.in-Ok.ensures.unbegun e)) (text≢memory text) in
+    let counted = begun-told (asked now statement) met.begun files.begun_after _ c.in-Ok.ensures.begun (λ e. ap (g.F.Files.told (c.in-Ok.ensures.unbegun e)).begun) (text≢memory text) in
     let count = c.in-Err-write_all.ensures.prefix.0 in record {
-      ends = HasRun-cut c.args.statements (nothing_held 1) statement left now (g.K.Sink.written before) (g.K.Sink.written old) (g.K.Sink.faults before) (g.K.Sink.faults old) met.begun files has_run
-          (still_risen files.faults files.faults_after false still) text next (g.K.Sink.written new) (g.K.Sink.faults new) count (g.K.Sink.unflushed new) turn counted
+      ends = HasRun-cut c.args.statements (nothing_held 1) statement left now (g.K.Sink.told before).written (g.K.Sink.told old).written (g.K.Sink.told before).faults (g.K.Sink.told old).faults met.begun files has_run
+          (still_risen files.faults files.faults_after false still) text next (g.K.Sink.told new).written (g.K.Sink.told new).faults count (g.K.Sink.told new).unflushed turn counted
           (omega (arith, c.in-Err-write_all.ensures.prefix.1, ap length c.as_slice.ensures))
-          (c.in-Err-write_all.ensures.prefix.2 ∙ ap (λ (bytes : List ℕ). append_known (g.K.Sink.written old) (take count bytes)) c.as_slice.ensures) c.in-Err-write_all.ensures.faults;
+          (c.in-Err-write_all.ensures.prefix.2 ∙ ap (λ (bytes : List ℕ). append_known (g.K.Sink.told old).written (take count bytes)) c.as_slice.ensures) c.in-Err-write_all.ensures.faults;
       status = tt;
       read_fault = λ e. absurd cc;
       steady = λ w. absurd w;
@@ -91,16 +91,16 @@ returns-in-Err g c =
     let old = c.loop-statement.out in
     let new = c.stop.new.out in
     let before = c.args.out.now in
-    let files = over g.F.Files.held g.F.Files.faults g.F.Files.begun g.F.Files.absent g.F.Files.taken c.args.files.now c.step.new.files in
-    let met = over g.F.Files.held g.F.Files.faults g.F.Files.begun g.F.Files.absent g.F.Files.taken was c.step.new.files in
+    let files = over (g.F.Files.told c.args.files.now) (g.F.Files.told c.step.new.files) in
+    let met = over (g.F.Files.told was) (g.F.Files.told c.step.new.files) in
     let counts = subst (λ n. CountsFault n files.faults_after (has_failed {X = List ℕ} (Err refused))) kept.calm c.in-Err.ensures.faults in
-    let has_run = subst (λ ss. HasRun files.held files.faults c.args.statements (nothing_held 1) ss now (g.K.Sink.written before) (g.K.Sink.written old)
-    (g.K.Sink.faults before) (g.K.Sink.faults old) files.begun met.begun) taken kept.has_run in
+    let has_run = subst (λ ss. HasRun files.held files.faults c.args.statements (nothing_held 1) ss now (g.K.Sink.told before).written (g.K.Sink.told old).written
+    (g.K.Sink.told before).faults (g.K.Sink.told old).faults files.begun met.begun) taken kept.has_run in
     let turn = takes-wider (can_be met) (can_be files)
     (CanBe-moved file_limit met.held files.held met.faults files.faults met.faults_after files.faults_after kept.held kept.calm refl) (asked now statement) now next (Err refused) c.in-Err.ensures.turn in record {
-      ends = HasRun-stopped c.args.statements (nothing_held 1) statement left now (g.K.Sink.written before) (g.K.Sink.written old) (g.K.Sink.faults before) (g.K.Sink.faults old) met.begun files has_run
-          (still_risen files.faults files.faults_after (has_failed {X = List ℕ} (Err refused)) counts) refused next (g.K.Sink.written new) (g.K.Sink.faults new) (g.K.Sink.unflushed new) c.stop.result
-          (omega (arith, kept.drawn, kept.few, ap length taken)) turn c.in-Err.ensures.begun (λ e. ap g.F.Files.begun (c.in-Err.ensures.unbegun e))
+      ends = HasRun-stopped c.args.statements (nothing_held 1) statement left now (g.K.Sink.told before).written (g.K.Sink.told old).written (g.K.Sink.told before).faults (g.K.Sink.told old).faults met.begun files has_run
+          (still_risen files.faults files.faults_after (has_failed {X = List ℕ} (Err refused)) counts) refused next (g.K.Sink.told new).written (g.K.Sink.told new).faults (g.K.Sink.told new).unflushed c.stop.result
+          (omega (arith, kept.drawn, kept.few, ap length taken)) turn c.in-Err.ensures.begun (λ e. ap (g.F.Files.told (c.in-Err.ensures.unbegun e)).begun)
           (rests-moved refused met files refl refl c.in-Err.ensures.backed) (c.stop.ensures.ends now statement);
       status = stopped-of_script refused c.stop.result c.stop.ensures.status;
       read_fault = stopped-read_fault refused c.stop.result c.stop.ensures.status files.faults files.faults_after counts;
@@ -121,18 +121,18 @@ loop-statement-preserved g c =
     let old = c.loop-statement.out in
     let new = c.write_all.new.out in
     let before = c.args.out.now in
-    let files = over g.F.Files.held g.F.Files.faults g.F.Files.begun g.F.Files.absent g.F.Files.taken c.args.files.now c.step.new.files in
-    let met = over g.F.Files.held g.F.Files.faults g.F.Files.begun g.F.Files.absent g.F.Files.taken was c.step.new.files in
+    let files = over (g.F.Files.told c.args.files.now) (g.F.Files.told c.step.new.files) in
+    let met = over (g.F.Files.told was) (g.F.Files.told c.step.new.files) in
     let quiet = record files { faults_after = files.faults } in
     let still = c.in-Ok.ensures.faults ∙ kept.calm in
-    let has_run = subst (λ ss. HasRun files.held files.faults c.args.statements (nothing_held 1) ss now (g.K.Sink.written before) (g.K.Sink.written old)
-    (g.K.Sink.faults before) (g.K.Sink.faults old) files.begun met.begun) taken kept.has_run in
+    let has_run = subst (λ ss. HasRun files.held files.faults c.args.statements (nothing_held 1) ss now (g.K.Sink.told before).written (g.K.Sink.told old).written
+    (g.K.Sink.told before).faults (g.K.Sink.told old).faults files.begun met.begun) taken kept.has_run in
     let turn = takes-wider (can_be met) (can_be quiet)
     (CanBe-moved file_limit met.held files.held met.faults files.faults met.faults_after files.faults kept.held kept.calm still) (asked now statement) now next (Ok text) c.in-Ok.ensures.turn in
-    let counted = begun-told (asked now statement) met.begun files.begun_after _ c.in-Ok.ensures.begun (λ e. ap g.F.Files.begun (c.in-Ok.ensures.unbegun e)) (text≢memory text) in record {
-      has_run = HasRun-more files.held files.faults c.args.statements (nothing_held 1) statement left now (g.K.Sink.written before) (g.K.Sink.written old) (g.K.Sink.faults before) (g.K.Sink.faults old)
-          files.begun met.begun has_run text next (g.K.Sink.written new) (g.K.Sink.faults new) files.begun_after turn counted
-          (c.in-Ok-write_all.ensures.whole ∙ ap (append_known (g.K.Sink.written old)) c.as_slice.ensures) c.in-Ok-write_all.ensures.faults;
+    let counted = begun-told (asked now statement) met.begun files.begun_after _ c.in-Ok.ensures.begun (λ e. ap (g.F.Files.told (c.in-Ok.ensures.unbegun e)).begun) (text≢memory text) in record {
+      has_run = HasRun-more files.held files.faults c.args.statements (nothing_held 1) statement left now (g.K.Sink.told before).written (g.K.Sink.told old).written (g.K.Sink.told before).faults (g.K.Sink.told old).faults
+          files.begun met.begun has_run text next (g.K.Sink.told new).written (g.K.Sink.told new).faults files.begun_after turn counted
+          (c.in-Ok-write_all.ensures.whole ∙ ap (append_known (g.K.Sink.told old).written) c.as_slice.ensures) c.in-Ok-write_all.ensures.faults;
       calm = still;
       held = c.in-Ok.ensures.held ∙ kept.held;
       regular = left-regular statement left (subst (Each RegularStatement) taken kept.regular);
@@ -147,10 +147,10 @@ returns g c =
     let before = c.args.out.now in
     let old = c.loop-statement.out in
     let new = c.finish.new.out in
-    let files = over g.F.Files.held g.F.Files.faults g.F.Files.begun g.F.Files.absent g.F.Files.taken c.args.files.now c.loop-statement.files in
+    let files = over (g.F.Files.told c.args.files.now) (g.F.Files.told c.loop-statement.files) in
     let none = nil_from_length (into_iter_items iterator) (omega (arith, iterator.rest.ok.0, c.in_default.ensures.cases)) in record {
-      ends = HasRun-done c.args.statements (nothing_held 1) (into_iter_items iterator) c.loop-statement.session.contents (g.K.Sink.written before) (g.K.Sink.written old) (g.K.Sink.faults before) (g.K.Sink.faults old)
-          files.begun_after files kept.has_run (still_risen files.faults files.faults_after false kept.calm) (g.K.Sink.written new) (g.K.Sink.faults new) (g.K.Sink.unflushed new) c.finish.result none refl
+      ends = HasRun-done c.args.statements (nothing_held 1) (into_iter_items iterator) c.loop-statement.session.contents (g.K.Sink.told before).written (g.K.Sink.told old).written (g.K.Sink.told before).faults (g.K.Sink.told old).faults
+          files.begun_after files kept.has_run (still_risen files.faults files.faults_after false kept.calm) (g.K.Sink.told new).written (g.K.Sink.told new).faults (g.K.Sink.told new).unflushed c.finish.result none refl
           (c.finish.ensures.ends ToTheEnd refl refl);
       status = of_script c.finish.result status.Done tt c.finish.ensures.status;
       read_fault = λ e. absurd (other_end c.finish.result status.Done status.ReadFault (λ same. absurd cc) (λ same. absurd cc) c.finish.ensures.status e);

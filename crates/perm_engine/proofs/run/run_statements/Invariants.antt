@@ -7,10 +7,10 @@ use Rattle.perm_engine.proofs.run.run_statements.Given as goal
 
 abbrev pub invariant-loop-statement : goal.invariant-loop-statement
 invariant-loop-statement g l = record {
-  has_run : HasRun (g.F.Files.held l.fn.files) (g.F.Files.faults l.fn.files) l.fn.statements (nothing_held 1) (into_iter_items l.left) l.session.contents (g.K.Sink.written l.fn.out) (g.K.Sink.written l.out)
-      (g.K.Sink.faults l.fn.out) (g.K.Sink.faults l.out) (g.F.Files.begun l.fn.files) (g.F.Files.begun l.files);
-  calm : g.F.Files.faults l.files ≡ g.F.Files.faults l.fn.files;
-  held : g.F.Files.held l.files ≡ g.F.Files.held l.fn.files;
+  has_run : HasRun (g.F.Files.told l.fn.files).held (g.F.Files.told l.fn.files).faults l.fn.statements (nothing_held 1) (into_iter_items l.left) l.session.contents (g.K.Sink.told l.fn.out).written (g.K.Sink.told l.out).written
+      (g.K.Sink.told l.fn.out).faults (g.K.Sink.told l.out).faults (g.F.Files.told l.fn.files).begun (g.F.Files.told l.files).begun;
+  calm : (g.F.Files.told l.files).faults ≡ (g.F.Files.told l.fn.files).faults;
+  held : (g.F.Files.told l.files).held ≡ (g.F.Files.told l.fn.files).held;
   regular : Each RegularStatement (into_iter_items l.left);
   drawn : l.session.contents.next + length (into_iter_items l.left) ≤ length l.fn.statements + 1;
   few : length l.fn.statements < 2 ^ 63;

@@ -4,13 +4,13 @@ use Rattle.perm_io.proofs.reading.read_rest.Given as goal
 
 abbrev pub invariant-loop-bytes : goal.invariant-loop-bytes
 invariant-loop-bytes g l = record {
-  begun : g.F.Files.begun l.files ≡ g.F.Files.begun l.fn.files;
-  held : g.F.Files.held l.files ≡ g.F.Files.held l.fn.files;
-  absent : g.F.Files.absent l.files ≡ g.F.Files.absent l.fn.files;
-  faults : g.F.Files.faults l.files ≡ g.F.Files.faults l.fn.files;
-  taken : g.F.Files.taken l.files ≡ length l.bytes;
+  begun : (g.F.Files.told l.files).begun ≡ (g.F.Files.told l.fn.files).begun;
+  held : (g.F.Files.told l.files).held ≡ (g.F.Files.told l.fn.files).held;
+  absent : (g.F.Files.told l.files).absent ≡ (g.F.Files.told l.fn.files).absent;
+  faults : (g.F.Files.told l.files).faults ≡ (g.F.Files.told l.fn.files).faults;
+  taken : (g.F.Files.told l.files).taken ≡ length l.bytes;
   within : length l.bytes ≤ l.limit;
-  moved : g.F.Files.rest l.fn.files ≡ prepend_known l.bytes (g.F.Files.rest l.files);
+  moved : (g.F.Files.told l.fn.files).rest ≡ prepend_known l.bytes (g.F.Files.told l.files).rest;
 }
 
 abbrev pub decreases-loop-bytes : goal.decreases-loop-bytes

@@ -5,9 +5,9 @@ use Rattle.perm_io.proofs.writing.write_all.Given as goal
 abbrev pub invariant-loop-done : goal.invariant-loop-done
 invariant-loop-done g l = record {
   within : l.done ≤ length l.bytes;
-  written : g.K.Sink.written l.out ≡ append_known (g.K.Sink.written l.fn.out) (take l.done l.bytes);
-  unflushed : g.K.Sink.unflushed l.out ≡ (g.K.Sink.unflushed l.fn.out || nat_lt 0 l.done);
-  faults : g.K.Sink.faults l.out ≡ g.K.Sink.faults l.fn.out;
+  written : (g.K.Sink.told l.out).written ≡ append_known (g.K.Sink.told l.fn.out).written (take l.done l.bytes);
+  unflushed : (g.K.Sink.told l.out).unflushed ≡ ((g.K.Sink.told l.fn.out).unflushed || nat_lt 0 l.done);
+  faults : (g.K.Sink.told l.out).faults ≡ (g.K.Sink.told l.fn.out).faults;
 }
 
 abbrev pub decreases-loop-done : goal.decreases-loop-done

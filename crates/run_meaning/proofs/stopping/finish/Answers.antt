@@ -12,7 +12,7 @@ returns-in-Ok-flush-clause-ends g c = λ stop line said.
 pub returns-in-Err-flush-clause-ends : goal.returns-in-Err-flush-clause-ends
 returns-in-Err-flush-clause-ends g c = λ stop line said.
     cut-short stop c.args.line.now _ (length c.args.line.now) line (omega arith)
-    (c.in-Err-flush.ensures.written ∙ c.in-Ok.ensures.whole ∙ ap (append_known (g.K.Sink.written c.args.out.now)) (sym (take_all (length c.args.line.now) c.args.line.now (omega arith))))
+    (c.in-Err-flush.ensures.written ∙ c.in-Ok.ensures.whole ∙ ap (append_known (g.K.Sink.told c.args.out.now).written) (sym (take_all (length c.args.line.now) c.args.line.now (omega arith))))
     (rw (← c.in-Ok.ensures.faults) c.in-Err-flush.ensures.faults)
 
 pub returns-in-Err-clause-ends : goal.returns-in-Err-clause-ends

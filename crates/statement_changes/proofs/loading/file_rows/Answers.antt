@@ -15,5 +15,5 @@ returns-in-Ok-clause-loaded g c =
 
 pub returns-in-Err-NoMemory-clause-loaded : goal.returns-in-Err-NoMemory-clause-loaded
 returns-in-Err-NoMemory-clause-loaded g c =
-    let some = some_found file_limit (g.F.Files.held c.args.files.now) _ c.args.file.now.name.now in
+    let some = some_found file_limit (g.F.Files.told c.args.files.now).held _ c.args.file.now.name.now in
     (some.0, some.1, λ _ _. tt)

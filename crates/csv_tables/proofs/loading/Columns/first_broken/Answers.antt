@@ -17,7 +17,7 @@ returns-then-is_some c =
     let wide : length fields ≡ length c.args.self.now.kinds.now = sym c.len.ensures ∙ c.if-len-self.false in
     let within : place < length fields = omega (arith, wide) in
     let here : field_at fields place ≡ Some c.in-Some.field.now = sym c.get.ensures.value ∙ ap (option_map (λ s. s.now)) c.in-Some.is in
-    Unbroken-found c.args.self.now.mark.now c.args.self.now.kinds.now c.args.number fields place _ c.in-Some.field.now c.loop-place.invariant (item-at _ place _ c.loop-place-test.true) (field-at fields place _ within here)
+    Unbroken-found c.args.self.now.null_field.now c.args.self.now.kinds.now c.args.number fields place _ c.in-Some.field.now c.loop-place.invariant (item-at _ place _ c.loop-place-test.true) (field-at fields place _ within here)
     c.broken_by-broken.result c.broken_by-broken.ensures (sym c.is_some.ensures ∙ c.if-is_some.true) wide
 
 pub loop-place-preserved : goal.loop-place-preserved
@@ -27,5 +27,5 @@ loop-place-preserved c =
     let wide : length fields ≡ length c.args.self.now.kinds.now = sym c.len.ensures ∙ c.if-len-self.false in
     let within : place < length fields = omega (arith, wide) in
     let here : field_at fields place ≡ Some c.in-Some.field.now = sym c.get.ensures.value ∙ ap (option_map (λ s. s.now)) c.in-Some.is in
-    Unbroken-more c.args.self.now.mark.now c.args.self.now.kinds.now c.args.number fields place _ c.in-Some.field.now c.loop-place.invariant (item-at _ place _ c.loop-place-test.true) (field-at fields place _ within here)
+    Unbroken-more c.args.self.now.null_field.now c.args.self.now.kinds.now c.args.number fields place _ c.in-Some.field.now c.loop-place.invariant (item-at _ place _ c.loop-place-test.true) (field-at fields place _ within here)
     c.broken_by-broken.result c.broken_by-broken.ensures (sym c.is_some.ensures ∙ c.if-is_some.false)

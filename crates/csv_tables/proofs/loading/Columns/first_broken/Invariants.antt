@@ -3,4 +3,4 @@ use Rattle.csv_tables.proofs.Rules.{Unbroken}
 use Rattle.csv_tables.proofs.loading.Columns.first_broken.Given as goal
 
 abbrev pub invariant-loop-place : goal.invariant-loop-place
-invariant-loop-place l = Unbroken l.self.mark.now l.self.kinds.now l.number (fields_of l.fields) l.place
+invariant-loop-place l = Unbroken l.self.null_field.now l.self.kinds.now l.number (fields_of l.fields) l.place

@@ -3,4 +3,4 @@ use Rattle.csv_tables.proofs.Rules.{FieldsRead}
 use Rattle.csv_tables.proofs.loading.Columns.read.Given as goal
 
 abbrev pub invariant-loop-place : goal.invariant-loop-place
-invariant-loop-place l = FieldsRead l.self.mark.now l.self.kinds.now l.number (fields_of l.fields) l.row l.place
+invariant-loop-place l = FieldsRead l.self.null_field.now l.self.kinds.now l.number (fields_of l.fields) l.row l.place

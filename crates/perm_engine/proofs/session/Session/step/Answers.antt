@@ -14,7 +14,7 @@ returns-in_err-resolved g c =
     let held = c.self.inside.catalog in
     let statement = c.args.statement in
     let f = c.args.files.now in
-    let files = over g.F.Files.held g.F.Files.faults g.F.Files.begun g.F.Files.absent g.F.Files.taken f f in
+    let files = over (g.F.Files.told f) (g.F.Files.told f) in
     let refused = c.in_err-resolved.field-0.0 in
     let h = c.in_err-resolved.ensures.resolves in
     let p = err_from_is_err_and c.from_residual.result c.from_residual.ensures.1 in
@@ -23,8 +23,8 @@ returns-in_err-resolved g c =
       sound = c.self.invariant;
       due = due-refused (due_breaks held statement) refused c.in_err-resolved.ensures.due;
       backed = refused-backed held statement files refused h;
-      faults = refused-unfailed held statement files refused h (g.F.Files.faults f);
-      begun = refused-unbegun held statement files refused h (g.F.Files.begun f);
+      faults = refused-unfailed held statement files refused h (g.F.Files.told f).faults;
+      begun = refused-unbegun held statement files refused h (g.F.Files.told f).begun;
       unbegun = λ none. refl;
       held = refl;
       ran = refused-ran held (resolved held statement) refused c.self.inside.runner;
@@ -41,7 +41,7 @@ pub returns : goal.returns
 returns g c =
     let f = c.args.files.now in
     let after = c.carried_out-told.new.files in
-    let files = over g.F.Files.held g.F.Files.faults g.F.Files.begun g.F.Files.absent g.F.Files.taken f after in
+    let files = over (g.F.Files.told f) (g.F.Files.told after) in
     let h = asked-carried c.self.inside.catalog c.carried_out-told.new.catalog c.args.statement c.in_ok-resolved.resolved c.carried_out-told.result files (after ≡ f)
     c.in_ok-resolved.ensures.resolves c.carried_out-told.ensures.done in
     rw (← c.self.view_is) (record {

@@ -10,7 +10,7 @@ pub returns-clause-done : goal.returns-clause-done
 returns-clause-done g c = record {
   turn = c.step.ensures.turn;
   sound =
-      taken-sound (can_be (over g.F.Files.held g.F.Files.faults g.F.Files.begun g.F.Files.absent g.F.Files.taken c.args.files.now c.step.new.files))
+      taken-sound (can_be (over (g.F.Files.told c.args.files.now) (g.F.Files.told c.step.new.files)))
       (asks c.args.catalog.now c.args.at c.args.resolved.now) c.args.catalog.now c.step.new.catalog c.step.result c.requires.before c.requires.sound c.step.ensures.turn;
   backed = c.step.ensures.backed;
   faults = c.step.ensures.faults;
