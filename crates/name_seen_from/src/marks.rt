@@ -8,6 +8,7 @@ ghost use Rattle.name_seen_parts.specs.Seen.{first_or};
 ghost use Rattle.name_meaning.specs.Froms.{is_out_of_scope, label_of, texts_of, trace_under};
 ghost use Rattle.name_meaning.specs.Meanings.{broken_if};
 ghost use Rattle.name_meaning.specs.Trees.{source_of};
+ghost use Rattle.name_meaning.specs.declared.rule.Rule.TheVariants as rule;
 ghost use Rattle.perm_catalog.specs.Contents.{Contents};
 ghost use Rattle.name_seen_from.specs.Added.{facts_in};
 ghost use Rattle.name_seen_parts.specs.FromColumns.{known_names};
@@ -89,7 +90,8 @@ fn attributed(alloc: Global, attributes: &[Name], reading: &Reading) -> Result<F
 
 /// That an item with these facts is out of the scope of the provenance that is asked for.
 pub(crate) fn scope_break(trace: Trace, viewed: bool, facts: &Facts, at: usize) -> Result<(), Break>
-    ensures { (query : Query) → facts_in facts.now ≡ facts_of query → result ≡ first_or (broken_if (is_out_of_scope trace viewed query) 25 at) tt }
+    ensures { (query : Query) → facts_in facts.now ≡ facts_of query
+        → result ≡ first_or (broken_if (is_out_of_scope trace viewed query) rule.MisplacedProvenance at) tt }
 {
     if is_out_of_scope(trace, viewed, facts) {
         return Err(Break {

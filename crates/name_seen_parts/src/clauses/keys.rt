@@ -3,6 +3,7 @@ ghost use Rattle.std.specs.Prelude.{◌≡◌, Some, count_by, not};
 ghost use Rattle.name_meaning.specs.Meanings.{broken_if};
 ghost use Rattle.name_seen_parts.specs.Seen.{first_or};
 ghost use Rattle.name_meaning.specs.Queries.{is_named, is_position, key_break, keys_breaks};
+ghost use Rattle.name_meaning.specs.declared.rule.Rule.TheVariants as rule;
 ghost use Rattle.name_seen_parts.specs.Columns.{columns_of};
 
 use crate::clauses::column::ShownColumn;
@@ -40,7 +41,7 @@ fn count_named(columns: &[ShownColumn], name: &Chars) -> usize
 }
 
 fn position_break(place: i64, width: usize, at: usize) -> Result<(), Break>
-    ensures { result ≡ first_or (broken_if (not (is_position place width)) 11 at) tt }
+    ensures { result ≡ first_or (broken_if (not (is_position place width)) rule.UnknownColumn at) tt }
 {
     if !is_position(place, width) {
         return Err(Break {

@@ -5,6 +5,7 @@ ghost use Rattle.name_seen_parts.specs.Seen.{first_or};
 ghost use Rattle.name_meaning.specs.Froms.{label_of, mark_breaks, named_so, scope_name};
 ghost use Rattle.name_meaning.specs.Meanings.{broken_if};
 ghost use Rattle.name_meaning.specs.Trees.{source_of};
+ghost use Rattle.name_meaning.specs.declared.rule.Rule.TheVariants as rule;
 ghost use Rattle.perm_catalog.specs.Contents.{Contents};
 ghost use Rattle.name_seen_parts.specs.FromColumns.{known_names};
 
@@ -46,7 +47,7 @@ pub fn item_break(
     items: &[Chars],
     columns: &[Column],
 ) -> Result<(), Break>
-    ensures { result ≡ first_or (broken_if (list_any (named_so name.now) (earlier.now ++ items.now)) 15 item.now.at
+    ensures { result ≡ first_or (broken_if (list_any (named_so name.now) (earlier.now ++ items.now)) rule.RepeatedItem item.now.at
         ++ mark_breaks item.now.mark (Some (known_names columns.now))) tt }
 {
     if is_among(name, earlier) || is_among(name, items) {

@@ -1,4 +1,4 @@
-use Rattle.name_laws.proofs.forms.TreeLaws.{query-closed}
+use Rattle.name_laws.proofs.TreeLaws.{query-closed}
 use Rattle.name_laws.proofs.forms.laws.outermost_queries_are_closed.Goals as goal
 
 pub returns : goal.returns
