@@ -11,16 +11,6 @@ use Rattle.sql_tree.specs.declared.expression.ExprTree.{ExprTree}
 use Rattle.sql_tree.specs.declared.query.QueryTree.{QueryTree}
 use Rattle.sql_grammar.proofs.Steps.{reading-takes}
 
--- what may be called below a number may be called below a lesser one
-pub nests_below : {a b : ℕ} {expr_pre query_pre : MutBor (List Token) → Type 0}
-    {expr_post : MutBor (List Token) → Result ExprTree Fault → MutBor (List Token) → Type 0}
-    {query_post : MutBor (List Token) → Result QueryTree Fault → MutBor (List Token) → Type 0}
-    → Nests a expr_pre query_pre expr_post query_post → b ≤ a → Nests b expr_pre query_pre expr_post query_post
-nests_below nests less = record {
-  expr = record { callable = λ old fewer. nests.expr.callable old (omega arith); reads = nests.expr.reads };
-  query = record { callable = λ old fewer. nests.query.callable old (omega arith); reads = nests.query.reads };
-}
-
 pub expr_takes : (old : List Token) (x : ExprTree) (new : List Token) → reading n.Expr old ≡ Taken x new → length new < length old
 expr_takes = reading-takes n.Expr refl
 

@@ -39,12 +39,6 @@ sees_more sort sorts (t ∷ rest) = by_test (same_sort (sort_of t) sort) (sees s
   by_test true b = refl
   by_test false b = refl
 
--- an optional choice of two
-pub cond_or : {X Y : Type 0} (a b : Bool) (f : X → Y) (x y : X) (z : Y) → cond (a || b) (f (cond a x y)) z ≡ cond a (f x) (cond b (f y) z)
-cond_or true b f x y z = refl
-cond_or false true f x y z = refl
-cond_or false false f x y z = refl
-
 -- what stands behind two words
 pub two_words : {X Y : Type 0} (o : Outcome Token Word) (k : List Token → Outcome Token Word) (l : List Token → Outcome Token X) (f : Word × (Word × X) → Y) (h : X → Y)
     → ((x : X) → f (tt, (tt, x)) ≡ h x)

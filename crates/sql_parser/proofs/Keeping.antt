@@ -36,9 +36,6 @@ keeping-first ts mid x e = record {
   amid = rw (listed-first Semicolon optional_statement ts mid x e) (Amid-first Semicolon optional_statement x mid);
 }
 
-pub first-stopped : (ts rest : List Token) → optional_statement ts ≡ Stopped rest → statements ts ≡ Stopped rest
-first-stopped ts rest e = ap (mapped present) (listed-stopped Semicolon optional_statement ts rest e)
-
 pub keeping-next : (whole : Whole) (kept : List Statement) (ts mid rest : List Token) (x : Option Statement)
     → sees (Semicolon ∷ []) ts ≡ true → past Semicolon ts ≡ Taken tt mid → optional_statement mid ≡ Taken x rest
     → Keeping whole kept ts → Keeping whole (kept ++ present (x ∷ [])) rest

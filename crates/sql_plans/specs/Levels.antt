@@ -20,9 +20,6 @@ number_token number = record { kind = Number; start = 0; end = 0; spelled = []; 
 abbrev pub a_number : ℕ → Plan (symbol n.Literal)
 a_number number = as_symbol (a_token (number_token number) here)
 
-abbrev pub a_text : List ℕ → Plan (symbol n.Literal)
-a_text text = as_symbol (a_token (token_of Text text) (there here))
-
 -- a column by its name alone
 abbrev pub a_column : List ℕ → Plan (symbol n.Reference)
 a_column name = as_symbol (before (a_token (token_of Quoted name) (there here)) (blank_symbol left_out))
