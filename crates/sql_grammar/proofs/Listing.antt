@@ -9,8 +9,8 @@ use Rattle.sql_grammar.specs.Grammar.{sql}
 use Rattle.sql_grammar.specs.Lists.{all_of, behind, others, listed, more_listed}
 use Rattle.sql_grammar.specs.Sorts.{sort_of, same_sort}
 use Rattle.sql_grammar.specs.Tables.{sql_tables}
-use Rattle.sql_grammar.specs.declared.fault.Fault.{Fault}
-use Rattle.sql_grammar.specs.declared.fault.Fault.TheVariants.{Unexpected, NoMemory}
+use Rattle.sql_grammar.specs.declared.unread.Unread.{Unread}
+use Rattle.sql_grammar.specs.declared.unread.Unread.TheVariants.{Unexpected, NoMemory}
 use Rattle.sql_grammar.specs.declared.sort.Sort.{Sort}
 
 pub mapped-mapped : {X Y Z : Type 0} (f : Y → Z) (g : X → Y) (h : X → Z) → ((x : X) → f (g x) ≡ h x) → (o : Outcome Token X) → mapped f (mapped g o) ≡ mapped h o
@@ -129,8 +129,8 @@ module _ {X : Type 0} (separator : Sort) (one : List Token → Outcome Token X) 
       ∙ ap (λ l. Taken l ts) (append-nil found)
 
 -- where a part fails, so does the whole
-pub fails-on : {X Y : Type 0} (fault : Fault) (o : Outcome Token X) (p : Outcome Token Y) (rest : List Token)
-    → (o ≡ Stopped rest → p ≡ Stopped rest) → Reads (Err fault) o rest → Reads (Err fault) p rest
+pub fails-on : {X Y : Type 0} (unread : Unread) (o : Outcome Token X) (p : Outcome Token Y) (rest : List Token)
+    → (o ≡ Stopped rest → p ≡ Stopped rest) → Reads (Err unread) o rest → Reads (Err unread) p rest
 fails-on Unexpected o p rest onward e = onward e
 fails-on NoMemory o p rest onward e = tt
 

@@ -6,7 +6,7 @@ use Rattle.sql_grammar.specs.Cursors.{reading}
 use Rattle.sql_grammar.specs.Descent.{Taken}
 use Rattle.sql_grammar.specs.Nests.{Nests}
 use Rattle.sql_grammar.specs.Symbols as n
-use Rattle.sql_grammar.specs.declared.fault.Fault.{Fault}
+use Rattle.sql_grammar.specs.declared.unread.Unread.{Unread}
 use Rattle.sql_tree.specs.declared.expression.ExprTree.{ExprTree}
 use Rattle.sql_tree.specs.declared.query.QueryTree.{QueryTree}
 use Rattle.sql_grammar.proofs.Steps.{reading-takes}

@@ -48,9 +48,6 @@ column_is tokens = reading_is n.Column tokens
 pub column_kind_is : (tokens : List Token) → reading n.ColumnKind tokens ≡ mapped (build n.ColumnKind) (step sql sql_tables reading (body n.ColumnKind) tokens)
 column_kind_is tokens = reading_is n.ColumnKind tokens
 
-pub copy_is : (tokens : List Token) → reading n.Copy tokens ≡ mapped (build n.Copy) (step sql sql_tables reading (body n.Copy) tokens)
-copy_is tokens = reading_is n.Copy tokens
-
 pub row_is : (tokens : List Token) → reading n.Row tokens ≡ mapped (build n.Row) (step sql sql_tables reading (body n.Row) tokens)
 row_is tokens = reading_is n.Row tokens
 

@@ -5,24 +5,24 @@ use Rattle.sql_lexer.specs.declared.token.Token.{Token}
 use Rattle.sql_grammar.specs.Cursors.{reading, Reads}
 use Rattle.sql_grammar.specs.Symbols as n
 use Rattle.sql_grammar.specs.Symbols.{Symbol, Tree}
-use Rattle.sql_grammar.specs.declared.fault.Fault.{Fault}
+use Rattle.sql_grammar.specs.declared.unread.Unread.{Unread}
 use Rattle.sql_tree.specs.declared.expression.ExprTree.{ExprTree}
 use Rattle.sql_tree.specs.declared.query.QueryTree.{QueryTree}
 
 -- where fewer tokens than a number are left, it may be called, and then reads the symbol
 pub record ReadsBelow (most : ℕ) (one : Symbol) (pre : MutBor (List Token) → Type 0)
-    (post : MutBor (List Token) → Result (Tree one) Fault → MutBor (List Token) → Type 0) : Type 0 where
+    (post : MutBor (List Token) → Result (Tree one) Unread → MutBor (List Token) → Type 0) : Type 0 where
   pub callable : (old : MutBor (List Token)) → length old.now < most → pre old
-  pub reads : (old new : MutBor (List Token)) (result : Result (Tree one) Fault) → post old result new → Reads result (reading one old.now) new.now
+  pub reads : (old new : MutBor (List Token)) (result : Result (Tree one) Unread) → post old result new → Reads result (reading one old.now) new.now
 
 -- where no more tokens than a number are left, it may be called, and then reads the symbol
 pub record ReadsUpTo (most : ℕ) (one : Symbol) (pre : MutBor (List Token) → Type 0)
-    (post : MutBor (List Token) → Result (Tree one) Fault → MutBor (List Token) → Type 0) : Type 0 where
+    (post : MutBor (List Token) → Result (Tree one) Unread → MutBor (List Token) → Type 0) : Type 0 where
   pub callable : (old : MutBor (List Token)) → length old.now ≤ most → pre old
-  pub reads : (old new : MutBor (List Token)) (result : Result (Tree one) Fault) → post old result new → Reads result (reading one old.now) new.now
+  pub reads : (old new : MutBor (List Token)) (result : Result (Tree one) Unread) → post old result new → Reads result (reading one old.now) new.now
 
 pub record Nests (most : ℕ) (expr_pre query_pre : MutBor (List Token) → Type 0)
-    (expr_post : MutBor (List Token) → Result ExprTree Fault → MutBor (List Token) → Type 0)
-    (query_post : MutBor (List Token) → Result QueryTree Fault → MutBor (List Token) → Type 0) : Type 0 where
+    (expr_post : MutBor (List Token) → Result ExprTree Unread → MutBor (List Token) → Type 0)
+    (query_post : MutBor (List Token) → Result QueryTree Unread → MutBor (List Token) → Type 0) : Type 0 where
   pub expr : ReadsBelow most n.Expr expr_pre expr_post
   pub query : ReadsBelow most n.Query query_pre query_post

@@ -34,12 +34,12 @@ abbrev pub by : (r : SqlRule) → List Token → Outcome Token (Given r)
 by r tokens = step sql sql_tables reading r tokens
 
 -- a word that may stand there
-abbrev pub word_if : Bool → Option Word
-word_if true = Some tt
-word_if false = None
-
 abbrev pub word_at : Sort → List Token → Outcome Token (Option Word)
 word_at sort tokens = by (optional (word sort)) tokens
+
+-- whether it stands there; it is passed
+abbrev pub passes : Sort → List Token → Outcome Token Bool
+passes sort tokens = mapped is_some (word_at sort tokens)
 
 -- between parentheses
 abbrev pub between : {X : Type 0} → (List Token → Outcome Token X) → List Token → Outcome Token X
@@ -87,9 +87,6 @@ abbrev pub from_list : List Token → Outcome Token (List FromTree)
 from_list tokens = listed s.Comma (reading n.From) tokens
 
 -- ---- queries
-
-abbrev pub has : Sort → List Token → Outcome Token Bool
-has sort tokens = mapped is_some (word_at sort tokens)
 
 abbrev pub intersections : List Token → Outcome Token (List SetStep)
 intersections tokens = all_of (s.Intersect ∷ []) (reading n.IntersectStep) tokens

@@ -5,7 +5,7 @@ use Rattle.sql_grammar.specs.Building.{Word}
 use Rattle.sql_grammar.specs.Cursors.{past}
 use Rattle.sql_grammar.specs.Descent.{Outcome, and_then, mapped, begins_with}
 use Rattle.sql_grammar.specs.Grammar.{sql}
-use Rattle.sql_grammar.specs.Pieces.{word_at}
+use Rattle.sql_grammar.specs.Pieces.{passes}
 use Rattle.sql_grammar.specs.Tables.{sql_tables}
 use Rattle.sql_grammar.specs.declared.sort.Sort.{Sort}
 use Rattle.sql_grammar.specs.declared.sort.Sort.TheVariants as s
@@ -16,11 +16,11 @@ both first second tokens = and_then (past first tokens) (λ _ rest. past second 
 
 -- a word behind one that may stand before it
 abbrev pub behind_option : Sort → Sort → List Token → Outcome Token Word
-behind_option first second tokens = and_then (word_at first tokens) (λ _ rest. past second rest)
+behind_option first second tokens = and_then (passes first tokens) (λ _ rest. past second rest)
 
--- a value that was read, and the parenthesis that closes it
-abbrev pub closed : {X : Type 0} → X → List Token → Outcome Token X
-closed x tokens = mapped (λ _. x) (past s.Closing tokens)
+-- a value that was read, and the token behind it
+abbrev pub value_before : {X : Type 0} → Sort → X → List Token → Outcome Token X
+value_before sort x tokens = mapped (λ _. x) (past sort tokens)
 
 -- whether a dot and a star stand next
 abbrev pub dot_and_star : List Token → Bool

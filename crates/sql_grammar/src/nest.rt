@@ -7,8 +7,8 @@ ghost use Rattle.sql_grammar.specs.Nests.{Nests};
 ghost use Rattle.sql_grammar.specs.Symbols as n;
 
 use crate::cursor::Cursor;
-use crate::fault::Fault;
-use crate::lists::listed;
+use crate::unread::Unread;
+use crate::lists::list_of;
 use crate::sort::Sort;
 use perm_values::{Boxed, List, NoMemory};
 use sql_tree::{ExprBody, ExprTree, QueryTree};
@@ -23,11 +23,11 @@ pub struct Nest<F, G> {
 }
 
 impl<
-    F: Fn(&mut Cursor<'_>) -> Result<Boxed<ExprTree>, Fault>,
-    G: Fn(&mut Cursor<'_>) -> Result<Boxed<QueryTree>, Fault>,
+    F: Fn(&mut Cursor<'_>) -> Result<Boxed<ExprTree>, Unread>,
+    G: Fn(&mut Cursor<'_>) -> Result<Boxed<QueryTree>, Unread>,
 > Nest<F, G> {
     #[tactic(auto, using(crate::proofs::Nested::expr_takes))]
-    pub fn expression(&self, cursor: &mut Cursor<'_>) -> Result<Boxed<ExprTree>, Fault>
+    pub fn expression(&self, cursor: &mut Cursor<'_>) -> Result<Boxed<ExprTree>, Unread>
         requires sound { Nests self.now.most (F.pre self.now.expr) (G.pre self.now.query) (F.post self.now.expr) (G.post self.now.query) }
         requires below { length cursor.old < self.now.most }
         ensures given { spec.Reads result (spec.reading n.Expr cursor.old) cursor.new }
@@ -37,7 +37,7 @@ impl<
     }
 
     #[tactic(auto, using(crate::proofs::Nested::query_takes))]
-    pub fn nested_query(&self, cursor: &mut Cursor<'_>) -> Result<Boxed<QueryTree>, Fault>
+    pub fn nested_query(&self, cursor: &mut Cursor<'_>) -> Result<Boxed<QueryTree>, Unread>
         requires sound { Nests self.now.most (F.pre self.now.expr) (G.pre self.now.query) (F.post self.now.expr) (G.post self.now.query) }
         requires below { length cursor.old < self.now.most }
         ensures given { spec.Reads result (spec.reading n.Query cursor.old) cursor.new }
@@ -48,7 +48,7 @@ impl<
 
     /// A query that begins with the word SELECT: it is read as any query is.
     #[tactic(auto, using(crate::proofs::Inner::inner_by_query))]
-    pub fn inner(&self, cursor: &mut Cursor<'_>) -> Result<Boxed<QueryTree>, Fault>
+    pub fn inner(&self, cursor: &mut Cursor<'_>) -> Result<Boxed<QueryTree>, Unread>
         requires sound { Nests self.now.most (F.pre self.now.expr) (G.pre self.now.query) (F.post self.now.expr) (G.post self.now.query) }
         requires below { length cursor.old < self.now.most }
         ensures given { spec.Reads result (spec.reading n.Inner cursor.old) cursor.new }
@@ -57,12 +57,12 @@ impl<
         if cursor.sees(Sort::Select) {
             self.nested_query(cursor)
         } else {
-            Err(Fault::Unexpected)
+            Err(Unread::Unexpected)
         }
     }
 
     #[tactic(auto, using(crate::proofs::Sequenced::in_parentheses_is))]
-    pub fn in_parentheses(&self, cursor: &mut Cursor<'_>) -> Result<Boxed<QueryTree>, Fault>
+    pub fn in_parentheses(&self, cursor: &mut Cursor<'_>) -> Result<Boxed<QueryTree>, Unread>
         requires sound { Nests self.now.most (F.pre self.now.expr) (G.pre self.now.query) (F.post self.now.expr) (G.post self.now.query) }
         requires below { length cursor.old ≤ self.now.most }
         ensures given { spec.Reads result (spec.reading n.InParentheses cursor.old) cursor.new }
@@ -70,17 +70,17 @@ impl<
     {
         cursor.past(Sort::Opening)?;
         let query = self.inner(cursor)?;
-        cursor.closed(query)
+        cursor.value_before(query, Sort::Closing)
     }
 
     /// Expressions with commas between them.
-    pub fn expressions(&self, cursor: &mut Cursor<'_>) -> Result<List<ExprTree>, Fault>
+    pub fn expressions(&self, cursor: &mut Cursor<'_>) -> Result<List<ExprTree>, Unread>
         requires sound { Nests self.now.most (F.pre self.now.expr) (G.pre self.now.query) (F.post self.now.expr) (G.post self.now.query) }
         requires below { length cursor.old < self.now.most }
         ensures given { spec.Reads result (spec.reading n.Exprs cursor.old) cursor.new }
         ensures fewer { IfOk result (λ _. length cursor.new < length cursor.old) }
     {
-        listed(cursor, Sort::Comma, |cursor: &mut Cursor<'_>| {
+        list_of(cursor, Sort::Comma, |cursor: &mut Cursor<'_>| {
             Ok(self.expression(cursor)?.into_inner())
         })
     }

@@ -6,8 +6,9 @@ use Rattle.sql_grammar.specs.Building.{Word}
 use Rattle.sql_grammar.specs.Cursors.{reading, sees, past, one}
 use Rattle.sql_grammar.specs.Descent.{Outcome, and_then, mapped}
 use Rattle.sql_grammar.specs.Lists.{all_of}
-use Rattle.sql_grammar.specs.Pieces.{between, by, has}
+use Rattle.sql_grammar.specs.Pieces.{between, by, passes}
 use Rattle.sql_grammar.specs.Rules.{word, symbol, ◌then◌}
+use Rattle.sql_grammar.specs.Sequences.{value_before}
 use Rattle.sql_grammar.specs.Symbols as n
 use Rattle.sql_grammar.specs.Tables.{begins}
 use Rattle.sql_grammar.specs.declared.sort.Sort.{Sort}
@@ -37,15 +38,11 @@ count_rows tokens = mapped (λ star. Aggregate agg.CountRows None) (one (s.Star 
 
 abbrev pub count_values : List Token → Outcome Token ExprBody
 count_values tokens =
-    and_then (has s.Distinct tokens) (λ distinct rest. mapped (λ part. Aggregate (count_word distinct) (Some part)) (reading n.Expr rest))
-
--- what was read, where this word stands behind it
-abbrev pub ended_by : {X : Type 0} → Sort → X → List Token → Outcome Token X
-ended_by sort x tokens = mapped (λ passed. x) (past sort tokens)
+    and_then (passes s.Distinct tokens) (λ distinct rest. mapped (λ part. Aggregate (count_word distinct) (Some part)) (reading n.Expr rest))
 
 -- an expression before this word
 abbrev pub before : Sort → List Token → Outcome Token ExprTree
-before sort tokens = and_then (reading n.Expr tokens) (λ part rest. ended_by sort part rest)
+before sort tokens = and_then (reading n.Expr tokens) (λ part rest. value_before sort part rest)
 
 -- two expressions with this word between them
 abbrev pub pair_of : Sort → List Token → Outcome Token (ExprTree × ExprTree)

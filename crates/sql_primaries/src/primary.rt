@@ -10,9 +10,9 @@ ghost use Rattle.sql_grammar.specs.Symbols as n;
 ghost use Rattle.sql_grammar.specs.declared.sort.Sort.TheVariants as s;
 
 use crate::calls::column_of;
-use crate::grammar::{Grammar, ended_by};
+use crate::grammar::Primaries;
 use perm_values::{Boxed, Kind, List, NoMemory};
-use sql_grammar::{Cursor, Fault, Sort, node, repeated, same_sort, sort_of};
+use sql_grammar::{Cursor, Unread, Sort, node, all_items, same_sort, sort_of};
 use sql_lexer::Token;
 use sql_tree::{ArmTree, ExprBody, ExprTree, QueryTree};
 use std::alloc::Global;
@@ -67,19 +67,19 @@ fn literal_of(alloc: Global, token: &Token<'_>) -> Result<ExprBody, NoMemory>
 
 /// A literal.
 #[tactic(auto, using(sql_grammar::proofs::Steps::literal_is))]
-pub fn literal(cursor: &mut Cursor<'_>) -> Result<ExprBody, Fault>
+pub fn literal(cursor: &mut Cursor<'_>) -> Result<ExprBody, Unread>
     ensures given { spec.Reads result (spec.reading n.Literal cursor.old) cursor.new }
     ensures fewer { IfOk result (λ _. length cursor.new < length cursor.old) }
 {
     let token = cursor.one(&LITERALS)?;
     match literal_of(cursor.alloc(), token) {
         Ok(body) => Ok(body),
-        Err(NoMemory) => Err(Fault::NoMemory),
+        Err(NoMemory) => Err(Unread::NoMemory),
     }
 }
 
 #[tactic(auto, using(sql_grammar::proofs::Steps::cast_kind_is))]
-fn cast_kind(cursor: &mut Cursor<'_>) -> Result<Kind, Fault>
+fn cast_kind(cursor: &mut Cursor<'_>) -> Result<Kind, Unread>
     ensures given { spec.Reads result (spec.reading n.CastKind cursor.old) cursor.new }
     ensures fewer { IfOk result (λ _. length cursor.new < length cursor.old) }
 {
@@ -87,7 +87,7 @@ fn cast_kind(cursor: &mut Cursor<'_>) -> Result<Kind, Fault>
 }
 
 #[tactic(auto, using(sql_grammar::proofs::Steps::cast_is))]
-fn cast(cursor: &mut Cursor<'_>) -> Result<ExprBody, Fault>
+fn cast(cursor: &mut Cursor<'_>) -> Result<ExprBody, Unread>
     ensures given { spec.Reads result (spec.reading n.Cast cursor.old) cursor.new }
     ensures fewer { IfOk result (λ _. length cursor.new < length cursor.old) }
 {
@@ -101,11 +101,11 @@ fn cast(cursor: &mut Cursor<'_>) -> Result<ExprBody, Fault>
 }
 
 impl<
-    F: Fn(&mut Cursor<'_>) -> Result<Boxed<ExprTree>, Fault>,
-    G: Fn(&mut Cursor<'_>) -> Result<Boxed<QueryTree>, Fault>,
-> Grammar<F, G> {
+    F: Fn(&mut Cursor<'_>) -> Result<Boxed<ExprTree>, Unread>,
+    G: Fn(&mut Cursor<'_>) -> Result<Boxed<QueryTree>, Unread>,
+> Primaries<F, G> {
     #[tactic(auto, using(crate::proofs::Pairs::arm_is))]
-    fn arm(&self, cursor: &mut Cursor<'_>) -> Result<ArmTree, Fault>
+    fn arm(&self, cursor: &mut Cursor<'_>) -> Result<ArmTree, Unread>
         requires sound { Nests self.now.nest.most (F.pre self.now.nest.expr) (G.pre self.now.nest.query) (F.post self.now.nest.expr) (G.post self.now.nest.query) }
         requires below { length cursor.old ≤ self.now.nest.most }
         ensures given { spec.Reads result (spec.reading n.Arm cursor.old) cursor.new }
@@ -119,20 +119,20 @@ impl<
         })
     }
 
-    fn more_arms(&self, cursor: &mut Cursor<'_>) -> Result<List<ArmTree>, Fault>
+    fn more_arms(&self, cursor: &mut Cursor<'_>) -> Result<List<ArmTree>, Unread>
         requires sound { Nests self.now.nest.most (F.pre self.now.nest.expr) (G.pre self.now.nest.query) (F.post self.now.nest.expr) (G.post self.now.nest.query) }
         requires below { length cursor.old ≤ self.now.nest.most }
         ensures given { spec.Reads result (all_of (s.When ∷ []) (spec.reading n.Arm) cursor.old) cursor.new }
         ensures fewer { IfOk result (λ _. length cursor.new ≤ length cursor.old) }
     {
-        repeated(
+        all_items(
             cursor,
             &[Sort::When],
             |cursor: &mut Cursor<'_>| self.arm(cursor),
         )
     }
 
-    fn arms(&self, cursor: &mut Cursor<'_>) -> Result<List<ArmTree>, Fault>
+    fn arms(&self, cursor: &mut Cursor<'_>) -> Result<List<ArmTree>, Unread>
         requires sound { Nests self.now.nest.most (F.pre self.now.nest.expr) (G.pre self.now.nest.query) (F.post self.now.nest.expr) (G.post self.now.nest.query) }
         requires below { length cursor.old ≤ self.now.nest.most }
         ensures given { spec.Reads result (spelled.arms cursor.old) cursor.new }
@@ -145,7 +145,7 @@ impl<
     }
 
     #[tactic(auto, using(sql_grammar::proofs::Steps::otherwise_is))]
-    fn otherwise(&self, cursor: &mut Cursor<'_>) -> Result<Option<Boxed<ExprTree>>, Fault>
+    fn otherwise(&self, cursor: &mut Cursor<'_>) -> Result<Option<Boxed<ExprTree>>, Unread>
         requires sound { Nests self.now.nest.most (F.pre self.now.nest.expr) (G.pre self.now.nest.query) (F.post self.now.nest.expr) (G.post self.now.nest.query) }
         requires below { length cursor.old ≤ self.now.nest.most }
         ensures given { spec.Reads result (spec.reading n.Otherwise cursor.old) cursor.new }
@@ -159,7 +159,7 @@ impl<
     }
 
     #[tactic(auto, using(crate::proofs::Primaries::case_is))]
-    fn case(&self, cursor: &mut Cursor<'_>) -> Result<ExprBody, Fault>
+    fn case(&self, cursor: &mut Cursor<'_>) -> Result<ExprBody, Unread>
         requires sound { Nests self.now.nest.most (F.pre self.now.nest.expr) (G.pre self.now.nest.query) (F.post self.now.nest.expr) (G.post self.now.nest.query) }
         requires below { length cursor.old ≤ self.now.nest.most }
         ensures given { spec.Reads result (spec.reading n.Case cursor.old) cursor.new }
@@ -168,11 +168,11 @@ impl<
         cursor.past(Sort::Case)?;
         let arms = self.arms(cursor)?;
         let otherwise = self.otherwise(cursor)?;
-        ended_by(cursor, ExprBody::Case { arms, otherwise }, Sort::End)
+        cursor.value_before(ExprBody::Case { arms, otherwise }, Sort::End)
     }
 
     #[tactic(auto, using(sql_grammar::proofs::Steps::exists_is))]
-    fn exists(&self, cursor: &mut Cursor<'_>) -> Result<ExprBody, Fault>
+    fn exists(&self, cursor: &mut Cursor<'_>) -> Result<ExprBody, Unread>
         requires sound { Nests self.now.nest.most (F.pre self.now.nest.expr) (G.pre self.now.nest.query) (F.post self.now.nest.expr) (G.post self.now.nest.query) }
         requires below { length cursor.old ≤ self.now.nest.most }
         ensures given { spec.Reads result (spec.reading n.Exists cursor.old) cursor.new }
@@ -182,7 +182,7 @@ impl<
         Ok(ExprBody::Exists(self.nest.in_parentheses(cursor)?))
     }
 
-    fn inside(&self, cursor: &mut Cursor<'_>) -> Result<ExprBody, Fault>
+    fn inside(&self, cursor: &mut Cursor<'_>) -> Result<ExprBody, Unread>
         requires sound { Nests self.now.nest.most (F.pre self.now.nest.expr) (G.pre self.now.nest.query) (F.post self.now.nest.expr) (G.post self.now.nest.query) }
         requires below { length cursor.old < self.now.nest.most }
         ensures given { spec.Reads result (spelled.inside cursor.old) cursor.new }
@@ -196,7 +196,7 @@ impl<
     }
 
     #[tactic(auto, using(crate::proofs::Primaries::parentheses_is))]
-    fn parentheses(&self, cursor: &mut Cursor<'_>) -> Result<ExprBody, Fault>
+    fn parentheses(&self, cursor: &mut Cursor<'_>) -> Result<ExprBody, Unread>
         requires sound { Nests self.now.nest.most (F.pre self.now.nest.expr) (G.pre self.now.nest.query) (F.post self.now.nest.expr) (G.post self.now.nest.query) }
         requires below { length cursor.old ≤ self.now.nest.most }
         ensures given { spec.Reads result (spec.reading n.Parentheses cursor.old) cursor.new }
@@ -204,10 +204,10 @@ impl<
     {
         cursor.past(Sort::Opening)?;
         let body = self.inside(cursor)?;
-        ended_by(cursor, body, Sort::Closing)
+        cursor.value_before(body, Sort::Closing)
     }
 
-    fn body(&self, cursor: &mut Cursor<'_>) -> Result<ExprBody, Fault>
+    fn body(&self, cursor: &mut Cursor<'_>) -> Result<ExprBody, Unread>
         requires sound { Nests self.now.nest.most (F.pre self.now.nest.expr) (G.pre self.now.nest.query) (F.post self.now.nest.expr) (G.post self.now.nest.query) }
         requires below { length cursor.old ≤ self.now.nest.most }
         ensures given { spec.Reads result (spelled.primary_body cursor.old) cursor.new }
@@ -237,17 +237,17 @@ impl<
     }
 
     #[tactic(auto, using(crate::proofs::Primaries::primary_is))]
-    pub fn primary(&self, cursor: &mut Cursor<'_>) -> Result<Boxed<ExprTree>, Fault>
+    pub fn primary(&self, cursor: &mut Cursor<'_>) -> Result<Boxed<ExprTree>, Unread>
         requires sound { Nests self.now.nest.most (F.pre self.now.nest.expr) (G.pre self.now.nest.query) (F.post self.now.nest.expr) (G.post self.now.nest.query) }
         requires below { length cursor.old ≤ self.now.nest.most }
         ensures given { spec.Reads result (spec.reading n.Primary cursor.old) cursor.new }
         ensures fewer { IfOk result (λ _. length cursor.new < length cursor.old) }
     {
-        let at = cursor.place();
+        let at = cursor.offset();
         let body = self.body(cursor)?;
         match node(cursor.alloc(), at, body) {
             Ok(tree) => Ok(tree),
-            Err(NoMemory) => Err(Fault::NoMemory),
+            Err(NoMemory) => Err(Unread::NoMemory),
         }
     }
 }

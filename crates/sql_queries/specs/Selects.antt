@@ -17,7 +17,7 @@ use Rattle.sql_tree.specs.declared.source.FromTree.{FromTree}
 
 -- the words before the items
 abbrev pub head : List Token → Outcome Token (Option ℕ × Bool)
-head tokens = and_then (past s.Select tokens) (λ _ a. and_then (piece.provenance a) (λ p c. mapped (λ d. (p, d)) (piece.has s.Distinct c)))
+head tokens = and_then (past s.Select tokens) (λ _ a. and_then (piece.provenance a) (λ p c. mapped (λ d. (p, d)) (piece.passes s.Distinct c)))
 
 -- an expression of the SELECT list with the name behind it
 abbrev pub named : ExprTree → List Token → Outcome Token SelectItem

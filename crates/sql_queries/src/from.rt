@@ -8,21 +8,21 @@ ghost use Rattle.sql_grammar.specs.Pieces as piece;
 ghost use Rattle.sql_grammar.specs.Symbols as n;
 ghost use Rattle.sql_queries.specs.Sources as spelled;
 
-use crate::grammar::Grammar;
+use crate::grammar::Queries;
 use perm_values::{Boxed, List};
-use sql_grammar::{Cursor, Fault, NAMES, Sort, listed, repeated, same_sort, sort_of};
+use sql_grammar::{Cursor, Unread, NAMES, Sort, list_of, all_items, same_sort, sort_of};
 use sql_lexer::Token;
 use sql_tree::{
     ExprTree, FromItem, FromSource, FromTree, JoinStep, JoinWord, Name, QueryTree, ScopeMark,
 };
 
 /// The name of an inner query, behind the parenthesis that closes it.
-fn name_behind(cursor: &mut Cursor<'_>) -> Result<Name, Fault>
+fn name_behind(cursor: &mut Cursor<'_>) -> Result<Name, Unread>
     ensures given { spec.Reads result (spelled.name_behind cursor.old) cursor.new }
     ensures fewer { IfOk result (λ _. length cursor.new < length cursor.old) }
 {
     cursor.past(Sort::Closing)?;
-    cursor.option(Sort::As)?;
+    cursor.passes(Sort::As)?;
     cursor.name()
 }
 
@@ -31,7 +31,7 @@ fn marked(
     cursor: &mut Cursor<'_>,
     at: usize,
     aliased: (FromSource, Option<Name>),
-) -> Result<Boxed<FromItem>, Fault>
+) -> Result<Boxed<FromItem>, Unread>
     ensures given { spec.Reads result (spelled.marked at aliased cursor.old) cursor.new }
     ensures fewer { IfOk result (λ _. length cursor.new ≤ length cursor.old) }
 {
@@ -47,11 +47,11 @@ fn marked(
 }
 
 impl<
-    F: Fn(&mut Cursor<'_>) -> Result<Boxed<ExprTree>, Fault>,
-    G: Fn(&mut Cursor<'_>) -> Result<Boxed<QueryTree>, Fault>,
-> Grammar<F, G> {
+    F: Fn(&mut Cursor<'_>) -> Result<Boxed<ExprTree>, Unread>,
+    G: Fn(&mut Cursor<'_>) -> Result<Boxed<QueryTree>, Unread>,
+> Queries<F, G> {
     #[tactic(auto, using(crate::proofs::Parts::inner_source_is))]
-    fn inner_source(&self, cursor: &mut Cursor<'_>) -> Result<(FromSource, Option<Name>), Fault>
+    fn inner_source(&self, cursor: &mut Cursor<'_>) -> Result<(FromSource, Option<Name>), Unread>
         requires sound { Nests self.now.nest.most (F.pre self.now.nest.expr) (G.pre self.now.nest.query) (F.post self.now.nest.expr) (G.post self.now.nest.query) }
         requires below { length cursor.old ≤ self.now.nest.most }
         ensures given { spec.Reads result (piece.inner_source cursor.old) cursor.new }
@@ -64,7 +64,7 @@ impl<
     }
 
     #[tactic(auto, using(sql_grammar::proofs::Queries::aliased_is))]
-    fn aliased(&self, cursor: &mut Cursor<'_>) -> Result<(FromSource, Option<Name>), Fault>
+    fn aliased(&self, cursor: &mut Cursor<'_>) -> Result<(FromSource, Option<Name>), Unread>
         requires sound { Nests self.now.nest.most (F.pre self.now.nest.expr) (G.pre self.now.nest.query) (F.post self.now.nest.expr) (G.post self.now.nest.query) }
         requires below { length cursor.old ≤ self.now.nest.most }
         ensures given { spec.Reads result (spec.reading n.Aliased cursor.old) cursor.new }
@@ -78,19 +78,19 @@ impl<
     }
 
     #[tactic(auto, using(crate::proofs::Parts::source_is))]
-    fn from_item(&self, cursor: &mut Cursor<'_>) -> Result<Boxed<FromItem>, Fault>
+    fn from_item(&self, cursor: &mut Cursor<'_>) -> Result<Boxed<FromItem>, Unread>
         requires sound { Nests self.now.nest.most (F.pre self.now.nest.expr) (G.pre self.now.nest.query) (F.post self.now.nest.expr) (G.post self.now.nest.query) }
         requires below { length cursor.old ≤ self.now.nest.most }
         ensures given { spec.Reads result (spec.reading n.Source cursor.old) cursor.new }
         ensures fewer { IfOk result (λ _. length cursor.new < length cursor.old) }
     {
-        let at = cursor.place();
+        let at = cursor.offset();
         let aliased = self.aliased(cursor)?;
         marked(cursor, at, aliased)
     }
 
     #[tactic(auto, using(crate::proofs::Parts::joined_on_is))]
-    fn joined_on(&self, cursor: &mut Cursor<'_>) -> Result<JoinStep, Fault>
+    fn joined_on(&self, cursor: &mut Cursor<'_>) -> Result<JoinStep, Unread>
         requires sound { Nests self.now.nest.most (F.pre self.now.nest.expr) (G.pre self.now.nest.query) (F.post self.now.nest.expr) (G.post self.now.nest.query) }
         requires below { length cursor.old ≤ self.now.nest.most }
         ensures given { spec.Reads result (piece.joined_on cursor.old) cursor.new }
@@ -108,7 +108,7 @@ impl<
     }
 
     #[tactic(auto, using(crate::proofs::Parts::crossed_is))]
-    fn crossed(&self, cursor: &mut Cursor<'_>) -> Result<JoinStep, Fault>
+    fn crossed(&self, cursor: &mut Cursor<'_>) -> Result<JoinStep, Unread>
         requires sound { Nests self.now.nest.most (F.pre self.now.nest.expr) (G.pre self.now.nest.query) (F.post self.now.nest.expr) (G.post self.now.nest.query) }
         requires below { length cursor.old ≤ self.now.nest.most }
         ensures given { spec.Reads result (piece.crossed cursor.old) cursor.new }
@@ -124,7 +124,7 @@ impl<
     }
 
     #[tactic(auto, using(sql_grammar::proofs::Queries::join_is))]
-    fn join(&self, cursor: &mut Cursor<'_>) -> Result<JoinStep, Fault>
+    fn join(&self, cursor: &mut Cursor<'_>) -> Result<JoinStep, Unread>
         requires sound { Nests self.now.nest.most (F.pre self.now.nest.expr) (G.pre self.now.nest.query) (F.post self.now.nest.expr) (G.post self.now.nest.query) }
         requires below { length cursor.old ≤ self.now.nest.most }
         ensures given { spec.Reads result (spec.reading n.Join cursor.old) cursor.new }
@@ -137,13 +137,13 @@ impl<
         }
     }
 
-    fn joins(&self, cursor: &mut Cursor<'_>) -> Result<List<JoinStep>, Fault>
+    fn joins(&self, cursor: &mut Cursor<'_>) -> Result<List<JoinStep>, Unread>
         requires sound { Nests self.now.nest.most (F.pre self.now.nest.expr) (G.pre self.now.nest.query) (F.post self.now.nest.expr) (G.post self.now.nest.query) }
         requires below { length cursor.old ≤ self.now.nest.most }
         ensures given { spec.Reads result (piece.joins cursor.old) cursor.new }
         ensures fewer { IfOk result (λ _. length cursor.new ≤ length cursor.old) }
     {
-        repeated(
+        all_items(
             cursor,
             &[
                 Sort::Inner,
@@ -158,7 +158,7 @@ impl<
     }
 
     #[tactic(auto, using(sql_grammar::proofs::Queries::from_is))]
-    fn from_tree(&self, cursor: &mut Cursor<'_>) -> Result<FromTree, Fault>
+    fn from_tree(&self, cursor: &mut Cursor<'_>) -> Result<FromTree, Unread>
         requires sound { Nests self.now.nest.most (F.pre self.now.nest.expr) (G.pre self.now.nest.query) (F.post self.now.nest.expr) (G.post self.now.nest.query) }
         requires below { length cursor.old ≤ self.now.nest.most }
         ensures given { spec.Reads result (spec.reading n.From cursor.old) cursor.new }
@@ -172,13 +172,13 @@ impl<
         })
     }
 
-    fn from_list(&self, cursor: &mut Cursor<'_>) -> Result<List<FromTree>, Fault>
+    fn from_list(&self, cursor: &mut Cursor<'_>) -> Result<List<FromTree>, Unread>
         requires sound { Nests self.now.nest.most (F.pre self.now.nest.expr) (G.pre self.now.nest.query) (F.post self.now.nest.expr) (G.post self.now.nest.query) }
         requires below { length cursor.old ≤ self.now.nest.most }
         ensures given { spec.Reads result (piece.from_list cursor.old) cursor.new }
         ensures fewer { IfOk result (λ _. length cursor.new ≤ length cursor.old) }
     {
-        listed(
+        list_of(
             cursor,
             Sort::Comma,
             |cursor: &mut Cursor<'_>| self.from_tree(cursor),
@@ -186,7 +186,7 @@ impl<
     }
 
     #[tactic(auto, using(sql_grammar::proofs::Queries::sources_is))]
-    pub(crate) fn sources(&self, cursor: &mut Cursor<'_>) -> Result<List<FromTree>, Fault>
+    pub(crate) fn sources(&self, cursor: &mut Cursor<'_>) -> Result<List<FromTree>, Unread>
         requires sound { Nests self.now.nest.most (F.pre self.now.nest.expr) (G.pre self.now.nest.query) (F.post self.now.nest.expr) (G.post self.now.nest.query) }
         requires below { length cursor.old ≤ self.now.nest.most }
         ensures given { spec.Reads result (spec.reading n.Sources cursor.old) cursor.new }

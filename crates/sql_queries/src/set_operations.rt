@@ -7,9 +7,9 @@ ghost use Rattle.sql_grammar.specs.Nests.{Nests};
 ghost use Rattle.sql_grammar.specs.Pieces as piece;
 ghost use Rattle.sql_grammar.specs.Symbols as n;
 
-use crate::grammar::Grammar;
+use crate::grammar::Queries;
 use perm_values::{Boxed, List, NoMemory};
-use sql_grammar::{Cursor, Fault, Sort, repeated, same_sort, sort_of};
+use sql_grammar::{Cursor, Unread, Sort, all_items, same_sort, sort_of};
 use sql_lexer::Token;
 use sql_tree::{ExprTree, OrderTree, QueryTree, SetStep, SetTree, SetWord};
 use std::alloc::Global;
@@ -75,11 +75,11 @@ fn query_tree(
 }
 
 impl<
-    F: Fn(&mut Cursor<'_>) -> Result<Boxed<ExprTree>, Fault>,
-    G: Fn(&mut Cursor<'_>) -> Result<Boxed<QueryTree>, Fault>,
-> Grammar<F, G> {
+    F: Fn(&mut Cursor<'_>) -> Result<Boxed<ExprTree>, Unread>,
+    G: Fn(&mut Cursor<'_>) -> Result<Boxed<QueryTree>, Unread>,
+> Queries<F, G> {
     #[tactic(auto, using(crate::proofs::Parts::parenthesised_is))]
-    fn parenthesised(&self, cursor: &mut Cursor<'_>) -> Result<Boxed<SetTree>, Fault>
+    fn parenthesised(&self, cursor: &mut Cursor<'_>) -> Result<Boxed<SetTree>, Unread>
         requires sound { Nests self.now.nest.most (F.pre self.now.nest.expr) (G.pre self.now.nest.query) (F.post self.now.nest.expr) (G.post self.now.nest.query) }
         requires below { length cursor.old ≤ self.now.nest.most }
         ensures given { spec.Reads result (piece.parenthesised cursor.old) cursor.new }
@@ -88,11 +88,11 @@ impl<
         cursor.past(Sort::Opening)?;
         let query = self.nest.nested_query(cursor)?;
         let tree = Boxed::new(cursor.alloc(), SetTree::Paren(query))?;
-        cursor.closed(tree)
+        cursor.value_before(tree, Sort::Closing)
     }
 
     #[tactic(auto, using(sql_grammar::proofs::Queries::operand_is))]
-    fn operand(&self, cursor: &mut Cursor<'_>) -> Result<Boxed<SetTree>, Fault>
+    fn operand(&self, cursor: &mut Cursor<'_>) -> Result<Boxed<SetTree>, Unread>
         requires sound { Nests self.now.nest.most (F.pre self.now.nest.expr) (G.pre self.now.nest.query) (F.post self.now.nest.expr) (G.post self.now.nest.query) }
         requires below { length cursor.old ≤ self.now.nest.most }
         ensures given { spec.Reads result (spec.reading n.Operand cursor.old) cursor.new }
@@ -107,15 +107,15 @@ impl<
     }
 
     #[tactic(auto, using(sql_grammar::proofs::Queries::intersect_is))]
-    fn intersect_step(&self, cursor: &mut Cursor<'_>) -> Result<SetStep, Fault>
+    fn intersect_step(&self, cursor: &mut Cursor<'_>) -> Result<SetStep, Unread>
         requires sound { Nests self.now.nest.most (F.pre self.now.nest.expr) (G.pre self.now.nest.query) (F.post self.now.nest.expr) (G.post self.now.nest.query) }
         requires below { length cursor.old ≤ self.now.nest.most }
         ensures given { spec.Reads result (spec.reading n.IntersectStep cursor.old) cursor.new }
         ensures fewer { IfOk result (λ _. length cursor.new < length cursor.old) }
     {
         cursor.past(Sort::Intersect)?;
-        let all = cursor.has(Sort::All)?;
-        let at = cursor.place();
+        let all = cursor.passes(Sort::All)?;
+        let at = cursor.offset();
         let operand = self.operand(cursor)?;
         Ok(SetStep {
             word: SetWord::Intersect,
@@ -125,13 +125,13 @@ impl<
         })
     }
 
-    fn intersections(&self, cursor: &mut Cursor<'_>) -> Result<List<SetStep>, Fault>
+    fn intersections(&self, cursor: &mut Cursor<'_>) -> Result<List<SetStep>, Unread>
         requires sound { Nests self.now.nest.most (F.pre self.now.nest.expr) (G.pre self.now.nest.query) (F.post self.now.nest.expr) (G.post self.now.nest.query) }
         requires below { length cursor.old ≤ self.now.nest.most }
         ensures given { spec.Reads result (piece.intersections cursor.old) cursor.new }
         ensures fewer { IfOk result (λ _. length cursor.new ≤ length cursor.old) }
     {
-        repeated(
+        all_items(
             cursor,
             &[Sort::Intersect],
             |cursor: &mut Cursor<'_>| self.intersect_step(cursor),
@@ -139,7 +139,7 @@ impl<
     }
 
     #[tactic(auto, using(sql_grammar::proofs::Queries::term_is))]
-    fn term(&self, cursor: &mut Cursor<'_>) -> Result<Boxed<SetTree>, Fault>
+    fn term(&self, cursor: &mut Cursor<'_>) -> Result<Boxed<SetTree>, Unread>
         requires sound { Nests self.now.nest.most (F.pre self.now.nest.expr) (G.pre self.now.nest.query) (F.post self.now.nest.expr) (G.post self.now.nest.query) }
         requires below { length cursor.old ≤ self.now.nest.most }
         ensures given { spec.Reads result (spec.reading n.Term cursor.old) cursor.new }
@@ -151,7 +151,7 @@ impl<
     }
 
     #[tactic(auto, using(sql_grammar::proofs::Queries::union_is))]
-    fn union_step(&self, cursor: &mut Cursor<'_>) -> Result<SetStep, Fault>
+    fn union_step(&self, cursor: &mut Cursor<'_>) -> Result<SetStep, Unread>
         requires sound { Nests self.now.nest.most (F.pre self.now.nest.expr) (G.pre self.now.nest.query) (F.post self.now.nest.expr) (G.post self.now.nest.query) }
         requires below { length cursor.old ≤ self.now.nest.most }
         ensures given { spec.Reads result (spec.reading n.UnionStep cursor.old) cursor.new }
@@ -159,8 +159,8 @@ impl<
     {
         let token = cursor.one(&[Sort::Union, Sort::Except])?;
         let word = set_word(token);
-        let all = cursor.has(Sort::All)?;
-        let at = cursor.place();
+        let all = cursor.passes(Sort::All)?;
+        let at = cursor.offset();
         let operand = self.term(cursor)?;
         Ok(SetStep {
             word,
@@ -170,13 +170,13 @@ impl<
         })
     }
 
-    fn unions(&self, cursor: &mut Cursor<'_>) -> Result<List<SetStep>, Fault>
+    fn unions(&self, cursor: &mut Cursor<'_>) -> Result<List<SetStep>, Unread>
         requires sound { Nests self.now.nest.most (F.pre self.now.nest.expr) (G.pre self.now.nest.query) (F.post self.now.nest.expr) (G.post self.now.nest.query) }
         requires below { length cursor.old ≤ self.now.nest.most }
         ensures given { spec.Reads result (piece.unions cursor.old) cursor.new }
         ensures fewer { IfOk result (λ _. length cursor.new ≤ length cursor.old) }
     {
-        repeated(
+        all_items(
             cursor,
             &[Sort::Union, Sort::Except],
             |cursor: &mut Cursor<'_>| self.union_step(cursor),
@@ -186,7 +186,7 @@ impl<
     fn unions_on(
         &self,
         cursor: &mut Cursor<'_>,
-    ) -> Result<(List<SetStep>, (List<OrderTree>, Option<i64>)), Fault>
+    ) -> Result<(List<SetStep>, (List<OrderTree>, Option<i64>)), Unread>
         requires sound { Nests self.now.nest.most (F.pre self.now.nest.expr) (G.pre self.now.nest.query) (F.post self.now.nest.expr) (G.post self.now.nest.query) }
         requires below { length cursor.old ≤ self.now.nest.most }
         ensures given { spec.Reads result (piece.unions_on cursor.old) cursor.new }
@@ -205,7 +205,7 @@ impl<
             List<SetStep>,
             (List<SetStep>, (List<OrderTree>, Option<i64>)),
         ),
-        Fault,
+        Unread,
     >
         requires sound { Nests self.now.nest.most (F.pre self.now.nest.expr) (G.pre self.now.nest.query) (F.post self.now.nest.expr) (G.post self.now.nest.query) }
         requires below { length cursor.old ≤ self.now.nest.most }
@@ -219,13 +219,13 @@ impl<
 
     /// A query, whose inner queries are read by another function.
     #[tactic(auto, using(sql_grammar::proofs::Queries::query_is))]
-    pub fn query_body(&self, cursor: &mut Cursor<'_>) -> Result<Boxed<QueryTree>, Fault>
+    pub fn query_body(&self, cursor: &mut Cursor<'_>) -> Result<Boxed<QueryTree>, Unread>
         requires sound { Nests self.now.nest.most (F.pre self.now.nest.expr) (G.pre self.now.nest.query) (F.post self.now.nest.expr) (G.post self.now.nest.query) }
         requires below { length cursor.old ≤ self.now.nest.most }
         ensures given { spec.Reads result (spec.reading n.Query cursor.old) cursor.new }
         ensures fewer { IfOk result (λ _. length cursor.new < length cursor.old) }
     {
-        let at = cursor.place();
+        let at = cursor.offset();
         let first = self.operand(cursor)?;
         let rest = self.query_rest(cursor)?;
         Ok(query_tree(cursor.alloc(), at, first, rest)?)
