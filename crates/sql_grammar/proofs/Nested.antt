@@ -1,12 +1,9 @@
 -- What the rules with expressions need: that what reads an expression or a query may be called further on, and takes a token.
-use Rattle.std.proofs.Common.{◌≡◌, ℕ, ◌≤◌, ◌<◌, List, length, Result, refl, arith}
-use denote.Ref.{MutBor}
+use Rattle.std.proofs.Common.{◌≡◌, ◌<◌, List, length, refl}
 use Rattle.sql_lexer.specs.declared.token.Token.{Token}
 use Rattle.sql_grammar.specs.Cursors.{reading}
 use Rattle.sql_grammar.specs.Descent.{Taken}
-use Rattle.sql_grammar.specs.Nests.{Nests}
 use Rattle.sql_grammar.specs.Symbols as n
-use Rattle.sql_grammar.specs.declared.unread.Unread.{Unread}
 use Rattle.sql_tree.specs.declared.expression.ExprTree.{ExprTree}
 use Rattle.sql_tree.specs.declared.query.QueryTree.{QueryTree}
 use Rattle.sql_grammar.proofs.Steps.{reading-takes}

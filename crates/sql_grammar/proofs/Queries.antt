@@ -7,7 +7,7 @@ use Rattle.sql_grammar.specs.Rules.{word, token, ◌then◌, optional, placed, s
 use Rattle.sql_grammar.specs.Cursors.{reading, one, past, offset, sees}
 use Rattle.sql_grammar.specs.Descent.{Outcome, Taken, Stopped, and_then, mapped, begins_with, step}
 use Rattle.sql_grammar.specs.Grammar.{sql, body, list_of, in_parentheses}
-use Rattle.sql_grammar.specs.Pieces as piece
+use Rattle.sql_grammar.specs.built.Pieces as piece
 use Rattle.sql_grammar.specs.Sorts.{names, sort_of, same_sort}
 use Rattle.sql_grammar.specs.Symbols as n
 use Rattle.sql_grammar.specs.Symbols.{Symbol, Tree}

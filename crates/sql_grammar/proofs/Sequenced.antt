@@ -1,16 +1,14 @@
 -- One step of reading, as functions take it that go past several tokens in one call.
-use Rattle.std.proofs.Common.{◌≡◌, Bool, true, false, cond, List, [], ◌∷◌, Option, Some, None, Result, Ok, Err, is_some, inl, inr, refl, ap, ◌∙◌}
+use Rattle.std.proofs.Common.{◌≡◌, Bool, true, false, cond, List, [], ◌∷◌, Option, is_some, inl, inr, refl, ap, ◌∙◌}
 use Rattle.sql_lexer.specs.declared.token.Token.{Token}
 use Rattle.sql_grammar.specs.Building as b
 use Rattle.sql_grammar.specs.Building.{Word}
-use Rattle.sql_grammar.specs.Cursors.{reading, one, past, sees, Sees, Reads}
+use Rattle.sql_grammar.specs.Cursors.{reading, one, past, sees}
 use Rattle.sql_grammar.specs.Descent.{Outcome, Taken, Stopped, and_then, mapped}
-use Rattle.sql_grammar.specs.Pieces as piece
-use Rattle.sql_grammar.specs.Sequences.{both, behind_option, value_before}
+use Rattle.sql_grammar.specs.built.Pieces as piece
+use Rattle.sql_grammar.specs.built.Sequences.{both, behind_option, value_before}
 use Rattle.sql_grammar.specs.Sorts.{names}
 use Rattle.sql_grammar.specs.Symbols as n
-use Rattle.sql_grammar.specs.declared.unread.Unread.{Unread}
-use Rattle.sql_grammar.specs.declared.unread.Unread.TheVariants.{Unexpected, NoMemory}
 use Rattle.sql_grammar.specs.declared.sort.Sort.TheVariants as s
 use Rattle.sql_tree.specs.declared.name.Name.{Name}
 use Rattle.sql_tree.specs.declared.query.QueryTree.{QueryTree}

@@ -1,9 +1,9 @@
 -- What functions that read from a cursor promise: what reading by the grammar gives, unless memory runs out.
-use Rattle.std.specs.Prelude.{◌≡◌, ℕ, Bool, true, false, cond, List, [], ◌∷◌, Option, Some, None, Result, Ok, Err}
+use Rattle.std.specs.Prelude.{◌≡◌, ℕ, Bool, List, [], ◌∷◌, Option, Some, None, Result, Ok, Err}
 use Rattle.sql_lexer.specs.declared.token.Token.{Token}
 use Rattle.sql_grammar.specs.Descent.{Outcome, Taken, Stopped, read, offset_of, next_is, take_word, take_token}
 use Rattle.sql_grammar.specs.Grammar.{sql}
-use Rattle.sql_grammar.specs.Sorts.{sort_of, same_sort}
+use Rattle.sql_grammar.specs.Sorts.{sort_of}
 use Rattle.sql_grammar.specs.Symbols.{Symbol, Tree}
 use Rattle.sql_grammar.specs.Tables.{sql_tables}
 use Rattle.sql_grammar.specs.declared.unread.Unread.{Unread}

@@ -3,13 +3,13 @@
 ghost use Rattle.std.specs.Prelude.{◌≡◌, ◌<◌, ◌≤◌, length, IfOk};
 ghost use Rattle.sql_grammar.specs.Building as b;
 ghost use Rattle.sql_grammar.specs.Cursors as spec;
-ghost use Rattle.sql_grammar.specs.Pieces as piece;
+ghost use Rattle.sql_grammar.specs.built.Pieces as piece;
 ghost use Rattle.sql_grammar.specs.Symbols as n;
 
 use crate::cursor::Cursor;
-use crate::unread::Unread;
 use crate::names::name_of;
 use crate::sort::{NAMES, Sort, same_sort, sort_of};
+use crate::unread::Unread;
 use perm_values::List;
 use sql_lexer::Token;
 use sql_tree::{FromSource, JoinWord, Name, OrderTree, ScopeMark, SelectItem};

@@ -1,10 +1,10 @@
 ghost use Rattle.std.specs.Prelude.{◌≡◌, ◌<◌, ◌≤◌, [], ◌∷◌, length, IfOk};
 ghost use Rattle.sql_grammar.specs.Cursors as spec;
-ghost use Rattle.sql_grammar.specs.Pieces as piece;
-ghost use Rattle.sql_grammar.specs.Sequences as sequence;
+ghost use Rattle.sql_grammar.specs.built.Pieces as piece;
+ghost use Rattle.sql_grammar.specs.built.Sequences as sequence;
 
-use crate::unread::Unread;
 use crate::sort::{NAMES, Sort, is_among, same_sort, sort_of};
+use crate::unread::Unread;
 use sql_lexer::Token;
 use std::alloc::Global;
 use std::marker::Model;

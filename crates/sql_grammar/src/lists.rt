@@ -2,8 +2,8 @@ ghost use Rattle.std.specs.Prelude.{◌≡◌, ◌≤◌, List, length, IfOk};
 ghost use Rattle.sql_grammar.specs.Readers.{IsCallable, ReadsList, ReadsMore};
 
 use crate::cursor::Cursor;
-use crate::unread::Unread;
 use crate::sort::Sort;
+use crate::unread::Unread;
 use perm_values::List;
 
 /// The first item, which was read before, and more, each behind a separator.

@@ -4,9 +4,9 @@ ghost use Rattle.sql_grammar.specs.Cursors as spec;
 ghost use Rattle.sql_grammar.specs.Symbols as n;
 
 use crate::cursor::Cursor;
-use crate::unread::Unread;
 use crate::lists::list_of;
 use crate::sort::{NAMES, Sort};
+use crate::unread::Unread;
 use perm_values::{List, NoMemory};
 use sql_lexer::Token;
 use sql_tree::{ColRef, Name};

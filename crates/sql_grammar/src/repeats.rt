@@ -2,8 +2,8 @@ ghost use Rattle.std.specs.Prelude.{◌≡◌, ◌≤◌, List, length, IfOk};
 ghost use Rattle.sql_grammar.specs.Readers.{TakesBelow, ReadsAll};
 
 use crate::cursor::Cursor;
-use crate::unread::Unread;
 use crate::sort::Sort;
+use crate::unread::Unread;
 use perm_values::List;
 
 /// As many items as there are, where the next token of one of these sorts begins one.

@@ -5,13 +5,13 @@ use Rattle.sql_grammar.specs.Building as b
 use Rattle.sql_grammar.specs.Building.{Word}
 use Rattle.sql_grammar.specs.Cursors.{reading, past, one, sees}
 use Rattle.sql_grammar.specs.Descent.{Outcome, Taken, Stopped, and_then, mapped}
-use Rattle.sql_grammar.specs.Pieces.{between, by, passes, word_at}
+use Rattle.sql_grammar.specs.built.Pieces.{between, by, passes, word_at}
 use Rattle.sql_grammar.specs.Rules.{word, token, symbol, ◌then◌}
 use Rattle.sql_grammar.specs.Symbols as n
 use Rattle.sql_grammar.specs.declared.sort.Sort.TheVariants as s
 use Rattle.sql_tree.specs.declared.expression.ExprTree.{ExprTree}
 use Rattle.sql_tree.specs.declared.query.QueryTree.{QueryTree}
-use Rattle.sql_levels.specs.Tails as tails
+use Rattle.sql_levels.specs.built.Tails as tails
 use Rattle.sql_levels.specs.declared.tail.Tail.TheVariants as tail
 use Rattle.sql_grammar.proofs.Between.{choice_between}
 use Rattle.sql_grammar.proofs.Queries.{choice_of}

@@ -12,7 +12,7 @@ ghost use Rattle.sql_tree.specs.declared.expression.ExprBody.TheVariants.{Logic}
 use crate::words::words;
 use null_logic::Operator;
 use perm_values::{Boxed, List, NoMemory};
-use sql_grammar::{Cursor, Unread, Sort, list_from, node};
+use sql_grammar::{Cursor, Sort, Unread, list_from, node};
 use sql_tree::{ExprBody, ExprTree};
 use std::alloc::Global;
 
@@ -84,7 +84,8 @@ impl<T: Fn(&mut Cursor<'_>) -> Result<Boxed<ExprTree>, Unread>> Connectives<T> {
     ) -> Result<List<ExprTree>, Unread>
         requires sound { ReadsUpTo self.now.most n.Test (T.pre self.now.test) (T.post self.now.test) }
         requires below { length cursor.old ≤ self.now.most }
-        ensures given { spec.Reads result (more_listed s.And (spec.reading n.Negated) first cursor.old) cursor.new }
+        ensures given { spec.Reads result
+            (more_listed s.And (spec.reading n.Negated) first cursor.old) cursor.new }
         ensures fewer { IfOk result (λ _. length cursor.new ≤ length cursor.old) }
     {
         list_from(
@@ -122,7 +123,8 @@ impl<T: Fn(&mut Cursor<'_>) -> Result<Boxed<ExprTree>, Unread>> Connectives<T> {
     ) -> Result<List<ExprTree>, Unread>
         requires sound { ReadsUpTo self.now.most n.Test (T.pre self.now.test) (T.post self.now.test) }
         requires below { length cursor.old ≤ self.now.most }
-        ensures given { spec.Reads result (more_listed s.Or (spec.reading n.Both) first cursor.old) cursor.new }
+        ensures given { spec.Reads result
+            (more_listed s.Or (spec.reading n.Both) first cursor.old) cursor.new }
         ensures fewer { IfOk result (λ _. length cursor.new ≤ length cursor.old) }
     {
         list_from(

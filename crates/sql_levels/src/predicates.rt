@@ -3,15 +3,15 @@
 ghost use Rattle.std.specs.Prelude.{◌≡◌, ◌<◌, ◌≤◌, length, IfOk};
 ghost use Rattle.sql_grammar.specs.Building as b;
 ghost use Rattle.sql_grammar.specs.Cursors as spec;
-ghost use Rattle.sql_grammar.specs.Nests.{Nests, ReadsUpTo};
+ghost use Rattle.sql_grammar.specs.Nests.{NestReads, ReadsUpTo};
 ghost use Rattle.sql_grammar.specs.Symbols as n;
-ghost use Rattle.sql_levels.specs.Tails as tails;
+ghost use Rattle.sql_levels.specs.built.Tails as tails;
 ghost use Rattle.sql_grammar.specs.declared.sort.Sort.TheVariants as s;
 
 use crate::tail::Tail;
 use null_logic::{Compare, Truth};
 use perm_values::{Boxed, NoMemory};
-use sql_grammar::{Cursor, Unread, Nest, Sort, same_sort, sort_of};
+use sql_grammar::{Cursor, Nest, Sort, Unread, same_sort, sort_of};
 use sql_lexer::Token;
 use sql_tree::{ExprTree, QueryTree};
 
@@ -106,7 +106,7 @@ impl<
 
     fn distinct_tail(&self, cursor: &mut Cursor<'_>) -> Result<Tail, Unread>
         requires sums { ReadsUpTo self.now.nest.most n.Sum (S.pre self.now.sum) (S.post self.now.sum) }
-        requires sound { Nests self.now.nest.most (F.pre self.now.nest.expr) (G.pre self.now.nest.query) (F.post self.now.nest.expr) (G.post self.now.nest.query) }
+        requires sound { NestReads self.now.nest F.pre G.pre F.post G.post }
         requires below { length cursor.old ≤ self.now.nest.most }
         ensures given { spec.Reads result (tails.distinct_tail cursor.old) cursor.new }
         ensures fewer { IfOk result (λ _. length cursor.new < length cursor.old) }
@@ -120,7 +120,7 @@ impl<
     /// What stands behind IS and NOT.
     fn is_tail(&self, cursor: &mut Cursor<'_>) -> Result<Tail, Unread>
         requires sums { ReadsUpTo self.now.nest.most n.Sum (S.pre self.now.sum) (S.post self.now.sum) }
-        requires sound { Nests self.now.nest.most (F.pre self.now.nest.expr) (G.pre self.now.nest.query) (F.post self.now.nest.expr) (G.post self.now.nest.query) }
+        requires sound { NestReads self.now.nest F.pre G.pre F.post G.post }
         requires below { length cursor.old ≤ self.now.nest.most }
         ensures given { spec.Reads result (tails.is_tail cursor.old) cursor.new }
         ensures fewer { IfOk result (λ _. length cursor.new < length cursor.old) }
@@ -137,7 +137,7 @@ impl<
     #[tactic(auto, using(crate::proofs::Comparing::is_test_is))]
     fn is_test(&self, cursor: &mut Cursor<'_>) -> Result<(bool, Tail), Unread>
         requires sums { ReadsUpTo self.now.nest.most n.Sum (S.pre self.now.sum) (S.post self.now.sum) }
-        requires sound { Nests self.now.nest.most (F.pre self.now.nest.expr) (G.pre self.now.nest.query) (F.post self.now.nest.expr) (G.post self.now.nest.query) }
+        requires sound { NestReads self.now.nest F.pre G.pre F.post G.post }
         requires below { length cursor.old ≤ self.now.nest.most }
         ensures given { spec.Sees tails.behind result (spec.reading n.IsTest cursor.old) cursor.new }
         ensures fewer { IfOk result (λ _. length cursor.new < length cursor.old) }
@@ -151,7 +151,7 @@ impl<
     #[tactic(auto, using(sql_grammar::proofs::Steps::test_is))]
     pub fn test(&self, cursor: &mut Cursor<'_>) -> Result<Boxed<ExprTree>, Unread>
         requires sums { ReadsUpTo self.now.nest.most n.Sum (S.pre self.now.sum) (S.post self.now.sum) }
-        requires sound { Nests self.now.nest.most (F.pre self.now.nest.expr) (G.pre self.now.nest.query) (F.post self.now.nest.expr) (G.post self.now.nest.query) }
+        requires sound { NestReads self.now.nest F.pre G.pre F.post G.post }
         requires below { length cursor.old ≤ self.now.nest.most }
         ensures given { spec.Reads result (spec.reading n.Test cursor.old) cursor.new }
         ensures fewer { IfOk result (λ _. length cursor.new < length cursor.old) }
@@ -168,7 +168,7 @@ impl<
     }
 
     fn quantified(&self, cursor: &mut Cursor<'_>, op: Compare) -> Result<Tail, Unread>
-        requires sound { Nests self.now.nest.most (F.pre self.now.nest.expr) (G.pre self.now.nest.query) (F.post self.now.nest.expr) (G.post self.now.nest.query) }
+        requires sound { NestReads self.now.nest F.pre G.pre F.post G.post }
         requires below { length cursor.old ≤ self.now.nest.most }
         ensures given { spec.Reads result (tails.quantified op cursor.old) cursor.new }
         ensures fewer { IfOk result (λ _. length cursor.new < length cursor.old) }
@@ -180,7 +180,7 @@ impl<
 
     fn second(&self, cursor: &mut Cursor<'_>, op: Compare) -> Result<Tail, Unread>
         requires sums { ReadsUpTo self.now.nest.most n.Sum (S.pre self.now.sum) (S.post self.now.sum) }
-        requires sound { Nests self.now.nest.most (F.pre self.now.nest.expr) (G.pre self.now.nest.query) (F.post self.now.nest.expr) (G.post self.now.nest.query) }
+        requires sound { NestReads self.now.nest F.pre G.pre F.post G.post }
         requires below { length cursor.old ≤ self.now.nest.most }
         ensures given { spec.Reads result (tails.second op cursor.old) cursor.new }
         ensures fewer { IfOk result (λ _. length cursor.new < length cursor.old) }
@@ -192,7 +192,7 @@ impl<
     #[tactic(auto, using(crate::proofs::Comparing::comparison_is))]
     fn comparison(&self, cursor: &mut Cursor<'_>) -> Result<Tail, Unread>
         requires sums { ReadsUpTo self.now.nest.most n.Sum (S.pre self.now.sum) (S.post self.now.sum) }
-        requires sound { Nests self.now.nest.most (F.pre self.now.nest.expr) (G.pre self.now.nest.query) (F.post self.now.nest.expr) (G.post self.now.nest.query) }
+        requires sound { NestReads self.now.nest F.pre G.pre F.post G.post }
         requires below { length cursor.old ≤ self.now.nest.most }
         ensures given { spec.Sees tails.compared result (spec.reading n.Comparison cursor.old) cursor.new }
         ensures fewer { IfOk result (λ _. length cursor.new < length cursor.old) }
@@ -208,7 +208,7 @@ impl<
     #[tactic(auto, using(sql_grammar::proofs::Steps::compared_is))]
     fn compared(&self, cursor: &mut Cursor<'_>) -> Result<Boxed<ExprTree>, Unread>
         requires sums { ReadsUpTo self.now.nest.most n.Sum (S.pre self.now.sum) (S.post self.now.sum) }
-        requires sound { Nests self.now.nest.most (F.pre self.now.nest.expr) (G.pre self.now.nest.query) (F.post self.now.nest.expr) (G.post self.now.nest.query) }
+        requires sound { NestReads self.now.nest F.pre G.pre F.post G.post }
         requires below { length cursor.old ≤ self.now.nest.most }
         ensures given { spec.Reads result (spec.reading n.Compared cursor.old) cursor.new }
         ensures fewer { IfOk result (λ _. length cursor.new < length cursor.old) }
@@ -225,7 +225,7 @@ impl<
     }
 
     fn among(&self, cursor: &mut Cursor<'_>) -> Result<Tail, Unread>
-        requires sound { Nests self.now.nest.most (F.pre self.now.nest.expr) (G.pre self.now.nest.query) (F.post self.now.nest.expr) (G.post self.now.nest.query) }
+        requires sound { NestReads self.now.nest F.pre G.pre F.post G.post }
         requires below { length cursor.old < self.now.nest.most }
         ensures given { spec.Sees tails.ranged result (tails.among cursor.old) cursor.new }
         ensures fewer { IfOk result (λ _. length cursor.new < length cursor.old) }
@@ -239,7 +239,7 @@ impl<
 
     #[tactic(auto, using(crate::proofs::Comparing::members_is))]
     fn members(&self, cursor: &mut Cursor<'_>) -> Result<Tail, Unread>
-        requires sound { Nests self.now.nest.most (F.pre self.now.nest.expr) (G.pre self.now.nest.query) (F.post self.now.nest.expr) (G.post self.now.nest.query) }
+        requires sound { NestReads self.now.nest F.pre G.pre F.post G.post }
         requires below { length cursor.old ≤ self.now.nest.most }
         ensures given { spec.Sees tails.ranged result (spec.reading n.Members cursor.old) cursor.new }
         ensures fewer { IfOk result (λ _. length cursor.new < length cursor.old) }
@@ -279,7 +279,7 @@ impl<
     }
 
     fn within(&self, cursor: &mut Cursor<'_>) -> Result<Tail, Unread>
-        requires sound { Nests self.now.nest.most (F.pre self.now.nest.expr) (G.pre self.now.nest.query) (F.post self.now.nest.expr) (G.post self.now.nest.query) }
+        requires sound { NestReads self.now.nest F.pre G.pre F.post G.post }
         requires below { length cursor.old ≤ self.now.nest.most }
         ensures given { spec.Sees tails.ranged result (tails.within cursor.old) cursor.new }
         ensures fewer { IfOk result (λ _. length cursor.new < length cursor.old) }
@@ -291,7 +291,7 @@ impl<
     #[tactic(auto, using(crate::proofs::Comparing::range_is))]
     fn range(&self, cursor: &mut Cursor<'_>) -> Result<Tail, Unread>
         requires sums { ReadsUpTo self.now.nest.most n.Sum (S.pre self.now.sum) (S.post self.now.sum) }
-        requires sound { Nests self.now.nest.most (F.pre self.now.nest.expr) (G.pre self.now.nest.query) (F.post self.now.nest.expr) (G.post self.now.nest.query) }
+        requires sound { NestReads self.now.nest F.pre G.pre F.post G.post }
         requires below { length cursor.old ≤ self.now.nest.most }
         ensures given { spec.Sees tails.ranged result (spec.reading n.Range cursor.old) cursor.new }
         ensures fewer { IfOk result (λ _. length cursor.new < length cursor.old) }
@@ -308,7 +308,7 @@ impl<
     #[tactic(auto, using(crate::proofs::Comparing::ranged_is))]
     fn ranged(&self, cursor: &mut Cursor<'_>) -> Result<Boxed<ExprTree>, Unread>
         requires sums { ReadsUpTo self.now.nest.most n.Sum (S.pre self.now.sum) (S.post self.now.sum) }
-        requires sound { Nests self.now.nest.most (F.pre self.now.nest.expr) (G.pre self.now.nest.query) (F.post self.now.nest.expr) (G.post self.now.nest.query) }
+        requires sound { NestReads self.now.nest F.pre G.pre F.post G.post }
         requires below { length cursor.old ≤ self.now.nest.most }
         ensures given { spec.Reads result (spec.reading n.Ranged cursor.old) cursor.new }
         ensures fewer { IfOk result (λ _. length cursor.new < length cursor.old) }

@@ -11,7 +11,7 @@ ghost use Rattle.sql_grammar.specs.declared.sort.Sort.TheVariants as s;
 use crate::words::words;
 use null_logic::Arith;
 use perm_values::{Boxed, List, NoMemory};
-use sql_grammar::{Cursor, Unread, Sort, node, all_items, same_sort, sort_of};
+use sql_grammar::{Cursor, Sort, Unread, all_items, node, same_sort, sort_of};
 use sql_lexer::Token;
 use sql_tree::{ExprBody, ExprStep, ExprTree};
 use std::alloc::Global;
@@ -72,7 +72,8 @@ pub struct Sums<P> {
 
 impl<P: Fn(&mut Cursor<'_>) -> Result<Boxed<ExprTree>, Unread>> Sums<P> {
     fn part(&self, cursor: &mut Cursor<'_>) -> Result<Boxed<ExprTree>, Unread>
-        requires sound { ReadsUpTo self.now.most n.Primary (P.pre self.now.primary) (P.post self.now.primary) }
+        requires sound { ReadsUpTo self.now.most n.Primary
+            (P.pre self.now.primary) (P.post self.now.primary) }
         requires below { length cursor.old ≤ self.now.most }
         ensures given { spec.Reads result (spec.reading n.Primary cursor.old) cursor.new }
         ensures fewer { IfOk result (λ _. length cursor.new < length cursor.old) }
@@ -82,7 +83,8 @@ impl<P: Fn(&mut Cursor<'_>) -> Result<Boxed<ExprTree>, Unread>> Sums<P> {
 
     #[tactic(auto, using(crate::proofs::Counts::sign_is))]
     fn sign(&self, cursor: &mut Cursor<'_>) -> Result<Boxed<ExprTree>, Unread>
-        requires sound { ReadsUpTo self.now.most n.Primary (P.pre self.now.primary) (P.post self.now.primary) }
+        requires sound { ReadsUpTo self.now.most n.Primary
+            (P.pre self.now.primary) (P.post self.now.primary) }
         requires below { length cursor.old ≤ self.now.most }
         ensures given { spec.Reads result (spec.reading n.Sign cursor.old) cursor.new }
         ensures fewer { IfOk result (λ _. length cursor.new < length cursor.old) }
@@ -98,7 +100,8 @@ impl<P: Fn(&mut Cursor<'_>) -> Result<Boxed<ExprTree>, Unread>> Sums<P> {
 
     #[tactic(auto, using(sql_grammar::proofs::Steps::product_step_is))]
     fn product_step(&self, cursor: &mut Cursor<'_>) -> Result<ExprStep, Unread>
-        requires sound { ReadsUpTo self.now.most n.Primary (P.pre self.now.primary) (P.post self.now.primary) }
+        requires sound { ReadsUpTo self.now.most n.Primary
+            (P.pre self.now.primary) (P.post self.now.primary) }
         requires below { length cursor.old ≤ self.now.most }
         ensures given { spec.Reads result (spec.reading n.ProductStep cursor.old) cursor.new }
         ensures fewer { IfOk result (λ _. length cursor.new < length cursor.old) }
@@ -113,9 +116,11 @@ impl<P: Fn(&mut Cursor<'_>) -> Result<Boxed<ExprTree>, Unread>> Sums<P> {
     }
 
     fn product_steps(&self, cursor: &mut Cursor<'_>) -> Result<List<ExprStep>, Unread>
-        requires sound { ReadsUpTo self.now.most n.Primary (P.pre self.now.primary) (P.post self.now.primary) }
+        requires sound { ReadsUpTo self.now.most n.Primary
+            (P.pre self.now.primary) (P.post self.now.primary) }
         requires below { length cursor.old ≤ self.now.most }
-        ensures given { spec.Reads result (all_of (s.Star ∷ s.Slash ∷ s.Percent ∷ []) (spec.reading n.ProductStep) cursor.old) cursor.new }
+        ensures given { spec.Reads result
+            (all_of (s.Star ∷ s.Slash ∷ s.Percent ∷ []) (spec.reading n.ProductStep) cursor.old) cursor.new }
         ensures fewer { IfOk result (λ _. length cursor.new ≤ length cursor.old) }
     {
         all_items(
@@ -127,7 +132,8 @@ impl<P: Fn(&mut Cursor<'_>) -> Result<Boxed<ExprTree>, Unread>> Sums<P> {
 
     #[tactic(auto, using(sql_grammar::proofs::Steps::product_is))]
     fn product(&self, cursor: &mut Cursor<'_>) -> Result<Boxed<ExprTree>, Unread>
-        requires sound { ReadsUpTo self.now.most n.Primary (P.pre self.now.primary) (P.post self.now.primary) }
+        requires sound { ReadsUpTo self.now.most n.Primary
+            (P.pre self.now.primary) (P.post self.now.primary) }
         requires below { length cursor.old ≤ self.now.most }
         ensures given { spec.Reads result (spec.reading n.Product cursor.old) cursor.new }
         ensures fewer { IfOk result (λ _. length cursor.new < length cursor.old) }
@@ -142,7 +148,8 @@ impl<P: Fn(&mut Cursor<'_>) -> Result<Boxed<ExprTree>, Unread>> Sums<P> {
 
     #[tactic(auto, using(sql_grammar::proofs::Steps::sum_step_is))]
     fn sum_step(&self, cursor: &mut Cursor<'_>) -> Result<ExprStep, Unread>
-        requires sound { ReadsUpTo self.now.most n.Primary (P.pre self.now.primary) (P.post self.now.primary) }
+        requires sound { ReadsUpTo self.now.most n.Primary
+            (P.pre self.now.primary) (P.post self.now.primary) }
         requires below { length cursor.old ≤ self.now.most }
         ensures given { spec.Reads result (spec.reading n.SumStep cursor.old) cursor.new }
         ensures fewer { IfOk result (λ _. length cursor.new < length cursor.old) }
@@ -157,9 +164,11 @@ impl<P: Fn(&mut Cursor<'_>) -> Result<Boxed<ExprTree>, Unread>> Sums<P> {
     }
 
     fn sum_steps(&self, cursor: &mut Cursor<'_>) -> Result<List<ExprStep>, Unread>
-        requires sound { ReadsUpTo self.now.most n.Primary (P.pre self.now.primary) (P.post self.now.primary) }
+        requires sound { ReadsUpTo self.now.most n.Primary
+            (P.pre self.now.primary) (P.post self.now.primary) }
         requires below { length cursor.old ≤ self.now.most }
-        ensures given { spec.Reads result (all_of (s.Plus ∷ s.Minus ∷ []) (spec.reading n.SumStep) cursor.old) cursor.new }
+        ensures given { spec.Reads result
+            (all_of (s.Plus ∷ s.Minus ∷ []) (spec.reading n.SumStep) cursor.old) cursor.new }
         ensures fewer { IfOk result (λ _. length cursor.new ≤ length cursor.old) }
     {
         all_items(
@@ -171,7 +180,8 @@ impl<P: Fn(&mut Cursor<'_>) -> Result<Boxed<ExprTree>, Unread>> Sums<P> {
 
     #[tactic(auto, using(sql_grammar::proofs::Steps::sum_is))]
     pub fn sum(&self, cursor: &mut Cursor<'_>) -> Result<Boxed<ExprTree>, Unread>
-        requires sound { ReadsUpTo self.now.most n.Primary (P.pre self.now.primary) (P.post self.now.primary) }
+        requires sound { ReadsUpTo self.now.most n.Primary
+            (P.pre self.now.primary) (P.post self.now.primary) }
         requires below { length cursor.old ≤ self.now.most }
         ensures given { spec.Reads result (spec.reading n.Sum cursor.old) cursor.new }
         ensures fewer { IfOk result (λ _. length cursor.new < length cursor.old) }

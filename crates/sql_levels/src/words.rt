@@ -5,7 +5,7 @@ ghost use Rattle.sql_grammar.specs.Cursors as spec;
 ghost use Rattle.sql_grammar.specs.Lists.{all_of};
 
 use perm_values::List;
-use sql_grammar::{Cursor, Unread, Sort, all_items};
+use sql_grammar::{Cursor, Sort, Unread, all_items};
 
 /// Goes past all of this word that stand next.
 pub(crate) fn words(cursor: &mut Cursor<'_>, word: Sort) -> Result<List<()>, Unread>

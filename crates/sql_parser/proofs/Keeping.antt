@@ -6,8 +6,8 @@ use Rattle.sql_grammar.specs.Cursors.{past, sees}
 use Rattle.sql_grammar.specs.Descent.{Outcome, Taken, Stopped, mapped}
 use Rattle.sql_grammar.specs.Lists.{listed}
 use Rattle.sql_grammar.specs.declared.sort.Sort.TheVariants.{Semicolon}
-use Rattle.sql_grammar.proofs.Listing.{Keeps, Amid, Amid-first, Amid-next, Amid-stopped, Amid-done, listed-first, listed-stopped}
-use Rattle.sql_parser.specs.Statements.{optional_statement, statements}
+use Rattle.sql_grammar.proofs.Listing.{Keeps, Amid, Amid-first, Amid-next, Amid-stopped, Amid-done, listed-first}
+use Rattle.sql_parser.specs.built.Statements.{optional_statement}
 use Rattle.sql_parser.proofs.Stating.{optional_statement-keeps}
 use Rattle.sql_tree.specs.declared.statement.Statement.{Statement}
 

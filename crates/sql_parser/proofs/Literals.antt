@@ -5,7 +5,7 @@ use Rattle.sql_grammar.specs.Building as b
 use Rattle.sql_grammar.specs.Cursors.{reading, past, offset, sees}
 use Rattle.sql_grammar.specs.Descent.{Taken, mapped}
 use Rattle.sql_grammar.specs.Grammar.{sql}
-use Rattle.sql_grammar.specs.Pieces.{sees_pair}
+use Rattle.sql_grammar.specs.built.Pieces.{sees_pair}
 use Rattle.sql_grammar.specs.Sorts.{same_sort}
 use Rattle.sql_grammar.specs.Symbols as n
 use Rattle.sql_grammar.specs.Tables.{begins, sql_tables}
@@ -17,8 +17,8 @@ use Rattle.sql_grammar.proofs.Fine.{apart, apart-law}
 use Rattle.sql_grammar.proofs.Listing.{all_of-done}
 use Rattle.sql_grammar.proofs.Steps.{reading_is}
 use Rattle.sql_grammar.proofs.TablesHold.{told}
-use Rattle.sql_parser.specs.Literals.{ends}
-use Rattle.sql_levels.specs.Tails as tails
+use Rattle.sql_parser.specs.built.Literals.{ends}
+use Rattle.sql_levels.specs.built.Tails as tails
 use Rattle.sql_levels.proofs.Comparing.{ranged_is}
 use Rattle.sql_levels.proofs.Connecting.{both_is, expr_is}
 use Rattle.sql_levels.proofs.Counts.{sign_is, negated_is}

@@ -7,8 +7,8 @@ use Rattle.sql_grammar.specs.Cursors.{reading, one, past, offset, sees}
 use Rattle.sql_grammar.specs.Descent.{Outcome, Taken, Stopped, and_then, mapped}
 use Rattle.sql_grammar.specs.Grammar.{build}
 use Rattle.sql_grammar.specs.Lists.{listed}
-use Rattle.sql_grammar.specs.Pieces.{passes}
-use Rattle.sql_parser.specs.Statements.{mark_of, marked, null, statement_body, optional_statement, statements}
+use Rattle.sql_grammar.specs.built.Pieces.{passes}
+use Rattle.sql_parser.specs.built.Statements.{mark_of, marked, null, statement_body, optional_statement, statements}
 use Rattle.sql_grammar.specs.Symbols as n
 use Rattle.sql_grammar.specs.Tables.{begins}
 use Rattle.sql_grammar.specs.declared.sort.Sort.TheVariants as s

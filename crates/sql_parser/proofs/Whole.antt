@@ -2,7 +2,7 @@
 use Rattle.std.proofs.Common.{◌≡◌, ℕ, List, [], ◌∷◌, None, Result, Ok, Err, refl}
 use Rattle.sql_lexer.specs.declared.token.Token.{Token}
 use Rattle.sql_grammar.specs.Cursors.{reading, Reads}
-use Rattle.sql_parser.specs.Ending.{ended}
+use Rattle.sql_parser.specs.built.Ending.{ended}
 use Rattle.sql_grammar.specs.Grammar.{sql}
 use Rattle.sql_parser.specs.Nesting.{too_deep}
 use Rattle.sql_parser.specs.Spells.{Parses}

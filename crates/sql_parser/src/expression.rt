@@ -2,14 +2,14 @@
 
 ghost use Rattle.std.specs.Prelude.{◌≡◌, ◌<◌, ◌≤◌, true, length, IfOk};
 ghost use Rattle.sql_grammar.specs.Cursors as spec;
-ghost use Rattle.sql_grammar.specs.Nests.{Nests};
-ghost use Rattle.sql_grammar.specs.Pieces.{sees_pair};
+ghost use Rattle.sql_grammar.specs.Nests.{NestReads};
+ghost use Rattle.sql_grammar.specs.built.Pieces.{sees_pair};
 ghost use Rattle.sql_grammar.specs.Symbols as n;
 ghost use Rattle.sql_grammar.specs.Tables.{begins};
-ghost use Rattle.sql_parser.specs.Literals.{ends};
+ghost use Rattle.sql_parser.specs.built.Literals.{ends};
 
 use perm_values::Boxed;
-use sql_grammar::{Cursor, Unread, Nest, Sort, node};
+use sql_grammar::{Cursor, Nest, Sort, Unread, node};
 use sql_levels::{Connectives, Predicates, Sums};
 use sql_primaries::{LITERALS, Primaries, literal};
 use sql_tree::{ExprTree, QueryTree};
@@ -33,7 +33,7 @@ fn sum<
     F: Fn(&mut Cursor<'_>) -> Result<Boxed<ExprTree>, Unread> + Copy,
     G: Fn(&mut Cursor<'_>) -> Result<Boxed<QueryTree>, Unread> + Copy,
 >(nest: &Nest<F, G>, cursor: &mut Cursor<'_>) -> Result<Boxed<ExprTree>, Unread>
-    requires sound { Nests nest.now.most (F.pre nest.now.expr) (G.pre nest.now.query) (F.post nest.now.expr) (G.post nest.now.query) }
+    requires sound { NestReads nest.now F.pre G.pre F.post G.post }
     requires below { length cursor.old ≤ nest.now.most }
     ensures given { spec.Reads result (spec.reading n.Sum cursor.old) cursor.new }
     ensures fewer { IfOk result (λ _. length cursor.new < length cursor.old) }
@@ -50,7 +50,7 @@ fn test<
     F: Fn(&mut Cursor<'_>) -> Result<Boxed<ExprTree>, Unread> + Copy,
     G: Fn(&mut Cursor<'_>) -> Result<Boxed<QueryTree>, Unread> + Copy,
 >(nest: &Nest<F, G>, cursor: &mut Cursor<'_>) -> Result<Boxed<ExprTree>, Unread>
-    requires sound { Nests nest.now.most (F.pre nest.now.expr) (G.pre nest.now.query) (F.post nest.now.expr) (G.post nest.now.query) }
+    requires sound { NestReads nest.now F.pre G.pre F.post G.post }
     requires below { length cursor.old ≤ nest.now.most }
     ensures given { spec.Reads result (spec.reading n.Test cursor.old) cursor.new }
     ensures fewer { IfOk result (λ _. length cursor.new < length cursor.old) }
@@ -66,7 +66,7 @@ fn disjunction<
     F: Fn(&mut Cursor<'_>) -> Result<Boxed<ExprTree>, Unread> + Copy,
     G: Fn(&mut Cursor<'_>) -> Result<Boxed<QueryTree>, Unread> + Copy,
 >(nest: &Nest<F, G>, cursor: &mut Cursor<'_>) -> Result<Boxed<ExprTree>, Unread>
-    requires sound { Nests nest.now.most (F.pre nest.now.expr) (G.pre nest.now.query) (F.post nest.now.expr) (G.post nest.now.query) }
+    requires sound { NestReads nest.now F.pre G.pre F.post G.post }
     requires below { length cursor.old ≤ nest.now.most }
     ensures given { spec.Reads result (spec.reading n.Expr cursor.old) cursor.new }
     ensures fewer { IfOk result (λ _. length cursor.new < length cursor.old) }
@@ -83,7 +83,7 @@ pub(crate) fn expression<
     F: Fn(&mut Cursor<'_>) -> Result<Boxed<ExprTree>, Unread> + Copy,
     G: Fn(&mut Cursor<'_>) -> Result<Boxed<QueryTree>, Unread> + Copy,
 >(nest: &Nest<F, G>, cursor: &mut Cursor<'_>) -> Result<Boxed<ExprTree>, Unread>
-    requires sound { Nests nest.now.most (F.pre nest.now.expr) (G.pre nest.now.query) (F.post nest.now.expr) (G.post nest.now.query) }
+    requires sound { NestReads nest.now F.pre G.pre F.post G.post }
     requires below { length cursor.old ≤ nest.now.most }
     ensures given { spec.Reads result (spec.reading n.Expr cursor.old) cursor.new }
     ensures fewer { IfOk result (λ _. length cursor.new < length cursor.old) }

@@ -1,5 +1,5 @@
 ghost use Rattle.std.specs.Prelude.{◌≡◌};
-ghost use Rattle.sql_parser.specs.Ending as ending;
+ghost use Rattle.sql_parser.specs.built.Ending as ending;
 ghost use Rattle.sql_parser.specs.Spells as spec;
 
 use crate::nesting::too_deep;

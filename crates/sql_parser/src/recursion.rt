@@ -6,7 +6,7 @@ ghost use Rattle.sql_grammar.specs.Symbols as n;
 
 use crate::expression::expression;
 use perm_values::Boxed;
-use sql_grammar::{Cursor, Unread, Nest};
+use sql_grammar::{Cursor, Nest, Unread};
 use sql_queries::Queries;
 use sql_tree::{ExprTree, QueryTree};
 

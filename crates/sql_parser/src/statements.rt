@@ -4,13 +4,13 @@ ghost use Rattle.std.specs.Prelude.{◌≡◌, ◌<◌, ◌≤◌, [], ◌∷◌
 ghost use Rattle.sql_grammar.specs.Building as b;
 ghost use Rattle.sql_grammar.specs.Cursors as spec;
 ghost use Rattle.sql_grammar.specs.Lists.{listed};
-ghost use Rattle.sql_parser.specs.Statements as spelled;
+ghost use Rattle.sql_parser.specs.built.Statements as spelled;
 ghost use Rattle.sql_grammar.specs.Symbols as n;
 ghost use Rattle.sql_grammar.specs.declared.sort.Sort.TheVariants as s;
 
 use crate::recursion::{condition, expr, query};
 use perm_values::{Boxed, Chars, Kind, List, NoMemory};
-use sql_grammar::{Cursor, Unread, Sort, list_of};
+use sql_grammar::{Cursor, Sort, Unread, list_of};
 use sql_lexer::Token;
 use sql_primaries::kind_of;
 use sql_tree::{ColumnDef, ExprTree, Script, Statement, StatementBody, ValuesRow};

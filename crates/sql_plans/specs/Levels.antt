@@ -1,7 +1,7 @@
 -- Plans of names and literals, and of expressions without an operator at a level.
 use Rattle.std.specs.Prelude.{ℕ, pos, List, [], refl}
 use Rattle.sql_lexer.specs.declared.token.Token.{Token}
-use Rattle.sql_lexer.specs.declared.token.TokenKind.TheVariants.{Quoted, Number, Text}
+use Rattle.sql_lexer.specs.declared.token.TokenKind.TheVariants.{Quoted, Number}
 use Rattle.sql_grammar.specs.Rules.{symbol}
 use Rattle.sql_grammar.specs.Symbols as n
 use Rattle.sql_plans.specs.Blanks.{Blank, left_out, none, both_blank, blank_symbol}

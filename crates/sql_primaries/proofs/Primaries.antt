@@ -3,11 +3,11 @@ use Rattle.std.proofs.Common.{◌≡◌, ◌⊎◌, Bool, true, false, cond, Lis
 use Rattle.sql_lexer.specs.declared.token.Token.{Token}
 use Rattle.sql_grammar.specs.Building as b
 use Rattle.sql_grammar.specs.Building.{Word}
-use Rattle.sql_primaries.specs.Calls as spelled
-use Rattle.sql_primaries.specs.Calls.{arms, primary_body}
+use Rattle.sql_primaries.specs.built.Calls as spelled
+use Rattle.sql_primaries.specs.built.Calls.{arms, primary_body}
 use Rattle.sql_grammar.specs.Cursors.{reading, past, one, offset, sees}
 use Rattle.sql_grammar.specs.Descent.{Outcome, Taken, Stopped, and_then, mapped}
-use Rattle.sql_grammar.specs.Pieces.{between, word_at}
+use Rattle.sql_grammar.specs.built.Pieces.{between, word_at}
 use Rattle.sql_grammar.specs.Grammar.{plain_names}
 use Rattle.sql_grammar.specs.Symbols as n
 use Rattle.sql_grammar.specs.Tables.{begins}

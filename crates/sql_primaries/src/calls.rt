@@ -2,14 +2,14 @@
 
 ghost use Rattle.std.specs.Prelude.{◌≡◌, ◌<◌, ◌≤◌, length, IfOk};
 ghost use Rattle.sql_grammar.specs.Building as b;
-ghost use Rattle.sql_primaries.specs.Calls as spelled;
+ghost use Rattle.sql_primaries.specs.built.Calls as spelled;
 ghost use Rattle.sql_grammar.specs.Cursors as spec;
-ghost use Rattle.sql_grammar.specs.Nests.{Nests};
+ghost use Rattle.sql_grammar.specs.Nests.{NestReads};
 ghost use Rattle.sql_grammar.specs.Symbols as n;
 
 use crate::grammar::Primaries;
 use perm_values::{Boxed, List, NoMemory};
-use sql_grammar::{Cursor, Unread, Sort, name_of, reference, same_sort, sort_of};
+use sql_grammar::{Cursor, Sort, Unread, name_of, reference, same_sort, sort_of};
 use sql_lexer::Token;
 use sql_tree::{AggWord, ExprBody, ExprTree, Name, QueryTree};
 use std::alloc::Global;
@@ -94,7 +94,7 @@ impl<
     G: Fn(&mut Cursor<'_>) -> Result<Boxed<QueryTree>, Unread>,
 > Primaries<F, G> {
     fn count_values(&self, cursor: &mut Cursor<'_>) -> Result<ExprBody, Unread>
-        requires sound { Nests self.now.nest.most (F.pre self.now.nest.expr) (G.pre self.now.nest.query) (F.post self.now.nest.expr) (G.post self.now.nest.query) }
+        requires sound { NestReads self.now.nest F.pre G.pre F.post G.post }
         requires below { length cursor.old < self.now.nest.most }
         ensures given { spec.Reads result (spelled.count_values cursor.old) cursor.new }
         ensures fewer { IfOk result (λ _. length cursor.new < length cursor.old) }
@@ -109,7 +109,7 @@ impl<
 
     #[tactic(auto, using(crate::proofs::Primaries::counted_is))]
     fn counted(&self, cursor: &mut Cursor<'_>) -> Result<ExprBody, Unread>
-        requires sound { Nests self.now.nest.most (F.pre self.now.nest.expr) (G.pre self.now.nest.query) (F.post self.now.nest.expr) (G.post self.now.nest.query) }
+        requires sound { NestReads self.now.nest F.pre G.pre F.post G.post }
         requires below { length cursor.old < self.now.nest.most }
         ensures given { spec.Reads result (spec.reading n.Counted cursor.old) cursor.new }
         ensures fewer { IfOk result (λ _. length cursor.new < length cursor.old) }
@@ -122,7 +122,7 @@ impl<
     }
 
     fn count_arguments(&self, cursor: &mut Cursor<'_>) -> Result<ExprBody, Unread>
-        requires sound { Nests self.now.nest.most (F.pre self.now.nest.expr) (G.pre self.now.nest.query) (F.post self.now.nest.expr) (G.post self.now.nest.query) }
+        requires sound { NestReads self.now.nest F.pre G.pre F.post G.post }
         requires below { length cursor.old ≤ self.now.nest.most }
         ensures given { spec.Reads result (spelled.count_arguments cursor.old) cursor.new }
         ensures fewer { IfOk result (λ _. length cursor.new < length cursor.old) }
@@ -134,7 +134,7 @@ impl<
 
     #[tactic(auto, using(crate::proofs::Primaries::count_is))]
     pub(crate) fn count(&self, cursor: &mut Cursor<'_>) -> Result<ExprBody, Unread>
-        requires sound { Nests self.now.nest.most (F.pre self.now.nest.expr) (G.pre self.now.nest.query) (F.post self.now.nest.expr) (G.post self.now.nest.query) }
+        requires sound { NestReads self.now.nest F.pre G.pre F.post G.post }
         requires below { length cursor.old ≤ self.now.nest.most }
         ensures given { spec.Reads result (spec.reading n.Count cursor.old) cursor.new }
         ensures fewer { IfOk result (λ _. length cursor.new < length cursor.old) }
@@ -148,7 +148,7 @@ impl<
     }
 
     fn enclosed(&self, cursor: &mut Cursor<'_>) -> Result<Boxed<ExprTree>, Unread>
-        requires sound { Nests self.now.nest.most (F.pre self.now.nest.expr) (G.pre self.now.nest.query) (F.post self.now.nest.expr) (G.post self.now.nest.query) }
+        requires sound { NestReads self.now.nest F.pre G.pre F.post G.post }
         requires below { length cursor.old ≤ self.now.nest.most }
         ensures given { spec.Reads result (spelled.enclosed cursor.old) cursor.new }
         ensures fewer { IfOk result (λ _. length cursor.new < length cursor.old) }
@@ -158,7 +158,7 @@ impl<
     }
 
     fn aggregate_of(&self, cursor: &mut Cursor<'_>, token: &Token<'_>) -> Result<ExprBody, Unread>
-        requires sound { Nests self.now.nest.most (F.pre self.now.nest.expr) (G.pre self.now.nest.query) (F.post self.now.nest.expr) (G.post self.now.nest.query) }
+        requires sound { NestReads self.now.nest F.pre G.pre F.post G.post }
         requires below { length cursor.old ≤ self.now.nest.most }
         ensures given { spec.Reads result (spelled.aggregate_of token.now cursor.old) cursor.new }
         ensures fewer { IfOk result (λ _. length cursor.new < length cursor.old) }
@@ -172,7 +172,7 @@ impl<
 
     #[tactic(auto, using(crate::proofs::Primaries::aggregate_is))]
     pub(crate) fn aggregate(&self, cursor: &mut Cursor<'_>) -> Result<ExprBody, Unread>
-        requires sound { Nests self.now.nest.most (F.pre self.now.nest.expr) (G.pre self.now.nest.query) (F.post self.now.nest.expr) (G.post self.now.nest.query) }
+        requires sound { NestReads self.now.nest F.pre G.pre F.post G.post }
         requires below { length cursor.old ≤ self.now.nest.most }
         ensures given { spec.Reads result (spec.reading n.Aggregate cursor.old) cursor.new }
         ensures fewer { IfOk result (λ _. length cursor.new < length cursor.old) }
@@ -186,7 +186,7 @@ impl<
     }
 
     fn enclosed_list(&self, cursor: &mut Cursor<'_>) -> Result<List<ExprTree>, Unread>
-        requires sound { Nests self.now.nest.most (F.pre self.now.nest.expr) (G.pre self.now.nest.query) (F.post self.now.nest.expr) (G.post self.now.nest.query) }
+        requires sound { NestReads self.now.nest F.pre G.pre F.post G.post }
         requires below { length cursor.old ≤ self.now.nest.most }
         ensures given { spec.Reads result (spelled.enclosed_list cursor.old) cursor.new }
         ensures fewer { IfOk result (λ _. length cursor.new < length cursor.old) }
@@ -197,7 +197,7 @@ impl<
     }
 
     fn coalesce_of(&self, cursor: &mut Cursor<'_>) -> Result<ExprBody, Unread>
-        requires sound { Nests self.now.nest.most (F.pre self.now.nest.expr) (G.pre self.now.nest.query) (F.post self.now.nest.expr) (G.post self.now.nest.query) }
+        requires sound { NestReads self.now.nest F.pre G.pre F.post G.post }
         requires below { length cursor.old ≤ self.now.nest.most }
         ensures given { spec.Reads result (spelled.coalesce_of cursor.old) cursor.new }
         ensures fewer { IfOk result (λ _. length cursor.new < length cursor.old) }
@@ -207,7 +207,7 @@ impl<
 
     #[tactic(auto, using(crate::proofs::Primaries::coalesce_is))]
     pub(crate) fn coalesce(&self, cursor: &mut Cursor<'_>) -> Result<ExprBody, Unread>
-        requires sound { Nests self.now.nest.most (F.pre self.now.nest.expr) (G.pre self.now.nest.query) (F.post self.now.nest.expr) (G.post self.now.nest.query) }
+        requires sound { NestReads self.now.nest F.pre G.pre F.post G.post }
         requires below { length cursor.old ≤ self.now.nest.most }
         ensures given { spec.Reads result (spec.reading n.Coalesce cursor.old) cursor.new }
         ensures fewer { IfOk result (λ _. length cursor.new < length cursor.old) }
@@ -222,7 +222,7 @@ impl<
 
     #[tactic(auto, using(crate::proofs::Pairs::null_if_of_is))]
     fn null_if_of(&self, cursor: &mut Cursor<'_>) -> Result<ExprBody, Unread>
-        requires sound { Nests self.now.nest.most (F.pre self.now.nest.expr) (G.pre self.now.nest.query) (F.post self.now.nest.expr) (G.post self.now.nest.query) }
+        requires sound { NestReads self.now.nest F.pre G.pre F.post G.post }
         requires below { length cursor.old ≤ self.now.nest.most }
         ensures given { spec.Reads result (spelled.null_if_of cursor.old) cursor.new }
         ensures fewer { IfOk result (λ _. length cursor.new < length cursor.old) }
@@ -234,7 +234,7 @@ impl<
 
     #[tactic(auto, using(crate::proofs::Primaries::null_if_is))]
     pub(crate) fn null_if(&self, cursor: &mut Cursor<'_>) -> Result<ExprBody, Unread>
-        requires sound { Nests self.now.nest.most (F.pre self.now.nest.expr) (G.pre self.now.nest.query) (F.post self.now.nest.expr) (G.post self.now.nest.query) }
+        requires sound { NestReads self.now.nest F.pre G.pre F.post G.post }
         requires below { length cursor.old ≤ self.now.nest.most }
         ensures given { spec.Reads result (spec.reading n.NullIf cursor.old) cursor.new }
         ensures fewer { IfOk result (λ _. length cursor.new < length cursor.old) }

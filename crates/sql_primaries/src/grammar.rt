@@ -1,10 +1,10 @@
 ghost use Rattle.std.specs.Prelude.{◌≡◌, ◌<◌, ◌≤◌, length, IfOk};
-ghost use Rattle.sql_primaries.specs.Calls as spelled;
+ghost use Rattle.sql_primaries.specs.built.Calls as spelled;
 ghost use Rattle.sql_grammar.specs.Cursors as spec;
-ghost use Rattle.sql_grammar.specs.Nests.{Nests};
+ghost use Rattle.sql_grammar.specs.Nests.{NestReads};
 
 use perm_values::Boxed;
-use sql_grammar::{Cursor, Unread, Nest, Sort};
+use sql_grammar::{Cursor, Nest, Sort, Unread};
 use sql_tree::{ExprTree, QueryTree};
 
 /// The rules of primaries, over what reads inner expressions and queries.
@@ -23,7 +23,7 @@ impl<
         cursor: &mut Cursor<'_>,
         sort: Sort,
     ) -> Result<Boxed<ExprTree>, Unread>
-        requires sound { Nests self.now.nest.most (F.pre self.now.nest.expr) (G.pre self.now.nest.query) (F.post self.now.nest.expr) (G.post self.now.nest.query) }
+        requires sound { NestReads self.now.nest F.pre G.pre F.post G.post }
         requires below { length cursor.old < self.now.nest.most }
         ensures given { spec.Reads result (spelled.before sort cursor.old) cursor.new }
         ensures fewer { IfOk result (λ _. length cursor.new < length cursor.old) }
@@ -38,7 +38,7 @@ impl<
         cursor: &mut Cursor<'_>,
         sort: Sort,
     ) -> Result<(Boxed<ExprTree>, Boxed<ExprTree>), Unread>
-        requires sound { Nests self.now.nest.most (F.pre self.now.nest.expr) (G.pre self.now.nest.query) (F.post self.now.nest.expr) (G.post self.now.nest.query) }
+        requires sound { NestReads self.now.nest F.pre G.pre F.post G.post }
         requires below { length cursor.old < self.now.nest.most }
         ensures given { spec.Reads result (spelled.pair_of sort cursor.old) cursor.new }
         ensures fewer { IfOk result (λ _. length cursor.new < length cursor.old) }

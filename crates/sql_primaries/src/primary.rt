@@ -2,17 +2,17 @@
 
 ghost use Rattle.std.specs.Prelude.{◌≡◌, ◌<◌, ◌≤◌, [], ◌∷◌, length, IfOk};
 ghost use Rattle.sql_grammar.specs.Building as b;
-ghost use Rattle.sql_primaries.specs.Calls as spelled;
+ghost use Rattle.sql_primaries.specs.built.Calls as spelled;
 ghost use Rattle.sql_grammar.specs.Cursors as spec;
 ghost use Rattle.sql_grammar.specs.Lists.{all_of};
-ghost use Rattle.sql_grammar.specs.Nests.{Nests};
+ghost use Rattle.sql_grammar.specs.Nests.{NestReads};
 ghost use Rattle.sql_grammar.specs.Symbols as n;
 ghost use Rattle.sql_grammar.specs.declared.sort.Sort.TheVariants as s;
 
 use crate::calls::column_of;
 use crate::grammar::Primaries;
 use perm_values::{Boxed, Kind, List, NoMemory};
-use sql_grammar::{Cursor, Unread, Sort, node, all_items, same_sort, sort_of};
+use sql_grammar::{Cursor, Sort, Unread, all_items, node, same_sort, sort_of};
 use sql_lexer::Token;
 use sql_tree::{ArmTree, ExprBody, ExprTree, QueryTree};
 use std::alloc::Global;
@@ -106,7 +106,7 @@ impl<
 > Primaries<F, G> {
     #[tactic(auto, using(crate::proofs::Pairs::arm_is))]
     fn arm(&self, cursor: &mut Cursor<'_>) -> Result<ArmTree, Unread>
-        requires sound { Nests self.now.nest.most (F.pre self.now.nest.expr) (G.pre self.now.nest.query) (F.post self.now.nest.expr) (G.post self.now.nest.query) }
+        requires sound { NestReads self.now.nest F.pre G.pre F.post G.post }
         requires below { length cursor.old ≤ self.now.nest.most }
         ensures given { spec.Reads result (spec.reading n.Arm cursor.old) cursor.new }
         ensures fewer { IfOk result (λ _. length cursor.new < length cursor.old) }
@@ -120,9 +120,10 @@ impl<
     }
 
     fn more_arms(&self, cursor: &mut Cursor<'_>) -> Result<List<ArmTree>, Unread>
-        requires sound { Nests self.now.nest.most (F.pre self.now.nest.expr) (G.pre self.now.nest.query) (F.post self.now.nest.expr) (G.post self.now.nest.query) }
+        requires sound { NestReads self.now.nest F.pre G.pre F.post G.post }
         requires below { length cursor.old ≤ self.now.nest.most }
-        ensures given { spec.Reads result (all_of (s.When ∷ []) (spec.reading n.Arm) cursor.old) cursor.new }
+        ensures given { spec.Reads result
+            (all_of (s.When ∷ []) (spec.reading n.Arm) cursor.old) cursor.new }
         ensures fewer { IfOk result (λ _. length cursor.new ≤ length cursor.old) }
     {
         all_items(
@@ -133,7 +134,7 @@ impl<
     }
 
     fn arms(&self, cursor: &mut Cursor<'_>) -> Result<List<ArmTree>, Unread>
-        requires sound { Nests self.now.nest.most (F.pre self.now.nest.expr) (G.pre self.now.nest.query) (F.post self.now.nest.expr) (G.post self.now.nest.query) }
+        requires sound { NestReads self.now.nest F.pre G.pre F.post G.post }
         requires below { length cursor.old ≤ self.now.nest.most }
         ensures given { spec.Reads result (spelled.arms cursor.old) cursor.new }
         ensures fewer { IfOk result (λ _. length cursor.new < length cursor.old) }
@@ -146,7 +147,7 @@ impl<
 
     #[tactic(auto, using(sql_grammar::proofs::Steps::otherwise_is))]
     fn otherwise(&self, cursor: &mut Cursor<'_>) -> Result<Option<Boxed<ExprTree>>, Unread>
-        requires sound { Nests self.now.nest.most (F.pre self.now.nest.expr) (G.pre self.now.nest.query) (F.post self.now.nest.expr) (G.post self.now.nest.query) }
+        requires sound { NestReads self.now.nest F.pre G.pre F.post G.post }
         requires below { length cursor.old ≤ self.now.nest.most }
         ensures given { spec.Reads result (spec.reading n.Otherwise cursor.old) cursor.new }
         ensures fewer { IfOk result (λ _. length cursor.new ≤ length cursor.old) }
@@ -160,7 +161,7 @@ impl<
 
     #[tactic(auto, using(crate::proofs::Primaries::case_is))]
     fn case(&self, cursor: &mut Cursor<'_>) -> Result<ExprBody, Unread>
-        requires sound { Nests self.now.nest.most (F.pre self.now.nest.expr) (G.pre self.now.nest.query) (F.post self.now.nest.expr) (G.post self.now.nest.query) }
+        requires sound { NestReads self.now.nest F.pre G.pre F.post G.post }
         requires below { length cursor.old ≤ self.now.nest.most }
         ensures given { spec.Reads result (spec.reading n.Case cursor.old) cursor.new }
         ensures fewer { IfOk result (λ _. length cursor.new < length cursor.old) }
@@ -173,7 +174,7 @@ impl<
 
     #[tactic(auto, using(sql_grammar::proofs::Steps::exists_is))]
     fn exists(&self, cursor: &mut Cursor<'_>) -> Result<ExprBody, Unread>
-        requires sound { Nests self.now.nest.most (F.pre self.now.nest.expr) (G.pre self.now.nest.query) (F.post self.now.nest.expr) (G.post self.now.nest.query) }
+        requires sound { NestReads self.now.nest F.pre G.pre F.post G.post }
         requires below { length cursor.old ≤ self.now.nest.most }
         ensures given { spec.Reads result (spec.reading n.Exists cursor.old) cursor.new }
         ensures fewer { IfOk result (λ _. length cursor.new < length cursor.old) }
@@ -183,7 +184,7 @@ impl<
     }
 
     fn inside(&self, cursor: &mut Cursor<'_>) -> Result<ExprBody, Unread>
-        requires sound { Nests self.now.nest.most (F.pre self.now.nest.expr) (G.pre self.now.nest.query) (F.post self.now.nest.expr) (G.post self.now.nest.query) }
+        requires sound { NestReads self.now.nest F.pre G.pre F.post G.post }
         requires below { length cursor.old < self.now.nest.most }
         ensures given { spec.Reads result (spelled.inside cursor.old) cursor.new }
         ensures fewer { IfOk result (λ _. length cursor.new < length cursor.old) }
@@ -197,7 +198,7 @@ impl<
 
     #[tactic(auto, using(crate::proofs::Primaries::parentheses_is))]
     fn parentheses(&self, cursor: &mut Cursor<'_>) -> Result<ExprBody, Unread>
-        requires sound { Nests self.now.nest.most (F.pre self.now.nest.expr) (G.pre self.now.nest.query) (F.post self.now.nest.expr) (G.post self.now.nest.query) }
+        requires sound { NestReads self.now.nest F.pre G.pre F.post G.post }
         requires below { length cursor.old ≤ self.now.nest.most }
         ensures given { spec.Reads result (spec.reading n.Parentheses cursor.old) cursor.new }
         ensures fewer { IfOk result (λ _. length cursor.new < length cursor.old) }
@@ -208,7 +209,7 @@ impl<
     }
 
     fn body(&self, cursor: &mut Cursor<'_>) -> Result<ExprBody, Unread>
-        requires sound { Nests self.now.nest.most (F.pre self.now.nest.expr) (G.pre self.now.nest.query) (F.post self.now.nest.expr) (G.post self.now.nest.query) }
+        requires sound { NestReads self.now.nest F.pre G.pre F.post G.post }
         requires below { length cursor.old ≤ self.now.nest.most }
         ensures given { spec.Reads result (spelled.primary_body cursor.old) cursor.new }
         ensures fewer { IfOk result (λ _. length cursor.new < length cursor.old) }
@@ -238,7 +239,7 @@ impl<
 
     #[tactic(auto, using(crate::proofs::Primaries::primary_is))]
     pub fn primary(&self, cursor: &mut Cursor<'_>) -> Result<Boxed<ExprTree>, Unread>
-        requires sound { Nests self.now.nest.most (F.pre self.now.nest.expr) (G.pre self.now.nest.query) (F.post self.now.nest.expr) (G.post self.now.nest.query) }
+        requires sound { NestReads self.now.nest F.pre G.pre F.post G.post }
         requires below { length cursor.old ≤ self.now.nest.most }
         ensures given { spec.Reads result (spec.reading n.Primary cursor.old) cursor.new }
         ensures fewer { IfOk result (λ _. length cursor.new < length cursor.old) }

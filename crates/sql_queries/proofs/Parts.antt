@@ -5,11 +5,11 @@ use Rattle.sql_grammar.specs.Building as b
 use Rattle.sql_grammar.specs.Building.{Word}
 use Rattle.sql_grammar.specs.Cursors.{reading, past, offset}
 use Rattle.sql_grammar.specs.Descent.{Outcome, Taken, Stopped, and_then, mapped}
-use Rattle.sql_grammar.specs.Pieces as piece
-use Rattle.sql_grammar.specs.Sequences.{both, value_before}
+use Rattle.sql_grammar.specs.built.Pieces as piece
+use Rattle.sql_grammar.specs.built.Sequences.{both, value_before}
 use Rattle.sql_grammar.specs.Symbols as n
 use Rattle.sql_grammar.specs.declared.sort.Sort.TheVariants as s
-use Rattle.sql_queries.specs.Sources.{name_behind, marked}
+use Rattle.sql_queries.specs.built.Sources.{name_behind, marked}
 use Rattle.sql_tree.specs.declared.expression.ExprTree.{ExprTree}
 use Rattle.sql_tree.specs.declared.name.Name.{Name}
 use Rattle.sql_tree.specs.declared.query.QueryTree.{QueryTree}

@@ -4,11 +4,11 @@ use Rattle.sql_lexer.specs.declared.token.Token.{Token}
 use Rattle.sql_grammar.specs.Building.{Word}
 use Rattle.sql_grammar.specs.Cursors.{reading, past, offset}
 use Rattle.sql_grammar.specs.Descent.{Outcome, Taken, Stopped, and_then, mapped}
-use Rattle.sql_grammar.specs.Pieces as piece
+use Rattle.sql_grammar.specs.built.Pieces as piece
 use Rattle.sql_grammar.specs.Symbols as n
 use Rattle.sql_grammar.specs.declared.sort.Sort.TheVariants as s
 use Rattle.sql_grammar.proofs.Queries as queries
-use Rattle.sql_queries.specs.Selects.{clauses_of, clauses, core_of, head}
+use Rattle.sql_queries.specs.built.Selects.{clauses_of, clauses, core_of, head}
 use Rattle.sql_tree.specs.declared.expression.ExprTree.{ExprTree}
 use Rattle.sql_tree.specs.declared.name.ColRef.{ColRef}
 use Rattle.sql_tree.specs.declared.query.SelectItem.{SelectItem}

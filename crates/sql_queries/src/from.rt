@@ -3,14 +3,14 @@
 ghost use Rattle.std.specs.Prelude.{◌≡◌, ◌<◌, ◌≤◌, length, IfOk};
 ghost use Rattle.sql_grammar.specs.Building as b;
 ghost use Rattle.sql_grammar.specs.Cursors as spec;
-ghost use Rattle.sql_grammar.specs.Nests.{Nests};
-ghost use Rattle.sql_grammar.specs.Pieces as piece;
+ghost use Rattle.sql_grammar.specs.Nests.{NestReads};
+ghost use Rattle.sql_grammar.specs.built.Pieces as piece;
 ghost use Rattle.sql_grammar.specs.Symbols as n;
-ghost use Rattle.sql_queries.specs.Sources as spelled;
+ghost use Rattle.sql_queries.specs.built.Sources as spelled;
 
 use crate::grammar::Queries;
 use perm_values::{Boxed, List};
-use sql_grammar::{Cursor, Unread, NAMES, Sort, list_of, all_items, same_sort, sort_of};
+use sql_grammar::{Cursor, NAMES, Sort, Unread, all_items, list_of, same_sort, sort_of};
 use sql_lexer::Token;
 use sql_tree::{
     ExprTree, FromItem, FromSource, FromTree, JoinStep, JoinWord, Name, QueryTree, ScopeMark,
@@ -52,7 +52,7 @@ impl<
 > Queries<F, G> {
     #[tactic(auto, using(crate::proofs::Parts::inner_source_is))]
     fn inner_source(&self, cursor: &mut Cursor<'_>) -> Result<(FromSource, Option<Name>), Unread>
-        requires sound { Nests self.now.nest.most (F.pre self.now.nest.expr) (G.pre self.now.nest.query) (F.post self.now.nest.expr) (G.post self.now.nest.query) }
+        requires sound { NestReads self.now.nest F.pre G.pre F.post G.post }
         requires below { length cursor.old ≤ self.now.nest.most }
         ensures given { spec.Reads result (piece.inner_source cursor.old) cursor.new }
         ensures fewer { IfOk result (λ _. length cursor.new < length cursor.old) }
@@ -65,7 +65,7 @@ impl<
 
     #[tactic(auto, using(sql_grammar::proofs::Queries::aliased_is))]
     fn aliased(&self, cursor: &mut Cursor<'_>) -> Result<(FromSource, Option<Name>), Unread>
-        requires sound { Nests self.now.nest.most (F.pre self.now.nest.expr) (G.pre self.now.nest.query) (F.post self.now.nest.expr) (G.post self.now.nest.query) }
+        requires sound { NestReads self.now.nest F.pre G.pre F.post G.post }
         requires below { length cursor.old ≤ self.now.nest.most }
         ensures given { spec.Reads result (spec.reading n.Aliased cursor.old) cursor.new }
         ensures fewer { IfOk result (λ _. length cursor.new < length cursor.old) }
@@ -79,7 +79,7 @@ impl<
 
     #[tactic(auto, using(crate::proofs::Parts::source_is))]
     fn from_item(&self, cursor: &mut Cursor<'_>) -> Result<Boxed<FromItem>, Unread>
-        requires sound { Nests self.now.nest.most (F.pre self.now.nest.expr) (G.pre self.now.nest.query) (F.post self.now.nest.expr) (G.post self.now.nest.query) }
+        requires sound { NestReads self.now.nest F.pre G.pre F.post G.post }
         requires below { length cursor.old ≤ self.now.nest.most }
         ensures given { spec.Reads result (spec.reading n.Source cursor.old) cursor.new }
         ensures fewer { IfOk result (λ _. length cursor.new < length cursor.old) }
@@ -91,7 +91,7 @@ impl<
 
     #[tactic(auto, using(crate::proofs::Parts::joined_on_is))]
     fn joined_on(&self, cursor: &mut Cursor<'_>) -> Result<JoinStep, Unread>
-        requires sound { Nests self.now.nest.most (F.pre self.now.nest.expr) (G.pre self.now.nest.query) (F.post self.now.nest.expr) (G.post self.now.nest.query) }
+        requires sound { NestReads self.now.nest F.pre G.pre F.post G.post }
         requires below { length cursor.old ≤ self.now.nest.most }
         ensures given { spec.Reads result (piece.joined_on cursor.old) cursor.new }
         ensures fewer { IfOk result (λ _. length cursor.new < length cursor.old) }
@@ -109,7 +109,7 @@ impl<
 
     #[tactic(auto, using(crate::proofs::Parts::crossed_is))]
     fn crossed(&self, cursor: &mut Cursor<'_>) -> Result<JoinStep, Unread>
-        requires sound { Nests self.now.nest.most (F.pre self.now.nest.expr) (G.pre self.now.nest.query) (F.post self.now.nest.expr) (G.post self.now.nest.query) }
+        requires sound { NestReads self.now.nest F.pre G.pre F.post G.post }
         requires below { length cursor.old ≤ self.now.nest.most }
         ensures given { spec.Reads result (piece.crossed cursor.old) cursor.new }
         ensures fewer { IfOk result (λ _. length cursor.new < length cursor.old) }
@@ -125,7 +125,7 @@ impl<
 
     #[tactic(auto, using(sql_grammar::proofs::Queries::join_is))]
     fn join(&self, cursor: &mut Cursor<'_>) -> Result<JoinStep, Unread>
-        requires sound { Nests self.now.nest.most (F.pre self.now.nest.expr) (G.pre self.now.nest.query) (F.post self.now.nest.expr) (G.post self.now.nest.query) }
+        requires sound { NestReads self.now.nest F.pre G.pre F.post G.post }
         requires below { length cursor.old ≤ self.now.nest.most }
         ensures given { spec.Reads result (spec.reading n.Join cursor.old) cursor.new }
         ensures fewer { IfOk result (λ _. length cursor.new < length cursor.old) }
@@ -138,7 +138,7 @@ impl<
     }
 
     fn joins(&self, cursor: &mut Cursor<'_>) -> Result<List<JoinStep>, Unread>
-        requires sound { Nests self.now.nest.most (F.pre self.now.nest.expr) (G.pre self.now.nest.query) (F.post self.now.nest.expr) (G.post self.now.nest.query) }
+        requires sound { NestReads self.now.nest F.pre G.pre F.post G.post }
         requires below { length cursor.old ≤ self.now.nest.most }
         ensures given { spec.Reads result (piece.joins cursor.old) cursor.new }
         ensures fewer { IfOk result (λ _. length cursor.new ≤ length cursor.old) }
@@ -159,7 +159,7 @@ impl<
 
     #[tactic(auto, using(sql_grammar::proofs::Queries::from_is))]
     fn from_tree(&self, cursor: &mut Cursor<'_>) -> Result<FromTree, Unread>
-        requires sound { Nests self.now.nest.most (F.pre self.now.nest.expr) (G.pre self.now.nest.query) (F.post self.now.nest.expr) (G.post self.now.nest.query) }
+        requires sound { NestReads self.now.nest F.pre G.pre F.post G.post }
         requires below { length cursor.old ≤ self.now.nest.most }
         ensures given { spec.Reads result (spec.reading n.From cursor.old) cursor.new }
         ensures fewer { IfOk result (λ _. length cursor.new < length cursor.old) }
@@ -173,7 +173,7 @@ impl<
     }
 
     fn from_list(&self, cursor: &mut Cursor<'_>) -> Result<List<FromTree>, Unread>
-        requires sound { Nests self.now.nest.most (F.pre self.now.nest.expr) (G.pre self.now.nest.query) (F.post self.now.nest.expr) (G.post self.now.nest.query) }
+        requires sound { NestReads self.now.nest F.pre G.pre F.post G.post }
         requires below { length cursor.old ≤ self.now.nest.most }
         ensures given { spec.Reads result (piece.from_list cursor.old) cursor.new }
         ensures fewer { IfOk result (λ _. length cursor.new ≤ length cursor.old) }
@@ -187,7 +187,7 @@ impl<
 
     #[tactic(auto, using(sql_grammar::proofs::Queries::sources_is))]
     pub(crate) fn sources(&self, cursor: &mut Cursor<'_>) -> Result<List<FromTree>, Unread>
-        requires sound { Nests self.now.nest.most (F.pre self.now.nest.expr) (G.pre self.now.nest.query) (F.post self.now.nest.expr) (G.post self.now.nest.query) }
+        requires sound { NestReads self.now.nest F.pre G.pre F.post G.post }
         requires below { length cursor.old ≤ self.now.nest.most }
         ensures given { spec.Reads result (spec.reading n.Sources cursor.old) cursor.new }
         ensures fewer { IfOk result (λ _. length cursor.new ≤ length cursor.old) }

@@ -3,14 +3,14 @@
 ghost use Rattle.std.specs.Prelude.{◌≡◌, ◌<◌, ◌≤◌, length, IfOk};
 ghost use Rattle.sql_grammar.specs.Building as b;
 ghost use Rattle.sql_grammar.specs.Cursors as spec;
-ghost use Rattle.sql_grammar.specs.Nests.{Nests};
-ghost use Rattle.sql_grammar.specs.Pieces as piece;
+ghost use Rattle.sql_grammar.specs.Nests.{NestReads};
+ghost use Rattle.sql_grammar.specs.built.Pieces as piece;
 ghost use Rattle.sql_grammar.specs.Symbols as n;
-ghost use Rattle.sql_queries.specs.Selects as spelled;
+ghost use Rattle.sql_queries.specs.built.Selects as spelled;
 
 use crate::grammar::Queries;
 use perm_values::{Boxed, Copyable, List, NoMemory};
-use sql_grammar::{Cursor, Unread, NAMES, Sort, list_of};
+use sql_grammar::{Cursor, NAMES, Sort, Unread, list_of};
 use sql_lexer::Token;
 use sql_tree::{ColRef, Core, ExprTree, FromTree, Name, QueryTree, SelectItem};
 use std::alloc::Global;
@@ -85,7 +85,7 @@ impl<
 > Queries<F, G> {
     #[tactic(auto, using(sql_grammar::proofs::Queries::item_value_is))]
     fn item_value(&self, cursor: &mut Cursor<'_>) -> Result<SelectItem, Unread>
-        requires sound { Nests self.now.nest.most (F.pre self.now.nest.expr) (G.pre self.now.nest.query) (F.post self.now.nest.expr) (G.post self.now.nest.query) }
+        requires sound { NestReads self.now.nest F.pre G.pre F.post G.post }
         requires below { length cursor.old < self.now.nest.most }
         ensures given { spec.Reads result (spec.reading n.ItemValue cursor.old) cursor.new }
         ensures fewer { IfOk result (λ _. length cursor.new < length cursor.old) }
@@ -96,7 +96,7 @@ impl<
 
     #[tactic(auto, using(sql_grammar::proofs::Queries::item_is))]
     fn item(&self, cursor: &mut Cursor<'_>) -> Result<SelectItem, Unread>
-        requires sound { Nests self.now.nest.most (F.pre self.now.nest.expr) (G.pre self.now.nest.query) (F.post self.now.nest.expr) (G.post self.now.nest.query) }
+        requires sound { NestReads self.now.nest F.pre G.pre F.post G.post }
         requires below { length cursor.old < self.now.nest.most }
         ensures given { spec.Reads result (spec.reading n.Item cursor.old) cursor.new }
         ensures fewer { IfOk result (λ _. length cursor.new < length cursor.old) }
@@ -112,7 +112,7 @@ impl<
     }
 
     fn items(&self, cursor: &mut Cursor<'_>) -> Result<List<SelectItem>, Unread>
-        requires sound { Nests self.now.nest.most (F.pre self.now.nest.expr) (G.pre self.now.nest.query) (F.post self.now.nest.expr) (G.post self.now.nest.query) }
+        requires sound { NestReads self.now.nest F.pre G.pre F.post G.post }
         requires below { length cursor.old < self.now.nest.most }
         ensures given { spec.Reads result (piece.items cursor.old) cursor.new }
         ensures fewer { IfOk result (λ _. length cursor.new ≤ length cursor.old) }
@@ -126,7 +126,7 @@ impl<
 
     /// The condition behind this word, if the word stands next.
     fn clause(&self, cursor: &mut Cursor<'_>, sort: Sort) -> Result<Option<Boxed<ExprTree>>, Unread>
-        requires sound { Nests self.now.nest.most (F.pre self.now.nest.expr) (G.pre self.now.nest.query) (F.post self.now.nest.expr) (G.post self.now.nest.query) }
+        requires sound { NestReads self.now.nest F.pre G.pre F.post G.post }
         requires below { length cursor.old ≤ self.now.nest.most }
         ensures given { spec.Reads result (spelled.clause sort cursor.old) cursor.new }
         ensures fewer { IfOk result (λ _. length cursor.new ≤ length cursor.old) }
@@ -140,7 +140,7 @@ impl<
 
     #[tactic(auto, using(sql_grammar::proofs::Queries::condition_is))]
     pub fn condition(&self, cursor: &mut Cursor<'_>) -> Result<Option<Boxed<ExprTree>>, Unread>
-        requires sound { Nests self.now.nest.most (F.pre self.now.nest.expr) (G.pre self.now.nest.query) (F.post self.now.nest.expr) (G.post self.now.nest.query) }
+        requires sound { NestReads self.now.nest F.pre G.pre F.post G.post }
         requires below { length cursor.old ≤ self.now.nest.most }
         ensures given { spec.Reads result (spec.reading n.Condition cursor.old) cursor.new }
         ensures fewer { IfOk result (λ _. length cursor.new ≤ length cursor.old) }
@@ -150,7 +150,7 @@ impl<
 
     #[tactic(auto, using(sql_grammar::proofs::Queries::having_is))]
     fn having(&self, cursor: &mut Cursor<'_>) -> Result<Option<Boxed<ExprTree>>, Unread>
-        requires sound { Nests self.now.nest.most (F.pre self.now.nest.expr) (G.pre self.now.nest.query) (F.post self.now.nest.expr) (G.post self.now.nest.query) }
+        requires sound { NestReads self.now.nest F.pre G.pre F.post G.post }
         requires below { length cursor.old ≤ self.now.nest.most }
         ensures given { spec.Reads result (spec.reading n.Having cursor.old) cursor.new }
         ensures fewer { IfOk result (λ _. length cursor.new ≤ length cursor.old) }
@@ -160,7 +160,7 @@ impl<
 
     /// The clauses behind the items.
     fn clauses(&self, cursor: &mut Cursor<'_>) -> Result<Clauses, Unread>
-        requires sound { Nests self.now.nest.most (F.pre self.now.nest.expr) (G.pre self.now.nest.query) (F.post self.now.nest.expr) (G.post self.now.nest.query) }
+        requires sound { NestReads self.now.nest F.pre G.pre F.post G.post }
         requires below { length cursor.old ≤ self.now.nest.most }
         ensures given { spec.Reads result (spelled.clauses cursor.old) cursor.new }
         ensures fewer { IfOk result (λ _. length cursor.new ≤ length cursor.old) }
@@ -179,7 +179,7 @@ impl<
 
     #[tactic(auto, using(crate::proofs::Selecting::core_is))]
     pub(crate) fn core(&self, cursor: &mut Cursor<'_>) -> Result<Boxed<Core>, Unread>
-        requires sound { Nests self.now.nest.most (F.pre self.now.nest.expr) (G.pre self.now.nest.query) (F.post self.now.nest.expr) (G.post self.now.nest.query) }
+        requires sound { NestReads self.now.nest F.pre G.pre F.post G.post }
         requires below { length cursor.old ≤ self.now.nest.most }
         ensures given { spec.Reads result (spec.reading n.CoreOf cursor.old) cursor.new }
         ensures fewer { IfOk result (λ _. length cursor.new < length cursor.old) }

@@ -3,13 +3,13 @@
 ghost use Rattle.std.specs.Prelude.{◌≡◌, ◌<◌, ◌≤◌, Ok, length, IfOk};
 ghost use Rattle.sql_grammar.specs.Building as b;
 ghost use Rattle.sql_grammar.specs.Cursors as spec;
-ghost use Rattle.sql_grammar.specs.Nests.{Nests};
-ghost use Rattle.sql_grammar.specs.Pieces as piece;
+ghost use Rattle.sql_grammar.specs.Nests.{NestReads};
+ghost use Rattle.sql_grammar.specs.built.Pieces as piece;
 ghost use Rattle.sql_grammar.specs.Symbols as n;
 
 use crate::grammar::Queries;
-use perm_values::{Boxed, List, NoMemory};
-use sql_grammar::{Cursor, Unread, Sort, all_items, same_sort, sort_of};
+use perm_values::{Boxed, List, NoMemory, both};
+use sql_grammar::{Cursor, Sort, Unread, all_items, same_sort, sort_of};
 use sql_lexer::Token;
 use sql_tree::{ExprTree, OrderTree, QueryTree, SetStep, SetTree, SetWord};
 use std::alloc::Global;
@@ -39,18 +39,6 @@ fn set_chain(
     Boxed::new(alloc, SetTree::Chain { first, steps })
 }
 
-/// A result with a value that was there before. It is generic, so that what is let go where the result is wanting isn't taken
-/// apart in each function.
-fn with<A: Drop, B: Drop>(first: Result<A, NoMemory>, second: B) -> Result<(A, B), NoMemory>
-    ensures first_was { IfOk result (λ pair. first ≡ Ok pair.0) }
-    ensures second_was { IfOk result (λ pair. pair.1 ≡ second) }
-{
-    match first {
-        Ok(first) => Ok((first, second)),
-        Err(error) => Err(error),
-    }
-}
-
 fn query_tree(
     alloc: Global,
     at: usize,
@@ -63,8 +51,8 @@ fn query_tree(
     ensures { IfOk result (λ tree. tree ≡ b.query_rest rest at first) }
 {
     let (intersections, behind) = rest;
-    let (term, (unions, ends)) = with(set_chain(alloc, first, intersections), behind)?;
-    let (body, (order, limit)) = with(set_chain(alloc, term, unions), ends)?;
+    let (term, (unions, ends)) = both(set_chain(alloc, first, intersections), Ok(behind))?;
+    let (body, (order, limit)) = both(set_chain(alloc, term, unions), Ok(ends))?;
     let query = QueryTree {
         at,
         body: body.into_inner(),
@@ -80,7 +68,7 @@ impl<
 > Queries<F, G> {
     #[tactic(auto, using(crate::proofs::Parts::parenthesised_is))]
     fn parenthesised(&self, cursor: &mut Cursor<'_>) -> Result<Boxed<SetTree>, Unread>
-        requires sound { Nests self.now.nest.most (F.pre self.now.nest.expr) (G.pre self.now.nest.query) (F.post self.now.nest.expr) (G.post self.now.nest.query) }
+        requires sound { NestReads self.now.nest F.pre G.pre F.post G.post }
         requires below { length cursor.old ≤ self.now.nest.most }
         ensures given { spec.Reads result (piece.parenthesised cursor.old) cursor.new }
         ensures fewer { IfOk result (λ _. length cursor.new < length cursor.old) }
@@ -93,7 +81,7 @@ impl<
 
     #[tactic(auto, using(sql_grammar::proofs::Queries::operand_is))]
     fn operand(&self, cursor: &mut Cursor<'_>) -> Result<Boxed<SetTree>, Unread>
-        requires sound { Nests self.now.nest.most (F.pre self.now.nest.expr) (G.pre self.now.nest.query) (F.post self.now.nest.expr) (G.post self.now.nest.query) }
+        requires sound { NestReads self.now.nest F.pre G.pre F.post G.post }
         requires below { length cursor.old ≤ self.now.nest.most }
         ensures given { spec.Reads result (spec.reading n.Operand cursor.old) cursor.new }
         ensures fewer { IfOk result (λ _. length cursor.new < length cursor.old) }
@@ -108,7 +96,7 @@ impl<
 
     #[tactic(auto, using(sql_grammar::proofs::Queries::intersect_is))]
     fn intersect_step(&self, cursor: &mut Cursor<'_>) -> Result<SetStep, Unread>
-        requires sound { Nests self.now.nest.most (F.pre self.now.nest.expr) (G.pre self.now.nest.query) (F.post self.now.nest.expr) (G.post self.now.nest.query) }
+        requires sound { NestReads self.now.nest F.pre G.pre F.post G.post }
         requires below { length cursor.old ≤ self.now.nest.most }
         ensures given { spec.Reads result (spec.reading n.IntersectStep cursor.old) cursor.new }
         ensures fewer { IfOk result (λ _. length cursor.new < length cursor.old) }
@@ -126,7 +114,7 @@ impl<
     }
 
     fn intersections(&self, cursor: &mut Cursor<'_>) -> Result<List<SetStep>, Unread>
-        requires sound { Nests self.now.nest.most (F.pre self.now.nest.expr) (G.pre self.now.nest.query) (F.post self.now.nest.expr) (G.post self.now.nest.query) }
+        requires sound { NestReads self.now.nest F.pre G.pre F.post G.post }
         requires below { length cursor.old ≤ self.now.nest.most }
         ensures given { spec.Reads result (piece.intersections cursor.old) cursor.new }
         ensures fewer { IfOk result (λ _. length cursor.new ≤ length cursor.old) }
@@ -140,7 +128,7 @@ impl<
 
     #[tactic(auto, using(sql_grammar::proofs::Queries::term_is))]
     fn term(&self, cursor: &mut Cursor<'_>) -> Result<Boxed<SetTree>, Unread>
-        requires sound { Nests self.now.nest.most (F.pre self.now.nest.expr) (G.pre self.now.nest.query) (F.post self.now.nest.expr) (G.post self.now.nest.query) }
+        requires sound { NestReads self.now.nest F.pre G.pre F.post G.post }
         requires below { length cursor.old ≤ self.now.nest.most }
         ensures given { spec.Reads result (spec.reading n.Term cursor.old) cursor.new }
         ensures fewer { IfOk result (λ _. length cursor.new < length cursor.old) }
@@ -152,7 +140,7 @@ impl<
 
     #[tactic(auto, using(sql_grammar::proofs::Queries::union_is))]
     fn union_step(&self, cursor: &mut Cursor<'_>) -> Result<SetStep, Unread>
-        requires sound { Nests self.now.nest.most (F.pre self.now.nest.expr) (G.pre self.now.nest.query) (F.post self.now.nest.expr) (G.post self.now.nest.query) }
+        requires sound { NestReads self.now.nest F.pre G.pre F.post G.post }
         requires below { length cursor.old ≤ self.now.nest.most }
         ensures given { spec.Reads result (spec.reading n.UnionStep cursor.old) cursor.new }
         ensures fewer { IfOk result (λ _. length cursor.new < length cursor.old) }
@@ -171,7 +159,7 @@ impl<
     }
 
     fn unions(&self, cursor: &mut Cursor<'_>) -> Result<List<SetStep>, Unread>
-        requires sound { Nests self.now.nest.most (F.pre self.now.nest.expr) (G.pre self.now.nest.query) (F.post self.now.nest.expr) (G.post self.now.nest.query) }
+        requires sound { NestReads self.now.nest F.pre G.pre F.post G.post }
         requires below { length cursor.old ≤ self.now.nest.most }
         ensures given { spec.Reads result (piece.unions cursor.old) cursor.new }
         ensures fewer { IfOk result (λ _. length cursor.new ≤ length cursor.old) }
@@ -187,7 +175,7 @@ impl<
         &self,
         cursor: &mut Cursor<'_>,
     ) -> Result<(List<SetStep>, (List<OrderTree>, Option<i64>)), Unread>
-        requires sound { Nests self.now.nest.most (F.pre self.now.nest.expr) (G.pre self.now.nest.query) (F.post self.now.nest.expr) (G.post self.now.nest.query) }
+        requires sound { NestReads self.now.nest F.pre G.pre F.post G.post }
         requires below { length cursor.old ≤ self.now.nest.most }
         ensures given { spec.Reads result (piece.unions_on cursor.old) cursor.new }
         ensures fewer { IfOk result (λ _. length cursor.new ≤ length cursor.old) }
@@ -207,7 +195,7 @@ impl<
         ),
         Unread,
     >
-        requires sound { Nests self.now.nest.most (F.pre self.now.nest.expr) (G.pre self.now.nest.query) (F.post self.now.nest.expr) (G.post self.now.nest.query) }
+        requires sound { NestReads self.now.nest F.pre G.pre F.post G.post }
         requires below { length cursor.old ≤ self.now.nest.most }
         ensures given { spec.Reads result (piece.query_rest cursor.old) cursor.new }
         ensures fewer { IfOk result (λ _. length cursor.new ≤ length cursor.old) }
@@ -220,7 +208,7 @@ impl<
     /// A query, whose inner queries are read by another function.
     #[tactic(auto, using(sql_grammar::proofs::Queries::query_is))]
     pub fn query_body(&self, cursor: &mut Cursor<'_>) -> Result<Boxed<QueryTree>, Unread>
-        requires sound { Nests self.now.nest.most (F.pre self.now.nest.expr) (G.pre self.now.nest.query) (F.post self.now.nest.expr) (G.post self.now.nest.query) }
+        requires sound { NestReads self.now.nest F.pre G.pre F.post G.post }
         requires below { length cursor.old ≤ self.now.nest.most }
         ensures given { spec.Reads result (spec.reading n.Query cursor.old) cursor.new }
         ensures fewer { IfOk result (λ _. length cursor.new < length cursor.old) }

@@ -6,7 +6,7 @@ use Rattle.sql_grammar.specs.Descent.{Taken}
 use Rattle.sql_grammar.specs.Lists.{listed}
 use Rattle.sql_grammar.specs.declared.sort.Sort.TheVariants.{Semicolon}
 use Rattle.sql_grammar.proofs.Listing.{fails-on}
-use Rattle.sql_parser.specs.Statements.{optional_statement, statements}
+use Rattle.sql_parser.specs.built.Statements.{optional_statement, statements}
 use Rattle.sql_parser.proofs.Keeping.{Keeping, keeping-first, keeping-next, keeping-stopped, keeping-done}
 use Rattle.sql_parser.proofs.statements.statements.Goals as goal
 

@@ -7,7 +7,7 @@ use Rattle.sql_grammar.specs.Building as b
 use Rattle.sql_grammar.specs.Building.{node}
 use Rattle.sql_grammar.specs.Cursors.{reading, sees, one}
 use Rattle.sql_grammar.specs.Descent.{Outcome, mapped}
-use Rattle.sql_grammar.specs.Pieces.{by}
+use Rattle.sql_grammar.specs.built.Pieces.{by}
 use Rattle.sql_grammar.specs.Rules.{word, token, symbol, ◌then◌}
 use Rattle.sql_grammar.specs.Symbols as n
 use Rattle.sql_grammar.specs.declared.sort.Sort.{Sort}

@@ -3,7 +3,7 @@ use Rattle.std.specs.Prelude.{ℕ, List, Option}
 use Rattle.sql_lexer.specs.declared.token.Token.{Token}
 use Rattle.sql_grammar.specs.Cursors.{reading, past}
 use Rattle.sql_grammar.specs.Descent.{Outcome, and_then, mapped}
-use Rattle.sql_grammar.specs.Pieces.{passes}
+use Rattle.sql_grammar.specs.built.Pieces.{passes}
 use Rattle.sql_grammar.specs.Symbols as n
 use Rattle.sql_grammar.specs.declared.sort.Sort.TheVariants as s
 use Rattle.sql_tree.specs.declared.name.Name.{Name}

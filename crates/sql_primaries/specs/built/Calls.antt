@@ -3,12 +3,12 @@ use Rattle.std.specs.Prelude.{Bool, true, false, Some, None, List, [], ◌∷◌
 use Rattle.sql_lexer.specs.declared.token.Token.{Token}
 use Rattle.sql_grammar.specs.Building as b
 use Rattle.sql_grammar.specs.Building.{Word}
-use Rattle.sql_grammar.specs.Cursors.{reading, sees, past, one}
+use Rattle.sql_grammar.specs.Cursors.{reading, sees, one}
 use Rattle.sql_grammar.specs.Descent.{Outcome, and_then, mapped}
 use Rattle.sql_grammar.specs.Lists.{all_of}
-use Rattle.sql_grammar.specs.Pieces.{between, by, passes}
+use Rattle.sql_grammar.specs.built.Pieces.{between, by, passes}
 use Rattle.sql_grammar.specs.Rules.{word, symbol, ◌then◌}
-use Rattle.sql_grammar.specs.Sequences.{value_before}
+use Rattle.sql_grammar.specs.built.Sequences.{value_before}
 use Rattle.sql_grammar.specs.Symbols as n
 use Rattle.sql_grammar.specs.Tables.{begins}
 use Rattle.sql_grammar.specs.declared.sort.Sort.{Sort}

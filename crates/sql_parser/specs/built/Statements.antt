@@ -6,7 +6,7 @@ use Rattle.sql_grammar.specs.Building.{Word, present}
 use Rattle.sql_grammar.specs.Cursors.{reading, sees}
 use Rattle.sql_grammar.specs.Descent.{Outcome, mapped}
 use Rattle.sql_grammar.specs.Lists.{listed}
-use Rattle.sql_grammar.specs.Pieces.{by}
+use Rattle.sql_grammar.specs.built.Pieces.{by}
 use Rattle.sql_grammar.specs.Rules.{word, token, symbol, ◌then◌, optional}
 use Rattle.sql_grammar.specs.Symbols as n
 use Rattle.sql_grammar.specs.Tables.{begins}

@@ -3,7 +3,7 @@ use Rattle.std.specs.Prelude.{ℕ, Bool, cond, List, [], ◌∷◌, Option, Some
 use Rattle.sql_lexer.specs.declared.token.Token.{Token}
 use Rattle.sql_grammar.specs.Cursors.{reading, sees, past}
 use Rattle.sql_grammar.specs.Descent.{Outcome, Taken, and_then, mapped}
-use Rattle.sql_grammar.specs.Pieces as piece
+use Rattle.sql_grammar.specs.built.Pieces as piece
 use Rattle.sql_grammar.specs.Symbols as n
 use Rattle.sql_grammar.specs.declared.sort.Sort.{Sort}
 use Rattle.sql_grammar.specs.declared.sort.Sort.TheVariants as s

@@ -5,7 +5,7 @@ use Rattle.sql_grammar.specs.Building.{Word}
 use Rattle.sql_grammar.specs.Cursors.{past}
 use Rattle.sql_grammar.specs.Descent.{Outcome, and_then, mapped, begins_with}
 use Rattle.sql_grammar.specs.Grammar.{sql}
-use Rattle.sql_grammar.specs.Pieces.{passes}
+use Rattle.sql_grammar.specs.built.Pieces.{passes}
 use Rattle.sql_grammar.specs.Tables.{sql_tables}
 use Rattle.sql_grammar.specs.declared.sort.Sort.{Sort}
 use Rattle.sql_grammar.specs.declared.sort.Sort.TheVariants as s
