@@ -145,10 +145,10 @@ module _ (g : Grammar) (tables : Tables g) (goes_on : g.Symbol → List g.Sort) 
   more-complete r us vs rest x xs full b one others =
       ap (by (many r)) (append_assoc us vs rest) ∙ many-is r full (us ++ (vs ++ rest)) ∙ rw (begun r us (vs ++ rest) full b, one, others) refl
 
-  placed-complete : (r : RuleOf g) (us rest : List g.Token) (x : ValueOf g r) (place : ℕ) → nullable tables.empty r ≡ false → Begins g tables r us → StartsAt g place us
-      → by r (us ++ rest) ≡ Taken x rest → by (placed r) (us ++ rest) ≡ Taken (place, x) rest
-  placed-complete r [] rest x place full b at a = let no : true ≡ false = sym b ∙ full in absurd cc
-  placed-complete r (t ∷ us) rest x place full b at a = rw (a, at) refl
+  placed-complete : (r : RuleOf g) (us rest : List g.Token) (x : ValueOf g r) (offset : ℕ) → nullable tables.empty r ≡ false → Begins g tables r us → StartsAt g offset us
+      → by r (us ++ rest) ≡ Taken x rest → by (placed r) (us ++ rest) ≡ Taken (offset, x) rest
+  placed-complete r [] rest x offset full b at a = let no : true ≡ false = sym b ∙ full in absurd cc
+  placed-complete r (t ∷ us) rest x offset full b at a = rw (a, at) refl
 
   nothing_more : (r : RuleOf g) (rest : List g.Token) → nullable tables.empty r ≡ false → Ends (many r) rest → by (many r) rest ≡ Taken [] rest
   nothing_more r rest full e = many-is r full rest ∙ rw (ends-left (start_of g tables r) (extends_of g tables goes_on r) rest e) refl
@@ -196,8 +196,8 @@ module _ (g : Grammar) (tables : Tables g) (goes_on : g.Symbol → List g.Sort) 
       more-complete r us vs rest x xs is.1 (begins g tables decided.has_begins a)
       (complete a is.0 (vs ++ rest) (ends_inside r vs rest is.2 (begins g tables decided.has_begins b) ends))
       (complete b is rest ends)
-  complete (at_place {r = r} {place = place} {us = us} {x = x} a at) is rest ends =
-      placed-complete r us rest x place is.1 (begins g tables decided.has_begins a) at (complete a is.0 rest ends)
+  complete (at_place {r = r} {offset = offset} {us = us} {x = x} a at) is rest ends =
+      placed-complete r us rest x offset is.1 (begins g tables decided.has_begins a) at (complete a is.0 rest ends)
   complete (as_symbol {n = n} {us = us} a) is rest ends =
       let e = complete a (decided.fine n) rest (ends_of n rest ends) in
       read-is g tables decided.told decided.has_begins decided.falls n (us ++ rest) ∙ ap (mapped (g.build n)) e

@@ -4,9 +4,9 @@ use Rattle.std.specs.Prelude.{IfOk}
 use Rattle.sql_lexer.specs.declared.token.Token.{Token}
 use Rattle.sql_grammar.specs.Cursors.{Reads}
 use Rattle.sql_grammar.specs.Descent.{Outcome, Taken}
-use Rattle.sql_grammar.specs.declared.fault.Fault.{Fault}
+use Rattle.sql_grammar.specs.declared.unread.Unread.{Unread}
 
-pub fewer_of : {X : Type 0} (result : Result X Fault) (outcome : Outcome Token X) (old new : List Token)
+pub fewer_of : {X : Type 0} (result : Result X Unread) (outcome : Outcome Token X) (old new : List Token)
     → ((x : X) → outcome ≡ Taken x new → length new < length old) → Reads result outcome new → IfOk result (λ _. length new < length old)
 fewer_of (Ok x) outcome old new takes e = takes x e
-fewer_of (Err fault) outcome old new takes e = tt
+fewer_of (Err unread) outcome old new takes e = tt

@@ -2,9 +2,9 @@
 use Rattle.std.proofs.Common.{◌≡◌, ℕ, Bool, true, false, ◌||◌, cond, List, [], ◌∷◌, refl, sym, ap, ◌∙◌}
 use Rattle.sql_lexer.specs.declared.token.Token.{Token}
 use Rattle.sql_grammar.specs.Building as b
-use Rattle.sql_grammar.specs.Cursors.{reading, past, place, sees}
+use Rattle.sql_grammar.specs.Cursors.{reading, past, offset, sees}
 use Rattle.sql_grammar.specs.Descent.{Outcome, Taken, Stopped, and_then, mapped}
-use Rattle.sql_grammar.specs.Pieces as piece
+use Rattle.sql_grammar.specs.built.Pieces as piece
 use Rattle.sql_grammar.specs.Sorts.{sort_of, same_sort}
 use Rattle.sql_grammar.specs.Symbols as n
 use Rattle.sql_grammar.specs.declared.sort.Sort.{Sort}
@@ -34,10 +34,10 @@ as_operand at (Stopped rest) = refl
 
 pub inner_by_query : (tokens : List Token) → reading n.Inner tokens ≡ cond (sees (s.Select ∷ []) tokens) (reading n.Query tokens) (Stopped tokens)
 inner_by_query tokens = inner_is tokens ∙ by_test (sees (s.Select ∷ []) tokens) refl where
-  by_test : (c : Bool) → sees (s.Select ∷ []) tokens ≡ c → behind_core (place tokens) (reading n.CoreOf tokens) ≡ cond c (reading n.Query tokens) (Stopped tokens)
-  by_test false e = ap (behind_core (place tokens)) (core-unseen tokens e)
+  by_test : (c : Bool) → sees (s.Select ∷ []) tokens ≡ c → behind_core (offset tokens) (reading n.CoreOf tokens) ≡ cond c (reading n.Query tokens) (Stopped tokens)
+  by_test false e = ap (behind_core (offset tokens)) (core-unseen tokens e)
   by_test true e =
       sym (query_is tokens
-      ∙ ap (λ o. and_then o (λ first rest. mapped (λ v. b.query_rest v (place tokens) first) (piece.query_rest rest)))
+      ∙ ap (λ o. and_then o (λ first rest. mapped (λ v. b.query_rest v (offset tokens) first) (piece.query_rest rest)))
       (operand_is tokens ∙ ap (λ c. cond c (mapped b.core_operand (reading n.CoreOf tokens)) (piece.parenthesised tokens)) e)
-      ∙ as_operand (place tokens) (reading n.CoreOf tokens))
+      ∙ as_operand (offset tokens) (reading n.CoreOf tokens))

@@ -9,17 +9,13 @@ use Rattle.sql_grammar.specs.Grammar.{sql}
 use Rattle.sql_grammar.specs.Lists.{all_of, behind, others, listed, more_listed}
 use Rattle.sql_grammar.specs.Sorts.{sort_of, same_sort}
 use Rattle.sql_grammar.specs.Tables.{sql_tables}
-use Rattle.sql_grammar.specs.declared.fault.Fault.{Fault}
-use Rattle.sql_grammar.specs.declared.fault.Fault.TheVariants.{Unexpected, NoMemory}
+use Rattle.sql_grammar.specs.declared.unread.Unread.{Unread}
+use Rattle.sql_grammar.specs.declared.unread.Unread.TheVariants.{Unexpected, NoMemory}
 use Rattle.sql_grammar.specs.declared.sort.Sort.{Sort}
 
 pub mapped-mapped : {X Y Z : Type 0} (f : Y → Z) (g : X → Y) (h : X → Z) → ((x : X) → f (g x) ≡ h x) → (o : Outcome Token X) → mapped f (mapped g o) ≡ mapped h o
 mapped-mapped f g h e (Taken x rest) = ap (λ z. Taken z rest) (e x)
 mapped-mapped f g h e (Stopped rest) = refl
-
-pub mapped-same : {X Y : Type 0} (f g : X → Y) → ((x : X) → f x ≡ g x) → (o : Outcome Token X) → mapped f o ≡ mapped g o
-mapped-same f g e (Taken x rest) = ap (λ z. Taken z rest) (e x)
-mapped-same f g e (Stopped rest) = refl
 
 -- what is read leaves no more tokens
 pub record Keeps {X : Type 0} (one : List Token → Outcome Token X) : Type 0 where
@@ -132,16 +128,9 @@ module _ {X : Type 0} (separator : Sort) (one : List Token → Outcome Token X) 
       ∙ ap (mapped (λ xs. found ++ map (λ m. m.1) xs)) (all_of-done (separator ∷ []) (behind separator one) ts unseen)
       ∙ ap (λ l. Taken l ts) (append-nil found)
 
-  pub seen-past : (ts rest : List Token) → sees (separator ∷ []) ts ≡ true → past separator ts ≡ Stopped rest → ⊥
-  seen-past [] rest seen e = absurd cc
-  seen-past (t ∷ ts) rest seen e = by_sort (same_sort (sort_of t) separator) refl seen e where
-    by_sort : (b : Bool) → same_sort (sort_of t) separator ≡ b → sees (separator ∷ []) (t ∷ ts) ≡ true → past separator (t ∷ ts) ≡ Stopped rest → ⊥
-    by_sort true e seen f = let g : Taken tt ts ≡ Stopped rest = rw e at f in cc
-    by_sort false e seen f = let g : false ≡ true = rw e at seen in cc
-
 -- where a part fails, so does the whole
-pub fails-on : {X Y : Type 0} (fault : Fault) (o : Outcome Token X) (p : Outcome Token Y) (rest : List Token)
-    → (o ≡ Stopped rest → p ≡ Stopped rest) → Reads (Err fault) o rest → Reads (Err fault) p rest
+pub fails-on : {X Y : Type 0} (unread : Unread) (o : Outcome Token X) (p : Outcome Token Y) (rest : List Token)
+    → (o ≡ Stopped rest → p ≡ Stopped rest) → Reads (Err unread) o rest → Reads (Err unread) p rest
 fails-on Unexpected o p rest onward e = onward e
 fails-on NoMemory o p rest onward e = tt
 
@@ -149,12 +138,6 @@ module _ {X : Type 0} (sorts : List Sort) (one : List Token → Outcome Token X)
   -- the whole is what was found, and all that is still to be read
   pub record Within (whole : Outcome Token (List X)) (found : List X) (ts : List Token) : Type 0 where
     pub is : whole ≡ mapped (λ xs. found ++ xs) (all_of sorts one ts)
-
-  pub Within-first : (ts : List Token) → Within (all_of sorts one ts) [] ts
-  Within-first ts = record { is = sym (by_outcome (all_of sorts one ts)) } where
-    by_outcome : (o : Outcome Token (List X)) → mapped (λ xs. [] ++ xs) o ≡ o
-    by_outcome (Taken x rest) = refl
-    by_outcome (Stopped rest) = refl
 
   pub Within-next : Takes one → (whole : Outcome Token (List X)) (found : List X) (ts rest : List Token) (x : X)
       → sees sorts ts ≡ true → one ts ≡ Taken x rest → Within whole found ts → Within whole (found ++ x ∷ []) rest

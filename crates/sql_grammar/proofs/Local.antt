@@ -1,7 +1,7 @@
 -- Where and how reading ends depends on the tokens up to the one at which it ends.
 use Rattle.std.proofs.Common.{◌≡◌, ℕ, zero, suc, ◌+◌, ◌*◌, ◌≤◌, ◌<◌, Bool, true, false, ◌||◌, cond, List, [], ◌∷◌, ◌++◌, length, Some, inl, inr, refl, sym, ap, subst, ◌∙◌, append_assoc, append-nil, length-append, mul-le-mul_right, ltb-true, arith}
 use Rattle.sql_grammar.specs.Rules.{word, token, ◌then◌, ◌or◌, front, optional, many, placed, symbol, Grammar, RuleOf, ValueOf}
-use Rattle.sql_grammar.specs.Descent.{Outcome, Taken, Stopped, and_then, mapped, Tables, nullable, next_is, begins_with, start_of, singles, place_of, take_word, take_token, read}
+use Rattle.sql_grammar.specs.Descent.{Outcome, Taken, Stopped, and_then, mapped, Tables, nullable, next_is, begins_with, start_of, singles, offset_of, take_word, take_token, read}
 use Rattle.sql_grammar.proofs.Sound.{Claims, Spells}
 use Rattle.sql_grammar.proofs.Begins.{both_true, has}
 use Rattle.sql_grammar.proofs.Depth.{below, Below, all_below, no_longer, shorter, read-is}
@@ -96,9 +96,9 @@ module _ (g : Grammar) (tables : Tables g) (goes_on : g.Symbol → List g.Sort) 
     token-kept sorts here = taken_or_stopped t (has g tables sorts t)
     token-kept sorts (there {x = x} {ts = ts} {us = us} s) = taken_or_stopped_before x (has g tables sorts x) x ts us s
 
-    place-swapped : {ts us : List g.Token} → Swap ts us → place_of g tables ts ≡ place_of g tables us
-    place-swapped here = refl
-    place-swapped (there s) = refl
+    offset-swapped : {ts us : List g.Token} → Swap ts us → offset_of g tables ts ≡ offset_of g tables us
+    offset-swapped here = refl
+    offset-swapped (there s) = refl
 
     -- which way a choice by a front goes
     front-kept : (r s : RuleOf g) (ts us : List g.Token) → IsFine g tables goes_on (front r s) → Swap ts us → Keeps (reads r ts) (reads r us) → Keeps (reads s ts) (reads s us)
@@ -125,10 +125,10 @@ module _ (g : Grammar) (tables : Tables g) (goes_on : g.Symbol → List g.Sort) 
         past stop (inr k) = inr (omega (arith, ap length (left-mapped {Y = ValueOf g (front r s)} inr (reads s ts)), k))
         past stop (inl k) =
             let same : left_of (reads s us) ≡ k.0 = ap left_of k.2 ∙ left-with k.0 (reads s ts) in
-            let place = ap length (sym (ap left_of stop.1) ∙ same) in
+            let counts = ap length (sym (ap left_of stop.1) ∙ same) in
             let lengths = swapped-lengths t rest ws swap in
             let longer = swapped-longer' t rest ws k.1 in
-            absurd (differ' e f (omega (arith, place, stop.2, lengths, longer)))
+            absurd (differ' e f (omega (arith, counts, stop.2, lengths, longer)))
 
     -- symbols whose calls go less deep than this
     abbrev KeptBelow : ℕ → Type 0
@@ -199,7 +199,7 @@ module _ (g : Grammar) (tables : Tables g) (goes_on : g.Symbol → List g.Sort) 
           (inl (us, swap, refl))
       rule-kept (many r) is k ts us swap lower fits = many-kept r is.1 (rule-kept r is.0) (length ts) k ts us (omega arith) swap lower fits
       rule-kept (placed r) is k ts us swap lower fits =
-          rw (place-swapped swap) (mapped-kept t rest ws (λ x. (place_of g tables us, x)) (reads r ts) (reads r us) (rule-kept r is.0 k ts us swap lower fits))
+          rw (offset-swapped swap) (mapped-kept t rest ws (λ x. (offset_of g tables us, x)) (reads r ts) (reads r us) (rule-kept r is.0 k ts us swap lower fits))
       rule-kept (symbol n) is k ts us swap lower fits =
           below_most n ts us swap (omega (arith, fits.0, ltb-true (tables.rank n) k lower))
 

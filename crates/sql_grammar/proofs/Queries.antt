@@ -4,10 +4,10 @@ use Rattle.sql_lexer.specs.declared.token.Token.{Token}
 use Rattle.sql_grammar.specs.Building as b
 use Rattle.sql_grammar.specs.Building.{Word}
 use Rattle.sql_grammar.specs.Rules.{word, token, ◌then◌, optional, placed, symbol}
-use Rattle.sql_grammar.specs.Cursors.{reading, one, past, place, sees}
+use Rattle.sql_grammar.specs.Cursors.{reading, one, past, offset, sees}
 use Rattle.sql_grammar.specs.Descent.{Outcome, Taken, Stopped, and_then, mapped, begins_with, step}
 use Rattle.sql_grammar.specs.Grammar.{sql, body, list_of, in_parentheses}
-use Rattle.sql_grammar.specs.Pieces as piece
+use Rattle.sql_grammar.specs.built.Pieces as piece
 use Rattle.sql_grammar.specs.Sorts.{names, sort_of, same_sort}
 use Rattle.sql_grammar.specs.Symbols as n
 use Rattle.sql_grammar.specs.Symbols.{Symbol, Tree}
@@ -38,12 +38,6 @@ sees_more sort sorts (t ∷ rest) = by_test (same_sort (sort_of t) sort) (sees s
   by_test : (a b : Bool) → a || b ≡ (a || false) || b
   by_test true b = refl
   by_test false b = refl
-
--- an optional choice of two
-pub cond_or : {X Y : Type 0} (a b : Bool) (f : X → Y) (x y : X) (z : Y) → cond (a || b) (f (cond a x y)) z ≡ cond a (f x) (cond b (f y) z)
-cond_or true b f x y z = refl
-cond_or false true f x y z = refl
-cond_or false false f x y z = refl
 
 -- what stands behind two words
 pub two_words : {X Y : Type 0} (o : Outcome Token Word) (k : List Token → Outcome Token Word) (l : List Token → Outcome Token X) (f : Word × (Word × X) → Y) (h : X → Y)
@@ -181,8 +175,8 @@ stepped word_of v = b.set_step (word_of v.0) v.1.0 v.1.1
 
 -- a set operation, its ALL and its operand
 set_step_is : {X : Type 0} (o : Outcome Token X) (k : List Token → Outcome Token (Option Word)) (l : List Token → Outcome Token SetTree) (word_of : X → SetWord)
-    → mapped (stepped word_of) (and_then o (λ x a. mapped (λ y. (x, y)) (and_then (k a) (λ w c. mapped (λ y. (w, y)) (mapped (λ y. (place c, y)) (l c))))))
-    ≡ and_then o (λ x a. and_then (mapped is_some (k a)) (λ all c. mapped (λ operand. record { word = word_of x; all = all; at = place c; operand = operand }) (l c)))
+    → mapped (stepped word_of) (and_then o (λ x a. mapped (λ y. (x, y)) (and_then (k a) (λ w c. mapped (λ y. (w, y)) (mapped (λ y. (offset c, y)) (l c))))))
+    ≡ and_then o (λ x a. and_then (mapped is_some (k a)) (λ all c. mapped (λ operand. record { word = word_of x; all = all; at = offset c; operand = operand }) (l c)))
 set_step_is (Stopped rest) k l word_of = refl
 set_step_is (Taken x a) k l word_of = by_word (k a) where
   by_operand : (w : Option Word) (at : ℕ) (q : Outcome Token SetTree) →
@@ -192,17 +186,17 @@ set_step_is (Taken x a) k l word_of = by_word (k a) where
   by_operand w at (Taken y rest) = refl
 
   by_word : (p : Outcome Token (Option Word)) →
-      mapped (stepped word_of) (mapped (λ y. (x, y)) (and_then p (λ w c. mapped (λ y. (w, y)) (mapped (λ y. (place c, y)) (l c)))))
-      ≡ and_then (mapped is_some p) (λ all c. mapped (λ operand. record { word = word_of x; all = all; at = place c; operand = operand }) (l c))
+      mapped (stepped word_of) (mapped (λ y. (x, y)) (and_then p (λ w c. mapped (λ y. (w, y)) (mapped (λ y. (offset c, y)) (l c)))))
+      ≡ and_then (mapped is_some p) (λ all c. mapped (λ operand. record { word = word_of x; all = all; at = offset c; operand = operand }) (l c))
   by_word (Stopped rest) = refl
-  by_word (Taken w c) = by_operand w (place c) (l c)
+  by_word (Taken w c) = by_operand w (offset c) (l c)
 
 pub intersect_is : (tokens : List Token) → reading n.IntersectStep tokens
-    ≡ and_then (past s.Intersect tokens) (λ _ a. and_then (piece.has s.All a) (λ all c. mapped (λ operand. record { word = Intersect; all = all; at = place c; operand = operand }) (reading n.Operand c)))
+    ≡ and_then (past s.Intersect tokens) (λ _ a. and_then (piece.passes s.All a) (λ all c. mapped (λ operand. record { word = Intersect; all = all; at = offset c; operand = operand }) (reading n.Operand c)))
 intersect_is tokens = reading_is n.IntersectStep tokens ∙ set_step_is (past s.Intersect tokens) (piece.word_at s.All) (reading n.Operand) (λ _. Intersect)
 
 pub union_is : (tokens : List Token) → reading n.UnionStep tokens
-    ≡ and_then (one (s.Union ∷ s.Except ∷ []) tokens) (λ t a. and_then (piece.has s.All a) (λ all c. mapped (λ operand. record { word = b.set_word t; all = all; at = place c; operand = operand }) (reading n.Term c)))
+    ≡ and_then (one (s.Union ∷ s.Except ∷ []) tokens) (λ t a. and_then (piece.passes s.All a) (λ all c. mapped (λ operand. record { word = b.set_word t; all = all; at = offset c; operand = operand }) (reading n.Term c)))
 union_is tokens = reading_is n.UnionStep tokens ∙ set_step_is (one (s.Union ∷ s.Except ∷ []) tokens) (piece.word_at s.All) (reading n.Term) b.set_word
 
 abbrev query_of : {X : Type 0} → (X → SetTree) → ℕ × (X × (ℕ → SetTree → QueryTree)) → QueryTree
@@ -219,12 +213,12 @@ rest_is at (Taken x rest) tree = ap (λ o. mapped (query_of tree) (mapped (λ y.
   by_rest (Taken v r) = refl
 
 pub query_is : (tokens : List Token) → reading n.Query tokens
-    ≡ and_then (reading n.Operand tokens) (λ first rest. mapped (λ v. b.query_rest v (place tokens) first) (piece.query_rest rest))
-query_is tokens = reading_is n.Query tokens ∙ rest_is (place tokens) (reading n.Operand tokens) (λ first. first)
+    ≡ and_then (reading n.Operand tokens) (λ first rest. mapped (λ v. b.query_rest v (offset tokens) first) (piece.query_rest rest))
+query_is tokens = reading_is n.Query tokens ∙ rest_is (offset tokens) (reading n.Operand tokens) (λ first. first)
 
 pub inner_is : (tokens : List Token) → reading n.Inner tokens
-    ≡ and_then (reading n.CoreOf tokens) (λ core rest. mapped (λ v. b.query_rest v (place tokens) (b.core_operand core)) (piece.query_rest rest))
-inner_is tokens = reading_is n.Inner tokens ∙ rest_is (place tokens) (reading n.CoreOf tokens) b.core_operand
+    ≡ and_then (reading n.CoreOf tokens) (λ core rest. mapped (λ v. b.query_rest v (offset tokens) (b.core_operand core)) (piece.query_rest rest))
+inner_is tokens = reading_is n.Inner tokens ∙ rest_is (offset tokens) (reading n.CoreOf tokens) b.core_operand
 
 pub operand_is : (tokens : List Token) → reading n.Operand tokens ≡ cond (sees (s.Select ∷ []) tokens) (mapped b.core_operand (reading n.CoreOf tokens)) (piece.parenthesised tokens)
 operand_is tokens = reading_is n.Operand tokens ∙ choice_of b.operand (sees (s.Select ∷ []) tokens) (reading n.CoreOf tokens) (piece.by (in_parentheses (symbol n.Query)) tokens)
@@ -297,14 +291,10 @@ core_parts at (Taken tt a) k l m = by_provenance (k a) where
   by_provenance (Taken p c) = by_distinct p (l c)
 
 pub core_is : (tokens : List Token) → reading n.CoreOf tokens
-    ≡ and_then (past s.Select tokens) (λ _ a. and_then (piece.provenance a) (λ p c. and_then (piece.has s.Distinct c) (λ d e. mapped (λ v. piece.core_of (place tokens) p d v) (piece.items_on e))))
-core_is tokens = reading_is n.CoreOf tokens ∙ core_parts (place tokens) (past s.Select tokens) (piece.by (optional (placed (word s.Provenance)))) (piece.word_at s.Distinct) piece.items_on
+    ≡ and_then (past s.Select tokens) (λ _ a. and_then (piece.provenance a) (λ p c. and_then (piece.passes s.Distinct c) (λ d e. mapped (λ v. piece.core_of (offset tokens) p d v) (piece.items_on e))))
+core_is tokens = reading_is n.CoreOf tokens ∙ core_parts (offset tokens) (past s.Select tokens) (piece.by (optional (placed (word s.Provenance)))) (piece.word_at s.Distinct) piece.items_on
 
 -- without steps an operand is itself
 pub set_chain_of : (first : SetTree) (steps : List SetStep) → (steps ≡ [] → ⊥) → b.set_chain (first, steps) ≡ Chain first steps
 set_chain_of first [] some = absurd (some refl)
 set_chain_of first (step ∷ steps) some = refl
-
-pub is_some_word_if : (found : Bool) → is_some (piece.word_if found) ≡ found
-is_some_word_if true = refl
-is_some_word_if false = refl

@@ -1,16 +1,14 @@
 -- One step of reading, as functions take it that go past several tokens in one call.
-use Rattle.std.proofs.Common.{◌≡◌, Bool, true, false, cond, List, [], ◌∷◌, Option, Some, None, Result, Ok, Err, is_some, inl, inr, refl, ap, ◌∙◌}
+use Rattle.std.proofs.Common.{◌≡◌, Bool, true, false, cond, List, [], ◌∷◌, Option, is_some, inl, inr, refl, ap, ◌∙◌}
 use Rattle.sql_lexer.specs.declared.token.Token.{Token}
 use Rattle.sql_grammar.specs.Building as b
 use Rattle.sql_grammar.specs.Building.{Word}
-use Rattle.sql_grammar.specs.Cursors.{reading, one, past, sees, Sees, Reads}
+use Rattle.sql_grammar.specs.Cursors.{reading, one, past, sees}
 use Rattle.sql_grammar.specs.Descent.{Outcome, Taken, Stopped, and_then, mapped}
-use Rattle.sql_grammar.specs.Pieces as piece
-use Rattle.sql_grammar.specs.Sequences.{both, behind_option, closed}
+use Rattle.sql_grammar.specs.built.Pieces as piece
+use Rattle.sql_grammar.specs.built.Sequences.{both, behind_option, value_before}
 use Rattle.sql_grammar.specs.Sorts.{names}
 use Rattle.sql_grammar.specs.Symbols as n
-use Rattle.sql_grammar.specs.declared.fault.Fault.{Fault}
-use Rattle.sql_grammar.specs.declared.fault.Fault.TheVariants.{Unexpected, NoMemory}
 use Rattle.sql_grammar.specs.declared.sort.Sort.TheVariants as s
 use Rattle.sql_tree.specs.declared.name.Name.{Name}
 use Rattle.sql_tree.specs.declared.query.QueryTree.{QueryTree}
@@ -39,18 +37,9 @@ pub groups_is : (tokens : List Token) → reading n.Groups tokens
 groups_is tokens =
     queries.groups_is tokens ∙ ap (λ o. cond (sees (s.Group ∷ []) tokens) o (Taken [] tokens)) (at_once (past s.Group tokens) (past s.By) piece.columns)
 
--- a word that may stand there, as the function says whether it does
-pub has_of : (result : Result Bool Fault) (o : Outcome Token (Option Word)) (rest : List Token) → Sees piece.word_if result o rest → Reads result (mapped is_some o) rest
-has_of (Ok found) o rest e = ap (mapped is_some) e ∙ by_word found where
-  by_word : (found : Bool) → mapped is_some (Taken (piece.word_if found) rest) ≡ Taken found rest
-  by_word true = refl
-  by_word false = refl
-has_of (Err Unexpected) o rest e = ap (mapped is_some) e
-has_of (Err NoMemory) o rest e = tt
-
 -- ---- joins
 
-inner_join : (o : Outcome Token (Option Word)) → mapped b.join_word (mapped inl (and_then o (λ w a. mapped (λ y. (w, y)) (past s.Join a)))) ≡ mapped (λ _. join.Inner) (and_then o (λ _ a. past s.Join a))
+inner_join : (o : Outcome Token (Option Word)) → mapped b.join_word (mapped inl (and_then o (λ w a. mapped (λ y. (w, y)) (past s.Join a)))) ≡ mapped (λ _. join.Inner) (and_then (mapped is_some o) (λ _ a. past s.Join a))
 inner_join (Stopped rest) = refl
 inner_join (Taken w a) = by_join (past s.Join a) where
   by_join : (o : Outcome Token Word) → mapped b.join_word (mapped inl (mapped (λ y. (w, y)) o)) ≡ mapped (λ _. join.Inner) o
@@ -68,7 +57,7 @@ outer_join (Taken t a) = by_outer (piece.word_at s.Outer a) where
 
   by_outer : (o : Outcome Token (Option Word))
       → mapped b.join_word (mapped inr (mapped (λ y. (t, y)) (and_then o (λ w c. mapped (λ y. (w, y)) (past s.Join c)))))
-      ≡ mapped (λ _. b.outer_of t) (and_then o (λ _ c. past s.Join c))
+      ≡ mapped (λ _. b.outer_of t) (and_then (mapped is_some o) (λ _ c. past s.Join c))
   by_outer (Stopped rest) = refl
   by_outer (Taken w c) = by_join w (past s.Join c)
 
@@ -124,7 +113,7 @@ between_closed {X = X} f g e (Taken tt a) x = by_inside (x a) where
   by_inside (Stopped rest) = refl
   by_inside (Taken v c) = by_end v (past s.Closing c)
 
-pub in_parentheses_is : (tokens : List Token) → reading n.InParentheses tokens ≡ and_then (past s.Opening tokens) (λ _ a. and_then (reading n.Inner a) (λ query c. closed query c))
+pub in_parentheses_is : (tokens : List Token) → reading n.InParentheses tokens ≡ and_then (past s.Opening tokens) (λ _ a. and_then (reading n.Inner a) (λ query c. value_before s.Closing query c))
 in_parentheses_is tokens = reading_is n.InParentheses tokens ∙ between_closed (λ v. v.1.0) (λ query. query) (λ query. refl) (past s.Opening tokens) (reading n.Inner)
 
 abbrev names_inside : Word × (List Name × Word) → List Name
@@ -133,7 +122,7 @@ names_inside v = v.1.0
 abbrev names_in : Word × (Word × (List Name × Word)) → List Name
 names_in v = names_inside v.1
 
-pub attributes_is : (tokens : List Token) → piece.attributes tokens ≡ and_then (both s.Provenance s.Opening tokens) (λ _ a. and_then (reading n.Names a) (λ list c. closed list c))
+pub attributes_is : (tokens : List Token) → piece.attributes tokens ≡ and_then (both s.Provenance s.Opening tokens) (λ _ a. and_then (reading n.Names a) (λ list c. value_before s.Closing list c))
 attributes_is tokens = by_word (past s.Provenance tokens) where
   by_inside : (w : Word) (o : Outcome Token (Word × (List Name × Word))) → mapped names_in (mapped (λ y. (w, y)) o) ≡ mapped names_inside o
   by_inside w (Stopped rest) = refl
@@ -141,7 +130,7 @@ attributes_is tokens = by_word (past s.Provenance tokens) where
 
   by_word : (o : Outcome Token Word)
       → mapped names_in (and_then o (λ u r. mapped (λ y. (u, y)) (and_then (past s.Opening r) (λ w a. mapped (λ y. (w, y)) (and_then (reading n.Names a) (λ v c. mapped (λ z. (v, z)) (past s.Closing c)))))))
-      ≡ and_then (and_then o (λ _ r. past s.Opening r)) (λ _ a. and_then (reading n.Names a) (λ list c. closed list c))
+      ≡ and_then (and_then o (λ _ r. past s.Opening r)) (λ _ a. and_then (reading n.Names a) (λ list c. value_before s.Closing list c))
   by_word (Stopped rest) = refl
   by_word (Taken w r) =
       by_inside w (and_then (past s.Opening r) (λ w a. mapped (λ y. (w, y)) (and_then (reading n.Names a) (λ v c. mapped (λ z. (v, z)) (past s.Closing c)))))

@@ -4,7 +4,7 @@ use Rattle.std.specs.List.{list_any}
 use Rattle.sql_lexer.specs.declared.token.Token.{Token}
 use Rattle.sql_grammar.specs.Rules.{word, token, ◌then◌, ◌or◌, optional, many, placed, symbol}
 use Rattle.sql_grammar.specs.Descent.{Outcome, Stopped, and_then, mapped, start_of, repeated, step, read}
-use Rattle.sql_grammar.specs.Grammar.{SqlRule, Given, sql, body, build, in_parentheses, plain_names, functions}
+use Rattle.sql_grammar.specs.Grammar.{SqlRule, Given, sql, body, build, in_parentheses, plain_names}
 use Rattle.sql_grammar.specs.Sorts.{names, same_sort, sort_of}
 use Rattle.sql_grammar.specs.Symbols as n
 use Rattle.sql_grammar.specs.Symbols.{Symbol}
@@ -19,6 +19,10 @@ use Rattle.sql_grammar.proofs.TablesHold.{told, has_begins, has_falls}
 
 abbrev reads : (r : SqlRule) → List Token → Outcome Token (Given r)
 reads r ts = step sql sql_tables (read sql sql_tables) r ts
+
+-- the words of functions
+abbrev functions : List Sort
+functions = s.Count ∷ s.Sum ∷ s.Min ∷ s.Max ∷ s.Coalesce ∷ s.NullIf ∷ []
 
 abbrev is_one : List Sort → Token → Bool
 is_one sorts t = has sql sql_tables sorts t

@@ -3,7 +3,7 @@ use Rattle.std.proofs.Common.{◌≡◌, inl, inr, ℕ, zero, suc, Bool, true, f
 use Rattle.std.specs.List.{list_any}
 use Rattle.std.proofs.lemmas.Map.Views.{Contains-from_any}
 use Rattle.sql_grammar.specs.Rules.{word, token, ◌then◌, ◌or◌, front, optional, many, placed, symbol, Grammar, RuleOf, ValueOf, StartsAt, Spelled, a_word, a_token, both, first, second, front_first, front_second, absent, present, no_more, one_more, at_place, as_symbol}
-use Rattle.sql_grammar.specs.Descent.{Outcome, Taken, Stopped, and_then, mapped, Tables, next_is, begins_with, start_of, singles, place_of, take_word, take_token, repeated, step, reading_to}
+use Rattle.sql_grammar.specs.Descent.{Outcome, Taken, Stopped, and_then, mapped, Tables, next_is, begins_with, start_of, singles, offset_of, take_word, take_token, repeated, step, reading_to}
 
 -- the test of a grammar's sorts tells them apart
 pub record IsTold (g : Grammar) : Type 0 where
@@ -81,12 +81,12 @@ module _ (g : Grammar) where
         by_test true e = (t ∷ [], refl, a_token (Contains-from_any told.sound (g.sort t) sorts e))
         by_test false e = ([], refl)
 
-      placed-claims : (r : RuleOf g) (ts : List g.Token) (o : Outcome g.Token (ValueOf g r)) → Claims r ts o → Claims (placed r) ts (mapped (λ x. (place_of g tables ts, x)) o)
+      placed-claims : (r : RuleOf g) (ts : List g.Token) (o : Outcome g.Token (ValueOf g r)) → Claims r ts o → Claims (placed r) ts (mapped (λ x. (offset_of g tables ts, x)) o)
       placed-claims r ts (Taken x rest) c = (c.0, c.1, at_place c.2 (starts_at c.0 ts c.1)) where
-        starts_at : (us whole : List g.Token) → whole ≡ us ++ rest → StartsAt g (place_of g tables whole) us
+        starts_at : (us whole : List g.Token) → whole ≡ us ++ rest → StartsAt g (offset_of g tables whole) us
         starts_at [] whole e = tt
         starts_at (t ∷ us) [] e = absurd cc
-        starts_at (t ∷ us) (u ∷ more) e = ap (place_of g tables) e
+        starts_at (t ∷ us) (u ∷ more) e = ap (offset_of g tables) e
       placed-claims r ts (Stopped rest) c = c
 
       pub step-claims : (r : RuleOf g) (ts : List g.Token) → Claims r ts (step g tables calls r ts)

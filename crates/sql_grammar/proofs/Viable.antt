@@ -1,7 +1,7 @@
 -- Where reading stops, the tokens before begin something that the rule spells.
 use Rattle.std.proofs.Common.{◌≡◌, ℕ, zero, suc, Bool, true, false, ◌&&◌, cond, List, [], ◌∷◌, ◌++◌, length, Option, Some, None, is_some, option_map, inl, inr, refl, sym, ap, subst, ◌∙◌, append_assoc, arith}
 use Rattle.sql_grammar.specs.Rules.{Rule, word, token, ◌then◌, ◌or◌, front, optional, many, placed, symbol, Grammar, RuleOf, ValueOf, Spelled, a_word, a_token, both, first, second, front_first, front_second, absent, present, no_more, one_more, at_place, as_symbol}
-use Rattle.sql_grammar.specs.Descent.{Outcome, Taken, Stopped, and_then, mapped, Tables, next_is, begins_with, start_of, singles, place_of, take_word, take_token, repeated, step, reading_to, read}
+use Rattle.sql_grammar.specs.Descent.{Outcome, Taken, Stopped, and_then, mapped, Tables, next_is, begins_with, start_of, singles, offset_of, take_word, take_token, repeated, step, reading_to, read}
 use Rattle.sql_grammar.proofs.Sound.{IsTold, Claims, Spells, step-claims, reading-claims}
 use Rattle.sql_grammar.proofs.Begins.{both_true}
 
@@ -41,9 +41,9 @@ module _ (g : Grammar) where
   Viable r ts (Taken x rest) = Unit {0}
   Viable r ts (Stopped rest) = IsViable r ts rest
 
-  abbrev pub placed_sample : (r : RuleOf g) (us : List g.Token) (x : ValueOf g r) → Spelled g r us x → (place : ℕ) × Spelled g (placed r) us (place, x)
+  abbrev pub placed_sample : (r : RuleOf g) (us : List g.Token) (x : ValueOf g r) → Spelled g r us x → (offset : ℕ) × Spelled g (placed r) us (offset, x)
   placed_sample r [] x a = (0, at_place a tt)
-  placed_sample r (t ∷ us) x a = (g.place t, at_place a refl)
+  placed_sample r (t ∷ us) x a = (g.offset t, at_place a refl)
 
   -- the first alternatives of a rule, where the symbols have this
   module _ (token_for : g.Sort → g.Token) (sorted : (sort : g.Sort) → g.sort (token_for sort) ≡ sort) where
@@ -172,7 +172,7 @@ module _ (g : Grammar) where
         step-viable (many r) full ts =
             repeated-viable r (start_of g tables r) (step g tables calls r) (step-claims g tables told calls claims r) (step-viable r full) (length ts) ts
         step-viable (placed r) full ts =
-            mapped-viable r (placed r) ts (λ x. (place_of g tables ts, x)) (step g tables calls r ts)
+            mapped-viable r (placed r) ts (λ x. (offset_of g tables ts, x)) (step g tables calls r ts)
             (λ us x a. let b = placed_sample r us x a in ((b.0, x), b.1)) (step-viable r full ts)
         step-viable (symbol n) full ts = viable n ts
 

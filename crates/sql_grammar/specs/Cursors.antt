@@ -1,13 +1,13 @@
 -- What functions that read from a cursor promise: what reading by the grammar gives, unless memory runs out.
-use Rattle.std.specs.Prelude.{◌≡◌, ℕ, Bool, true, false, cond, List, [], ◌∷◌, Option, Some, None, Result, Ok, Err}
+use Rattle.std.specs.Prelude.{◌≡◌, ℕ, Bool, List, [], ◌∷◌, Option, Some, None, Result, Ok, Err}
 use Rattle.sql_lexer.specs.declared.token.Token.{Token}
-use Rattle.sql_grammar.specs.Descent.{Outcome, Taken, Stopped, read, place_of, next_is, take_word, take_token}
+use Rattle.sql_grammar.specs.Descent.{Outcome, Taken, Stopped, read, offset_of, next_is, take_word, take_token}
 use Rattle.sql_grammar.specs.Grammar.{sql}
-use Rattle.sql_grammar.specs.Sorts.{sort_of, same_sort}
+use Rattle.sql_grammar.specs.Sorts.{sort_of}
 use Rattle.sql_grammar.specs.Symbols.{Symbol, Tree}
 use Rattle.sql_grammar.specs.Tables.{sql_tables}
-use Rattle.sql_grammar.specs.declared.fault.Fault.{Fault}
-use Rattle.sql_grammar.specs.declared.fault.Fault.TheVariants.{Unexpected, NoMemory}
+use Rattle.sql_grammar.specs.declared.unread.Unread.{Unread}
+use Rattle.sql_grammar.specs.declared.unread.Unread.TheVariants.{Unexpected, NoMemory}
 use Rattle.sql_grammar.specs.declared.sort.Sort.{Sort}
 
 -- the sort of the next token
@@ -19,12 +19,12 @@ next_sort (t ∷ rest) = Some (sort_of t)
 unfoldable pub reading : (n : Symbol) → List Token → Outcome Token (Tree n)
 reading = read sql sql_tables
 
-abbrev pub place : List Token → ℕ
-place tokens = place_of sql sql_tables tokens
+abbrev pub offset : List Token → ℕ
+offset tokens = offset_of sql sql_tables tokens
 
-abbrev pub next_place : List Token → Option ℕ
-next_place [] = None
-next_place (t ∷ rest) = Some t.start
+abbrev pub next_offset : List Token → Option ℕ
+next_offset [] = None
+next_offset (t ∷ rest) = Some t.start
 
 abbrev pub sees : List Sort → List Token → Bool
 sees sorts tokens = next_is sql sql_tables sorts tokens
@@ -39,17 +39,12 @@ abbrev pub next : List Token → Outcome Token Token
 next [] = Stopped []
 next (t ∷ rest) = Taken t rest
 
--- whether a word stands next, which is then taken
-abbrev pub passing : Sort → List Token → Outcome Token Bool
-passing sort [] = Taken false []
-passing sort (t ∷ rest) = cond (same_sort (sort_of t) sort) (Taken true rest) (Taken false (t ∷ rest))
-
 -- what a function gives, as it is seen, is what reading gives; the cursor then stands behind it, or at the token that
 -- can't stand
-abbrev pub Sees : {X Y : Type 0} → (X → Y) → Result X Fault → Outcome Token Y → List Token → Type 0
+abbrev pub Sees : {X Y : Type 0} → (X → Y) → Result X Unread → Outcome Token Y → List Token → Type 0
 Sees seen (Ok x) outcome rest = outcome ≡ Taken (seen x) rest
 Sees seen (Err Unexpected) outcome rest = outcome ≡ Stopped rest
 Sees seen (Err NoMemory) outcome rest = Unit {0}
 
-abbrev pub Reads : {X : Type 0} → Result X Fault → Outcome Token X → List Token → Type 0
+abbrev pub Reads : {X : Type 0} → Result X Unread → Outcome Token X → List Token → Type 0
 Reads result outcome rest = Sees (λ x. x) result outcome rest

@@ -76,9 +76,9 @@ module _ (g : Grammar) (tables : Tables g) where
   abbrev pub start_of : RuleOf g → List g.Sort
   start_of r = starts tables.empty tables.begins r
 
-  abbrev pub place_of : List g.Token → ℕ
-  place_of [] = 0
-  place_of (t ∷ rest) = g.place t
+  abbrev pub offset_of : List g.Token → ℕ
+  offset_of [] = 0
+  offset_of (t ∷ rest) = g.offset t
 
   abbrev pub take_word : g.Sort → List g.Token → Outcome g.Token (Unit {0})
   take_word sort [] = Stopped []
@@ -105,7 +105,7 @@ module _ (g : Grammar) (tables : Tables g) where
   step calls (front r s) ts = cond (begins_with (singles r) ts) (mapped inl (step calls r ts)) (mapped inr (step calls s ts))
   step calls (optional r) ts = cond (next_is (start_of r) ts) (mapped Some (step calls r ts)) (Taken None ts)
   step calls (many r) ts = repeated (start_of r) (step calls r) (length ts) ts
-  step calls (placed r) ts = mapped (λ x. (place_of ts, x)) (step calls r ts)
+  step calls (placed r) ts = mapped (λ x. (offset_of ts, x)) (step calls r ts)
   step calls (symbol n) ts = calls n ts
 
   -- reading of a symbol, no deeper than this number of calls

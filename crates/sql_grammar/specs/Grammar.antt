@@ -25,9 +25,6 @@ in_parentheses r = word s.Opening then r then word s.Closing
 abbrev pub kinds : List Sort
 kinds = s.Integer ∷ s.Int ∷ s.BigInt ∷ s.Text ∷ []
 
-abbrev pub functions : List Sort
-functions = s.Count ∷ s.Sum ∷ s.Min ∷ s.Max ∷ s.Coalesce ∷ s.NullIf ∷ []
-
 -- the names that are no function's word
 abbrev pub plain_names : List Sort
 plain_names =
@@ -229,7 +226,7 @@ sql = record {
   Sort = Sort;
   Symbol = Symbol;
   sort = sort_of;
-  place = λ t. t.start;
+  offset = λ t. t.start;
   same = same_sort;
   Tree = Tree;
   body = body;

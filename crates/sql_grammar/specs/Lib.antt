@@ -5,10 +5,9 @@ pub mod FirstWrong
 pub mod Grammar
 pub mod Lists
 pub mod Nests
-pub mod Pieces
 pub mod Readers
 pub mod Rules
-pub mod Sequences
 pub mod Sorts
 pub mod Symbols
 pub mod Tables
+pub mod built

@@ -18,7 +18,7 @@ pub data Rule (Sort Symbol : Type 0) : Type 0 where
   optional : Rule Sort Symbol → Rule Sort Symbol
   -- any number of times
   many : Rule Sort Symbol → Rule Sort Symbol
-  -- with the place of its first token
+  -- with the offset of its first token
   placed : Rule Sort Symbol → Rule Sort Symbol
   symbol : Symbol → Rule Sort Symbol
 
@@ -40,7 +40,7 @@ pub record Grammar : Type 1 where
   pub Sort : Type 0
   pub Symbol : Type 0
   pub sort : Token → Sort
-  pub place : Token → ℕ
+  pub offset : Token → ℕ
   pub same : Sort → Sort → Bool
   pub Tree : Symbol → Type 0
   pub body : Symbol → Rule Sort Symbol
@@ -52,10 +52,10 @@ RuleOf g = Rule g.Sort g.Symbol
 abbrev pub ValueOf : (g : Grammar) → RuleOf g → Type 0
 ValueOf g r = Value g.Token g.Tree r
 
--- the place of the first token, where there is one
+-- the offset of the first token, where there is one
 abbrev pub StartsAt : (g : Grammar) → ℕ → List g.Token → Type 0
-StartsAt g place [] = Unit {0}
-StartsAt g place (t ∷ us) = place ≡ g.place t
+StartsAt g offset [] = Unit {0}
+StartsAt g offset (t ∷ us) = offset ≡ g.offset t
 
 -- the tokens spell a value by a rule
 pub data Spelled (g : Grammar) : (r : Rule g.Sort g.Symbol) → List g.Token → Value g.Token g.Tree r → Type 0 where
@@ -72,7 +72,7 @@ pub data Spelled (g : Grammar) : (r : Rule g.Sort g.Symbol) → List g.Token →
   no_more : {r : RuleOf g} → Spelled g (many r) [] []
   one_more : {r : RuleOf g} {us vs : List g.Token} {x : ValueOf g r} {xs : List (ValueOf g r)}
       → Spelled g r us x → Spelled g (many r) vs xs → Spelled g (many r) (us ++ vs) (x ∷ xs)
-  at_place : {r : RuleOf g} {place : ℕ} {us : List g.Token} {x : ValueOf g r}
-      → Spelled g r us x → StartsAt g place us → Spelled g (placed r) us (place, x)
+  at_place : {r : RuleOf g} {offset : ℕ} {us : List g.Token} {x : ValueOf g r}
+      → Spelled g r us x → StartsAt g offset us → Spelled g (placed r) us (offset, x)
   as_symbol : {n : g.Symbol} {us : List g.Token} {x : ValueOf g (g.body n)}
       → Spelled g (g.body n) us x → Spelled g (symbol n) us (g.build n x)

@@ -3,13 +3,13 @@
 ghost use Rattle.std.specs.Prelude.{◌≡◌, ◌<◌, ◌≤◌, length, IfOk};
 ghost use Rattle.sql_grammar.specs.Building as b;
 ghost use Rattle.sql_grammar.specs.Cursors as spec;
-ghost use Rattle.sql_grammar.specs.Pieces as piece;
+ghost use Rattle.sql_grammar.specs.built.Pieces as piece;
 ghost use Rattle.sql_grammar.specs.Symbols as n;
 
 use crate::cursor::Cursor;
-use crate::fault::Fault;
 use crate::names::name_of;
 use crate::sort::{NAMES, Sort, same_sort, sort_of};
+use crate::unread::Unread;
 use perm_values::List;
 use sql_lexer::Token;
 use sql_tree::{FromSource, JoinWord, Name, OrderTree, ScopeMark, SelectItem};
@@ -29,7 +29,7 @@ fn outer_of(token: &Token<'_>) -> JoinWord
 
 impl<'a> Cursor<'a> {
     #[tactic(auto, using(crate::proofs::Sequenced::join_kind_is))]
-    pub fn join_kind(&mut self) -> Result<JoinWord, Fault>
+    pub fn join_kind(&mut self) -> Result<JoinWord, Unread>
         ensures given { spec.Reads result (spec.reading n.JoinKind self.old) self.new }
         ensures fewer { IfOk result (λ _. length self.new < length self.old) }
     {
@@ -44,18 +44,18 @@ impl<'a> Cursor<'a> {
     }
 
     #[tactic(auto, using(crate::proofs::Sequenced::attributes_is))]
-    pub fn attributes(&mut self) -> Result<List<Name>, Fault>
+    pub fn attributes(&mut self) -> Result<List<Name>, Unread>
         ensures given { spec.Reads result (piece.attributes self.old) self.new }
         ensures fewer { IfOk result (λ _. length self.new < length self.old) }
     {
         self.past_both(Sort::Provenance, Sort::Opening)?;
         let attributes = self.names()?;
-        self.closed(attributes)
+        self.value_before(attributes, Sort::Closing)
     }
 
     /// What stands behind an item of FROM about its provenance.
     #[tactic(auto, using(crate::proofs::Queries::mark_is))]
-    pub fn mark(&mut self) -> Result<ScopeMark, Fault>
+    pub fn mark(&mut self) -> Result<ScopeMark, Unread>
         ensures given { spec.Reads result (spec.reading n.Mark self.old) self.new }
         ensures fewer { IfOk result (λ _. length self.new ≤ length self.old) }
     {
@@ -70,7 +70,7 @@ impl<'a> Cursor<'a> {
         }
     }
 
-    pub fn named_source(&mut self) -> Result<(FromSource, Option<Name>), Fault>
+    pub fn named_source(&mut self) -> Result<(FromSource, Option<Name>), Unread>
         ensures given { spec.Reads result (piece.named_source self.old) self.new }
         ensures fewer { IfOk result (λ _. length self.new < length self.old) }
     {
@@ -81,21 +81,13 @@ impl<'a> Cursor<'a> {
 }
 
 impl<'a> Cursor<'a> {
-    /// Whether a word that may stand next does; it is passed.
-    pub fn has(&mut self, sort: Sort) -> Result<bool, Fault>
-        ensures given { spec.Reads result (piece.has sort self.old) self.new }
-        ensures fewer { IfOk result (λ _. length self.new ≤ length self.old) }
-    {
-        self.option(sort)
-    }
-
-    /// The place of the word PROVENANCE, if it stands next.
-    pub fn provenance(&mut self) -> Result<Option<usize>, Fault>
+    /// The offset of the word PROVENANCE, if it stands next.
+    pub fn provenance(&mut self) -> Result<Option<usize>, Unread>
         ensures given { spec.Reads result (piece.provenance self.old) self.new }
         ensures fewer { IfOk result (λ _. length self.new ≤ length self.old) }
     {
         if self.sees(Sort::Provenance) {
-            let at = self.place();
+            let at = self.offset();
             self.past(Sort::Provenance)?;
             Ok(Some(at))
         } else {
@@ -104,7 +96,7 @@ impl<'a> Cursor<'a> {
     }
 
     #[tactic(auto, using(crate::proofs::Sequenced::table_star_is))]
-    pub fn table_star(&mut self) -> Result<SelectItem, Fault>
+    pub fn table_star(&mut self) -> Result<SelectItem, Unread>
         ensures given { spec.Reads result (piece.table_star self.old) self.new }
         ensures fewer { IfOk result (λ _. length self.new < length self.old) }
     {
@@ -116,7 +108,7 @@ impl<'a> Cursor<'a> {
 }
 
 impl<'a> Cursor<'a> {
-    pub fn ends(&mut self) -> Result<(List<OrderTree>, Option<i64>), Fault>
+    pub fn ends(&mut self) -> Result<(List<OrderTree>, Option<i64>), Unread>
         ensures given { spec.Reads result (piece.ends self.old) self.new }
         ensures fewer { IfOk result (λ _. length self.new ≤ length self.old) }
     {

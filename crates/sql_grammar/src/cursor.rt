@@ -1,10 +1,10 @@
 ghost use Rattle.std.specs.Prelude.{◌≡◌, ◌<◌, ◌≤◌, [], ◌∷◌, length, IfOk};
 ghost use Rattle.sql_grammar.specs.Cursors as spec;
-ghost use Rattle.sql_grammar.specs.Pieces.{sees_pair, sees_table_star, word_if, word_at};
-ghost use Rattle.sql_grammar.specs.Sequences as sequence;
+ghost use Rattle.sql_grammar.specs.built.Pieces as piece;
+ghost use Rattle.sql_grammar.specs.built.Sequences as sequence;
 
-use crate::fault::Fault;
 use crate::sort::{NAMES, Sort, is_among, same_sort, sort_of};
+use crate::unread::Unread;
 use sql_lexer::Token;
 use std::alloc::Global;
 use std::marker::Model;
@@ -74,8 +74,8 @@ impl<'a> Cursor<'a> {
     }
 
     /// The offset of the next token, or 0 where none is left.
-    pub fn place(&self) -> usize
-        ensures { result ≡ spec.place self.now }
+    pub fn offset(&self) -> usize
+        ensures { result ≡ spec.offset self.now }
     {
         match self.tokens.first() {
             Some(token) => token.start(),
@@ -84,8 +84,8 @@ impl<'a> Cursor<'a> {
     }
 
     /// The offset of the next token, if there is one.
-    pub fn next_place(&self) -> Option<usize>
-        ensures { result ≡ spec.next_place self.now }
+    pub fn next_offset(&self) -> Option<usize>
+        ensures { result ≡ spec.next_offset self.now }
     {
         match self.tokens.first() {
             Some(token) => Some(token.start()),
@@ -115,7 +115,7 @@ impl<'a> Cursor<'a> {
 
     /// Whether the next token is of one of these sorts, and the one behind it of one of those.
     pub fn sees_pair(&self, sorts: &[Sort], behind: &[Sort]) -> bool
-        ensures { result ≡ sees_pair sorts.now behind.now self.now }
+        ensures { result ≡ piece.sees_pair sorts.now behind.now self.now }
     {
         match self.tokens {
             [_, second, ..] => self.sees_any(sorts) && is_among(sort_of(second), behind),
@@ -124,7 +124,7 @@ impl<'a> Cursor<'a> {
     }
 
     /// Takes the next token, if there is one.
-    fn take(&mut self) -> Result<&'a Token<'a>, Fault>
+    fn take(&mut self) -> Result<&'a Token<'a>, Unread>
         ensures given { spec.Sees (λ token. token.now) result (spec.next self.old) self.new }
         ensures fewer { IfOk result (λ _. length self.new < length self.old) }
     {
@@ -133,24 +133,24 @@ impl<'a> Cursor<'a> {
                 *self = Cursor::new(self.alloc, rest);
                 Ok(token)
             }
-            None => Err(Fault::Unexpected),
+            None => Err(Unread::Unexpected),
         }
     }
 
     /// Takes the next token, which has to be of one of these sorts.
-    pub fn one(&mut self, sorts: &[Sort]) -> Result<&'a Token<'a>, Fault>
+    pub fn one(&mut self, sorts: &[Sort]) -> Result<&'a Token<'a>, Unread>
         ensures given { spec.Sees (λ token. token.now) result (spec.one sorts.now self.old) self.new }
         ensures fewer { IfOk result (λ _. length self.new < length self.old) }
     {
         if self.sees_any(sorts) {
             self.take()
         } else {
-            Err(Fault::Unexpected)
+            Err(Unread::Unexpected)
         }
     }
 
     /// Goes past the next token, which has to be of this sort.
-    pub fn past(&mut self, sort: Sort) -> Result<(), Fault>
+    pub fn past(&mut self, sort: Sort) -> Result<(), Unread>
         ensures given { spec.Reads result (spec.past sort self.old) self.new }
         ensures fewer { IfOk result (λ _. length self.new < length self.old) }
     {
@@ -158,25 +158,13 @@ impl<'a> Cursor<'a> {
             self.take()?;
             Ok(())
         } else {
-            Err(Fault::Unexpected)
+            Err(Unread::Unexpected)
         }
     }
 
     /// Goes past the next token where it is of this sort, and says whether it is.
-    pub fn passes(&mut self, sort: Sort) -> Result<bool, Fault>
-        ensures given { spec.Reads result (spec.passing sort self.old) self.new }
-        ensures fewer { IfOk result (λ _. length self.new ≤ length self.old) }
-    {
-        let found = self.sees(sort);
-        if found {
-            self.take()?;
-        }
-        Ok(found)
-    }
-
-    /// Goes past a word that may stand next, and says whether it does.
-    pub fn option(&mut self, sort: Sort) -> Result<bool, Fault>
-        ensures given { spec.Sees word_if result (word_at sort self.old) self.new }
+    pub fn passes(&mut self, sort: Sort) -> Result<bool, Unread>
+        ensures given { spec.Reads result (piece.passes sort self.old) self.new }
         ensures fewer { IfOk result (λ _. length self.new ≤ length self.old) }
     {
         if self.sees(sort) {
@@ -188,7 +176,7 @@ impl<'a> Cursor<'a> {
     }
 
     /// Goes past the next two tokens, which have to be of these sorts.
-    pub fn past_both(&mut self, first: Sort, second: Sort) -> Result<(), Fault>
+    pub fn past_both(&mut self, first: Sort, second: Sort) -> Result<(), Unread>
         ensures given { spec.Reads result (sequence.both first second self.old) self.new }
         ensures fewer { IfOk result (λ _. length self.new < length self.old) }
     {
@@ -197,27 +185,27 @@ impl<'a> Cursor<'a> {
     }
 
     /// Goes past a token that has to be of the second sort, and past one of the first before it, if there is one.
-    pub fn past_behind(&mut self, option: Sort, sort: Sort) -> Result<(), Fault>
+    pub fn past_behind(&mut self, option: Sort, sort: Sort) -> Result<(), Unread>
         ensures given { spec.Reads result (sequence.behind_option option sort self.old) self.new }
         ensures fewer { IfOk result (λ _. length self.new < length self.old) }
     {
-        self.option(option)?;
+        self.passes(option)?;
         self.past(sort)
     }
 
-    /// The value that was read, where a closing parenthesis stands next; it is passed. It is generic, so that what is let go
-    /// where none does isn't taken apart in each function.
-    pub fn closed<T: Drop>(&mut self, value: T) -> Result<T, Fault>
-        ensures given { spec.Reads result (sequence.closed value self.old) self.new }
+    /// The value that was read, where a token of this sort stands next; it is passed. It is generic, so that what is let
+    /// go where none does isn't taken apart in each function.
+    pub fn value_before<T: Drop>(&mut self, value: T, sort: Sort) -> Result<T, Unread>
+        ensures given { spec.Reads result (sequence.value_before sort value self.old) self.new }
         ensures fewer { IfOk result (λ _. length self.new < length self.old) }
     {
-        self.past(Sort::Closing)?;
+        self.past(sort)?;
         Ok(value)
     }
 
     /// Whether a name, a dot and a star stand next.
     pub fn sees_table_star(&self) -> bool
-        ensures { result ≡ sees_table_star self.now }
+        ensures { result ≡ piece.sees_table_star self.now }
     {
         match self.tokens {
             [_, behind @ ..] => self.sees_any(&NAMES) && dot_and_star(behind),

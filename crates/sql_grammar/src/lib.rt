@@ -3,7 +3,6 @@
 
 mod clauses;
 mod cursor;
-mod fault;
 mod laws;
 mod lists;
 mod names;
@@ -11,12 +10,13 @@ mod nest;
 mod query;
 mod repeats;
 mod sort;
+mod unread;
 
 pub use cursor::Cursor;
-pub use fault::Fault;
 pub use laws::reserved_words_are_the_lexers;
-pub use lists::{listed, more_listed};
+pub use lists::{list_from, list_of};
 pub use names::{name_of, reference};
 pub use nest::{Nest, node};
-pub use repeats::repeated;
+pub use repeats::all_items;
 pub use sort::{NAMES, Sort, is_among, same_sort, sort_of};
+pub use unread::Unread;

@@ -2,17 +2,17 @@ ghost use Rattle.std.specs.Prelude.{◌≡◌, ◌≤◌, List, length, IfOk};
 ghost use Rattle.sql_grammar.specs.Readers.{IsCallable, ReadsList, ReadsMore};
 
 use crate::cursor::Cursor;
-use crate::fault::Fault;
 use crate::sort::Sort;
+use crate::unread::Unread;
 use perm_values::List;
 
 /// The first item, which was read before, and more, each behind a separator.
-pub fn more_listed<T: Drop, F: Fn(&mut Cursor<'_>) -> Result<T, Fault>>(
+pub fn list_from<T: Drop, F: Fn(&mut Cursor<'_>) -> Result<T, Unread>>(
     cursor: &mut Cursor<'_>,
     separator: Sort,
     first: T,
     item: F,
-) -> Result<List<T>, Fault>
+) -> Result<List<T>, Unread>
     requires { IsCallable (length cursor.old) (F.pre item) (F.post item) }
     ensures given { ReadsMore (F.post item) separator first cursor.old result cursor.new }
     ensures fewer { IfOk result (λ _. length cursor.new ≤ length cursor.old) }
@@ -27,15 +27,15 @@ pub fn more_listed<T: Drop, F: Fn(&mut Cursor<'_>) -> Result<T, Fault>>(
 }
 
 /// One item and more, each behind a separator.
-pub fn listed<T: Drop, F: Fn(&mut Cursor<'_>) -> Result<T, Fault>>(
+pub fn list_of<T: Drop, F: Fn(&mut Cursor<'_>) -> Result<T, Unread>>(
     cursor: &mut Cursor<'_>,
     separator: Sort,
     item: F,
-) -> Result<List<T>, Fault>
+) -> Result<List<T>, Unread>
     requires { IsCallable (length cursor.old) (F.pre item) (F.post item) }
     ensures given { ReadsList (F.post item) separator cursor.old result cursor.new }
     ensures fewer { IfOk result (λ _. length cursor.new ≤ length cursor.old) }
 {
     let first = item(cursor)?;
-    more_listed(cursor, separator, first, item)
+    list_from(cursor, separator, first, item)
 }

@@ -4,9 +4,9 @@ ghost use Rattle.sql_grammar.specs.Cursors as spec;
 ghost use Rattle.sql_grammar.specs.Symbols as n;
 
 use crate::cursor::Cursor;
-use crate::fault::Fault;
-use crate::lists::listed;
+use crate::lists::list_of;
 use crate::sort::{NAMES, Sort};
+use crate::unread::Unread;
 use perm_values::{List, NoMemory};
 use sql_lexer::Token;
 use sql_tree::{ColRef, Name};
@@ -14,7 +14,7 @@ use std::alloc::Global;
 
 impl<'a> Cursor<'a> {
     #[tactic(auto, using(crate::proofs::Steps::name_of_is))]
-    pub fn name(&mut self) -> Result<Name, Fault>
+    pub fn name(&mut self) -> Result<Name, Unread>
         ensures given { spec.Reads result (spec.reading n.NameOf self.old) self.new }
         ensures fewer { IfOk result (λ _. length self.new < length self.old) }
     {
@@ -24,7 +24,7 @@ impl<'a> Cursor<'a> {
 
     /// The name behind a dot, if there is one.
     #[tactic(auto, using(crate::proofs::Steps::qualified_is))]
-    pub fn qualified(&mut self) -> Result<Option<Name>, Fault>
+    pub fn name_behind_dot(&mut self) -> Result<Option<Name>, Unread>
         ensures given { spec.Reads result (spec.reading n.Qualified self.old) self.new }
         ensures fewer { IfOk result (λ _. length self.new ≤ length self.old) }
     {
@@ -37,12 +37,12 @@ impl<'a> Cursor<'a> {
     }
 
     #[tactic(auto, using(crate::proofs::Steps::column_of_is))]
-    pub fn column(&mut self) -> Result<ColRef, Fault>
+    pub fn column(&mut self) -> Result<ColRef, Unread>
         ensures given { spec.Reads result (spec.reading n.ColumnOf self.old) self.new }
         ensures fewer { IfOk result (λ _. length self.new < length self.old) }
     {
         let first = self.name()?;
-        let second = self.qualified()?;
+        let second = self.name_behind_dot()?;
         Ok(reference(first, second))
     }
 }
@@ -79,10 +79,10 @@ pub fn reference(first: Name, second: Option<Name>) -> ColRef
 impl<'a> Cursor<'a> {
     /// Names with commas between them.
     #[tactic(auto, using(crate::proofs::Steps::names_is))]
-    pub fn names(&mut self) -> Result<List<Name>, Fault>
+    pub fn names(&mut self) -> Result<List<Name>, Unread>
         ensures given { spec.Reads result (spec.reading n.Names self.old) self.new }
         ensures fewer { IfOk result (λ _. length self.new ≤ length self.old) }
     {
-        listed(self, Sort::Comma, |cursor: &mut Cursor<'_>| cursor.name())
+        list_of(self, Sort::Comma, |cursor: &mut Cursor<'_>| cursor.name())
     }
 }

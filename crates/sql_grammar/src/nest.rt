@@ -3,13 +3,13 @@
 ghost use Rattle.std.specs.Prelude.{◌≡◌, ◌<◌, ◌≤◌, length, IfOk};
 ghost use Rattle.sql_grammar.specs.Building as b;
 ghost use Rattle.sql_grammar.specs.Cursors as spec;
-ghost use Rattle.sql_grammar.specs.Nests.{Nests};
+ghost use Rattle.sql_grammar.specs.Nests.{NestReads};
 ghost use Rattle.sql_grammar.specs.Symbols as n;
 
 use crate::cursor::Cursor;
-use crate::fault::Fault;
-use crate::lists::listed;
+use crate::lists::list_of;
 use crate::sort::Sort;
+use crate::unread::Unread;
 use perm_values::{Boxed, List, NoMemory};
 use sql_tree::{ExprBody, ExprTree, QueryTree};
 use std::alloc::Global;
@@ -23,12 +23,12 @@ pub struct Nest<F, G> {
 }
 
 impl<
-    F: Fn(&mut Cursor<'_>) -> Result<Boxed<ExprTree>, Fault>,
-    G: Fn(&mut Cursor<'_>) -> Result<Boxed<QueryTree>, Fault>,
+    F: Fn(&mut Cursor<'_>) -> Result<Boxed<ExprTree>, Unread>,
+    G: Fn(&mut Cursor<'_>) -> Result<Boxed<QueryTree>, Unread>,
 > Nest<F, G> {
     #[tactic(auto, using(crate::proofs::Nested::expr_takes))]
-    pub fn expression(&self, cursor: &mut Cursor<'_>) -> Result<Boxed<ExprTree>, Fault>
-        requires sound { Nests self.now.most (F.pre self.now.expr) (G.pre self.now.query) (F.post self.now.expr) (G.post self.now.query) }
+    pub fn expression(&self, cursor: &mut Cursor<'_>) -> Result<Boxed<ExprTree>, Unread>
+        requires sound { NestReads self.now F.pre G.pre F.post G.post }
         requires below { length cursor.old < self.now.most }
         ensures given { spec.Reads result (spec.reading n.Expr cursor.old) cursor.new }
         ensures fewer { IfOk result (λ _. length cursor.new < length cursor.old) }
@@ -37,8 +37,8 @@ impl<
     }
 
     #[tactic(auto, using(crate::proofs::Nested::query_takes))]
-    pub fn nested_query(&self, cursor: &mut Cursor<'_>) -> Result<Boxed<QueryTree>, Fault>
-        requires sound { Nests self.now.most (F.pre self.now.expr) (G.pre self.now.query) (F.post self.now.expr) (G.post self.now.query) }
+    pub fn nested_query(&self, cursor: &mut Cursor<'_>) -> Result<Boxed<QueryTree>, Unread>
+        requires sound { NestReads self.now F.pre G.pre F.post G.post }
         requires below { length cursor.old < self.now.most }
         ensures given { spec.Reads result (spec.reading n.Query cursor.old) cursor.new }
         ensures fewer { IfOk result (λ _. length cursor.new < length cursor.old) }
@@ -48,8 +48,8 @@ impl<
 
     /// A query that begins with the word SELECT: it is read as any query is.
     #[tactic(auto, using(crate::proofs::Inner::inner_by_query))]
-    pub fn inner(&self, cursor: &mut Cursor<'_>) -> Result<Boxed<QueryTree>, Fault>
-        requires sound { Nests self.now.most (F.pre self.now.expr) (G.pre self.now.query) (F.post self.now.expr) (G.post self.now.query) }
+    pub fn inner(&self, cursor: &mut Cursor<'_>) -> Result<Boxed<QueryTree>, Unread>
+        requires sound { NestReads self.now F.pre G.pre F.post G.post }
         requires below { length cursor.old < self.now.most }
         ensures given { spec.Reads result (spec.reading n.Inner cursor.old) cursor.new }
         ensures fewer { IfOk result (λ _. length cursor.new < length cursor.old) }
@@ -57,30 +57,30 @@ impl<
         if cursor.sees(Sort::Select) {
             self.nested_query(cursor)
         } else {
-            Err(Fault::Unexpected)
+            Err(Unread::Unexpected)
         }
     }
 
     #[tactic(auto, using(crate::proofs::Sequenced::in_parentheses_is))]
-    pub fn in_parentheses(&self, cursor: &mut Cursor<'_>) -> Result<Boxed<QueryTree>, Fault>
-        requires sound { Nests self.now.most (F.pre self.now.expr) (G.pre self.now.query) (F.post self.now.expr) (G.post self.now.query) }
+    pub fn in_parentheses(&self, cursor: &mut Cursor<'_>) -> Result<Boxed<QueryTree>, Unread>
+        requires sound { NestReads self.now F.pre G.pre F.post G.post }
         requires below { length cursor.old ≤ self.now.most }
         ensures given { spec.Reads result (spec.reading n.InParentheses cursor.old) cursor.new }
         ensures fewer { IfOk result (λ _. length cursor.new < length cursor.old) }
     {
         cursor.past(Sort::Opening)?;
         let query = self.inner(cursor)?;
-        cursor.closed(query)
+        cursor.value_before(query, Sort::Closing)
     }
 
     /// Expressions with commas between them.
-    pub fn expressions(&self, cursor: &mut Cursor<'_>) -> Result<List<ExprTree>, Fault>
-        requires sound { Nests self.now.most (F.pre self.now.expr) (G.pre self.now.query) (F.post self.now.expr) (G.post self.now.query) }
+    pub fn expressions(&self, cursor: &mut Cursor<'_>) -> Result<List<ExprTree>, Unread>
+        requires sound { NestReads self.now F.pre G.pre F.post G.post }
         requires below { length cursor.old < self.now.most }
         ensures given { spec.Reads result (spec.reading n.Exprs cursor.old) cursor.new }
         ensures fewer { IfOk result (λ _. length cursor.new < length cursor.old) }
     {
-        listed(cursor, Sort::Comma, |cursor: &mut Cursor<'_>| {
+        list_of(cursor, Sort::Comma, |cursor: &mut Cursor<'_>| {
             Ok(self.expression(cursor)?.into_inner())
         })
     }

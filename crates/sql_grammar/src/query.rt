@@ -1,18 +1,18 @@
 ghost use Rattle.std.specs.Prelude.{◌≡◌, ◌<◌, ◌≤◌, suc, length, IfOk};
 ghost use Rattle.sql_grammar.specs.Cursors as spec;
-ghost use Rattle.sql_grammar.specs.Pieces as piece;
+ghost use Rattle.sql_grammar.specs.built.Pieces as piece;
 ghost use Rattle.sql_grammar.specs.Symbols as n;
 
 use crate::cursor::Cursor;
-use crate::fault::Fault;
-use crate::lists::listed;
+use crate::lists::list_of;
 use crate::sort::{NAMES, Sort, same_sort, sort_of};
+use crate::unread::Unread;
 use perm_values::List;
 use sql_tree::{ColRef, Name, OrderKey, OrderTree};
 
 impl<'a> Cursor<'a> {
     /// Whether DESC stands next; it or ASC is passed.
-    fn descending(&mut self) -> Result<bool, Fault>
+    fn descending(&mut self) -> Result<bool, Unread>
         ensures given { spec.Reads result (piece.direction self.old) self.new }
         ensures fewer { IfOk result (λ _. length self.new ≤ length self.old) }
     {
@@ -24,7 +24,7 @@ impl<'a> Cursor<'a> {
         }
     }
 
-    fn ordered(&mut self, at: usize, key: OrderKey) -> Result<OrderTree, Fault>
+    fn ordered(&mut self, at: usize, key: OrderKey) -> Result<OrderTree, Unread>
         ensures given { spec.Reads result (piece.ordered at key self.old) self.new }
         ensures fewer { IfOk result (λ _. length self.new ≤ length self.old) }
     {
@@ -36,7 +36,7 @@ impl<'a> Cursor<'a> {
         })
     }
 
-    fn named_key(&mut self) -> Result<OrderTree, Fault>
+    fn named_key(&mut self) -> Result<OrderTree, Unread>
         ensures given { spec.Reads result (piece.named_key self.old) self.new }
         ensures fewer { IfOk result (λ _. length self.new < length self.old) }
     {
@@ -47,7 +47,7 @@ impl<'a> Cursor<'a> {
 
     /// A key of ORDER BY.
     #[tactic(auto, using(crate::proofs::Queries::key_is))]
-    pub fn key(&mut self) -> Result<OrderTree, Fault>
+    pub fn key(&mut self) -> Result<OrderTree, Unread>
         ensures given { spec.Reads result (spec.reading n.Key self.old) self.new }
         ensures fewer { IfOk result (λ _. length self.new < length self.old) }
     {
@@ -61,7 +61,7 @@ impl<'a> Cursor<'a> {
 
     /// ORDER BY and its keys.
     #[tactic(auto, using(crate::proofs::Sequenced::order_is))]
-    pub fn order(&mut self) -> Result<List<OrderTree>, Fault>
+    pub fn order(&mut self) -> Result<List<OrderTree>, Unread>
         ensures given { spec.Reads result (spec.reading n.Order self.old) self.new }
         ensures fewer { IfOk result (λ _. length self.new ≤ length self.old) }
     {
@@ -73,15 +73,15 @@ impl<'a> Cursor<'a> {
         }
     }
 
-    fn keys(&mut self) -> Result<List<OrderTree>, Fault>
+    fn keys(&mut self) -> Result<List<OrderTree>, Unread>
         ensures given { spec.Reads result (piece.keys self.old) self.new }
         ensures fewer { IfOk result (λ _. length self.new ≤ length self.old) }
     {
-        listed(self, Sort::Comma, |cursor: &mut Cursor<'_>| cursor.key())
+        list_of(self, Sort::Comma, |cursor: &mut Cursor<'_>| cursor.key())
     }
 
     #[tactic(auto, using(crate::proofs::Queries::limit_is))]
-    pub fn limit(&mut self) -> Result<Option<i64>, Fault>
+    pub fn limit(&mut self) -> Result<Option<i64>, Unread>
         ensures given { spec.Reads result (spec.reading n.Limit self.old) self.new }
         ensures fewer { IfOk result (λ _. length self.new ≤ length self.old) }
     {
@@ -96,7 +96,7 @@ impl<'a> Cursor<'a> {
 
     /// A name behind AS or alone.
     #[tactic(auto, using(crate::proofs::Queries::alias_is))]
-    pub fn alias(&mut self) -> Result<Option<Name>, Fault>
+    pub fn alias(&mut self) -> Result<Option<Name>, Unread>
         ensures given { spec.Reads result (spec.reading n.Alias self.old) self.new }
         ensures fewer { IfOk result (λ _. length self.new ≤ length self.old) }
     {
@@ -111,7 +111,7 @@ impl<'a> Cursor<'a> {
     }
 
     #[tactic(auto, using(crate::proofs::Sequenced::groups_is))]
-    pub fn groups(&mut self) -> Result<List<ColRef>, Fault>
+    pub fn groups(&mut self) -> Result<List<ColRef>, Unread>
         ensures given { spec.Reads result (spec.reading n.Groups self.old) self.new }
         ensures fewer { IfOk result (λ _. length self.new ≤ length self.old) }
     {
@@ -123,10 +123,10 @@ impl<'a> Cursor<'a> {
         }
     }
 
-    fn columns(&mut self) -> Result<List<ColRef>, Fault>
+    fn columns(&mut self) -> Result<List<ColRef>, Unread>
         ensures given { spec.Reads result (piece.columns self.old) self.new }
         ensures fewer { IfOk result (λ _. length self.new ≤ length self.old) }
     {
-        listed(self, Sort::Comma, |cursor: &mut Cursor<'_>| cursor.column())
+        list_of(self, Sort::Comma, |cursor: &mut Cursor<'_>| cursor.column())
     }
 }

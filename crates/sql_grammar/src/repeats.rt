@@ -2,16 +2,16 @@ ghost use Rattle.std.specs.Prelude.{◌≡◌, ◌≤◌, List, length, IfOk};
 ghost use Rattle.sql_grammar.specs.Readers.{TakesBelow, ReadsAll};
 
 use crate::cursor::Cursor;
-use crate::fault::Fault;
 use crate::sort::Sort;
+use crate::unread::Unread;
 use perm_values::List;
 
 /// As many items as there are, where the next token of one of these sorts begins one.
-pub fn repeated<T: Drop, F: Fn(&mut Cursor<'_>) -> Result<T, Fault>>(
+pub fn all_items<T: Drop, F: Fn(&mut Cursor<'_>) -> Result<T, Unread>>(
     cursor: &mut Cursor<'_>,
     sorts: &[Sort],
     item: F,
-) -> Result<List<T>, Fault>
+) -> Result<List<T>, Unread>
     requires { TakesBelow (length cursor.old) (F.pre item) (F.post item) }
     ensures given { ReadsAll (F.post item) sorts.now cursor.old result cursor.new }
     ensures fewer { IfOk result (λ _. length cursor.new ≤ length cursor.old) }

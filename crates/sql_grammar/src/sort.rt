@@ -248,7 +248,8 @@ pub const NAMES: [Sort; 20] = [
 
 /// The sort that a table gives a word, or `Plain`.
 fn word_listed(mut table: &[(&str, Sort)], word: &[u8]) -> Sort
-    ensures { result ≡ spec.listed (map (λ entry. (entry.0.now, entry.1)) table.entry.now) (str_to_ascii_lowercase word.now) Sort.Plain }
+    ensures { result ≡ spec.listed (map (λ entry. (entry.0.now, entry.1)) table.entry.now)
+        (str_to_ascii_lowercase word.now) Sort.Plain }
 {
     while let [entry, rest @ ..] = table {
         if is_word(word, entry.0.as_bytes()) {
@@ -261,7 +262,8 @@ fn word_listed(mut table: &[(&str, Sort)], word: &[u8]) -> Sort
 
 /// The sort that a table gives a symbol, or `Other`.
 fn symbol_listed(mut table: &[(&str, Sort)], symbol: &[u8]) -> Sort
-    ensures { result ≡ spec.listed (map (λ entry. (entry.0.now, entry.1)) table.entry.now) symbol.now Sort.Other }
+    ensures { result ≡ spec.listed (map (λ entry. (entry.0.now, entry.1)) table.entry.now) symbol.now
+        Sort.Other }
 {
     while let [entry, rest @ ..] = table {
         if entry.0.as_bytes() == symbol {

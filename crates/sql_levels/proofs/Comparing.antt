@@ -5,13 +5,13 @@ use Rattle.sql_grammar.specs.Building as b
 use Rattle.sql_grammar.specs.Building.{Word}
 use Rattle.sql_grammar.specs.Cursors.{reading, past, one, sees}
 use Rattle.sql_grammar.specs.Descent.{Outcome, Taken, Stopped, and_then, mapped}
-use Rattle.sql_grammar.specs.Pieces.{between, by, has, word_at}
+use Rattle.sql_grammar.specs.built.Pieces.{between, by, passes, word_at}
 use Rattle.sql_grammar.specs.Rules.{word, token, symbol, ◌then◌}
 use Rattle.sql_grammar.specs.Symbols as n
 use Rattle.sql_grammar.specs.declared.sort.Sort.TheVariants as s
 use Rattle.sql_tree.specs.declared.expression.ExprTree.{ExprTree}
 use Rattle.sql_tree.specs.declared.query.QueryTree.{QueryTree}
-use Rattle.sql_levels.specs.Tails as tails
+use Rattle.sql_levels.specs.built.Tails as tails
 use Rattle.sql_levels.specs.declared.tail.Tail.TheVariants as tail
 use Rattle.sql_grammar.proofs.Between.{choice_between}
 use Rattle.sql_grammar.proofs.Queries.{choice_of}
@@ -23,7 +23,7 @@ sum_takes = reading-takes n.Sum refl
 -- ---- behind IS
 
 pub is_test_is : (tokens : List Token) → reading n.IsTest tokens
-    ≡ and_then (past s.Is tokens) (λ is first. and_then (has s.Not first) (λ negated rest. mapped (λ t. tails.behind (negated, t)) (tails.is_tail rest)))
+    ≡ and_then (past s.Is tokens) (λ is first. and_then (passes s.Not first) (λ negated rest. mapped (λ t. tails.behind (negated, t)) (tails.is_tail rest)))
 is_test_is tokens = reading_is n.IsTest tokens ∙ by_word (past s.Is tokens) where
   by_tail : (w : Word) (d : Option Word) (a c : Bool) (o p : Outcome Token Token) (q : Outcome Token (Word × (Word × ExprTree)))
       → mapped (λ (v : Word × (Option Word × _)). b.is_test v.1) (mapped (λ y. (w, y)) (mapped (λ y. (d, y)) (cond a (mapped inl o) (mapped inr (cond c (mapped inl p) (mapped inr q))))))
@@ -48,7 +48,7 @@ is_test_is tokens = reading_is n.IsTest tokens ∙ by_word (past s.Is tokens) wh
       → mapped (λ (v : Word × (Option Word × _)). b.is_test v.1) (and_then o (λ w first. mapped (λ y. (w, y)) (and_then (word_at s.Not first) (λ d rest. mapped (λ y. (d, y))
       (cond (sees (s.Null ∷ []) rest) (mapped inl (one (s.Null ∷ []) rest)) (mapped inr (cond (sees tails.truths rest) (mapped inl (one tails.truths rest))
       (mapped inr (by (word s.Distinct then word s.From then symbol n.Compared) rest)))))))))
-      ≡ and_then o (λ is first. and_then (has s.Not first) (λ negated rest. mapped (λ t. tails.behind (negated, t)) (tails.is_tail rest)))
+      ≡ and_then o (λ is first. and_then (passes s.Not first) (λ negated rest. mapped (λ t. tails.behind (negated, t)) (tails.is_tail rest)))
   by_word (Stopped rest) = refl
   by_word (Taken w first) = by_negation w (word_at s.Not first)
 
@@ -92,7 +92,7 @@ members_is tokens =
 -- a part, and what may stand behind it
 pub ranged_is : (tokens : List Token) → reading n.Ranged tokens
     ≡ and_then (reading n.Sum tokens) (λ part rest. cond (sees tails.ranges rest)
-    (and_then (has s.Not rest) (λ negated last. mapped (λ range. range negated part) (reading n.Range last))) (Taken part rest))
+    (and_then (passes s.Not rest) (λ negated last. mapped (λ range. range negated part) (reading n.Range last))) (Taken part rest))
 ranged_is tokens = reading_is n.Ranged tokens ∙ by_part (reading n.Sum tokens) where
   by_range : (part : ExprTree) (d : Option Word) (o : Outcome Token (Bool → ExprTree → ExprTree))
       → mapped b.ranged (mapped (λ y. (part, y)) (mapped Some (mapped (λ range. (d, range)) o))) ≡ mapped (λ range. range (is_some d) part) o
@@ -107,7 +107,7 @@ ranged_is tokens = reading_is n.Ranged tokens ∙ by_part (reading n.Sum tokens)
 
   by_test : (part : ExprTree) (rest : List Token) (a : Bool)
       → mapped b.ranged (mapped (λ y. (part, y)) (cond a (mapped Some (and_then (word_at s.Not rest) (λ d last. mapped (λ range. (d, range)) (reading n.Range last)))) (Taken None rest)))
-      ≡ cond a (and_then (has s.Not rest) (λ negated last. mapped (λ range. range negated part) (reading n.Range last))) (Taken part rest)
+      ≡ cond a (and_then (passes s.Not rest) (λ negated last. mapped (λ range. range negated part) (reading n.Range last))) (Taken part rest)
   by_test part rest true = by_negation part (word_at s.Not rest)
   by_test part rest false = refl
 
@@ -115,6 +115,6 @@ ranged_is tokens = reading_is n.Ranged tokens ∙ by_part (reading n.Sum tokens)
       → mapped b.ranged (and_then o (λ part rest. mapped (λ y. (part, y)) (cond (sees tails.ranges rest)
       (mapped Some (and_then (word_at s.Not rest) (λ d last. mapped (λ range. (d, range)) (reading n.Range last)))) (Taken None rest))))
       ≡ and_then o (λ part rest. cond (sees tails.ranges rest)
-      (and_then (has s.Not rest) (λ negated last. mapped (λ range. range negated part) (reading n.Range last))) (Taken part rest))
+      (and_then (passes s.Not rest) (λ negated last. mapped (λ range. range negated part) (reading n.Range last))) (Taken part rest))
   by_part (Stopped rest) = refl
   by_part (Taken part rest) = by_test part rest (sees tails.ranges rest)

@@ -3,7 +3,7 @@ use Rattle.std.proofs.Common.{◌≡◌, ℕ, List, [], ◌∷◌, length, refl,
 use Rattle.sql_lexer.specs.declared.token.Token.{Token}
 use Rattle.sql_grammar.specs.Building as b
 use Rattle.sql_grammar.specs.Building.{Word}
-use Rattle.sql_grammar.specs.Cursors.{reading, past, place}
+use Rattle.sql_grammar.specs.Cursors.{reading, past, offset}
 use Rattle.sql_grammar.specs.Descent.{Outcome, Taken, Stopped, and_then, mapped}
 use Rattle.sql_grammar.specs.Lists.{all_of}
 use Rattle.sql_grammar.specs.Symbols as n
@@ -20,9 +20,9 @@ placed-counted {Y = Y} at f (Taken x rest) next = by_next (next rest) where
   by_next (Taken y rest) = refl
 
 pub sign_is : (tokens : List Token) → reading n.Sign tokens
-    ≡ and_then (all_of (s.Minus ∷ []) (past s.Minus) tokens) (λ minuses rest. mapped (λ part. b.signed (place tokens) (length minuses) part) (reading n.Primary rest))
-sign_is tokens = reading_is n.Sign tokens ∙ placed-counted (place tokens) b.signs (all_of (s.Minus ∷ []) (past s.Minus) tokens) (reading n.Primary)
+    ≡ and_then (all_of (s.Minus ∷ []) (past s.Minus) tokens) (λ minuses rest. mapped (λ part. b.signed (offset tokens) (length minuses) part) (reading n.Primary rest))
+sign_is tokens = reading_is n.Sign tokens ∙ placed-counted (offset tokens) b.signs (all_of (s.Minus ∷ []) (past s.Minus) tokens) (reading n.Primary)
 
 pub negated_is : (tokens : List Token) → reading n.Negated tokens
-    ≡ and_then (all_of (s.Not ∷ []) (past s.Not) tokens) (λ words rest. mapped (λ part. b.negated (place tokens) (length words) part) (reading n.Test rest))
-negated_is tokens = reading_is n.Negated tokens ∙ placed-counted (place tokens) b.nots (all_of (s.Not ∷ []) (past s.Not) tokens) (reading n.Test)
+    ≡ and_then (all_of (s.Not ∷ []) (past s.Not) tokens) (λ words rest. mapped (λ part. b.negated (offset tokens) (length words) part) (reading n.Test rest))
+negated_is tokens = reading_is n.Negated tokens ∙ placed-counted (offset tokens) b.nots (all_of (s.Not ∷ []) (past s.Not) tokens) (reading n.Test)

@@ -1,1 +1,1 @@
-pub mod Tails
+pub mod built

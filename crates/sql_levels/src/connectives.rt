@@ -3,7 +3,7 @@
 ghost use Rattle.std.specs.Prelude.{◌≡◌, ◌<◌, ◌≤◌, length, IfOk};
 ghost use Rattle.sql_grammar.specs.Building as b;
 ghost use Rattle.sql_grammar.specs.Cursors as spec;
-ghost use Rattle.sql_grammar.specs.Lists.{more_listed as more_read};
+ghost use Rattle.sql_grammar.specs.Lists.{more_listed};
 ghost use Rattle.sql_grammar.specs.Nests.{ReadsUpTo};
 ghost use Rattle.sql_grammar.specs.Symbols as n;
 ghost use Rattle.sql_grammar.specs.declared.sort.Sort.TheVariants as s;
@@ -12,7 +12,7 @@ ghost use Rattle.sql_tree.specs.declared.expression.ExprBody.TheVariants.{Logic}
 use crate::words::words;
 use null_logic::Operator;
 use perm_values::{Boxed, List, NoMemory};
-use sql_grammar::{Cursor, Fault, Sort, more_listed, node};
+use sql_grammar::{Cursor, Sort, Unread, list_from, node};
 use sql_tree::{ExprBody, ExprTree};
 use std::alloc::Global;
 
@@ -50,8 +50,8 @@ pub struct Connectives<T> {
     pub most: usize,
 }
 
-impl<T: Fn(&mut Cursor<'_>) -> Result<Boxed<ExprTree>, Fault>> Connectives<T> {
-    fn part(&self, cursor: &mut Cursor<'_>) -> Result<Boxed<ExprTree>, Fault>
+impl<T: Fn(&mut Cursor<'_>) -> Result<Boxed<ExprTree>, Unread>> Connectives<T> {
+    fn part(&self, cursor: &mut Cursor<'_>) -> Result<Boxed<ExprTree>, Unread>
         requires sound { ReadsUpTo self.now.most n.Test (T.pre self.now.test) (T.post self.now.test) }
         requires below { length cursor.old ≤ self.now.most }
         ensures given { spec.Reads result (spec.reading n.Test cursor.old) cursor.new }
@@ -61,18 +61,18 @@ impl<T: Fn(&mut Cursor<'_>) -> Result<Boxed<ExprTree>, Fault>> Connectives<T> {
     }
 
     #[tactic(auto, using(crate::proofs::Counts::negated_is))]
-    fn negated(&self, cursor: &mut Cursor<'_>) -> Result<Boxed<ExprTree>, Fault>
+    fn negated(&self, cursor: &mut Cursor<'_>) -> Result<Boxed<ExprTree>, Unread>
         requires sound { ReadsUpTo self.now.most n.Test (T.pre self.now.test) (T.post self.now.test) }
         requires below { length cursor.old ≤ self.now.most }
         ensures given { spec.Reads result (spec.reading n.Negated cursor.old) cursor.new }
         ensures fewer { IfOk result (λ _. length cursor.new < length cursor.old) }
     {
-        let at = cursor.place();
+        let at = cursor.offset();
         let nots = words(cursor, Sort::Not)?;
         let part = self.part(cursor)?;
         match negated(cursor.alloc(), at, nots.len() as u64, part) {
             Ok(tree) => Ok(tree),
-            Err(NoMemory) => Err(Fault::NoMemory),
+            Err(NoMemory) => Err(Unread::NoMemory),
         }
     }
 
@@ -81,13 +81,14 @@ impl<T: Fn(&mut Cursor<'_>) -> Result<Boxed<ExprTree>, Fault>> Connectives<T> {
         &self,
         cursor: &mut Cursor<'_>,
         first: Boxed<ExprTree>,
-    ) -> Result<List<ExprTree>, Fault>
+    ) -> Result<List<ExprTree>, Unread>
         requires sound { ReadsUpTo self.now.most n.Test (T.pre self.now.test) (T.post self.now.test) }
         requires below { length cursor.old ≤ self.now.most }
-        ensures given { spec.Reads result (more_read s.And (spec.reading n.Negated) first cursor.old) cursor.new }
+        ensures given { spec.Reads result
+            (more_listed s.And (spec.reading n.Negated) first cursor.old) cursor.new }
         ensures fewer { IfOk result (λ _. length cursor.new ≤ length cursor.old) }
     {
-        more_listed(
+        list_from(
             cursor,
             Sort::And,
             first.into_inner(),
@@ -96,7 +97,7 @@ impl<T: Fn(&mut Cursor<'_>) -> Result<Boxed<ExprTree>, Fault>> Connectives<T> {
     }
 
     #[tactic(auto, using(crate::proofs::Connecting::both_is))]
-    fn both(&self, cursor: &mut Cursor<'_>) -> Result<Boxed<ExprTree>, Fault>
+    fn both(&self, cursor: &mut Cursor<'_>) -> Result<Boxed<ExprTree>, Unread>
         requires sound { ReadsUpTo self.now.most n.Test (T.pre self.now.test) (T.post self.now.test) }
         requires below { length cursor.old ≤ self.now.most }
         ensures given { spec.Reads result (spec.reading n.Both cursor.old) cursor.new }
@@ -110,7 +111,7 @@ impl<T: Fn(&mut Cursor<'_>) -> Result<Boxed<ExprTree>, Fault>> Connectives<T> {
         let parts = self.conjuncts(cursor, first)?;
         match connected(cursor.alloc(), at, Operator::And, parts) {
             Ok(tree) => Ok(tree),
-            Err(NoMemory) => Err(Fault::NoMemory),
+            Err(NoMemory) => Err(Unread::NoMemory),
         }
     }
 
@@ -119,13 +120,14 @@ impl<T: Fn(&mut Cursor<'_>) -> Result<Boxed<ExprTree>, Fault>> Connectives<T> {
         &self,
         cursor: &mut Cursor<'_>,
         first: Boxed<ExprTree>,
-    ) -> Result<List<ExprTree>, Fault>
+    ) -> Result<List<ExprTree>, Unread>
         requires sound { ReadsUpTo self.now.most n.Test (T.pre self.now.test) (T.post self.now.test) }
         requires below { length cursor.old ≤ self.now.most }
-        ensures given { spec.Reads result (more_read s.Or (spec.reading n.Both) first cursor.old) cursor.new }
+        ensures given { spec.Reads result
+            (more_listed s.Or (spec.reading n.Both) first cursor.old) cursor.new }
         ensures fewer { IfOk result (λ _. length cursor.new ≤ length cursor.old) }
     {
-        more_listed(
+        list_from(
             cursor,
             Sort::Or,
             first.into_inner(),
@@ -135,7 +137,7 @@ impl<T: Fn(&mut Cursor<'_>) -> Result<Boxed<ExprTree>, Fault>> Connectives<T> {
 
     /// An expression.
     #[tactic(auto, using(crate::proofs::Connecting::expr_is))]
-    pub fn disjunction(&self, cursor: &mut Cursor<'_>) -> Result<Boxed<ExprTree>, Fault>
+    pub fn disjunction(&self, cursor: &mut Cursor<'_>) -> Result<Boxed<ExprTree>, Unread>
         requires sound { ReadsUpTo self.now.most n.Test (T.pre self.now.test) (T.post self.now.test) }
         requires below { length cursor.old ≤ self.now.most }
         ensures given { spec.Reads result (spec.reading n.Expr cursor.old) cursor.new }
@@ -149,7 +151,7 @@ impl<T: Fn(&mut Cursor<'_>) -> Result<Boxed<ExprTree>, Fault>> Connectives<T> {
         let parts = self.disjuncts(cursor, first)?;
         match connected(cursor.alloc(), at, Operator::Or, parts) {
             Ok(tree) => Ok(tree),
-            Err(NoMemory) => Err(Fault::NoMemory),
+            Err(NoMemory) => Err(Unread::NoMemory),
         }
     }
 }

@@ -3,15 +3,15 @@
 ghost use Rattle.std.specs.Prelude.{◌≡◌, ◌<◌, ◌≤◌, length, IfOk};
 ghost use Rattle.sql_grammar.specs.Building as b;
 ghost use Rattle.sql_grammar.specs.Cursors as spec;
-ghost use Rattle.sql_grammar.specs.Nests.{Nests, ReadsUpTo};
+ghost use Rattle.sql_grammar.specs.Nests.{NestReads, ReadsUpTo};
 ghost use Rattle.sql_grammar.specs.Symbols as n;
-ghost use Rattle.sql_levels.specs.Tails as tails;
+ghost use Rattle.sql_levels.specs.built.Tails as tails;
 ghost use Rattle.sql_grammar.specs.declared.sort.Sort.TheVariants as s;
 
 use crate::tail::Tail;
 use null_logic::{Compare, Truth};
 use perm_values::{Boxed, NoMemory};
-use sql_grammar::{Cursor, Fault, Nest, Sort, same_sort, sort_of};
+use sql_grammar::{Cursor, Nest, Sort, Unread, same_sort, sort_of};
 use sql_lexer::Token;
 use sql_tree::{ExprTree, QueryTree};
 
@@ -68,7 +68,7 @@ fn is_all(token: &Token<'_>) -> bool
     same_sort(sort_of(token), Sort::All)
 }
 
-fn null_tail(cursor: &mut Cursor<'_>) -> Result<Tail, Fault>
+fn null_tail(cursor: &mut Cursor<'_>) -> Result<Tail, Unread>
     ensures given { spec.Reads result (tails.null_tail cursor.old) cursor.new }
     ensures fewer { IfOk result (λ _. length cursor.new < length cursor.old) }
 {
@@ -76,7 +76,7 @@ fn null_tail(cursor: &mut Cursor<'_>) -> Result<Tail, Fault>
     Ok(Tail::Null)
 }
 
-fn truth_tail(cursor: &mut Cursor<'_>) -> Result<Tail, Fault>
+fn truth_tail(cursor: &mut Cursor<'_>) -> Result<Tail, Unread>
     ensures given { spec.Reads result (tails.truth_tail cursor.old) cursor.new }
     ensures fewer { IfOk result (λ _. length cursor.new < length cursor.old) }
 {
@@ -91,11 +91,11 @@ pub struct Predicates<S, F, G> {
 }
 
 impl<
-    S: Fn(&mut Cursor<'_>) -> Result<Boxed<ExprTree>, Fault>,
-    F: Fn(&mut Cursor<'_>) -> Result<Boxed<ExprTree>, Fault>,
-    G: Fn(&mut Cursor<'_>) -> Result<Boxed<QueryTree>, Fault>,
+    S: Fn(&mut Cursor<'_>) -> Result<Boxed<ExprTree>, Unread>,
+    F: Fn(&mut Cursor<'_>) -> Result<Boxed<ExprTree>, Unread>,
+    G: Fn(&mut Cursor<'_>) -> Result<Boxed<QueryTree>, Unread>,
 > Predicates<S, F, G> {
-    fn operand(&self, cursor: &mut Cursor<'_>) -> Result<Boxed<ExprTree>, Fault>
+    fn operand(&self, cursor: &mut Cursor<'_>) -> Result<Boxed<ExprTree>, Unread>
         requires sums { ReadsUpTo self.now.nest.most n.Sum (S.pre self.now.sum) (S.post self.now.sum) }
         requires below { length cursor.old ≤ self.now.nest.most }
         ensures given { spec.Reads result (spec.reading n.Sum cursor.old) cursor.new }
@@ -104,9 +104,9 @@ impl<
         (self.sum)(cursor)
     }
 
-    fn distinct_tail(&self, cursor: &mut Cursor<'_>) -> Result<Tail, Fault>
+    fn distinct_tail(&self, cursor: &mut Cursor<'_>) -> Result<Tail, Unread>
         requires sums { ReadsUpTo self.now.nest.most n.Sum (S.pre self.now.sum) (S.post self.now.sum) }
-        requires sound { Nests self.now.nest.most (F.pre self.now.nest.expr) (G.pre self.now.nest.query) (F.post self.now.nest.expr) (G.post self.now.nest.query) }
+        requires sound { NestReads self.now.nest F.pre G.pre F.post G.post }
         requires below { length cursor.old ≤ self.now.nest.most }
         ensures given { spec.Reads result (tails.distinct_tail cursor.old) cursor.new }
         ensures fewer { IfOk result (λ _. length cursor.new < length cursor.old) }
@@ -118,9 +118,9 @@ impl<
     }
 
     /// What stands behind IS and NOT.
-    fn is_tail(&self, cursor: &mut Cursor<'_>) -> Result<Tail, Fault>
+    fn is_tail(&self, cursor: &mut Cursor<'_>) -> Result<Tail, Unread>
         requires sums { ReadsUpTo self.now.nest.most n.Sum (S.pre self.now.sum) (S.post self.now.sum) }
-        requires sound { Nests self.now.nest.most (F.pre self.now.nest.expr) (G.pre self.now.nest.query) (F.post self.now.nest.expr) (G.post self.now.nest.query) }
+        requires sound { NestReads self.now.nest F.pre G.pre F.post G.post }
         requires below { length cursor.old ≤ self.now.nest.most }
         ensures given { spec.Reads result (tails.is_tail cursor.old) cursor.new }
         ensures fewer { IfOk result (λ _. length cursor.new < length cursor.old) }
@@ -135,23 +135,23 @@ impl<
     }
 
     #[tactic(auto, using(crate::proofs::Comparing::is_test_is))]
-    fn is_test(&self, cursor: &mut Cursor<'_>) -> Result<(bool, Tail), Fault>
+    fn is_test(&self, cursor: &mut Cursor<'_>) -> Result<(bool, Tail), Unread>
         requires sums { ReadsUpTo self.now.nest.most n.Sum (S.pre self.now.sum) (S.post self.now.sum) }
-        requires sound { Nests self.now.nest.most (F.pre self.now.nest.expr) (G.pre self.now.nest.query) (F.post self.now.nest.expr) (G.post self.now.nest.query) }
+        requires sound { NestReads self.now.nest F.pre G.pre F.post G.post }
         requires below { length cursor.old ≤ self.now.nest.most }
         ensures given { spec.Sees tails.behind result (spec.reading n.IsTest cursor.old) cursor.new }
         ensures fewer { IfOk result (λ _. length cursor.new < length cursor.old) }
     {
         cursor.past(Sort::Is)?;
-        let negated = cursor.has(Sort::Not)?;
+        let negated = cursor.passes(Sort::Not)?;
         let tail = self.is_tail(cursor)?;
         Ok((negated, tail))
     }
 
     #[tactic(auto, using(sql_grammar::proofs::Steps::test_is))]
-    pub fn test(&self, cursor: &mut Cursor<'_>) -> Result<Boxed<ExprTree>, Fault>
+    pub fn test(&self, cursor: &mut Cursor<'_>) -> Result<Boxed<ExprTree>, Unread>
         requires sums { ReadsUpTo self.now.nest.most n.Sum (S.pre self.now.sum) (S.post self.now.sum) }
-        requires sound { Nests self.now.nest.most (F.pre self.now.nest.expr) (G.pre self.now.nest.query) (F.post self.now.nest.expr) (G.post self.now.nest.query) }
+        requires sound { NestReads self.now.nest F.pre G.pre F.post G.post }
         requires below { length cursor.old ≤ self.now.nest.most }
         ensures given { spec.Reads result (spec.reading n.Test cursor.old) cursor.new }
         ensures fewer { IfOk result (λ _. length cursor.new < length cursor.old) }
@@ -163,12 +163,12 @@ impl<
         let (negated, tail) = self.is_test(cursor)?;
         match tail.on(cursor.alloc(), negated, part) {
             Ok(tree) => Ok(tree),
-            Err(NoMemory) => Err(Fault::NoMemory),
+            Err(NoMemory) => Err(Unread::NoMemory),
         }
     }
 
-    fn quantified(&self, cursor: &mut Cursor<'_>, op: Compare) -> Result<Tail, Fault>
-        requires sound { Nests self.now.nest.most (F.pre self.now.nest.expr) (G.pre self.now.nest.query) (F.post self.now.nest.expr) (G.post self.now.nest.query) }
+    fn quantified(&self, cursor: &mut Cursor<'_>, op: Compare) -> Result<Tail, Unread>
+        requires sound { NestReads self.now.nest F.pre G.pre F.post G.post }
         requires below { length cursor.old ≤ self.now.nest.most }
         ensures given { spec.Reads result (tails.quantified op cursor.old) cursor.new }
         ensures fewer { IfOk result (λ _. length cursor.new < length cursor.old) }
@@ -178,9 +178,9 @@ impl<
         Ok(Tail::Quantified { every, op, query })
     }
 
-    fn second(&self, cursor: &mut Cursor<'_>, op: Compare) -> Result<Tail, Fault>
+    fn second(&self, cursor: &mut Cursor<'_>, op: Compare) -> Result<Tail, Unread>
         requires sums { ReadsUpTo self.now.nest.most n.Sum (S.pre self.now.sum) (S.post self.now.sum) }
-        requires sound { Nests self.now.nest.most (F.pre self.now.nest.expr) (G.pre self.now.nest.query) (F.post self.now.nest.expr) (G.post self.now.nest.query) }
+        requires sound { NestReads self.now.nest F.pre G.pre F.post G.post }
         requires below { length cursor.old ≤ self.now.nest.most }
         ensures given { spec.Reads result (tails.second op cursor.old) cursor.new }
         ensures fewer { IfOk result (λ _. length cursor.new < length cursor.old) }
@@ -190,9 +190,9 @@ impl<
     }
 
     #[tactic(auto, using(crate::proofs::Comparing::comparison_is))]
-    fn comparison(&self, cursor: &mut Cursor<'_>) -> Result<Tail, Fault>
+    fn comparison(&self, cursor: &mut Cursor<'_>) -> Result<Tail, Unread>
         requires sums { ReadsUpTo self.now.nest.most n.Sum (S.pre self.now.sum) (S.post self.now.sum) }
-        requires sound { Nests self.now.nest.most (F.pre self.now.nest.expr) (G.pre self.now.nest.query) (F.post self.now.nest.expr) (G.post self.now.nest.query) }
+        requires sound { NestReads self.now.nest F.pre G.pre F.post G.post }
         requires below { length cursor.old ≤ self.now.nest.most }
         ensures given { spec.Sees tails.compared result (spec.reading n.Comparison cursor.old) cursor.new }
         ensures fewer { IfOk result (λ _. length cursor.new < length cursor.old) }
@@ -206,9 +206,9 @@ impl<
     }
 
     #[tactic(auto, using(sql_grammar::proofs::Steps::compared_is))]
-    fn compared(&self, cursor: &mut Cursor<'_>) -> Result<Boxed<ExprTree>, Fault>
+    fn compared(&self, cursor: &mut Cursor<'_>) -> Result<Boxed<ExprTree>, Unread>
         requires sums { ReadsUpTo self.now.nest.most n.Sum (S.pre self.now.sum) (S.post self.now.sum) }
-        requires sound { Nests self.now.nest.most (F.pre self.now.nest.expr) (G.pre self.now.nest.query) (F.post self.now.nest.expr) (G.post self.now.nest.query) }
+        requires sound { NestReads self.now.nest F.pre G.pre F.post G.post }
         requires below { length cursor.old ≤ self.now.nest.most }
         ensures given { spec.Reads result (spec.reading n.Compared cursor.old) cursor.new }
         ensures fewer { IfOk result (λ _. length cursor.new < length cursor.old) }
@@ -220,12 +220,12 @@ impl<
         let tail = self.comparison(cursor)?;
         match tail.on(cursor.alloc(), false, part) {
             Ok(tree) => Ok(tree),
-            Err(NoMemory) => Err(Fault::NoMemory),
+            Err(NoMemory) => Err(Unread::NoMemory),
         }
     }
 
-    fn among(&self, cursor: &mut Cursor<'_>) -> Result<Tail, Fault>
-        requires sound { Nests self.now.nest.most (F.pre self.now.nest.expr) (G.pre self.now.nest.query) (F.post self.now.nest.expr) (G.post self.now.nest.query) }
+    fn among(&self, cursor: &mut Cursor<'_>) -> Result<Tail, Unread>
+        requires sound { NestReads self.now.nest F.pre G.pre F.post G.post }
         requires below { length cursor.old < self.now.nest.most }
         ensures given { spec.Sees tails.ranged result (tails.among cursor.old) cursor.new }
         ensures fewer { IfOk result (λ _. length cursor.new < length cursor.old) }
@@ -238,8 +238,8 @@ impl<
     }
 
     #[tactic(auto, using(crate::proofs::Comparing::members_is))]
-    fn members(&self, cursor: &mut Cursor<'_>) -> Result<Tail, Fault>
-        requires sound { Nests self.now.nest.most (F.pre self.now.nest.expr) (G.pre self.now.nest.query) (F.post self.now.nest.expr) (G.post self.now.nest.query) }
+    fn members(&self, cursor: &mut Cursor<'_>) -> Result<Tail, Unread>
+        requires sound { NestReads self.now.nest F.pre G.pre F.post G.post }
         requires below { length cursor.old ≤ self.now.nest.most }
         ensures given { spec.Sees tails.ranged result (spec.reading n.Members cursor.old) cursor.new }
         ensures fewer { IfOk result (λ _. length cursor.new < length cursor.old) }
@@ -248,14 +248,14 @@ impl<
         let tail = self.among(cursor)?;
         match cursor.past(Sort::Closing) {
             Ok(()) => Ok(tail),
-            Err(fault) => {
+            Err(unread) => {
                 drop(tail);
-                Err(fault)
+                Err(unread)
             }
         }
     }
 
-    fn like(&self, cursor: &mut Cursor<'_>) -> Result<Tail, Fault>
+    fn like(&self, cursor: &mut Cursor<'_>) -> Result<Tail, Unread>
         requires sums { ReadsUpTo self.now.nest.most n.Sum (S.pre self.now.sum) (S.post self.now.sum) }
         requires below { length cursor.old ≤ self.now.nest.most }
         ensures given { spec.Sees tails.ranged result (tails.like cursor.old) cursor.new }
@@ -265,7 +265,7 @@ impl<
         Ok(Tail::Like(self.operand(cursor)?))
     }
 
-    fn bounds(&self, cursor: &mut Cursor<'_>) -> Result<Tail, Fault>
+    fn bounds(&self, cursor: &mut Cursor<'_>) -> Result<Tail, Unread>
         requires sums { ReadsUpTo self.now.nest.most n.Sum (S.pre self.now.sum) (S.post self.now.sum) }
         requires below { length cursor.old ≤ self.now.nest.most }
         ensures given { spec.Sees tails.ranged result (tails.bounds cursor.old) cursor.new }
@@ -278,8 +278,8 @@ impl<
         Ok(Tail::Between { low, high })
     }
 
-    fn within(&self, cursor: &mut Cursor<'_>) -> Result<Tail, Fault>
-        requires sound { Nests self.now.nest.most (F.pre self.now.nest.expr) (G.pre self.now.nest.query) (F.post self.now.nest.expr) (G.post self.now.nest.query) }
+    fn within(&self, cursor: &mut Cursor<'_>) -> Result<Tail, Unread>
+        requires sound { NestReads self.now.nest F.pre G.pre F.post G.post }
         requires below { length cursor.old ≤ self.now.nest.most }
         ensures given { spec.Sees tails.ranged result (tails.within cursor.old) cursor.new }
         ensures fewer { IfOk result (λ _. length cursor.new < length cursor.old) }
@@ -289,9 +289,9 @@ impl<
     }
 
     #[tactic(auto, using(crate::proofs::Comparing::range_is))]
-    fn range(&self, cursor: &mut Cursor<'_>) -> Result<Tail, Fault>
+    fn range(&self, cursor: &mut Cursor<'_>) -> Result<Tail, Unread>
         requires sums { ReadsUpTo self.now.nest.most n.Sum (S.pre self.now.sum) (S.post self.now.sum) }
-        requires sound { Nests self.now.nest.most (F.pre self.now.nest.expr) (G.pre self.now.nest.query) (F.post self.now.nest.expr) (G.post self.now.nest.query) }
+        requires sound { NestReads self.now.nest F.pre G.pre F.post G.post }
         requires below { length cursor.old ≤ self.now.nest.most }
         ensures given { spec.Sees tails.ranged result (spec.reading n.Range cursor.old) cursor.new }
         ensures fewer { IfOk result (λ _. length cursor.new < length cursor.old) }
@@ -306,9 +306,9 @@ impl<
     }
 
     #[tactic(auto, using(crate::proofs::Comparing::ranged_is))]
-    fn ranged(&self, cursor: &mut Cursor<'_>) -> Result<Boxed<ExprTree>, Fault>
+    fn ranged(&self, cursor: &mut Cursor<'_>) -> Result<Boxed<ExprTree>, Unread>
         requires sums { ReadsUpTo self.now.nest.most n.Sum (S.pre self.now.sum) (S.post self.now.sum) }
-        requires sound { Nests self.now.nest.most (F.pre self.now.nest.expr) (G.pre self.now.nest.query) (F.post self.now.nest.expr) (G.post self.now.nest.query) }
+        requires sound { NestReads self.now.nest F.pre G.pre F.post G.post }
         requires below { length cursor.old ≤ self.now.nest.most }
         ensures given { spec.Reads result (spec.reading n.Ranged cursor.old) cursor.new }
         ensures fewer { IfOk result (λ _. length cursor.new < length cursor.old) }
@@ -317,11 +317,11 @@ impl<
         if !cursor.sees_any(&RANGES) {
             return Ok(part);
         }
-        let negated = cursor.has(Sort::Not)?;
+        let negated = cursor.passes(Sort::Not)?;
         let tail = self.range(cursor)?;
         match tail.on(cursor.alloc(), negated, part) {
             Ok(tree) => Ok(tree),
-            Err(NoMemory) => Err(Fault::NoMemory),
+            Err(NoMemory) => Err(Unread::NoMemory),
         }
     }
 }

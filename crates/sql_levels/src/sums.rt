@@ -11,7 +11,7 @@ ghost use Rattle.sql_grammar.specs.declared.sort.Sort.TheVariants as s;
 use crate::words::words;
 use null_logic::Arith;
 use perm_values::{Boxed, List, NoMemory};
-use sql_grammar::{Cursor, Fault, Sort, node, repeated, same_sort, sort_of};
+use sql_grammar::{Cursor, Sort, Unread, all_items, node, same_sort, sort_of};
 use sql_lexer::Token;
 use sql_tree::{ExprBody, ExprStep, ExprTree};
 use std::alloc::Global;
@@ -70,9 +70,10 @@ pub struct Sums<P> {
     pub most: usize,
 }
 
-impl<P: Fn(&mut Cursor<'_>) -> Result<Boxed<ExprTree>, Fault>> Sums<P> {
-    fn part(&self, cursor: &mut Cursor<'_>) -> Result<Boxed<ExprTree>, Fault>
-        requires sound { ReadsUpTo self.now.most n.Primary (P.pre self.now.primary) (P.post self.now.primary) }
+impl<P: Fn(&mut Cursor<'_>) -> Result<Boxed<ExprTree>, Unread>> Sums<P> {
+    fn part(&self, cursor: &mut Cursor<'_>) -> Result<Boxed<ExprTree>, Unread>
+        requires sound { ReadsUpTo self.now.most n.Primary
+            (P.pre self.now.primary) (P.post self.now.primary) }
         requires below { length cursor.old ≤ self.now.most }
         ensures given { spec.Reads result (spec.reading n.Primary cursor.old) cursor.new }
         ensures fewer { IfOk result (λ _. length cursor.new < length cursor.old) }
@@ -81,24 +82,26 @@ impl<P: Fn(&mut Cursor<'_>) -> Result<Boxed<ExprTree>, Fault>> Sums<P> {
     }
 
     #[tactic(auto, using(crate::proofs::Counts::sign_is))]
-    fn sign(&self, cursor: &mut Cursor<'_>) -> Result<Boxed<ExprTree>, Fault>
-        requires sound { ReadsUpTo self.now.most n.Primary (P.pre self.now.primary) (P.post self.now.primary) }
+    fn sign(&self, cursor: &mut Cursor<'_>) -> Result<Boxed<ExprTree>, Unread>
+        requires sound { ReadsUpTo self.now.most n.Primary
+            (P.pre self.now.primary) (P.post self.now.primary) }
         requires below { length cursor.old ≤ self.now.most }
         ensures given { spec.Reads result (spec.reading n.Sign cursor.old) cursor.new }
         ensures fewer { IfOk result (λ _. length cursor.new < length cursor.old) }
     {
-        let at = cursor.place();
+        let at = cursor.offset();
         let minuses = words(cursor, Sort::Minus)?;
         let part = self.part(cursor)?;
         match signed(cursor.alloc(), at, minuses.len() as u64, part) {
             Ok(tree) => Ok(tree),
-            Err(NoMemory) => Err(Fault::NoMemory),
+            Err(NoMemory) => Err(Unread::NoMemory),
         }
     }
 
     #[tactic(auto, using(sql_grammar::proofs::Steps::product_step_is))]
-    fn product_step(&self, cursor: &mut Cursor<'_>) -> Result<ExprStep, Fault>
-        requires sound { ReadsUpTo self.now.most n.Primary (P.pre self.now.primary) (P.post self.now.primary) }
+    fn product_step(&self, cursor: &mut Cursor<'_>) -> Result<ExprStep, Unread>
+        requires sound { ReadsUpTo self.now.most n.Primary
+            (P.pre self.now.primary) (P.post self.now.primary) }
         requires below { length cursor.old ≤ self.now.most }
         ensures given { spec.Reads result (spec.reading n.ProductStep cursor.old) cursor.new }
         ensures fewer { IfOk result (λ _. length cursor.new < length cursor.old) }
@@ -112,13 +115,15 @@ impl<P: Fn(&mut Cursor<'_>) -> Result<Boxed<ExprTree>, Fault>> Sums<P> {
         })
     }
 
-    fn product_steps(&self, cursor: &mut Cursor<'_>) -> Result<List<ExprStep>, Fault>
-        requires sound { ReadsUpTo self.now.most n.Primary (P.pre self.now.primary) (P.post self.now.primary) }
+    fn product_steps(&self, cursor: &mut Cursor<'_>) -> Result<List<ExprStep>, Unread>
+        requires sound { ReadsUpTo self.now.most n.Primary
+            (P.pre self.now.primary) (P.post self.now.primary) }
         requires below { length cursor.old ≤ self.now.most }
-        ensures given { spec.Reads result (all_of (s.Star ∷ s.Slash ∷ s.Percent ∷ []) (spec.reading n.ProductStep) cursor.old) cursor.new }
+        ensures given { spec.Reads result
+            (all_of (s.Star ∷ s.Slash ∷ s.Percent ∷ []) (spec.reading n.ProductStep) cursor.old) cursor.new }
         ensures fewer { IfOk result (λ _. length cursor.new ≤ length cursor.old) }
     {
-        repeated(
+        all_items(
             cursor,
             &[Sort::Star, Sort::Slash, Sort::Percent],
             |cursor: &mut Cursor<'_>| self.product_step(cursor),
@@ -126,8 +131,9 @@ impl<P: Fn(&mut Cursor<'_>) -> Result<Boxed<ExprTree>, Fault>> Sums<P> {
     }
 
     #[tactic(auto, using(sql_grammar::proofs::Steps::product_is))]
-    fn product(&self, cursor: &mut Cursor<'_>) -> Result<Boxed<ExprTree>, Fault>
-        requires sound { ReadsUpTo self.now.most n.Primary (P.pre self.now.primary) (P.post self.now.primary) }
+    fn product(&self, cursor: &mut Cursor<'_>) -> Result<Boxed<ExprTree>, Unread>
+        requires sound { ReadsUpTo self.now.most n.Primary
+            (P.pre self.now.primary) (P.post self.now.primary) }
         requires below { length cursor.old ≤ self.now.most }
         ensures given { spec.Reads result (spec.reading n.Product cursor.old) cursor.new }
         ensures fewer { IfOk result (λ _. length cursor.new < length cursor.old) }
@@ -136,13 +142,14 @@ impl<P: Fn(&mut Cursor<'_>) -> Result<Boxed<ExprTree>, Fault>> Sums<P> {
         let steps = self.product_steps(cursor)?;
         match chain(cursor.alloc(), first, steps) {
             Ok(tree) => Ok(tree),
-            Err(NoMemory) => Err(Fault::NoMemory),
+            Err(NoMemory) => Err(Unread::NoMemory),
         }
     }
 
     #[tactic(auto, using(sql_grammar::proofs::Steps::sum_step_is))]
-    fn sum_step(&self, cursor: &mut Cursor<'_>) -> Result<ExprStep, Fault>
-        requires sound { ReadsUpTo self.now.most n.Primary (P.pre self.now.primary) (P.post self.now.primary) }
+    fn sum_step(&self, cursor: &mut Cursor<'_>) -> Result<ExprStep, Unread>
+        requires sound { ReadsUpTo self.now.most n.Primary
+            (P.pre self.now.primary) (P.post self.now.primary) }
         requires below { length cursor.old ≤ self.now.most }
         ensures given { spec.Reads result (spec.reading n.SumStep cursor.old) cursor.new }
         ensures fewer { IfOk result (λ _. length cursor.new < length cursor.old) }
@@ -156,13 +163,15 @@ impl<P: Fn(&mut Cursor<'_>) -> Result<Boxed<ExprTree>, Fault>> Sums<P> {
         })
     }
 
-    fn sum_steps(&self, cursor: &mut Cursor<'_>) -> Result<List<ExprStep>, Fault>
-        requires sound { ReadsUpTo self.now.most n.Primary (P.pre self.now.primary) (P.post self.now.primary) }
+    fn sum_steps(&self, cursor: &mut Cursor<'_>) -> Result<List<ExprStep>, Unread>
+        requires sound { ReadsUpTo self.now.most n.Primary
+            (P.pre self.now.primary) (P.post self.now.primary) }
         requires below { length cursor.old ≤ self.now.most }
-        ensures given { spec.Reads result (all_of (s.Plus ∷ s.Minus ∷ []) (spec.reading n.SumStep) cursor.old) cursor.new }
+        ensures given { spec.Reads result
+            (all_of (s.Plus ∷ s.Minus ∷ []) (spec.reading n.SumStep) cursor.old) cursor.new }
         ensures fewer { IfOk result (λ _. length cursor.new ≤ length cursor.old) }
     {
-        repeated(
+        all_items(
             cursor,
             &[Sort::Plus, Sort::Minus],
             |cursor: &mut Cursor<'_>| { self.sum_step(cursor) },
@@ -170,8 +179,9 @@ impl<P: Fn(&mut Cursor<'_>) -> Result<Boxed<ExprTree>, Fault>> Sums<P> {
     }
 
     #[tactic(auto, using(sql_grammar::proofs::Steps::sum_is))]
-    pub fn sum(&self, cursor: &mut Cursor<'_>) -> Result<Boxed<ExprTree>, Fault>
-        requires sound { ReadsUpTo self.now.most n.Primary (P.pre self.now.primary) (P.post self.now.primary) }
+    pub fn sum(&self, cursor: &mut Cursor<'_>) -> Result<Boxed<ExprTree>, Unread>
+        requires sound { ReadsUpTo self.now.most n.Primary
+            (P.pre self.now.primary) (P.post self.now.primary) }
         requires below { length cursor.old ≤ self.now.most }
         ensures given { spec.Reads result (spec.reading n.Sum cursor.old) cursor.new }
         ensures fewer { IfOk result (λ _. length cursor.new < length cursor.old) }
@@ -180,7 +190,7 @@ impl<P: Fn(&mut Cursor<'_>) -> Result<Boxed<ExprTree>, Fault>> Sums<P> {
         let steps = self.sum_steps(cursor)?;
         match chain(cursor.alloc(), first, steps) {
             Ok(tree) => Ok(tree),
-            Err(NoMemory) => Err(Fault::NoMemory),
+            Err(NoMemory) => Err(Unread::NoMemory),
         }
     }
 }

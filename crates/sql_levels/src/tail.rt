@@ -1,7 +1,7 @@
 //! What stands behind a part of an expression and makes another expression of it.
 
 ghost use Rattle.std.specs.Prelude.{◌≡◌, IfOk};
-ghost use Rattle.sql_levels.specs.Tails as spec;
+ghost use Rattle.sql_levels.specs.built.Tails as spec;
 
 use null_logic::{Compare, Truth};
 use perm_values::{Boxed, List, NoMemory};

@@ -5,12 +5,12 @@ ghost use Rattle.sql_grammar.specs.Cursors as spec;
 ghost use Rattle.sql_grammar.specs.Lists.{all_of};
 
 use perm_values::List;
-use sql_grammar::{Cursor, Fault, Sort, repeated};
+use sql_grammar::{Cursor, Sort, Unread, all_items};
 
 /// Goes past all of this word that stand next.
-pub(crate) fn words(cursor: &mut Cursor<'_>, word: Sort) -> Result<List<()>, Fault>
+pub(crate) fn words(cursor: &mut Cursor<'_>, word: Sort) -> Result<List<()>, Unread>
     ensures given { spec.Reads result (all_of (word ∷ []) (spec.past word) cursor.old) cursor.new }
     ensures fewer { IfOk result (λ _. length cursor.new ≤ length cursor.old) }
 {
-    repeated(cursor, &[word], |cursor: &mut Cursor<'_>| cursor.past(word))
+    all_items(cursor, &[word], |cursor: &mut Cursor<'_>| cursor.past(word))
 }

@@ -2,8 +2,8 @@ use Rattle.std.proofs.Common.{◌≡◌, ℕ, ◌<◌, ◌⊎◌, true, false, �
 use Rattle.std.proofs.lemmas.Bool.Decides.{nat_tests}
 use Rattle.std.specs.Int.{IsInRange}
 use Rattle.sql_lexer.specs.declared.scan.Class.{Class}
-use Rattle.sql_lexer.specs.declared.scan.Class.TheVariants.{Blank, Letter, Digit, Quote, Mark, Other}
-use Rattle.sql_lexer.specs.Bytes.{is_blank, is_mark, pair, class_of, joins_word, joins_number, is_word, is_digit}
+use Rattle.sql_lexer.specs.declared.scan.Class.TheVariants.{Blank, Letter, Digit, Quote, Single, Other}
+use Rattle.sql_lexer.specs.Bytes.{is_blank, is_single, pair, class_of, joins_word, joins_number, is_word, is_digit}
 
 pub digit_range : (b : ℕ) → class_of b ≡ Digit → IsInRange 48 57 b
 unfolding class_of
@@ -21,13 +21,13 @@ pub quote_cases : (b : ℕ) → class_of b ≡ Quote → (b ≡ 34) ⊎ (b ≡ 3
 unfolding class_of
 quote_cases b e = grind (arith, nat_tests)
 
-pub mark_test : (b : ℕ) → class_of b ≡ Mark → is_mark b ≡ true
+pub single_test : (b : ℕ) → class_of b ≡ Single → is_single b ≡ true
 unfolding class_of
-mark_test b e = grind (arith, nat_tests)
+single_test b e = grind (arith, nat_tests)
 
-pub mark_class : (b : ℕ) → is_mark b ≡ true → class_of b ≡ Mark
+pub single_class : (b : ℕ) → is_single b ≡ true → class_of b ≡ Single
 unfolding class_of
-mark_class b e = grind (arith, nat_tests)
+single_class b e = grind (arith, nat_tests)
 
 pub blank_test : (b : ℕ) → class_of b ≡ Blank → is_blank b ≡ true
 unfolding class_of
@@ -43,7 +43,7 @@ joins_word_ascii b Letter e joins = letter_ascii b e
 joins_word_ascii b Digit e joins = omega (arith, digit_range b e)
 joins_word_ascii b Blank e joins = absurd (cc)
 joins_word_ascii b Quote e joins = absurd (cc)
-joins_word_ascii b Mark e joins = absurd (cc)
+joins_word_ascii b Single e joins = absurd (cc)
 joins_word_ascii b Other e joins = absurd (cc)
 
 pub word_ascii : (b : ℕ) → is_word b ≡ true → b < 128
@@ -54,7 +54,7 @@ joins_number_digit Digit joins = refl
 joins_number_digit Letter joins = absurd (cc)
 joins_number_digit Blank joins = absurd (cc)
 joins_number_digit Quote joins = absurd (cc)
-joins_number_digit Mark joins = absurd (cc)
+joins_number_digit Single joins = absurd (cc)
 joins_number_digit Other joins = absurd (cc)
 
 pub digit_is : (b : ℕ) → is_digit b ≡ true → class_of b ≡ Digit
@@ -69,9 +69,9 @@ letter_joins b e = ap joins_word e
 pub digit_ascii : (b : ℕ) → is_digit b ≡ true → b < 128
 digit_ascii b joins = omega (arith, digit_range b (digit_is b joins))
 
-pub mark_ascii : (b : ℕ) → class_of b ≡ Mark → b < 128
+pub single_ascii : (b : ℕ) → class_of b ≡ Single → b < 128
 unfolding class_of
-mark_ascii b e = grind (arith, nat_tests)
+single_ascii b e = grind (arith, nat_tests)
 
 pub quote_ascii : (b : ℕ) → class_of b ≡ Quote → b < 128
 unfolding class_of
@@ -81,11 +81,11 @@ pair_first : (b c : ℕ) (spelled : List ℕ) → pair b c ≡ Some spelled → 
 pair_first b c spelled e = grind (arith, nat_tests)
 
 -- the first byte of a symbol of two bytes, which is no comment
-pub pair_class : (b c : ℕ) (spelled : List ℕ) → pair b c ≡ Some spelled → ((class_of b ≡ Mark) ⊎ (class_of b ≡ Other)) × ((eqb b 45 && eqb c 45) ≡ false)
+pub pair_class : (b c : ℕ) (spelled : List ℕ) → pair b c ≡ Some spelled → ((class_of b ≡ Single) ⊎ (class_of b ≡ Other)) × ((eqb b 45 && eqb c 45) ≡ false)
 unfolding class_of
 pair_class b c spelled e =
     ⊎_elim (λ is. rw is (inl refl, refl)) (λ other. ⊎_elim (λ is. rw is (inr refl, refl)) (λ is. rw is (inl refl, refl)) other) (pair_first b c spelled e)
 
-pub dash_class : class_of 45 ≡ Mark
+pub dash_class : class_of 45 ≡ Single
 unfolding class_of
 dash_class = refl

@@ -11,14 +11,14 @@ use Rattle.sql_lexer.specs.declared.token.Token.{Token}
 use Rattle.sql_lexer.specs.declared.token.TokenKind.{TokenKind}
 use Rattle.sql_lexer.specs.declared.token.TokenKind.TheVariants.{Word, Quoted, Number, Text, Symbol}
 use Rattle.sql_lexer.specs.declared.scan.Class.{Class}
-use Rattle.sql_lexer.specs.declared.scan.Class.TheVariants.{Blank, Letter, Digit, Quote, Mark, Other}
+use Rattle.sql_lexer.specs.declared.scan.Class.TheVariants.{Blank, Letter, Digit, Quote, Single, Other}
 use Rattle.sql_lexer.specs.declared.lex_error.LexError.{LexError}
 use Rattle.sql_lexer.specs.declared.lex_error.LexError.TheVariants.{NotUtf8, BadCharacter, Unterminated, NumberRange, NoMemory}
-use Rattle.sql_lexer.specs.Bytes.{class_of, is_word, is_digit, is_comment, is_mark, pair, held, next_is, doubled, in_quotes}
+use Rattle.sql_lexer.specs.Bytes.{class_of, is_word, is_digit, is_comment, is_single, pair, held, next_is, doubled, in_quotes}
 use Rattle.sql_lexer.specs.Lexes.{IsNumber, Spells, goes_on, Piece, blank, comment, token, IsWrong}
-use Rattle.sql_lexer.specs.Reading.{Ends, Fault, one, token_of, word, number, closed, kind_of, unquoted, pair_at, symbol, mark, by_class, next}
+use Rattle.sql_lexer.specs.Reading.{Ends, Refused, one, token_of, word, number, closed, kind_of, unquoted, pair_at, symbol, comment_or_symbol, by_class, next}
 use Rattle.sql_lexer.proofs.BetweenQuotes.{unquoted_found, unquoted_none}
-use Rattle.sql_lexer.proofs.Classes.{blank_class, letter_joins, digit_joins, mark_class, pair_class, dash_class}
+use Rattle.sql_lexer.proofs.Classes.{blank_class, letter_joins, digit_joins, single_class, pair_class, dash_class}
 use Rattle.sql_lexer.proofs.Fronts.{front_is}
 use Rattle.sql_lexer.proofs.Numbers.{and_true}
 
@@ -39,7 +39,7 @@ number_reads at bytes rest all stop small =
     rw (front_is is_digit bytes rest all stop, take-append_seam bytes rest, lt-ltb (digits_value 10 bytes) (2 ^ 63) small) refl
 
 number_fails : (at : ℕ) (bytes rest : List ℕ) → list_all is_digit bytes ≡ true → next_is is_digit rest ≡ false → 2 ^ 63 ≤ digits_value 10 bytes
-    → number at (bytes ++ rest) ≡ Fault (NumberRange at)
+    → number at (bytes ++ rest) ≡ Refused (NumberRange at)
 unfolding number
 number_fails at bytes rest all stop large =
     rw (front_is is_digit bytes rest all stop, take-append_seam bytes rest, le-ltb (digits_value 10 bytes) (2 ^ 63) large) refl
@@ -73,19 +73,19 @@ and_false true = refl
 and_false false = refl
 
 -- no comment begins here
-mark_symbol : (at b : ℕ) (rest : List ℕ) → (nat_eq b 45 && next_is (λ c. nat_eq c 45) rest) ≡ false → mark at b rest ≡ symbol at b (pair_at b rest)
-unfolding mark
-mark_symbol at b rest e = rw e refl
+comment_or_symbol_is : (at b : ℕ) (rest : List ℕ) → (nat_eq b 45 && next_is (λ c. nat_eq c 45) rest) ≡ false → comment_or_symbol at b rest ≡ symbol at b (pair_at b rest)
+unfolding comment_or_symbol
+comment_or_symbol_is at b rest e = rw e refl
 
-mark_one : (at b : ℕ) (rest : List ℕ) → is_mark b ≡ true → next_is (goes_on Symbol (b ∷ [])) rest ≡ false
-    → mark at b rest ≡ one Symbol at (at + 1) (b ∷ []) (pos 0)
-mark_one at b [] is stop = mark_symbol at b [] (and_false (nat_eq b 45)) ∙ rw (mark_class b is) refl
-mark_one at b (c ∷ rest) is stop =
+symbol_of_one : (at b : ℕ) (rest : List ℕ) → is_single b ≡ true → next_is (goes_on Symbol (b ∷ [])) rest ≡ false
+    → comment_or_symbol at b rest ≡ one Symbol at (at + 1) (b ∷ []) (pos 0)
+symbol_of_one at b [] is stop = comment_or_symbol_is at b [] (and_false (nat_eq b 45)) ∙ rw (single_class b is) refl
+symbol_of_one at b (c ∷ rest) is stop =
     let parts = or_false_parts (is_some (pair b c)) (nat_eq b 45 && nat_eq c 45) stop in
-    mark_symbol at b (c ∷ rest) parts.1 ∙ rw (none_from (pair b c) parts.0, mark_class b is) refl
+    comment_or_symbol_is at b (c ∷ rest) parts.1 ∙ rw (none_from (pair b c) parts.0, single_class b is) refl
 
-mark_two : (at b c : ℕ) (rest spelled : List ℕ) → pair b c ≡ Some spelled → mark at b (c ∷ rest) ≡ one Symbol at (at + 2) spelled (pos 0)
-mark_two at b c rest spelled e = mark_symbol at b (c ∷ rest) (pair_class b c spelled e).1 ∙ ap (symbol at b) e
+symbol_of_two : (at b c : ℕ) (rest spelled : List ℕ) → pair b c ≡ Some spelled → comment_or_symbol at b (c ∷ rest) ≡ one Symbol at (at + 2) spelled (pos 0)
+symbol_of_two at b c rest spelled e = comment_or_symbol_is at b (c ∷ rest) (pair_class b c spelled e).1 ∙ ap (symbol at b) e
 
 -- each kind of token
 symbol_reads : (at : ℕ) (bytes rest spelled : List ℕ) → held bytes ≡ Some spelled → next_is (goes_on Symbol bytes) rest ≡ false
@@ -93,10 +93,10 @@ symbol_reads : (at : ℕ) (bytes rest spelled : List ℕ) → held bytes ≡ Som
 symbol_reads at [] rest spelled e stop = absurd (cc)
 symbol_reads at (b ∷ []) rest spelled e stop =
     ⊎_elim (λ is. let same : Some (b ∷ []) ≡ Some spelled = rw is at e in
-    by Mark at b rest (mark_class b is) ∙ mark_one at b rest is stop ∙ ap (λ word. one Symbol at (at + 1) word (pos 0)) (some_same same))
-    (λ other. let none : None ≡ Some spelled = rw other at e in absurd (cc)) (cases_Bool (is_mark b))
+    by Single at b rest (single_class b is) ∙ symbol_of_one at b rest is stop ∙ ap (λ word. one Symbol at (at + 1) word (pos 0)) (some_same same))
+    (λ other. let none : None ≡ Some spelled = rw other at e in absurd (cc)) (cases_Bool (is_single b))
 symbol_reads at (b ∷ c ∷ []) rest spelled e stop =
-    ⊎_elim (λ is. by Mark at b (c ∷ rest) is ∙ mark_two at b c rest spelled e) (λ is. by Other at b (c ∷ rest) is ∙ mark_two at b c rest spelled e)
+    ⊎_elim (λ is. by Single at b (c ∷ rest) is ∙ symbol_of_two at b c rest spelled e) (λ is. by Other at b (c ∷ rest) is ∙ symbol_of_two at b c rest spelled e)
     (pair_class b c spelled e).0
 symbol_reads at (b ∷ c ∷ d ∷ bytes) rest spelled e stop = absurd (cc)
 
@@ -115,13 +115,13 @@ token_reads Text at bytes rest spelled value s stop = rw (s.0, s.1) (quoted_read
 token_reads Symbol at bytes rest spelled value s stop = symbol_reads at bytes rest spelled s.0 stop ∙ rw s.1 refl
 
 comment_reads : (at : ℕ) (inside rest : List ℕ) → list_all is_comment inside ≡ true → next_is is_comment rest ≡ false
-    → mark at 45 (45 ∷ (inside ++ rest)) ≡ Ends (at + length (45 ∷ 45 ∷ inside)) []
-unfolding mark
+    → comment_or_symbol at 45 (45 ∷ (inside ++ rest)) ≡ Ends (at + length (45 ∷ 45 ∷ inside)) []
+unfolding comment_or_symbol
 comment_reads at inside rest all stop = rw (front_is is_comment inside rest all stop) (ap (λ n. Ends n []) (omega arith))
 
 pub piece_reads : {at : ℕ} {bytes rest : List ℕ} {found : List Token} → Piece at bytes rest found → next at (bytes ++ rest) ≡ Ends (at + length bytes) found
 piece_reads (blank {at} {b} {rest} e) = by Blank at b rest (blank_class b e)
-piece_reads (comment {at} {inside} {rest} all stop) = by Mark at 45 (45 ∷ (inside ++ rest)) dash_class ∙ comment_reads at inside rest all stop
+piece_reads (comment {at} {inside} {rest} all stop) = by Single at 45 (45 ∷ (inside ++ rest)) dash_class ∙ comment_reads at inside rest all stop
 piece_reads (token {at} {bytes} {rest} {token} is stop) =
     token_reads token.kind at bytes rest token.spelled token.number is.spells stop
     ∙ ap (λ start. Ends (at + length bytes) (token_of token.kind start (at + length bytes) token.spelled token.number ∷ [])) (sym is.start)
@@ -133,25 +133,25 @@ pair_none b (c ∷ rest) stop = none_from (pair b c) stop
 
 other_dash : (b : ℕ) → class_of b ≡ Other → nat_eq b 45 ≡ false
 other_dash b e =
-    ⊎_elim (λ is. let both : Mark ≡ Other = sym dash_class ∙ ap class_of (sym (eqb-true b 45 is)) ∙ e in absurd (cc)) (λ other. other) (cases_Bool (nat_eq b 45))
+    ⊎_elim (λ is. let both : Single ≡ Other = sym dash_class ∙ ap class_of (sym (eqb-true b 45 is)) ∙ e in absurd (cc)) (λ other. other) (cases_Bool (nat_eq b 45))
 
-other_fails : (at b : ℕ) (rest : List ℕ) → class_of b ≡ Other → next_is (λ c. is_some (pair b c)) rest ≡ false → mark at b rest ≡ Fault (BadCharacter at)
-other_fails at b rest e stop = mark_symbol at b rest (rw (other_dash b e) refl) ∙ rw (pair_none b rest stop, e) refl
+other_fails : (at b : ℕ) (rest : List ℕ) → class_of b ≡ Other → next_is (λ c. is_some (pair b c)) rest ≡ false → comment_or_symbol at b rest ≡ Refused (BadCharacter at)
+other_fails at b rest e stop = comment_or_symbol_is at b rest (rw (other_dash b e) refl) ∙ rw (pair_none b rest stop, e) refl
 
 large_fails : (at : ℕ) (digits rest : List ℕ) → IsNumber digits → next_is is_digit rest ≡ false → 2 ^ 63 ≤ digits_value 10 digits
-    → next at (digits ++ rest) ≡ Fault (NumberRange at)
+    → next at (digits ++ rest) ≡ Refused (NumberRange at)
 large_fails at [] rest is stop large = absurd is
 large_fails at (b ∷ digits) rest is stop large =
     by Digit at b (digits ++ rest) is.0
     ∙ number_fails at (b ∷ digits) rest (and_true (is_digit b) (list_all is_digit digits) (digit_joins b is.0) is.1) stop large
 
-pub wrong_reads : (at : ℕ) (text : List ℕ) (error : LexError) → IsWrong at text error → next at text ≡ Fault error
+pub wrong_reads : (at : ℕ) (text : List ℕ) (error : LexError) → IsWrong at text error → next at text ≡ Refused error
 wrong_reads at text (NotUtf8 place) w = absurd w
 wrong_reads at text NoMemory w = absurd w
 wrong_reads at [] (BadCharacter place) w = absurd w.1
-wrong_reads at (b ∷ rest) (BadCharacter place) w = by Other at b rest w.1.0 ∙ other_fails at b rest w.1.0 w.1.1 ∙ ap (λ n. Fault (BadCharacter n)) (sym w.0)
+wrong_reads at (b ∷ rest) (BadCharacter place) w = by Other at b rest w.1.0 ∙ other_fails at b rest w.1.0 w.1.1 ∙ ap (λ n. Refused (BadCharacter n)) (sym w.0)
 wrong_reads at [] (Unterminated place) w = absurd w.1
 wrong_reads at (quote ∷ rest) (Unterminated place) w =
     by Quote at quote rest w.1.0 ∙ rw (w.0, w.1.1.1, unquoted_none quote w.1.1.0) refl
 wrong_reads at text (NumberRange place) w =
-    ap (next at) w.1.4 ∙ large_fails at w.1.0 w.1.1 w.1.2 w.1.3 w.1.5 ∙ ap (λ n. Fault (NumberRange n)) (sym w.0)
+    ap (next at) w.1.4 ∙ large_fails at w.1.0 w.1.1 w.1.2 w.1.3 w.1.5 ∙ ap (λ n. Refused (NumberRange n)) (sym w.0)

@@ -8,7 +8,7 @@ use Rattle.sql_lexer.specs.declared.token.Token.{Token}
 use Rattle.sql_lexer.specs.declared.lex_error.LexError.{LexError}
 use Rattle.sql_lexer.specs.declared.lex_error.LexError.TheVariants.{NotUtf8, BadCharacter, Unterminated, NumberRange, NoMemory}
 use Rattle.sql_lexer.specs.Lexes.{LexesTo, nothing, Lexes, StopsFor, Refuses}
-use Rattle.sql_lexer.specs.Reading.{Front, Nothing, Ends, Fault, next}
+use Rattle.sql_lexer.specs.Reading.{Front, Nothing, Ends, Refused, next}
 use Rattle.sql_lexer.proofs.Sound.{IsRead, is_read}
 use Rattle.sql_lexer.proofs.OneReading.{turn, all_read, stops}
 
@@ -37,7 +37,7 @@ module _ (bytes : List ℕ) (utf8 : IsUtf8 bytes) where
       whole at tokens within (omega (arith, ap length none, length-drop at bytes)) d
   one_turn turns go at tokens (Ends end found) left within d e =
       let t = turn bytes at end tokens found within d e in go end (tokens ++ found) (omega (arith, t.goes)) t.within t.lexes
-  one_turn turns go at tokens (Fault error) left within d e = inr (error, refuses bytes error (stops bytes at tokens error utf8 d e))
+  one_turn turns go at tokens (Refused error) left within d e = inr (error, refuses bytes error (stops bytes at tokens error utf8 d e))
 
   answer : (turns : ℕ) → Goes turns
   answer zero at tokens left within d = whole at tokens within (omega arith) d

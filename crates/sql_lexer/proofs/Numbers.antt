@@ -10,7 +10,7 @@ use Rattle.sql_lexer.specs.declared.lex_error.LexError.TheVariants.{NumberRange}
 use Rattle.sql_lexer.specs.declared.token.TokenKind.TheVariants.{Number}
 use Rattle.sql_lexer.specs.declared.scan.Class.TheVariants.{Digit}
 use Rattle.sql_lexer.specs.Bytes.{class_of, is_digit}
-use Rattle.sql_lexer.specs.Reading.{Fault, one, number}
+use Rattle.sql_lexer.specs.Reading.{Refused, one, number}
 use Rattle.sql_lexer.specs.Spelled.{value_in_range}
 use Rattle.sql_lexer.proofs.Classes.{digit_range, digit_class, digit_is, digit_joins}
 use Rattle.sql_lexer.proofs.Fronts.{and_parts, front_more}
@@ -63,7 +63,7 @@ parsed at text n e =
     cond-true (ltb (digits_value 10 digits) (2 ^ 63)) _ _ (lt-ltb _ _ (below digits n e))
     ∙ ap (λ len. one Number at (at + len) digits (pos (digits_value 10 digits))) (sym (length-prefix_len is_digit text))
 
-pub too_large : (at : ℕ) (text : List ℕ) → value_in_range (take (prefix_len is_digit text) text) ≡ None → number at text ≡ Fault (NumberRange at)
+pub too_large : (at : ℕ) (text : List ℕ) → value_in_range (take (prefix_len is_digit text) text) ≡ None → number at text ≡ Refused (NumberRange at)
 unfolding number
 too_large at text e =
     let digits = take (prefix_len is_digit text) text in

@@ -10,7 +10,7 @@ use Rattle.sql_lexer.specs.declared.lex_error.LexError.{LexError}
 use Rattle.sql_lexer.specs.declared.lex_error.LexError.TheVariants.{NotUtf8, BadCharacter, Unterminated, NumberRange, NoMemory}
 use Rattle.sql_lexer.specs.Bytes.{in_quotes}
 use Rattle.sql_lexer.specs.Lexes.{Spells, IsToken, Piece, token, LexesTo, nothing, piece, Lexes, IsWrong, StopsFor, MayRefuse, BeginsWithTokens}
-use Rattle.sql_lexer.specs.Reading.{Front, Nothing, Ends, Fault, next, Reads}
+use Rattle.sql_lexer.specs.Reading.{Front, Nothing, Ends, Refused, next, Reads}
 use Rattle.sql_lexer.proofs.Sound.{IsRead, is_read}
 use Rattle.sql_lexer.proofs.Complete.{piece_reads, wrong_reads}
 
@@ -28,7 +28,7 @@ Final at rest (Some error) = IsWrong at rest error
 
 abbrev front_of : Option LexError → Front
 front_of None = Nothing
-front_of (Some error) = Fault error
+front_of (Some error) = Refused error
 
 nothing_reads : (at : ℕ) → next at [] ≡ Nothing
 unfolding next
@@ -113,7 +113,7 @@ all_read bytes at tokens utf8 within past d =
 
 -- its failures
 pub stops : (bytes : List ℕ) (at : ℕ) (tokens : List Token) (error : LexError) → IsUtf8 bytes → LexesTo 0 bytes tokens at (drop at bytes)
-    → next at (drop at bytes) ≡ Fault error → StopsFor bytes error
+    → next at (drop at bytes) ≡ Refused error → StopsFor bytes error
 stops bytes at tokens error utf8 d e =
     record { utf8 = utf8; front = tokens; place = at; rest = drop at bytes; lexes = d; wrong = subst (IsRead at (drop at bytes)) e (is_read at (drop at bytes)) }
 
@@ -130,13 +130,13 @@ abbrev pub IsFound : Front → Type 0
 IsFound Nothing = ⊥
 IsFound (Ends end []) = ⊥
 IsFound (Ends end (t ∷ more)) = Unit {0}
-IsFound (Fault error) = ⊥
+IsFound (Refused error) = ⊥
 
 -- where a token stands, a front of the script is split into tokens
 pub begins_with_found : (bytes : List ℕ) (at : ℕ) (tokens : List Token) → IsUtf8 bytes → at ≤ length bytes → LexesTo 0 bytes tokens at (drop at bytes)
     → (front : Front) → next at (drop at bytes) ≡ front → IsFound front → BeginsWithTokens bytes
 begins_with_found bytes at tokens utf8 within d Nothing e f = absurd f
-begins_with_found bytes at tokens utf8 within d (Fault error) e f = absurd f
+begins_with_found bytes at tokens utf8 within d (Refused error) e f = absurd f
 begins_with_found bytes at tokens utf8 within d (Ends end []) e f = absurd f
 begins_with_found bytes at tokens utf8 within d (Ends end (t ∷ more)) e f =
     let further = turn bytes at end tokens (t ∷ more) within d e in

@@ -8,20 +8,20 @@ use Rattle.std.proofs.lemmas.List.{length-append, take-append-drop}
 use Rattle.std.proofs.lemmas.List.Folds.{length-prefix_len}
 use Rattle.sql_lexer.specs.declared.token.TokenKind.TheVariants.{Number, Symbol}
 use Rattle.sql_lexer.specs.declared.scan.Class.{Class}
-use Rattle.sql_lexer.specs.declared.scan.Class.TheVariants.{Blank, Letter, Digit, Quote, Mark, Other}
+use Rattle.sql_lexer.specs.declared.scan.Class.TheVariants.{Blank, Letter, Digit, Quote, Single, Other}
 use Rattle.sql_lexer.specs.declared.lex_error.LexError.TheVariants.{BadCharacter, NumberRange}
 use Rattle.sql_lexer.specs.Bytes.{class_of, is_word, is_digit, is_comment, pair, held, next_is, doubled, in_quotes, stands_alone}
 use Rattle.sql_lexer.specs.Lexes.{IsWord, IsNumber, goes_on, Piece, blank, comment, token, IsWrong}
-use Rattle.sql_lexer.specs.Reading.{Unquoted, Front, Nothing, Ends, Fault, one, token_of, word, number, closed, kind_of, unquoted, pair_at, single, symbol, mark, by_class, next}
+use Rattle.sql_lexer.specs.Reading.{Unquoted, Front, Nothing, Ends, Refused, one, token_of, word, number, closed, kind_of, unquoted, pair_at, single, symbol, comment_or_symbol, by_class, next}
 use Rattle.sql_lexer.proofs.BetweenQuotes.{Says, says}
-use Rattle.sql_lexer.proofs.Classes.{blank_test, letter_joins, digit_joins, quote_cases, mark_test}
+use Rattle.sql_lexer.proofs.Classes.{blank_test, letter_joins, digit_joins, quote_cases, single_test}
 use Rattle.sql_lexer.proofs.Fronts.{and_parts, front_more, front_passes, front_stops}
 
 -- what it means that this was read
 abbrev pub IsRead : ℕ → List ℕ → Front → Type 0
 IsRead at text Nothing = text ≡ []
 IsRead at text (Ends end found) = (bytes : List ℕ) × (more : List ℕ) × (text ≡ bytes ++ more) × (end ≡ at + length bytes) × Piece at bytes more found
-IsRead at text (Fault error) = IsWrong at text error
+IsRead at text (Refused error) = IsWrong at text error
 
 word_front : (b : ℕ) (rest : List ℕ) → class_of b ≡ Letter → IsWord (take (prefix_len is_word (b ∷ rest)) (b ∷ rest))
 word_front b rest e = rw (front_more is_word b rest (letter_joins b e)) (e, front_passes is_word rest)
@@ -53,7 +53,7 @@ number_read at b rest e =
     let text = b ∷ rest in
     let len = prefix_len is_digit text in
     let digits = take len text in
-    cond_both (ltb (digits_value 10 digits) (2 ^ 63)) (one Number at (at + len) digits (pos (digits_value 10 digits))) (Fault (NumberRange at)) (IsRead at text)
+    cond_both (ltb (digits_value 10 digits) (2 ^ 63)) (one Number at (at + len) digits (pos (digits_value 10 digits))) (Refused (NumberRange at)) (IsRead at text)
     (λ small. (
       digits,
       drop len text,
@@ -90,13 +90,13 @@ quoted_read at quote rest (Some found) e s = (
   quoted_piece at quote s.0 found (quote_cases quote e) s.2 s.3,
 )
 
-alone_mark : (class : Class) → stands_alone class ≡ true → class ≡ Mark
-alone_mark Mark e = refl
-alone_mark Letter e = absurd (cc)
-alone_mark Digit e = absurd (cc)
-alone_mark Blank e = absurd (cc)
-alone_mark Quote e = absurd (cc)
-alone_mark Other e = absurd (cc)
+alone_single : (class : Class) → stands_alone class ≡ true → class ≡ Single
+alone_single Single e = refl
+alone_single Letter e = absurd (cc)
+alone_single Digit e = absurd (cc)
+alone_single Blank e = absurd (cc)
+alone_single Quote e = absurd (cc)
+alone_single Other e = absurd (cc)
 
 or_false : (a b : Bool) → a ≡ false → b ≡ false → (a || b) ≡ false
 or_false a b e f = rw (e, f) refl
@@ -111,16 +111,16 @@ no_pair : (b : ℕ) (rest : List ℕ) → pair_at b rest ≡ None → next_is (�
 no_pair b [] e = refl
 no_pair b (c ∷ rest) e = ap is_some e
 
-single_read : (at b : ℕ) (rest : List ℕ) → (class_of b ≡ Mark) ⊎ (class_of b ≡ Other) → pair_at b rest ≡ None
+single_read : (at b : ℕ) (rest : List ℕ) → (class_of b ≡ Single) ⊎ (class_of b ≡ Other) → pair_at b rest ≡ None
     → (nat_eq b 45 && next_is (λ c. nat_eq c 45) rest) ≡ false → IsRead at (b ∷ rest) (single at b)
 single_read at b rest classes e f =
-    cond_both (stands_alone (class_of b)) (one Symbol at (at + 1) (b ∷ []) (pos 0)) (Fault (BadCharacter at)) (IsRead at (b ∷ rest))
+    cond_both (stands_alone (class_of b)) (one Symbol at (at + 1) (b ∷ []) (pos 0)) (Refused (BadCharacter at)) (IsRead at (b ∷ rest))
     (λ alone. (
       b ∷ [],
       rest,
       refl,
       refl,
-      token (record { start = refl; end = refl; spells = (rw (mark_test b (alone_mark (class_of b) alone)) refl, refl) }) (lone b rest e f),
+      token (record { start = refl; end = refl; spells = (rw (single_test b (alone_single (class_of b) alone)) refl, refl) }) (lone b rest e f),
     ))
     (λ other. (refl, (⊎_elim (λ is. let both : true ≡ false = sym (ap stands_alone is) ∙ other in absurd (cc)) (λ is. is) classes, no_pair b rest e)))
 
@@ -128,7 +128,7 @@ three : (b c : ℕ) (rest : List ℕ) → next_is (goes_on Symbol (b ∷ c ∷ [
 three b c [] = refl
 three b c (d ∷ rest) = refl
 
-symbol_read : (at b : ℕ) (rest : List ℕ) (found : Option (List ℕ)) → (class_of b ≡ Mark) ⊎ (class_of b ≡ Other) → pair_at b rest ≡ found
+symbol_read : (at b : ℕ) (rest : List ℕ) (found : Option (List ℕ)) → (class_of b ≡ Single) ⊎ (class_of b ≡ Other) → pair_at b rest ≡ found
     → (nat_eq b 45 && next_is (λ c. nat_eq c 45) rest) ≡ false → IsRead at (b ∷ rest) (symbol at b found)
 symbol_read at b rest None classes e f = single_read at b rest classes e f
 symbol_read at b [] (Some held) classes e f = absurd (cc)
@@ -148,9 +148,9 @@ comment_read at b (c ∷ line) e =
       comment (front_passes is_comment line) (front_stops is_comment line),
     )
 
-mark_read : (at b : ℕ) (rest : List ℕ) → (class_of b ≡ Mark) ⊎ (class_of b ≡ Other) → IsRead at (b ∷ rest) (mark at b rest)
-unfolding mark
-mark_read at b rest classes =
+comment_or_symbol_read : (at b : ℕ) (rest : List ℕ) → (class_of b ≡ Single) ⊎ (class_of b ≡ Other) → IsRead at (b ∷ rest) (comment_or_symbol at b rest)
+unfolding comment_or_symbol
+comment_or_symbol_read at b rest classes =
     cond_both (nat_eq b 45 && next_is (λ c. nat_eq c 45) rest) (Ends (at + (2 + prefix_len is_comment (drop 1 rest))) []) (symbol at b (pair_at b rest)) (IsRead at (b ∷ rest))
     (λ dashes. comment_read at b rest dashes) (λ other. symbol_read at b rest (pair_at b rest) classes refl other)
 
@@ -159,8 +159,8 @@ class_read Blank at b rest e = (b ∷ [], rest, refl, refl, blank (blank_test b 
 class_read Letter at b rest e = word_read at b rest e
 class_read Digit at b rest e = number_read at b rest e
 class_read Quote at b rest e = quoted_read at b rest (unquoted b rest) e (says b rest)
-class_read Mark at b rest e = mark_read at b rest (inl e)
-class_read Other at b rest e = mark_read at b rest (inr e)
+class_read Single at b rest e = comment_or_symbol_read at b rest (inl e)
+class_read Other at b rest e = comment_or_symbol_read at b rest (inr e)
 
 pub is_read : (at : ℕ) (text : List ℕ) → IsRead at text (next at text)
 unfolding next

@@ -11,8 +11,8 @@ use Rattle.sql_lexer.specs.declared.token.Token.{Token}
 use Rattle.sql_lexer.specs.declared.token.TokenKind.{TokenKind}
 use Rattle.sql_lexer.specs.declared.token.TokenKind.TheVariants.{Word, Quoted, Number, Text, Symbol}
 use Rattle.sql_lexer.specs.declared.scan.Class.{Class}
-use Rattle.sql_lexer.specs.declared.scan.Class.TheVariants.{Blank, Letter, Digit, Quote, Mark, Other}
-use Rattle.sql_lexer.specs.Bytes.{class_of, is_word, joins_word, is_mark, pair, held}
+use Rattle.sql_lexer.specs.declared.scan.Class.TheVariants.{Blank, Letter, Digit, Quote, Single, Other}
+use Rattle.sql_lexer.specs.Bytes.{class_of, is_word, joins_word, is_single, pair, held}
 use Rattle.sql_lexer.specs.Lexes.{IsWord, Spells, blank, comment, token, LexesTo, nothing, piece}
 use Rattle.sql_lexer.specs.Printing.{CanSpell, IsSpellable}
 use Rattle.sql_lexer.proofs.Classes.{letter_joins}
@@ -35,7 +35,7 @@ lower_joins b Letter e joins = letter_joins (to_ascii_lowercase b) (lower_letter
 lower_joins b Digit e joins = ap is_word (lower_digit b e) ∙ ap joins_word e
 lower_joins b Blank e joins = absurd (cc)
 lower_joins b Quote e joins = absurd (cc)
-lower_joins b Mark e joins = absurd (cc)
+lower_joins b Single e joins = absurd (cc)
 lower_joins b Other e joins = absurd (cc)
 
 lower_all : (bytes : List ℕ) → list_all is_word bytes ≡ true → list_all is_word (str_to_ascii_lowercase bytes) ≡ true
@@ -71,7 +71,7 @@ held_again : (bytes spelled : List ℕ) → held bytes ≡ Some spelled → held
 held_again [] spelled e = absurd (cc)
 held_again (b ∷ []) spelled e =
     ⊎_elim (λ is. let same : Some (b ∷ []) ≡ Some spelled = rw is at e in let word : b ∷ [] ≡ spelled = cc in subst (λ s. held s ≡ Some s) word (rw is refl))
-    (λ other. let none : None ≡ Some spelled = rw other at e in absurd (cc)) (cases_Bool (is_mark b))
+    (λ other. let none : None ≡ Some spelled = rw other at e in absurd (cc)) (cases_Bool (is_single b))
 held_again (b ∷ c ∷ []) spelled e = held_pair b c spelled e
 held_again (b ∷ c ∷ d ∷ bytes) spelled e = absurd (cc)
 

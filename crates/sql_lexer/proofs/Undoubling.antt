@@ -1,5 +1,5 @@
 -- Each pair of quotes between two quotes as one.
-use Rattle.std.proofs.Common.{◌≡◌, ◌≢◌, ◌≤◌, ◌⊎◌, inl, inr, pos, ℕ, ◌+◌, ◌-◌, ◌<◌, true, false, List, [], ◌∷◌, ◌++◌, length, take, drop, ◌^◌, Option, Some, None, append_assoc, refl, sym, ap, subst, ◌∙◌, ⊎_elim, arith, eq-eqb}
+use Rattle.std.proofs.Common.{◌≡◌, ◌≢◌, ◌≤◌, ◌⊎◌, inl, inr, pos, ℕ, ◌+◌, ◌-◌, ◌<◌, true, false, List, [], ◌∷◌, ◌++◌, length, take, drop, ◌^◌, Option, Some, None, refl, sym, ap, subst, ◌∙◌, ⊎_elim, arith, eq-eqb}
 use Rattle.std.specs.Prelude.{nat_eq}
 use Rattle.std.specs.List.{list_any}
 use Rattle.std.specs.Str.{IsUtf8}
@@ -28,10 +28,6 @@ undoubled_other quote b (c ∷ rest) other = rw other refl
 pub undoubled_pair : (quote b c : ℕ) (rest : List ℕ) → nat_eq b quote ≡ true → undoubled quote (b ∷ c ∷ rest) ≡ b ∷ undoubled quote rest
 unfolding undoubled
 undoubled_pair quote b c rest is = rw is refl
-
-pub undoubled_one : (quote b : ℕ) → undoubled quote (b ∷ []) ≡ b ∷ []
-unfolding undoubled
-undoubled_one quote b = refl
 
 undoubled_doubled : (quote : ℕ) (inside : List ℕ) → undoubled quote (doubled quote inside) ≡ inside
 undoubled_doubled quote [] = undoubled_nil quote
@@ -78,11 +74,6 @@ behind_other quote b rest other = undoubled_other quote b rest (grind (arith, na
 pub at_last : (quote : ℕ) (inside rest whole : List ℕ) → length rest < 1 → inside ++ undoubled quote rest ≡ whole → inside ≡ whole
 at_last quote inside [] whole none e = sym (append-nil inside) ∙ ap (λ r. inside ++ r) (sym (undoubled_nil quote)) ∙ e
 at_last quote inside (b ∷ rest) whole none e = absurd (omega (arith, none))
-
--- one more
-pub one_more : (quote b : ℕ) (inside rest left whole : List ℕ) → undoubled quote (b ∷ rest) ≡ b ∷ undoubled quote left
-    → inside ++ undoubled quote (b ∷ rest) ≡ whole → (inside ++ b ∷ []) ++ undoubled quote left ≡ whole
-one_more quote b inside rest left whole is e = append_assoc inside (b ∷ []) (undoubled quote left) ∙ ap (λ r. inside ++ r) (sym is) ∙ e
 
 -- what a quote tells of the token that begins with it
 record IsBetween (quote : ℕ) (text : List ℕ) : Type 0 where

@@ -4,15 +4,15 @@ use Rattle.std.specs.Char.{is_ascii_alphabetic, is_ascii_digit}
 use Rattle.std.specs.List.{flat_map, list_any}
 use Rattle.std.specs.Str.{byte}
 use Rattle.sql_lexer.specs.declared.scan.Class.{Class}
-use Rattle.sql_lexer.specs.declared.scan.Class.TheVariants.{Blank, Letter, Digit, Quote, Mark, Other}
+use Rattle.sql_lexer.specs.declared.scan.Class.TheVariants.{Blank, Letter, Digit, Quote, Single, Other}
 
 -- a blank is a space, a tab, a line feed or a carriage return
 abbrev pub is_blank : ℕ → Bool
 is_blank b = b == 32 || b == 9 || b == 10 || b == 13
 
--- a mark is a symbol by itself
-abbrev pub is_mark : ℕ → Bool
-is_mark b = list_any (λ mark. b == mark) (codes "(),;.*+-/%=<>")
+-- a byte that is a symbol by itself
+abbrev pub is_single : ℕ → Bool
+is_single b = list_any (λ symbol. b == symbol) (codes "(),;.*+-/%=<>")
 
 -- each byte is of one class; those above 127 are of none that begins a token
 unfoldable pub class_of : ℕ → Class
@@ -21,7 +21,7 @@ class_of b =
     else (if is_ascii_alphabetic b || b == byte "_" then Letter
     else (if is_ascii_digit b then Digit
     else (if b == byte "\"" || b == byte "'" then Quote
-    else (if is_mark b then Mark else Other))))
+    else (if is_single b then Single else Other))))
 
 -- what a word goes on with
 abbrev pub joins_word : Class → Bool
@@ -29,7 +29,7 @@ joins_word Letter = true
 joins_word Digit = true
 joins_word Blank = false
 joins_word Quote = false
-joins_word Mark = false
+joins_word Single = false
 joins_word Other = false
 
 -- what a number goes on with
@@ -38,12 +38,12 @@ joins_number Digit = true
 joins_number Letter = false
 joins_number Blank = false
 joins_number Quote = false
-joins_number Mark = false
+joins_number Single = false
 joins_number Other = false
 
 -- what is a symbol by itself
 abbrev pub stands_alone : Class → Bool
-stands_alone Mark = true
+stands_alone Single = true
 stands_alone Letter = false
 stands_alone Digit = false
 stands_alone Blank = false
@@ -71,7 +71,7 @@ pair b c =
 -- a symbol's bytes, as they are held
 abbrev pub held : List ℕ → Option (List ℕ)
 held [] = None
-held (b ∷ []) = if is_mark b then Some (b ∷ []) else None
+held (b ∷ []) = if is_single b then Some (b ∷ []) else None
 held (b ∷ c ∷ []) = pair b c
 held (b ∷ c ∷ d ∷ more) = None
 

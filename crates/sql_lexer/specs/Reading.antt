@@ -9,7 +9,7 @@ use Rattle.sql_lexer.specs.declared.token.TokenKind.TheVariants.{Word, Quoted, N
 use Rattle.sql_lexer.specs.declared.piece.Piece.{Piece}
 use Rattle.sql_lexer.specs.declared.piece.Piece.TheVariants.{Skipped, Found}
 use Rattle.sql_lexer.specs.declared.scan.Class.{Class}
-use Rattle.sql_lexer.specs.declared.scan.Class.TheVariants.{Blank, Letter, Digit, Quote, Mark, Other}
+use Rattle.sql_lexer.specs.declared.scan.Class.TheVariants.{Blank, Letter, Digit, Quote, Single, Other}
 use Rattle.sql_lexer.specs.declared.lex_error.LexError.{LexError}
 use Rattle.sql_lexer.specs.declared.lex_error.LexError.TheVariants.{NotUtf8, BadCharacter, Unterminated, NumberRange, NoMemory}
 use Rattle.sql_lexer.specs.Bytes.{class_of, is_word, is_digit, is_comment, stands_alone, pair, next_is}
@@ -18,7 +18,7 @@ use Rattle.sql_lexer.specs.Bytes.{class_of, is_word, is_digit, is_comment, stand
 pub data Front : Type 0 where
   Nothing : Front
   Ends : ℕ → List Token → Front
-  Fault : LexError → Front
+  Refused : LexError → Front
 
 abbrev pub token_of : TokenKind → ℕ → ℕ → List ℕ → ℤ → Token
 token_of kind at end spelled number = record { kind = kind; start = at; end = end; spelled = spelled; number = number }
@@ -34,7 +34,7 @@ unfoldable pub number : ℕ → List ℕ → Front
 number at text =
     let len = prefix_len is_digit text in
     let digits = take len text in
-    if nat_lt (digits_value 10 digits) (2 ^ 63) then one Number at (at + len) digits (pos (digits_value 10 digits)) else Fault (NumberRange at)
+    if nat_lt (digits_value 10 digits) (2 ^ 63) then one Number at (at + len) digits (pos (digits_value 10 digits)) else Refused (NumberRange at)
 
 -- what stands between two quotes, and the number of bytes behind the first up to and with the second
 pub record Unquoted : Type 0 where
@@ -60,7 +60,7 @@ abbrev pub kind_of : ℕ → TokenKind
 kind_of quote = if quote == byte "\"" then Quoted else Text
 
 abbrev pub closed : ℕ → ℕ → Option Unquoted → Front
-closed at quote None = Fault (Unterminated at)
+closed at quote None = Refused (Unterminated at)
 closed at quote (Some found) = one (kind_of quote) at (at + (1 + found.len)) found.inside (pos 0)
 
 abbrev pub pair_at : ℕ → List ℕ → Option (List ℕ)
@@ -68,15 +68,15 @@ pair_at b [] = None
 pair_at b (c ∷ rest) = pair b c
 
 abbrev pub single : ℕ → ℕ → Front
-single at b = if stands_alone (class_of b) then one Symbol at (at + 1) (b ∷ []) (pos 0) else Fault (BadCharacter at)
+single at b = if stands_alone (class_of b) then one Symbol at (at + 1) (b ∷ []) (pos 0) else Refused (BadCharacter at)
 
 abbrev pub symbol : ℕ → ℕ → Option (List ℕ) → Front
 symbol at b None = single at b
 symbol at b (Some held) = one Symbol at (at + 2) held (pos 0)
 
 -- a comment or a symbol
-unfoldable pub mark : ℕ → ℕ → List ℕ → Front
-mark at b rest =
+unfoldable pub comment_or_symbol : ℕ → ℕ → List ℕ → Front
+comment_or_symbol at b rest =
     if b == byte "-" && next_is (λ c. c == byte "-") rest then Ends (at + (2 + prefix_len is_comment (drop 1 rest))) []
     else symbol at b (pair_at b rest)
 
@@ -85,8 +85,8 @@ by_class Blank at b rest = Ends (at + 1) []
 by_class Letter at b rest = word at (b ∷ rest)
 by_class Digit at b rest = number at (b ∷ rest)
 by_class Quote at b rest = closed at b (unquoted b rest)
-by_class Mark at b rest = mark at b rest
-by_class Other at b rest = mark at b rest
+by_class Single at b rest = comment_or_symbol at b rest
+by_class Other at b rest = comment_or_symbol at b rest
 
 unfoldable pub next : ℕ → List ℕ → Front
 next at [] = Nothing
@@ -97,7 +97,7 @@ abbrev pub Reads : Result Piece LexError → Front → Type 0
 Reads (Ok (Skipped end)) front = front ≡ Ends end []
 Reads (Ok (Found token)) front = front ≡ Ends token.end (token ∷ [])
 Reads (Err NoMemory) front = ⊥
-Reads (Err (NotUtf8 place)) front = front ≡ Fault (NotUtf8 place)
-Reads (Err (BadCharacter place)) front = front ≡ Fault (BadCharacter place)
-Reads (Err (Unterminated place)) front = front ≡ Fault (Unterminated place)
-Reads (Err (NumberRange place)) front = front ≡ Fault (NumberRange place)
+Reads (Err (NotUtf8 place)) front = front ≡ Refused (NotUtf8 place)
+Reads (Err (BadCharacter place)) front = front ≡ Refused (BadCharacter place)
+Reads (Err (Unterminated place)) front = front ≡ Refused (Unterminated place)
+Reads (Err (NumberRange place)) front = front ≡ Refused (NumberRange place)

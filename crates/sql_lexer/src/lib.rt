@@ -3,12 +3,12 @@
 
 mod laws;
 mod lex_error;
-mod marks;
 mod piece;
 mod quotes;
 mod reserved;
 mod scan;
 mod split;
+mod symbols;
 mod token;
 mod words;
 

@@ -2,9 +2,9 @@ ghost use Rattle.std.specs.Prelude.{◌≡◌, ◌<◌, drop, length};
 ghost use Rattle.std.specs.Str.{IsUtf8};
 ghost use Rattle.sql_lexer.specs.Reading as spec;
 
-use crate::marks::mark;
 use crate::quotes::quoted;
 use crate::scan::{Class, class_of};
+use crate::symbols::comment_or_symbol;
 use crate::words::{number, word};
 use crate::{LexError, Token};
 
@@ -31,6 +31,6 @@ pub(crate) fn piece_at(bytes: &[u8], at: usize) -> Result<Piece<'_>, LexError>
         Class::Letter => word(at, text),
         Class::Digit => number(at, text),
         Class::Quote => quoted(at, first, rest),
-        Class::Mark | Class::Other => mark(at, text),
+        Class::Single | Class::Other => comment_or_symbol(at, text),
     }
 }

@@ -14,7 +14,7 @@ pub(crate) enum Class {
     Letter,
     Digit,
     Quote,
-    Mark,
+    Single,
     Other,
 }
 
@@ -28,7 +28,7 @@ pub(crate) fn class_of(byte: u8) -> Class
         b'0'..=b'9' => Class::Digit,
         b'"' | b'\'' => Class::Quote,
         b'(' | b')' | b',' | b';' | b'.' | b'*' | b'+' | b'-' | b'/' | b'%' | b'=' | b'<' | b'>' =>
-            Class::Mark,
+            Class::Single,
         _ => Class::Other,
     }
 }

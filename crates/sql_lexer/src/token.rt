@@ -63,7 +63,8 @@ fn taken(kind: TokenKind, text: &[u8]) -> usize
 impl<'a> Token<'a> {
     pub(crate) fn new(kind: TokenKind, start: usize, text: &'a [u8]) -> Token<'a>
         requires { IsHeld kind start text.now }
-        ensures { result ≡ token_of kind start (start + width kind text.now) (spelled_by kind text.now) (number_by kind text.now) }
+        ensures { result ≡ token_of kind start (start + width kind text.now) (spelled_by kind text.now)
+            (number_by kind text.now) }
     {
         Token { kind, start, text }
     }

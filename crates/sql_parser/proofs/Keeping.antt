@@ -6,8 +6,8 @@ use Rattle.sql_grammar.specs.Cursors.{past, sees}
 use Rattle.sql_grammar.specs.Descent.{Outcome, Taken, Stopped, mapped}
 use Rattle.sql_grammar.specs.Lists.{listed}
 use Rattle.sql_grammar.specs.declared.sort.Sort.TheVariants.{Semicolon}
-use Rattle.sql_grammar.proofs.Listing.{Keeps, Amid, Amid-first, Amid-next, Amid-stopped, Amid-done, listed-first, listed-stopped}
-use Rattle.sql_parser.specs.Statements.{optional_statement, statements}
+use Rattle.sql_grammar.proofs.Listing.{Keeps, Amid, Amid-first, Amid-next, Amid-stopped, Amid-done, listed-first}
+use Rattle.sql_parser.specs.built.Statements.{optional_statement}
 use Rattle.sql_parser.proofs.Stating.{optional_statement-keeps}
 use Rattle.sql_tree.specs.declared.statement.Statement.{Statement}
 
@@ -35,9 +35,6 @@ keeping-first ts mid x e = record {
   is = refl;
   amid = rw (listed-first Semicolon optional_statement ts mid x e) (Amid-first Semicolon optional_statement x mid);
 }
-
-pub first-stopped : (ts rest : List Token) → optional_statement ts ≡ Stopped rest → statements ts ≡ Stopped rest
-first-stopped ts rest e = ap (mapped present) (listed-stopped Semicolon optional_statement ts rest e)
 
 pub keeping-next : (whole : Whole) (kept : List Statement) (ts mid rest : List Token) (x : Option Statement)
     → sees (Semicolon ∷ []) ts ≡ true → past Semicolon ts ≡ Taken tt mid → optional_statement mid ≡ Taken x rest

@@ -2,10 +2,10 @@
 use Rattle.std.proofs.Common.{◌≡◌, Bool, true, false, ◌&&◌, List, [], ◌∷◌, refl, sym, ap, ◌∙◌}
 use Rattle.sql_lexer.specs.declared.token.Token.{Token}
 use Rattle.sql_grammar.specs.Building as b
-use Rattle.sql_grammar.specs.Cursors.{reading, past, place, sees}
+use Rattle.sql_grammar.specs.Cursors.{reading, past, offset, sees}
 use Rattle.sql_grammar.specs.Descent.{Taken, mapped}
 use Rattle.sql_grammar.specs.Grammar.{sql}
-use Rattle.sql_grammar.specs.Pieces.{sees_pair}
+use Rattle.sql_grammar.specs.built.Pieces.{sees_pair}
 use Rattle.sql_grammar.specs.Sorts.{same_sort}
 use Rattle.sql_grammar.specs.Symbols as n
 use Rattle.sql_grammar.specs.Tables.{begins, sql_tables}
@@ -17,8 +17,8 @@ use Rattle.sql_grammar.proofs.Fine.{apart, apart-law}
 use Rattle.sql_grammar.proofs.Listing.{all_of-done}
 use Rattle.sql_grammar.proofs.Steps.{reading_is}
 use Rattle.sql_grammar.proofs.TablesHold.{told}
-use Rattle.sql_parser.specs.Literals.{ends}
-use Rattle.sql_levels.specs.Tails as tails
+use Rattle.sql_parser.specs.built.Literals.{ends}
+use Rattle.sql_levels.specs.built.Tails as tails
 use Rattle.sql_levels.proofs.Comparing.{ranged_is}
 use Rattle.sql_levels.proofs.Connecting.{both_is, expr_is}
 use Rattle.sql_levels.proofs.Counts.{sign_is, negated_is}
@@ -99,7 +99,7 @@ false_behind false e = absurd cc
 
 -- where the tokens begin with a literal, and what follows it ends an expression, they are read as the literal's node
 pub literal_alone : (tokens : List Token) → sees_pair (begins n.Literal) ends tokens ≡ true
-    → reading n.Expr tokens ≡ mapped (b.node (place tokens)) (reading n.Literal tokens)
+    → reading n.Expr tokens ≡ mapped (b.node (offset tokens)) (reading n.Literal tokens)
 literal_alone [] e = absurd cc
 literal_alone (t ∷ []) e = absurd (false_behind (sees (begins n.Literal) (t ∷ [])) e)
 literal_alone (t ∷ u ∷ more) e =

@@ -1,13 +1,14 @@
 -- Statements as their functions read them.
-use Rattle.std.proofs.Common.{◌≡◌, ◌≤◌, Bool, true, false, cond, List, length, Option, Some, None, refl, sym, ap, ◌∙◌, arith}
+use Rattle.std.proofs.Common.{◌≡◌, ◌≤◌, Bool, true, false, cond, List, [], ◌∷◌, length, Option, Some, None, refl, sym, ap, ◌∙◌, arith}
 use Rattle.std.specs.Borrow.{Bor}
 use Rattle.sql_lexer.specs.declared.token.Token.{Token}
 use Rattle.sql_grammar.specs.Building as b
-use Rattle.sql_grammar.specs.Cursors.{reading, past, place, sees}
+use Rattle.sql_grammar.specs.Cursors.{reading, one, past, offset, sees}
 use Rattle.sql_grammar.specs.Descent.{Outcome, Taken, Stopped, and_then, mapped}
 use Rattle.sql_grammar.specs.Grammar.{build}
 use Rattle.sql_grammar.specs.Lists.{listed}
-use Rattle.sql_parser.specs.Statements.{mark_of, marked, statement_body, optional_statement, statements}
+use Rattle.sql_grammar.specs.built.Pieces.{passes}
+use Rattle.sql_parser.specs.built.Statements.{mark_of, marked, null, statement_body, optional_statement, statements}
 use Rattle.sql_grammar.specs.Symbols as n
 use Rattle.sql_grammar.specs.Tables.{begins}
 use Rattle.sql_grammar.specs.declared.sort.Sort.TheVariants as s
@@ -24,17 +25,23 @@ pub columns_is : (tokens : List Token) → reading n.Columns tokens
     ≡ and_then (past s.Opening tokens) (λ word first. and_then (listed s.Comma (reading n.Column) first) (λ list rest. mapped (λ end. list) (past s.Closing rest)))
 columns_is tokens = reading_is n.Columns tokens ∙ simp (fused, pushed, pulled, nested)
 
+pub copy_is : (tokens : List Token) → reading n.Copy tokens
+    ≡ and_then (past s.Copy tokens) (λ word first. and_then (reading n.NameOf first) (λ table second. and_then (past s.From second) (λ from third.
+    and_then (one (s.Literal ∷ []) third) (λ file fourth. and_then (passes s.Header fourth) (λ header last.
+    mapped (λ mark. st.Copy table file.spelled header (b.null_mark mark)) (null last))))))
+copy_is tokens = reading_is n.Copy tokens ∙ simp (fused, pushed, pulled, nested)
+
 pub insert_is : (tokens : List Token) → reading n.Insert tokens
     ≡ and_then (past s.Insert tokens) (λ word first. and_then (past s.Into first) (λ into second. and_then (reading n.NameOf second) (λ table third.
     and_then (past s.Values third) (λ values rest. mapped (λ list. st.Insert table list) (listed s.Comma (reading n.Row) rest)))))
 insert_is tokens = reading_is n.Insert tokens ∙ simp (fused, pushed, pulled, nested)
 
-pub statement_is : (tokens : List Token) → reading n.StatementOf tokens ≡ mapped (λ body. record { at = place tokens; body = body }) (statement_body tokens)
+pub statement_is : (tokens : List Token) → reading n.StatementOf tokens ≡ mapped (λ body. record { at = offset tokens; body = body }) (statement_body tokens)
 statement_is tokens =
     reading_is n.StatementOf tokens
-    ∙ fused (build n.StatementOf) (λ x. (place tokens, x)) _
-    ∙ sym (fused (λ body. b.statement (place tokens, body)) (b.one_of (b.one_of (b.one_of (b.one_of (b.one_of (b.one_of (b.one_of st.Select))))))) _)
-    ∙ ap (mapped (λ body. b.statement (place tokens, body)))
+    ∙ fused (build n.StatementOf) (λ x. (offset tokens, x)) _
+    ∙ sym (fused (λ body. b.statement (offset tokens, body)) (b.one_of (b.one_of (b.one_of (b.one_of (b.one_of (b.one_of (b.one_of st.Select))))))) _)
+    ∙ ap (mapped (λ body. b.statement (offset tokens, body)))
     (chosen (sees (begins n.Create) tokens) _ _ _ _
     (chosen (sees (begins n.Copy) tokens) _ _ _ _
     (chosen (sees (begins n.Insert) tokens) _ _ _ _

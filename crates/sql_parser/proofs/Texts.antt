@@ -8,7 +8,7 @@ use Rattle.std.proofs.lemmas.Str.{IsUtf8-from_ascii}
 use Rattle.std.proofs.Math.Seq.{drop-append_seam}
 use Rattle.sql_lexer.specs.declared.token.Token.{Token}
 use Rattle.sql_lexer.specs.Lexes.{Piece, LexesTo, nothing, piece, Lexes}
-use Rattle.sql_lexer.specs.Reading.{Front, Nothing, Ends, Fault, next}
+use Rattle.sql_lexer.specs.Reading.{Front, Nothing, Ends, Refused, next}
 use Rattle.sql_lexer.proofs.Fronts.{and_parts}
 use Rattle.sql_lexer.proofs.OneAnswer.{one_list}
 use Rattle.sql_lexer.proofs.Sound.{IsRead, is_read}
@@ -48,7 +48,7 @@ by_front at text tokens others splits Nothing r e =
     subst (λ l. LexesTo at text l (at + length text) []) none
     (subst (λ l. LexesTo at text [] (at + length text) l) r (subst (λ k. LexesTo at text [] k text) ends nothing))
 by_front at text tokens others splits (Ends end found) r e = first at end text r.0 r.1 found others splits r.2 r.3 r.4 tokens e
-by_front at text tokens others splits (Fault error) r e = absurd cc
+by_front at text tokens others splits (Refused error) r e = absurd cc
 
 split-lexes : (turns : ℕ) → Splits (split turns)
 unfolding split

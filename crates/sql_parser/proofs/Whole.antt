@@ -2,20 +2,20 @@
 use Rattle.std.proofs.Common.{◌≡◌, ℕ, List, [], ◌∷◌, None, Result, Ok, Err, refl}
 use Rattle.sql_lexer.specs.declared.token.Token.{Token}
 use Rattle.sql_grammar.specs.Cursors.{reading, Reads}
-use Rattle.sql_parser.specs.Ending.{ended}
+use Rattle.sql_parser.specs.built.Ending.{ended}
 use Rattle.sql_grammar.specs.Grammar.{sql}
 use Rattle.sql_parser.specs.Nesting.{too_deep}
 use Rattle.sql_parser.specs.Spells.{Parses}
 use Rattle.sql_grammar.specs.Symbols.{ScriptOf}
 use Rattle.sql_grammar.specs.Tables.{sql_tables}
-use Rattle.sql_grammar.specs.declared.fault.Fault.{Fault}
-use Rattle.sql_grammar.specs.declared.fault.Fault.TheVariants as fault
+use Rattle.sql_grammar.specs.declared.unread.Unread.{Unread}
+use Rattle.sql_grammar.specs.declared.unread.Unread.TheVariants as unread
 use Rattle.sql_tree.specs.declared.statement.Script.{Script}
 use Rattle.sql_grammar.proofs.Decided.{goes_on, decided}
 use Rattle.sql_grammar.proofs.Exact.{whole-spelled, stopped-wrong, left-wrong}
 use Rattle.sql_grammar.proofs.Samples.{samples}
 
-pub parses : (tokens : List Token) (length : ℕ) → too_deep tokens ≡ None → (read : Result Script Fault) (rest : List Token)
+pub parses : (tokens : List Token) (length : ℕ) → too_deep tokens ≡ None → (read : Result Script Unread) (rest : List Token)
     → Reads read (reading ScriptOf tokens) rest → Parses tokens length (ended read rest length)
 unfolding reading
 parses tokens length shallow (Ok script) [] e = (shallow, whole-spelled sql sql_tables goes_on decided ScriptOf tokens script e)
@@ -24,15 +24,15 @@ parses tokens length shallow (Ok script) (t ∷ rest) e = (
   record {
     wrong = t ∷ rest;
     first = left-wrong sql sql_tables goes_on decided samples ScriptOf tokens rest t script e;
-    place = refl;
+    offset = refl;
   },
 )
-parses tokens length shallow (Err fault.Unexpected) rest e = (
+parses tokens length shallow (Err unread.Unexpected) rest e = (
   shallow,
   record {
     wrong = rest;
     first = stopped-wrong sql sql_tables goes_on decided samples ScriptOf tokens rest e;
-    place = refl;
+    offset = refl;
   },
 )
-parses tokens length shallow (Err fault.NoMemory) rest e = shallow
+parses tokens length shallow (Err unread.NoMemory) rest e = shallow

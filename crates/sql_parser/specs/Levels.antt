@@ -7,7 +7,7 @@ use Rattle.std.specs.Str.{str_to_ascii_lowercase}
 use Rattle.null_logic.specs.Operators.{Entry, operator_table}
 use Rattle.null_logic.specs.declared.operator.Operator.{Operator}
 use Rattle.null_logic.specs.declared.operator.Operator.TheVariants as op
-use Rattle.sql_lexer.specs.Bytes.{is_mark}
+use Rattle.sql_lexer.specs.Bytes.{is_single}
 use Rattle.sql_lexer.specs.Lexes.{Lexes}
 use Rattle.sql_lexer.specs.declared.token.Token.{Token}
 use Rattle.sql_lexer.specs.declared.token.TokenKind.{TokenKind}
@@ -32,7 +32,7 @@ rows_at level = filter (λ row. row.0 == level) operator_table
 
 abbrev pub kind_by : List ℕ → TokenKind
 kind_by [] = kind.Symbol
-kind_by (first ∷ others) = cond (is_mark first) kind.Symbol kind.Word
+kind_by (first ∷ others) = cond (is_single first) kind.Symbol kind.Word
 
 -- the token that spells a row, alone in a text: a word is held in lower case
 abbrev pub token_of : Entry → Token

@@ -1,7 +1,5 @@
-pub mod Ending
 pub mod Levels
-pub mod Literals
 pub mod Nesting
 pub mod Spells
-pub mod Statements
 pub mod Texts
+pub mod built

@@ -14,16 +14,16 @@ use Rattle.sql_tree.specs.declared.statement.Script.{Script}
 abbrev pub Spells : List Token → Script → Type 0
 Spells tokens script = Spelled sql (symbol ScriptOf) tokens script
 
--- the place of the first of some tokens, or else the end of the script
-abbrev pub place_in : ℕ → List Token → ℕ
-place_in length [] = length
-place_in length (t ∷ rest) = t.start
+-- the offset of the first of some tokens, or else the end of the script
+abbrev pub offset_in : ℕ → List Token → ℕ
+offset_in length [] = length
+offset_in length (t ∷ rest) = t.start
 
 -- up to some tokens the script is begun, and with the first of them no script begins; or all tokens begin one and are none
 pub record IsUnexpected (tokens : List Token) (length at : ℕ) : Type 0 where
   pub wrong : List Token
   pub first : IsFirstWrong sql (symbol ScriptOf) tokens wrong
-  pub place : at ≡ place_in length wrong
+  pub offset : at ≡ offset_in length wrong
 
 -- the tree, or why there is none
 abbrev pub Parses : List Token → ℕ → Result Script SyntaxError → Type 0

@@ -3,7 +3,7 @@ use Rattle.std.specs.Prelude.{ℕ, zero, suc, ◌-◌, nat_lt, Bool, cond, List,
 use Rattle.std.specs.List.{list_all}
 use Rattle.sql_lexer.specs.Bytes.{class_of}
 use Rattle.sql_lexer.specs.Lexes.{Lexes}
-use Rattle.sql_lexer.specs.Reading.{Front, Nothing, Ends, Fault, next, word, number, unquoted, mark}
+use Rattle.sql_lexer.specs.Reading.{Front, Nothing, Ends, Refused, next, word, number, unquoted, comment_or_symbol}
 use Rattle.sql_lexer.specs.declared.token.Token.{Token}
 use Rattle.sql_grammar.specs.Cursors.{reading}
 use Rattle.sql_grammar.specs.Descent.{Outcome, Taken, Stopped, read, reading_to, repeated}
@@ -28,9 +28,9 @@ before found (Some others) = Some (found ++ others)
 abbrev pub turned : (ℕ → List ℕ → Option (List Token)) → ℕ → List ℕ → Front → Option (List Token)
 turned others at text Nothing = Some []
 turned others at text (Ends end found) = before found (others end (drop (end - at) text))
-turned others at text (Fault error) = None
+turned others at text (Refused error) = None
 
--- the tokens of a text that stands at a place, in so many turns
+-- the tokens of a text that stands at an offset, in so many turns
 unfoldable pub split : ℕ → ℕ → List ℕ → Option (List Token)
 split zero at text = None
 split (suc turns) at text = turned (split turns) at text (next at text)
@@ -40,7 +40,7 @@ is_ascii b = nat_lt b 128
 
 -- the tokens of an ASCII text
 unfoldable pub tokens_in : List ℕ → Option (List Token)
-unfolding split next class_of word number unquoted mark
+unfolding split next class_of word number unquoted comment_or_symbol
 tokens_in text = cond (list_all is_ascii text) (split (suc (length text)) 0 text) None
 
 abbrev pub whole : {X : Type 0} → Outcome Token X → Option X

@@ -2,16 +2,16 @@
 
 ghost use Rattle.std.specs.Prelude.{◌≡◌, ◌<◌, ◌≤◌, true, length, IfOk};
 ghost use Rattle.sql_grammar.specs.Cursors as spec;
-ghost use Rattle.sql_grammar.specs.Nests.{Nests};
-ghost use Rattle.sql_grammar.specs.Pieces.{sees_pair};
+ghost use Rattle.sql_grammar.specs.Nests.{NestReads};
+ghost use Rattle.sql_grammar.specs.built.Pieces.{sees_pair};
 ghost use Rattle.sql_grammar.specs.Symbols as n;
 ghost use Rattle.sql_grammar.specs.Tables.{begins};
-ghost use Rattle.sql_parser.specs.Literals.{ends};
+ghost use Rattle.sql_parser.specs.built.Literals.{ends};
 
 use perm_values::Boxed;
-use sql_grammar::{Cursor, Fault, Nest, Sort, node};
+use sql_grammar::{Cursor, Nest, Sort, Unread, node};
 use sql_levels::{Connectives, Predicates, Sums};
-use sql_primaries::{Grammar, LITERALS, literal};
+use sql_primaries::{LITERALS, Primaries, literal};
 use sql_tree::{ExprTree, QueryTree};
 
 /// What ends an expression in a list or in parentheses.
@@ -19,26 +19,26 @@ const ENDS: [Sort; 2] = [Sort::Comma, Sort::Closing];
 
 /// A literal that stands alone, as the expression that it is.
 #[tactic(auto, using(crate::proofs::Literals::literal_alone))]
-fn literal_alone(cursor: &mut Cursor<'_>) -> Result<Boxed<ExprTree>, Fault>
+fn literal_alone(cursor: &mut Cursor<'_>) -> Result<Boxed<ExprTree>, Unread>
     requires { sees_pair (begins n.Literal) ends cursor.old ≡ true }
     ensures given { spec.Reads result (spec.reading n.Expr cursor.old) cursor.new }
     ensures fewer { IfOk result (λ _. length cursor.new < length cursor.old) }
 {
-    let at = cursor.place();
+    let at = cursor.offset();
     let body = literal(cursor)?;
     Ok(node(cursor.alloc(), at, body)?)
 }
 
 fn sum<
-    F: Fn(&mut Cursor<'_>) -> Result<Boxed<ExprTree>, Fault> + Copy,
-    G: Fn(&mut Cursor<'_>) -> Result<Boxed<QueryTree>, Fault> + Copy,
->(nest: &Nest<F, G>, cursor: &mut Cursor<'_>) -> Result<Boxed<ExprTree>, Fault>
-    requires sound { Nests nest.now.most (F.pre nest.now.expr) (G.pre nest.now.query) (F.post nest.now.expr) (G.post nest.now.query) }
+    F: Fn(&mut Cursor<'_>) -> Result<Boxed<ExprTree>, Unread> + Copy,
+    G: Fn(&mut Cursor<'_>) -> Result<Boxed<QueryTree>, Unread> + Copy,
+>(nest: &Nest<F, G>, cursor: &mut Cursor<'_>) -> Result<Boxed<ExprTree>, Unread>
+    requires sound { NestReads nest.now F.pre G.pre F.post G.post }
     requires below { length cursor.old ≤ nest.now.most }
     ensures given { spec.Reads result (spec.reading n.Sum cursor.old) cursor.new }
     ensures fewer { IfOk result (λ _. length cursor.new < length cursor.old) }
 {
-    let primary = |cursor: &mut Cursor<'_>| Grammar { nest: *nest }.primary(cursor);
+    let primary = |cursor: &mut Cursor<'_>| Primaries { nest: *nest }.primary(cursor);
     let sums = Sums {
         primary,
         most: nest.most,
@@ -47,10 +47,10 @@ fn sum<
 }
 
 fn test<
-    F: Fn(&mut Cursor<'_>) -> Result<Boxed<ExprTree>, Fault> + Copy,
-    G: Fn(&mut Cursor<'_>) -> Result<Boxed<QueryTree>, Fault> + Copy,
->(nest: &Nest<F, G>, cursor: &mut Cursor<'_>) -> Result<Boxed<ExprTree>, Fault>
-    requires sound { Nests nest.now.most (F.pre nest.now.expr) (G.pre nest.now.query) (F.post nest.now.expr) (G.post nest.now.query) }
+    F: Fn(&mut Cursor<'_>) -> Result<Boxed<ExprTree>, Unread> + Copy,
+    G: Fn(&mut Cursor<'_>) -> Result<Boxed<QueryTree>, Unread> + Copy,
+>(nest: &Nest<F, G>, cursor: &mut Cursor<'_>) -> Result<Boxed<ExprTree>, Unread>
+    requires sound { NestReads nest.now F.pre G.pre F.post G.post }
     requires below { length cursor.old ≤ nest.now.most }
     ensures given { spec.Reads result (spec.reading n.Test cursor.old) cursor.new }
     ensures fewer { IfOk result (λ _. length cursor.new < length cursor.old) }
@@ -63,10 +63,10 @@ fn test<
 }
 
 fn disjunction<
-    F: Fn(&mut Cursor<'_>) -> Result<Boxed<ExprTree>, Fault> + Copy,
-    G: Fn(&mut Cursor<'_>) -> Result<Boxed<QueryTree>, Fault> + Copy,
->(nest: &Nest<F, G>, cursor: &mut Cursor<'_>) -> Result<Boxed<ExprTree>, Fault>
-    requires sound { Nests nest.now.most (F.pre nest.now.expr) (G.pre nest.now.query) (F.post nest.now.expr) (G.post nest.now.query) }
+    F: Fn(&mut Cursor<'_>) -> Result<Boxed<ExprTree>, Unread> + Copy,
+    G: Fn(&mut Cursor<'_>) -> Result<Boxed<QueryTree>, Unread> + Copy,
+>(nest: &Nest<F, G>, cursor: &mut Cursor<'_>) -> Result<Boxed<ExprTree>, Unread>
+    requires sound { NestReads nest.now F.pre G.pre F.post G.post }
     requires below { length cursor.old ≤ nest.now.most }
     ensures given { spec.Reads result (spec.reading n.Expr cursor.old) cursor.new }
     ensures fewer { IfOk result (λ _. length cursor.new < length cursor.old) }
@@ -80,10 +80,10 @@ fn disjunction<
 
 /// An expression. A literal that stands alone is read at once.
 pub(crate) fn expression<
-    F: Fn(&mut Cursor<'_>) -> Result<Boxed<ExprTree>, Fault> + Copy,
-    G: Fn(&mut Cursor<'_>) -> Result<Boxed<QueryTree>, Fault> + Copy,
->(nest: &Nest<F, G>, cursor: &mut Cursor<'_>) -> Result<Boxed<ExprTree>, Fault>
-    requires sound { Nests nest.now.most (F.pre nest.now.expr) (G.pre nest.now.query) (F.post nest.now.expr) (G.post nest.now.query) }
+    F: Fn(&mut Cursor<'_>) -> Result<Boxed<ExprTree>, Unread> + Copy,
+    G: Fn(&mut Cursor<'_>) -> Result<Boxed<QueryTree>, Unread> + Copy,
+>(nest: &Nest<F, G>, cursor: &mut Cursor<'_>) -> Result<Boxed<ExprTree>, Unread>
+    requires sound { NestReads nest.now F.pre G.pre F.post G.post }
     requires below { length cursor.old ≤ nest.now.most }
     ensures given { spec.Reads result (spec.reading n.Expr cursor.old) cursor.new }
     ensures fewer { IfOk result (λ _. length cursor.new < length cursor.old) }

@@ -15,28 +15,34 @@ pub fn a_script_has_one_tree()
 
 /// Tokens of which one is unexpected spell no script.
 pub fn an_unexpected_token_has_no_tree()
-    ensures { (tokens : List Token) (length at : ℕ) (script : Script) → IsUnexpected tokens length at → Spells tokens script → ⊥ }
+    ensures { (tokens : List Token) (length at : ℕ) (script : Script)
+        → IsUnexpected tokens length at → Spells tokens script → ⊥ }
 {}
 
 /// No tokens are unexpected at two offsets.
 pub fn an_unexpected_token_has_one_offset()
-    ensures { (tokens : List Token) (length a b : ℕ) → IsUnexpected tokens length a → IsUnexpected tokens length b → a ≡ b }
+    ensures { (tokens : List Token) (length a b : ℕ)
+        → IsUnexpected tokens length a → IsUnexpected tokens length b → a ≡ b }
 {}
 
 /// Tokens spell a script, or one of them is unexpected, or the end is.
 pub fn tokens_spell_a_script_or_one_is_unexpected()
-    ensures { (tokens : List Token) (length : ℕ) → ((script : Script) × Spells tokens script) ⊎ ((at : ℕ) × IsUnexpected tokens length at) }
+    ensures { (tokens : List Token) (length : ℕ)
+        → ((script : Script) × Spells tokens script) ⊎ ((at : ℕ) × IsUnexpected tokens length at) }
 {}
 
 /// Every script that the tokens of some bytes spell is regular.
 pub fn a_spelled_script_is_regular()
-    ensures { (bytes : List ℕ) (tokens : List Token) (script : Script) → Lexes bytes tokens → Spells tokens script → Regular script }
+    ensures { (bytes : List ℕ) (tokens : List Token) (script : Script)
+        → Lexes bytes tokens → Spells tokens script → Regular script }
 {}
 
 /// A text spells the tree that is computed from it, and no other: so the worked examples hold of the grammar itself.
 pub fn computed_trees_are_spelled()
-    ensures spelled { (n : Symbol) (text : List ℕ) (tree : Tree n) → tree_in n text ≡ Some tree → IsTextOf n text tree }
-    ensures only { (n : Symbol) (text : List ℕ) (a b : Tree n) → IsTextOf n text a → IsTextOf n text b → a ≡ b }
+    ensures spelled { (n : Symbol) (text : List ℕ) (tree : Tree n)
+        → tree_in n text ≡ Some tree → IsTextOf n text tree }
+    ensures only { (n : Symbol) (text : List ℕ) (a b : Tree n)
+        → IsTextOf n text a → IsTextOf n text b → a ≡ b }
 {}
 
 /// The grammar reads at each level exactly the operators that the table of operators has there, in its order, and at

@@ -1,32 +1,32 @@
 ghost use Rattle.std.specs.Prelude.{◌≡◌};
-ghost use Rattle.sql_parser.specs.Ending as ending;
+ghost use Rattle.sql_parser.specs.built.Ending as ending;
 ghost use Rattle.sql_parser.specs.Spells as spec;
 
 use crate::nesting::too_deep;
 use crate::{SyntaxError, statements};
 use perm_values::List;
-use sql_grammar::{Cursor, Fault};
+use sql_grammar::{Cursor, Unread};
 use sql_lexer::Token;
 use sql_tree::Script;
 use std::alloc::Global;
 
 /// The script that was read, if it reaches the end of the tokens.
 fn ended(
-    read: Result<Script, Fault>,
+    read: Result<Script, Unread>,
     cursor: &Cursor<'_>,
     length: usize,
 ) -> Result<Script, SyntaxError>
     ensures { result ≡ ending.ended read cursor.now length }
 {
     match read {
-        Ok(script) => match cursor.next_place() {
+        Ok(script) => match cursor.next_offset() {
             None => Ok(script),
             Some(at) => Err(SyntaxError::Unexpected(at)),
         },
-        Err(Fault::Unexpected) => Err(SyntaxError::Unexpected(
-            cursor.next_place().unwrap_or(length),
+        Err(Unread::Unexpected) => Err(SyntaxError::Unexpected(
+            cursor.next_offset().unwrap_or(length),
         )),
-        Err(Fault::NoMemory) => Err(SyntaxError::NoMemory),
+        Err(Unread::NoMemory) => Err(SyntaxError::NoMemory),
     }
 }
 

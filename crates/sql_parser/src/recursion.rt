@@ -6,11 +6,12 @@ ghost use Rattle.sql_grammar.specs.Symbols as n;
 
 use crate::expression::expression;
 use perm_values::Boxed;
-use sql_grammar::{Cursor, Fault, Nest};
+use sql_grammar::{Cursor, Nest, Unread};
+use sql_queries::Queries;
 use sql_tree::{ExprTree, QueryTree};
 
 #[cycle(grammar)]
-pub(crate) fn expr(cursor: &mut Cursor<'_>) -> Result<Boxed<ExprTree>, Fault>
+pub(crate) fn expr(cursor: &mut Cursor<'_>) -> Result<Boxed<ExprTree>, Unread>
     ensures given { spec.Reads result (spec.reading n.Expr cursor.old) cursor.new }
     ensures fewer { IfOk result (λ _. length cursor.new < length cursor.old) }
 {
@@ -20,21 +21,21 @@ pub(crate) fn expr(cursor: &mut Cursor<'_>) -> Result<Boxed<ExprTree>, Fault>
 }
 
 #[cycle(grammar)]
-pub(crate) fn query(cursor: &mut Cursor<'_>) -> Result<Boxed<QueryTree>, Fault>
+pub(crate) fn query(cursor: &mut Cursor<'_>) -> Result<Boxed<QueryTree>, Unread>
     ensures given { spec.Reads result (spec.reading n.Query cursor.old) cursor.new }
     ensures fewer { IfOk result (λ _. length cursor.new < length cursor.old) }
 {
     let most = cursor.left();
     let nest = Nest { expr, query, most };
-    sql_queries::Grammar { nest }.query_body(cursor)
+    Queries { nest }.query_body(cursor)
 }
 
 /// WHERE and its condition.
-pub(crate) fn condition(cursor: &mut Cursor<'_>) -> Result<Option<Boxed<ExprTree>>, Fault>
+pub(crate) fn condition(cursor: &mut Cursor<'_>) -> Result<Option<Boxed<ExprTree>>, Unread>
     ensures given { spec.Reads result (spec.reading n.Condition cursor.old) cursor.new }
     ensures fewer { IfOk result (λ _. length cursor.new ≤ length cursor.old) }
 {
     let most = cursor.left();
     let nest = Nest { expr, query, most };
-    sql_queries::Grammar { nest }.condition(cursor)
+    Queries { nest }.condition(cursor)
 }

@@ -3,14 +3,14 @@
 ghost use Rattle.std.specs.Prelude.{◌≡◌, ◌<◌, ◌≤◌, [], ◌∷◌, ◌++◌, length, IfOk};
 ghost use Rattle.sql_grammar.specs.Building as b;
 ghost use Rattle.sql_grammar.specs.Cursors as spec;
-ghost use Rattle.sql_grammar.specs.Lists.{listed as list_read};
-ghost use Rattle.sql_parser.specs.Statements as spelled;
+ghost use Rattle.sql_grammar.specs.Lists.{listed};
+ghost use Rattle.sql_parser.specs.built.Statements as spelled;
 ghost use Rattle.sql_grammar.specs.Symbols as n;
 ghost use Rattle.sql_grammar.specs.declared.sort.Sort.TheVariants as s;
 
 use crate::recursion::{condition, expr, query};
 use perm_values::{Boxed, Chars, Kind, List, NoMemory};
-use sql_grammar::{Cursor, Fault, Sort, listed};
+use sql_grammar::{Cursor, Sort, Unread, list_of};
 use sql_lexer::Token;
 use sql_primaries::kind_of;
 use sql_tree::{ColumnDef, ExprTree, Script, Statement, StatementBody, ValuesRow};
@@ -32,7 +32,7 @@ const STATEMENTS: [Sort; 9] = [
 const KINDS: [Sort; 4] = [Sort::Integer, Sort::Int, Sort::BigInt, Sort::Text];
 
 #[tactic(auto, using(sql_grammar::proofs::Steps::column_kind_is))]
-fn column_kind(cursor: &mut Cursor<'_>) -> Result<Kind, Fault>
+fn column_kind(cursor: &mut Cursor<'_>) -> Result<Kind, Unread>
     ensures given { spec.Reads result (spec.reading n.ColumnKind cursor.old) cursor.new }
     ensures fewer { IfOk result (λ _. length cursor.new < length cursor.old) }
 {
@@ -40,7 +40,7 @@ fn column_kind(cursor: &mut Cursor<'_>) -> Result<Kind, Fault>
 }
 
 #[tactic(auto, using(sql_grammar::proofs::Steps::column_is))]
-fn column_def(cursor: &mut Cursor<'_>) -> Result<ColumnDef, Fault>
+fn column_def(cursor: &mut Cursor<'_>) -> Result<ColumnDef, Unread>
     ensures given { spec.Reads result (spec.reading n.Column cursor.old) cursor.new }
     ensures fewer { IfOk result (λ _. length cursor.new < length cursor.old) }
 {
@@ -49,11 +49,11 @@ fn column_def(cursor: &mut Cursor<'_>) -> Result<ColumnDef, Fault>
     Ok(ColumnDef { name, kind })
 }
 
-fn column_defs(cursor: &mut Cursor<'_>) -> Result<List<ColumnDef>, Fault>
-    ensures given { spec.Reads result (list_read s.Comma (spec.reading n.Column) cursor.old) cursor.new }
+fn column_defs(cursor: &mut Cursor<'_>) -> Result<List<ColumnDef>, Unread>
+    ensures given { spec.Reads result (listed s.Comma (spec.reading n.Column) cursor.old) cursor.new }
     ensures fewer { IfOk result (λ _. length cursor.new ≤ length cursor.old) }
 {
-    listed(
+    list_of(
         cursor,
         Sort::Comma,
         |cursor: &mut Cursor<'_>| column_def(cursor),
@@ -61,7 +61,7 @@ fn column_defs(cursor: &mut Cursor<'_>) -> Result<List<ColumnDef>, Fault>
 }
 
 #[tactic(auto, using(crate::proofs::Stating::columns_is))]
-fn columns(cursor: &mut Cursor<'_>) -> Result<List<ColumnDef>, Fault>
+fn columns(cursor: &mut Cursor<'_>) -> Result<List<ColumnDef>, Unread>
     ensures given { spec.Reads result (spec.reading n.Columns cursor.old) cursor.new }
     ensures fewer { IfOk result (λ _. length cursor.new < length cursor.old) }
 {
@@ -82,7 +82,7 @@ fn mark_of(alloc: Global, null: Option<&Token<'_>>) -> Result<Chars, NoMemory>
 }
 
 #[tactic(auto)]
-fn null<'a>(cursor: &mut Cursor<'a>) -> Result<Option<&'a Token<'a>>, Fault>
+fn null<'a>(cursor: &mut Cursor<'a>) -> Result<Option<&'a Token<'a>>, Unread>
     ensures given { spec.Sees spelled.marked result (spelled.null cursor.old) cursor.new }
     ensures fewer { IfOk result (λ _. length cursor.new ≤ length cursor.old) }
 {
@@ -93,8 +93,8 @@ fn null<'a>(cursor: &mut Cursor<'a>) -> Result<Option<&'a Token<'a>>, Fault>
     Ok(Some(cursor.one(&[Sort::Literal])?))
 }
 
-#[tactic(auto, using(sql_grammar::proofs::Steps::copy_is, sql_grammar::proofs::Queries::is_some_word_if, crate::proofs::Stating::null_mark_is))]
-fn copy(cursor: &mut Cursor<'_>) -> Result<StatementBody, Fault>
+#[tactic(auto, using(crate::proofs::Stating::copy_is, crate::proofs::Stating::null_mark_is))]
+fn copy(cursor: &mut Cursor<'_>) -> Result<StatementBody, Unread>
     ensures given { spec.Reads result (spec.reading n.Copy cursor.old) cursor.new }
     ensures fewer { IfOk result (λ _. length cursor.new < length cursor.old) }
 {
@@ -102,7 +102,7 @@ fn copy(cursor: &mut Cursor<'_>) -> Result<StatementBody, Fault>
     let table = cursor.name()?;
     cursor.past(Sort::From)?;
     let file = cursor.one(&[Sort::Literal])?;
-    let header = cursor.option(Sort::Header)?;
+    let header = cursor.passes(Sort::Header)?;
     let null = null(cursor)?;
     let mark = mark_of(cursor.alloc(), null)?;
     let file = file.spelled(cursor.alloc())?;
@@ -115,7 +115,7 @@ fn copy(cursor: &mut Cursor<'_>) -> Result<StatementBody, Fault>
 }
 
 #[tactic(auto, using(sql_grammar::proofs::Steps::drop_is))]
-fn drop_what(cursor: &mut Cursor<'_>) -> Result<StatementBody, Fault>
+fn drop_what(cursor: &mut Cursor<'_>) -> Result<StatementBody, Unread>
     ensures given { spec.Reads result (spec.reading n.Drop cursor.old) cursor.new }
     ensures fewer { IfOk result (λ _. length cursor.new < length cursor.old) }
 {
@@ -134,7 +134,7 @@ fn drop_what(cursor: &mut Cursor<'_>) -> Result<StatementBody, Fault>
 }
 
 #[tactic(auto, using(sql_grammar::proofs::Steps::show_is))]
-fn show(cursor: &mut Cursor<'_>) -> Result<StatementBody, Fault>
+fn show(cursor: &mut Cursor<'_>) -> Result<StatementBody, Unread>
     ensures given { spec.Reads result (spec.reading n.Show cursor.old) cursor.new }
     ensures fewer { IfOk result (λ _. length cursor.new < length cursor.old) }
 {
@@ -146,7 +146,7 @@ fn show(cursor: &mut Cursor<'_>) -> Result<StatementBody, Fault>
 }
 
 #[tactic(auto, using(sql_grammar::proofs::Steps::create_table_is))]
-fn create_table(cursor: &mut Cursor<'_>) -> Result<StatementBody, Fault>
+fn create_table(cursor: &mut Cursor<'_>) -> Result<StatementBody, Unread>
     ensures given { spec.Reads result (spec.reading n.CreateTable cursor.old) cursor.new }
     ensures fewer { IfOk result (λ _. length cursor.new < length cursor.old) }
 {
@@ -162,7 +162,7 @@ fn create_table(cursor: &mut Cursor<'_>) -> Result<StatementBody, Fault>
 }
 
 #[tactic(auto, using(sql_grammar::proofs::Steps::create_view_is))]
-fn create_view(cursor: &mut Cursor<'_>) -> Result<StatementBody, Fault>
+fn create_view(cursor: &mut Cursor<'_>) -> Result<StatementBody, Unread>
     ensures given { spec.Reads result (spec.reading n.CreateView cursor.old) cursor.new }
     ensures fewer { IfOk result (λ _. length cursor.new < length cursor.old) }
 {
@@ -174,7 +174,7 @@ fn create_view(cursor: &mut Cursor<'_>) -> Result<StatementBody, Fault>
 }
 
 #[tactic(auto, using(sql_grammar::proofs::Steps::create_is))]
-fn create(cursor: &mut Cursor<'_>) -> Result<StatementBody, Fault>
+fn create(cursor: &mut Cursor<'_>) -> Result<StatementBody, Unread>
     ensures given { spec.Reads result (spec.reading n.Create cursor.old) cursor.new }
     ensures fewer { IfOk result (λ _. length cursor.new < length cursor.old) }
 {
@@ -187,36 +187,36 @@ fn create(cursor: &mut Cursor<'_>) -> Result<StatementBody, Fault>
 }
 
 /// Expressions with commas between them.
-fn expressions(cursor: &mut Cursor<'_>) -> Result<List<ExprTree>, Fault>
+fn expressions(cursor: &mut Cursor<'_>) -> Result<List<ExprTree>, Unread>
     ensures given { spec.Reads result (spec.reading n.Exprs cursor.old) cursor.new }
     ensures fewer { IfOk result (λ _. length cursor.new ≤ length cursor.old) }
 {
-    listed(cursor, Sort::Comma, |cursor: &mut Cursor<'_>| {
+    list_of(cursor, Sort::Comma, |cursor: &mut Cursor<'_>| {
         Ok(expr(cursor)?.into_inner())
     })
 }
 
 #[tactic(auto, using(sql_grammar::proofs::Steps::row_is))]
-fn row(cursor: &mut Cursor<'_>) -> Result<ValuesRow, Fault>
+fn row(cursor: &mut Cursor<'_>) -> Result<ValuesRow, Unread>
     ensures given { spec.Reads result (spec.reading n.Row cursor.old) cursor.new }
     ensures fewer { IfOk result (λ _. length cursor.new < length cursor.old) }
 {
-    let at = cursor.place();
+    let at = cursor.offset();
     cursor.past(Sort::Opening)?;
     let values = expressions(cursor)?;
     cursor.past(Sort::Closing)?;
     Ok(ValuesRow { at, values })
 }
 
-fn rows(cursor: &mut Cursor<'_>) -> Result<List<ValuesRow>, Fault>
-    ensures given { spec.Reads result (list_read s.Comma (spec.reading n.Row) cursor.old) cursor.new }
+fn rows(cursor: &mut Cursor<'_>) -> Result<List<ValuesRow>, Unread>
+    ensures given { spec.Reads result (listed s.Comma (spec.reading n.Row) cursor.old) cursor.new }
     ensures fewer { IfOk result (λ _. length cursor.new ≤ length cursor.old) }
 {
-    listed(cursor, Sort::Comma, |cursor: &mut Cursor<'_>| row(cursor))
+    list_of(cursor, Sort::Comma, |cursor: &mut Cursor<'_>| row(cursor))
 }
 
 #[tactic(auto, using(crate::proofs::Stating::insert_is))]
-fn insert(cursor: &mut Cursor<'_>) -> Result<StatementBody, Fault>
+fn insert(cursor: &mut Cursor<'_>) -> Result<StatementBody, Unread>
     ensures given { spec.Reads result (spec.reading n.Insert cursor.old) cursor.new }
     ensures fewer { IfOk result (λ _. length cursor.new < length cursor.old) }
 {
@@ -229,7 +229,7 @@ fn insert(cursor: &mut Cursor<'_>) -> Result<StatementBody, Fault>
 }
 
 #[tactic(auto, using(sql_grammar::proofs::Steps::explain_is))]
-fn explain(cursor: &mut Cursor<'_>) -> Result<StatementBody, Fault>
+fn explain(cursor: &mut Cursor<'_>) -> Result<StatementBody, Unread>
     ensures given { spec.Reads result (spec.reading n.Explain cursor.old) cursor.new }
     ensures fewer { IfOk result (λ _. length cursor.new < length cursor.old) }
 {
@@ -240,7 +240,7 @@ fn explain(cursor: &mut Cursor<'_>) -> Result<StatementBody, Fault>
 }
 
 #[tactic(auto, using(sql_grammar::proofs::Steps::delete_is))]
-fn delete(cursor: &mut Cursor<'_>) -> Result<StatementBody, Fault>
+fn delete(cursor: &mut Cursor<'_>) -> Result<StatementBody, Unread>
     ensures given { spec.Reads result (spec.reading n.Delete cursor.old) cursor.new }
     ensures fewer { IfOk result (λ _. length cursor.new < length cursor.old) }
 {
@@ -251,7 +251,7 @@ fn delete(cursor: &mut Cursor<'_>) -> Result<StatementBody, Fault>
     Ok(StatementBody::Delete { table, condition })
 }
 
-fn statement_body(cursor: &mut Cursor<'_>) -> Result<StatementBody, Fault>
+fn statement_body(cursor: &mut Cursor<'_>) -> Result<StatementBody, Unread>
     ensures given { spec.Reads result (spelled.statement_body cursor.old) cursor.new }
     ensures fewer { IfOk result (λ _. length cursor.new < length cursor.old) }
 {
@@ -276,16 +276,16 @@ fn statement_body(cursor: &mut Cursor<'_>) -> Result<StatementBody, Fault>
 }
 
 #[tactic(auto, using(crate::proofs::Stating::statement_is))]
-fn statement(cursor: &mut Cursor<'_>) -> Result<Statement, Fault>
+fn statement(cursor: &mut Cursor<'_>) -> Result<Statement, Unread>
     ensures given { spec.Reads result (spec.reading n.StatementOf cursor.old) cursor.new }
     ensures fewer { IfOk result (λ _. length cursor.new < length cursor.old) }
 {
-    let at = cursor.place();
+    let at = cursor.offset();
     let body = statement_body(cursor)?;
     Ok(Statement { at, body })
 }
 
-fn optional_statement(cursor: &mut Cursor<'_>) -> Result<Option<Statement>, Fault>
+fn optional_statement(cursor: &mut Cursor<'_>) -> Result<Option<Statement>, Unread>
     ensures given { spec.Reads result (spelled.optional_statement cursor.old) cursor.new }
     ensures fewer { IfOk result (λ _. length cursor.new ≤ length cursor.old) }
 {
@@ -307,7 +307,7 @@ fn keep(kept: &mut List<Statement>, statement: Option<Statement>) -> Result<(), 
 }
 
 /// The statements that are there, with semicolons between them.
-fn statements(cursor: &mut Cursor<'_>) -> Result<List<Statement>, Fault>
+fn statements(cursor: &mut Cursor<'_>) -> Result<List<Statement>, Unread>
     ensures given { spec.Reads result (spelled.statements cursor.old) cursor.new }
     ensures fewer { IfOk result (λ _. length cursor.new ≤ length cursor.old) }
 {
@@ -322,7 +322,7 @@ fn statements(cursor: &mut Cursor<'_>) -> Result<List<Statement>, Fault>
 
 /// A whole script.
 #[tactic(auto, using(crate::proofs::Stating::script_is))]
-pub(crate) fn script(cursor: &mut Cursor<'_>) -> Result<Script, Fault>
+pub(crate) fn script(cursor: &mut Cursor<'_>) -> Result<Script, Unread>
     ensures given { spec.Reads result (spec.reading n.ScriptOf cursor.old) cursor.new }
     ensures fewer { IfOk result (λ _. length cursor.new ≤ length cursor.old) }
 {

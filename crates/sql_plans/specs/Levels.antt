@@ -1,7 +1,7 @@
 -- Plans of names and literals, and of expressions without an operator at a level.
 use Rattle.std.specs.Prelude.{ℕ, pos, List, [], refl}
 use Rattle.sql_lexer.specs.declared.token.Token.{Token}
-use Rattle.sql_lexer.specs.declared.token.TokenKind.TheVariants.{Quoted, Number, Text}
+use Rattle.sql_lexer.specs.declared.token.TokenKind.TheVariants.{Quoted, Number}
 use Rattle.sql_grammar.specs.Rules.{symbol}
 use Rattle.sql_grammar.specs.Symbols as n
 use Rattle.sql_plans.specs.Blanks.{Blank, left_out, none, both_blank, blank_symbol}
@@ -19,9 +19,6 @@ number_token number = record { kind = Number; start = 0; end = 0; spelled = []; 
 
 abbrev pub a_number : ℕ → Plan (symbol n.Literal)
 a_number number = as_symbol (a_token (number_token number) here)
-
-abbrev pub a_text : List ℕ → Plan (symbol n.Literal)
-a_text text = as_symbol (a_token (token_of Text text) (there here))
 
 -- a column by its name alone
 abbrev pub a_column : List ℕ → Plan (symbol n.Reference)

@@ -5,12 +5,13 @@ use Rattle.sql_grammar.specs.Building.{Word}
 use Rattle.sql_grammar.specs.Cursors.{reading, past}
 use Rattle.sql_grammar.specs.Descent.{Outcome, Taken, Stopped, and_then, mapped}
 use Rattle.sql_grammar.specs.Building as b
+use Rattle.sql_grammar.specs.built.Sequences.{value_before}
 use Rattle.sql_grammar.specs.Symbols as n
 use Rattle.sql_grammar.specs.declared.sort.Sort.TheVariants as s
 use Rattle.sql_tree.specs.declared.expression.ExprBody.TheVariants as e
 use Rattle.sql_tree.specs.declared.expression.ExprTree.{ExprTree}
 use Rattle.sql_grammar.proofs.Steps.{reading_is}
-use Rattle.sql_primaries.specs.Calls as spelled
+use Rattle.sql_primaries.specs.built.Calls as spelled
 
 -- what is read of two expressions and the word between them
 abbrev Parts : Type 0
@@ -72,10 +73,10 @@ arm_is tokens = reading_is n.Arm tokens ∙ by_when (past s.When tokens) where
   by_when (Taken w rest) = arm_read (past s.Then) w (reading n.Expr rest)
 
 pub null_if_of_is : (tokens : List Token) → spelled.null_if_of tokens
-    ≡ and_then (past s.Opening tokens) (λ opening rest. and_then (spelled.pair_of s.Comma rest) (λ v last. spelled.ended_by s.Closing (e.NullIf v.0 v.1) last))
+    ≡ and_then (past s.Opening tokens) (λ opening rest. and_then (spelled.pair_of s.Comma rest) (λ v last. value_before s.Closing (e.NullIf v.0 v.1) last))
 null_if_of_is tokens = by_opening (past s.Opening tokens) where
   by_opening : (o : Outcome Token Word)
       → mapped (λ (v : Parts). e.NullIf v.0 v.1.1) (and_then o (λ opening first. and_then (spelled.two_parts first) (λ v rest. mapped (λ closing. v) (past s.Closing rest))))
-      ≡ and_then o (λ opening rest. and_then (spelled.pair_of s.Comma rest) (λ v last. spelled.ended_by s.Closing (e.NullIf v.0 v.1) last))
+      ≡ and_then o (λ opening rest. and_then (spelled.pair_of s.Comma rest) (λ v last. value_before s.Closing (e.NullIf v.0 v.1) last))
   by_opening (Stopped rest) = refl
   by_opening (Taken w rest) = null_if_read (past s.Comma) (reading n.Expr rest)

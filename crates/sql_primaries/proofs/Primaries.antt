@@ -3,11 +3,11 @@ use Rattle.std.proofs.Common.{◌≡◌, ◌⊎◌, Bool, true, false, cond, Lis
 use Rattle.sql_lexer.specs.declared.token.Token.{Token}
 use Rattle.sql_grammar.specs.Building as b
 use Rattle.sql_grammar.specs.Building.{Word}
-use Rattle.sql_primaries.specs.Calls as spelled
-use Rattle.sql_primaries.specs.Calls.{arms, primary_body}
-use Rattle.sql_grammar.specs.Cursors.{reading, past, one, place, sees}
+use Rattle.sql_primaries.specs.built.Calls as spelled
+use Rattle.sql_primaries.specs.built.Calls.{arms, primary_body}
+use Rattle.sql_grammar.specs.Cursors.{reading, past, one, offset, sees}
 use Rattle.sql_grammar.specs.Descent.{Outcome, Taken, Stopped, and_then, mapped}
-use Rattle.sql_grammar.specs.Pieces.{between, word_at}
+use Rattle.sql_grammar.specs.built.Pieces.{between, word_at}
 use Rattle.sql_grammar.specs.Grammar.{plain_names}
 use Rattle.sql_grammar.specs.Symbols as n
 use Rattle.sql_grammar.specs.Tables.{begins}
@@ -25,12 +25,12 @@ pub case_is : (tokens : List Token) → reading n.Case tokens
     and_then (reading n.Otherwise rest) (λ otherwise last. mapped (λ end. e.Case list otherwise) (past s.End last))))
 case_is tokens = reading_is n.Case tokens ∙ simp (fused, pushed, pulled, nested)
 
-pub primary_is : (tokens : List Token) → reading n.Primary tokens ≡ mapped (b.node (place tokens)) (primary_body tokens)
+pub primary_is : (tokens : List Token) → reading n.Primary tokens ≡ mapped (b.node (offset tokens)) (primary_body tokens)
 primary_is tokens =
     reading_is n.Primary tokens
-    ∙ fused (λ v. b.node v.0 (b.alternatives v.1)) (λ x. (place tokens, x)) _
-    ∙ sym (fused (b.node (place tokens)) b.alternatives _)
-    ∙ ap (mapped (b.node (place tokens)))
+    ∙ fused (λ v. b.node v.0 (b.alternatives v.1)) (λ x. (offset tokens, x)) _
+    ∙ sym (fused (b.node (offset tokens)) b.alternatives _)
+    ∙ ap (mapped (b.node (offset tokens)))
     (chosen (sees (begins n.Literal) tokens) _ _ _ _
     (chosen (sees (begins n.Cast) tokens) _ _ _ _
     (chosen (sees (begins n.Case) tokens) _ _ _ _

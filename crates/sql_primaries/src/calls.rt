@@ -2,14 +2,14 @@
 
 ghost use Rattle.std.specs.Prelude.{◌≡◌, ◌<◌, ◌≤◌, length, IfOk};
 ghost use Rattle.sql_grammar.specs.Building as b;
-ghost use Rattle.sql_primaries.specs.Calls as spelled;
+ghost use Rattle.sql_primaries.specs.built.Calls as spelled;
 ghost use Rattle.sql_grammar.specs.Cursors as spec;
-ghost use Rattle.sql_grammar.specs.Nests.{Nests};
+ghost use Rattle.sql_grammar.specs.Nests.{NestReads};
 ghost use Rattle.sql_grammar.specs.Symbols as n;
 
-use crate::grammar::{Grammar, ended_by};
+use crate::grammar::Primaries;
 use perm_values::{Boxed, List, NoMemory};
-use sql_grammar::{Cursor, Fault, Sort, name_of, reference, same_sort, sort_of};
+use sql_grammar::{Cursor, Sort, Unread, name_of, reference, same_sort, sort_of};
 use sql_lexer::Token;
 use sql_tree::{AggWord, ExprBody, ExprTree, Name, QueryTree};
 use std::alloc::Global;
@@ -67,18 +67,18 @@ fn column(alloc: Global, first: &Token<'_>, second: Option<Name>) -> Result<Expr
 }
 
 /// The column of a function's word that no parenthesis follows.
-fn named(cursor: &mut Cursor<'_>, first: &Token<'_>) -> Result<ExprBody, Fault>
+fn named(cursor: &mut Cursor<'_>, first: &Token<'_>) -> Result<ExprBody, Unread>
     ensures given { spec.Reads result (spelled.named first.now cursor.old) cursor.new }
     ensures fewer { IfOk result (λ _. length cursor.new ≤ length cursor.old) }
 {
-    let second = cursor.qualified()?;
+    let second = cursor.name_behind_dot()?;
     match column(cursor.alloc(), first, second) {
         Ok(body) => Ok(body),
-        Err(NoMemory) => Err(Fault::NoMemory),
+        Err(NoMemory) => Err(Unread::NoMemory),
     }
 }
 
-fn count_rows(cursor: &mut Cursor<'_>) -> Result<ExprBody, Fault>
+fn count_rows(cursor: &mut Cursor<'_>) -> Result<ExprBody, Unread>
     ensures given { spec.Reads result (spelled.count_rows cursor.old) cursor.new }
     ensures fewer { IfOk result (λ _. length cursor.new < length cursor.old) }
 {
@@ -90,16 +90,16 @@ fn count_rows(cursor: &mut Cursor<'_>) -> Result<ExprBody, Fault>
 }
 
 impl<
-    F: Fn(&mut Cursor<'_>) -> Result<Boxed<ExprTree>, Fault>,
-    G: Fn(&mut Cursor<'_>) -> Result<Boxed<QueryTree>, Fault>,
-> Grammar<F, G> {
-    fn count_values(&self, cursor: &mut Cursor<'_>) -> Result<ExprBody, Fault>
-        requires sound { Nests self.now.nest.most (F.pre self.now.nest.expr) (G.pre self.now.nest.query) (F.post self.now.nest.expr) (G.post self.now.nest.query) }
+    F: Fn(&mut Cursor<'_>) -> Result<Boxed<ExprTree>, Unread>,
+    G: Fn(&mut Cursor<'_>) -> Result<Boxed<QueryTree>, Unread>,
+> Primaries<F, G> {
+    fn count_values(&self, cursor: &mut Cursor<'_>) -> Result<ExprBody, Unread>
+        requires sound { NestReads self.now.nest F.pre G.pre F.post G.post }
         requires below { length cursor.old < self.now.nest.most }
         ensures given { spec.Reads result (spelled.count_values cursor.old) cursor.new }
         ensures fewer { IfOk result (λ _. length cursor.new < length cursor.old) }
     {
-        let distinct = cursor.has(Sort::Distinct)?;
+        let distinct = cursor.passes(Sort::Distinct)?;
         let part = self.nest.expression(cursor)?;
         Ok(ExprBody::Aggregate {
             function: count_word(distinct),
@@ -108,8 +108,8 @@ impl<
     }
 
     #[tactic(auto, using(crate::proofs::Primaries::counted_is))]
-    fn counted(&self, cursor: &mut Cursor<'_>) -> Result<ExprBody, Fault>
-        requires sound { Nests self.now.nest.most (F.pre self.now.nest.expr) (G.pre self.now.nest.query) (F.post self.now.nest.expr) (G.post self.now.nest.query) }
+    fn counted(&self, cursor: &mut Cursor<'_>) -> Result<ExprBody, Unread>
+        requires sound { NestReads self.now.nest F.pre G.pre F.post G.post }
         requires below { length cursor.old < self.now.nest.most }
         ensures given { spec.Reads result (spec.reading n.Counted cursor.old) cursor.new }
         ensures fewer { IfOk result (λ _. length cursor.new < length cursor.old) }
@@ -121,20 +121,20 @@ impl<
         }
     }
 
-    fn count_arguments(&self, cursor: &mut Cursor<'_>) -> Result<ExprBody, Fault>
-        requires sound { Nests self.now.nest.most (F.pre self.now.nest.expr) (G.pre self.now.nest.query) (F.post self.now.nest.expr) (G.post self.now.nest.query) }
+    fn count_arguments(&self, cursor: &mut Cursor<'_>) -> Result<ExprBody, Unread>
+        requires sound { NestReads self.now.nest F.pre G.pre F.post G.post }
         requires below { length cursor.old ≤ self.now.nest.most }
         ensures given { spec.Reads result (spelled.count_arguments cursor.old) cursor.new }
         ensures fewer { IfOk result (λ _. length cursor.new < length cursor.old) }
     {
         cursor.past(Sort::Opening)?;
         let body = self.counted(cursor)?;
-        ended_by(cursor, body, Sort::Closing)
+        cursor.value_before(body, Sort::Closing)
     }
 
     #[tactic(auto, using(crate::proofs::Primaries::count_is))]
-    pub(crate) fn count(&self, cursor: &mut Cursor<'_>) -> Result<ExprBody, Fault>
-        requires sound { Nests self.now.nest.most (F.pre self.now.nest.expr) (G.pre self.now.nest.query) (F.post self.now.nest.expr) (G.post self.now.nest.query) }
+    pub(crate) fn count(&self, cursor: &mut Cursor<'_>) -> Result<ExprBody, Unread>
+        requires sound { NestReads self.now.nest F.pre G.pre F.post G.post }
         requires below { length cursor.old ≤ self.now.nest.most }
         ensures given { spec.Reads result (spec.reading n.Count cursor.old) cursor.new }
         ensures fewer { IfOk result (λ _. length cursor.new < length cursor.old) }
@@ -147,8 +147,8 @@ impl<
         }
     }
 
-    fn enclosed(&self, cursor: &mut Cursor<'_>) -> Result<Boxed<ExprTree>, Fault>
-        requires sound { Nests self.now.nest.most (F.pre self.now.nest.expr) (G.pre self.now.nest.query) (F.post self.now.nest.expr) (G.post self.now.nest.query) }
+    fn enclosed(&self, cursor: &mut Cursor<'_>) -> Result<Boxed<ExprTree>, Unread>
+        requires sound { NestReads self.now.nest F.pre G.pre F.post G.post }
         requires below { length cursor.old ≤ self.now.nest.most }
         ensures given { spec.Reads result (spelled.enclosed cursor.old) cursor.new }
         ensures fewer { IfOk result (λ _. length cursor.new < length cursor.old) }
@@ -157,8 +157,8 @@ impl<
         self.before(cursor, Sort::Closing)
     }
 
-    fn aggregate_of(&self, cursor: &mut Cursor<'_>, token: &Token<'_>) -> Result<ExprBody, Fault>
-        requires sound { Nests self.now.nest.most (F.pre self.now.nest.expr) (G.pre self.now.nest.query) (F.post self.now.nest.expr) (G.post self.now.nest.query) }
+    fn aggregate_of(&self, cursor: &mut Cursor<'_>, token: &Token<'_>) -> Result<ExprBody, Unread>
+        requires sound { NestReads self.now.nest F.pre G.pre F.post G.post }
         requires below { length cursor.old ≤ self.now.nest.most }
         ensures given { spec.Reads result (spelled.aggregate_of token.now cursor.old) cursor.new }
         ensures fewer { IfOk result (λ _. length cursor.new < length cursor.old) }
@@ -171,8 +171,8 @@ impl<
     }
 
     #[tactic(auto, using(crate::proofs::Primaries::aggregate_is))]
-    pub(crate) fn aggregate(&self, cursor: &mut Cursor<'_>) -> Result<ExprBody, Fault>
-        requires sound { Nests self.now.nest.most (F.pre self.now.nest.expr) (G.pre self.now.nest.query) (F.post self.now.nest.expr) (G.post self.now.nest.query) }
+    pub(crate) fn aggregate(&self, cursor: &mut Cursor<'_>) -> Result<ExprBody, Unread>
+        requires sound { NestReads self.now.nest F.pre G.pre F.post G.post }
         requires below { length cursor.old ≤ self.now.nest.most }
         ensures given { spec.Reads result (spec.reading n.Aggregate cursor.old) cursor.new }
         ensures fewer { IfOk result (λ _. length cursor.new < length cursor.old) }
@@ -185,19 +185,19 @@ impl<
         }
     }
 
-    fn enclosed_list(&self, cursor: &mut Cursor<'_>) -> Result<List<ExprTree>, Fault>
-        requires sound { Nests self.now.nest.most (F.pre self.now.nest.expr) (G.pre self.now.nest.query) (F.post self.now.nest.expr) (G.post self.now.nest.query) }
+    fn enclosed_list(&self, cursor: &mut Cursor<'_>) -> Result<List<ExprTree>, Unread>
+        requires sound { NestReads self.now.nest F.pre G.pre F.post G.post }
         requires below { length cursor.old ≤ self.now.nest.most }
         ensures given { spec.Reads result (spelled.enclosed_list cursor.old) cursor.new }
         ensures fewer { IfOk result (λ _. length cursor.new < length cursor.old) }
     {
         cursor.past(Sort::Opening)?;
         let list = self.nest.expressions(cursor)?;
-        ended_by(cursor, list, Sort::Closing)
+        cursor.value_before(list, Sort::Closing)
     }
 
-    fn coalesce_of(&self, cursor: &mut Cursor<'_>) -> Result<ExprBody, Fault>
-        requires sound { Nests self.now.nest.most (F.pre self.now.nest.expr) (G.pre self.now.nest.query) (F.post self.now.nest.expr) (G.post self.now.nest.query) }
+    fn coalesce_of(&self, cursor: &mut Cursor<'_>) -> Result<ExprBody, Unread>
+        requires sound { NestReads self.now.nest F.pre G.pre F.post G.post }
         requires below { length cursor.old ≤ self.now.nest.most }
         ensures given { spec.Reads result (spelled.coalesce_of cursor.old) cursor.new }
         ensures fewer { IfOk result (λ _. length cursor.new < length cursor.old) }
@@ -206,8 +206,8 @@ impl<
     }
 
     #[tactic(auto, using(crate::proofs::Primaries::coalesce_is))]
-    pub(crate) fn coalesce(&self, cursor: &mut Cursor<'_>) -> Result<ExprBody, Fault>
-        requires sound { Nests self.now.nest.most (F.pre self.now.nest.expr) (G.pre self.now.nest.query) (F.post self.now.nest.expr) (G.post self.now.nest.query) }
+    pub(crate) fn coalesce(&self, cursor: &mut Cursor<'_>) -> Result<ExprBody, Unread>
+        requires sound { NestReads self.now.nest F.pre G.pre F.post G.post }
         requires below { length cursor.old ≤ self.now.nest.most }
         ensures given { spec.Reads result (spec.reading n.Coalesce cursor.old) cursor.new }
         ensures fewer { IfOk result (λ _. length cursor.new < length cursor.old) }
@@ -221,20 +221,20 @@ impl<
     }
 
     #[tactic(auto, using(crate::proofs::Pairs::null_if_of_is))]
-    fn null_if_of(&self, cursor: &mut Cursor<'_>) -> Result<ExprBody, Fault>
-        requires sound { Nests self.now.nest.most (F.pre self.now.nest.expr) (G.pre self.now.nest.query) (F.post self.now.nest.expr) (G.post self.now.nest.query) }
+    fn null_if_of(&self, cursor: &mut Cursor<'_>) -> Result<ExprBody, Unread>
+        requires sound { NestReads self.now.nest F.pre G.pre F.post G.post }
         requires below { length cursor.old ≤ self.now.nest.most }
         ensures given { spec.Reads result (spelled.null_if_of cursor.old) cursor.new }
         ensures fewer { IfOk result (λ _. length cursor.new < length cursor.old) }
     {
         cursor.past(Sort::Opening)?;
         let (first, second) = self.pair(cursor, Sort::Comma)?;
-        ended_by(cursor, ExprBody::NullIf { first, second }, Sort::Closing)
+        cursor.value_before(ExprBody::NullIf { first, second }, Sort::Closing)
     }
 
     #[tactic(auto, using(crate::proofs::Primaries::null_if_is))]
-    pub(crate) fn null_if(&self, cursor: &mut Cursor<'_>) -> Result<ExprBody, Fault>
-        requires sound { Nests self.now.nest.most (F.pre self.now.nest.expr) (G.pre self.now.nest.query) (F.post self.now.nest.expr) (G.post self.now.nest.query) }
+    pub(crate) fn null_if(&self, cursor: &mut Cursor<'_>) -> Result<ExprBody, Unread>
+        requires sound { NestReads self.now.nest F.pre G.pre F.post G.post }
         requires below { length cursor.old ≤ self.now.nest.most }
         ensures given { spec.Reads result (spec.reading n.NullIf cursor.old) cursor.new }
         ensures fewer { IfOk result (λ _. length cursor.new < length cursor.old) }
@@ -250,7 +250,7 @@ impl<
 
 /// A column, which begins with a name that is no function's word.
 #[tactic(auto, using(crate::proofs::Primaries::reference_is))]
-pub(crate) fn column_of(cursor: &mut Cursor<'_>) -> Result<ExprBody, Fault>
+pub(crate) fn column_of(cursor: &mut Cursor<'_>) -> Result<ExprBody, Unread>
     ensures given { spec.Reads result (spec.reading n.Reference cursor.old) cursor.new }
     ensures fewer { IfOk result (λ _. length cursor.new < length cursor.old) }
 {

@@ -6,5 +6,5 @@ mod calls;
 mod grammar;
 mod primary;
 
-pub use grammar::Grammar;
+pub use grammar::Primaries;
 pub use primary::{LITERALS, kind_of, literal};

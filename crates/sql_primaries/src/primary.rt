@@ -2,17 +2,17 @@
 
 ghost use Rattle.std.specs.Prelude.{◌≡◌, ◌<◌, ◌≤◌, [], ◌∷◌, length, IfOk};
 ghost use Rattle.sql_grammar.specs.Building as b;
-ghost use Rattle.sql_primaries.specs.Calls as spelled;
+ghost use Rattle.sql_primaries.specs.built.Calls as spelled;
 ghost use Rattle.sql_grammar.specs.Cursors as spec;
 ghost use Rattle.sql_grammar.specs.Lists.{all_of};
-ghost use Rattle.sql_grammar.specs.Nests.{Nests};
+ghost use Rattle.sql_grammar.specs.Nests.{NestReads};
 ghost use Rattle.sql_grammar.specs.Symbols as n;
 ghost use Rattle.sql_grammar.specs.declared.sort.Sort.TheVariants as s;
 
 use crate::calls::column_of;
-use crate::grammar::{Grammar, ended_by};
+use crate::grammar::Primaries;
 use perm_values::{Boxed, Kind, List, NoMemory};
-use sql_grammar::{Cursor, Fault, Sort, node, repeated, same_sort, sort_of};
+use sql_grammar::{Cursor, Sort, Unread, all_items, node, same_sort, sort_of};
 use sql_lexer::Token;
 use sql_tree::{ArmTree, ExprBody, ExprTree, QueryTree};
 use std::alloc::Global;
@@ -67,19 +67,19 @@ fn literal_of(alloc: Global, token: &Token<'_>) -> Result<ExprBody, NoMemory>
 
 /// A literal.
 #[tactic(auto, using(sql_grammar::proofs::Steps::literal_is))]
-pub fn literal(cursor: &mut Cursor<'_>) -> Result<ExprBody, Fault>
+pub fn literal(cursor: &mut Cursor<'_>) -> Result<ExprBody, Unread>
     ensures given { spec.Reads result (spec.reading n.Literal cursor.old) cursor.new }
     ensures fewer { IfOk result (λ _. length cursor.new < length cursor.old) }
 {
     let token = cursor.one(&LITERALS)?;
     match literal_of(cursor.alloc(), token) {
         Ok(body) => Ok(body),
-        Err(NoMemory) => Err(Fault::NoMemory),
+        Err(NoMemory) => Err(Unread::NoMemory),
     }
 }
 
 #[tactic(auto, using(sql_grammar::proofs::Steps::cast_kind_is))]
-fn cast_kind(cursor: &mut Cursor<'_>) -> Result<Kind, Fault>
+fn cast_kind(cursor: &mut Cursor<'_>) -> Result<Kind, Unread>
     ensures given { spec.Reads result (spec.reading n.CastKind cursor.old) cursor.new }
     ensures fewer { IfOk result (λ _. length cursor.new < length cursor.old) }
 {
@@ -87,7 +87,7 @@ fn cast_kind(cursor: &mut Cursor<'_>) -> Result<Kind, Fault>
 }
 
 #[tactic(auto, using(sql_grammar::proofs::Steps::cast_is))]
-fn cast(cursor: &mut Cursor<'_>) -> Result<ExprBody, Fault>
+fn cast(cursor: &mut Cursor<'_>) -> Result<ExprBody, Unread>
     ensures given { spec.Reads result (spec.reading n.Cast cursor.old) cursor.new }
     ensures fewer { IfOk result (λ _. length cursor.new < length cursor.old) }
 {
@@ -101,12 +101,12 @@ fn cast(cursor: &mut Cursor<'_>) -> Result<ExprBody, Fault>
 }
 
 impl<
-    F: Fn(&mut Cursor<'_>) -> Result<Boxed<ExprTree>, Fault>,
-    G: Fn(&mut Cursor<'_>) -> Result<Boxed<QueryTree>, Fault>,
-> Grammar<F, G> {
+    F: Fn(&mut Cursor<'_>) -> Result<Boxed<ExprTree>, Unread>,
+    G: Fn(&mut Cursor<'_>) -> Result<Boxed<QueryTree>, Unread>,
+> Primaries<F, G> {
     #[tactic(auto, using(crate::proofs::Pairs::arm_is))]
-    fn arm(&self, cursor: &mut Cursor<'_>) -> Result<ArmTree, Fault>
-        requires sound { Nests self.now.nest.most (F.pre self.now.nest.expr) (G.pre self.now.nest.query) (F.post self.now.nest.expr) (G.post self.now.nest.query) }
+    fn arm(&self, cursor: &mut Cursor<'_>) -> Result<ArmTree, Unread>
+        requires sound { NestReads self.now.nest F.pre G.pre F.post G.post }
         requires below { length cursor.old ≤ self.now.nest.most }
         ensures given { spec.Reads result (spec.reading n.Arm cursor.old) cursor.new }
         ensures fewer { IfOk result (λ _. length cursor.new < length cursor.old) }
@@ -119,21 +119,22 @@ impl<
         })
     }
 
-    fn more_arms(&self, cursor: &mut Cursor<'_>) -> Result<List<ArmTree>, Fault>
-        requires sound { Nests self.now.nest.most (F.pre self.now.nest.expr) (G.pre self.now.nest.query) (F.post self.now.nest.expr) (G.post self.now.nest.query) }
+    fn more_arms(&self, cursor: &mut Cursor<'_>) -> Result<List<ArmTree>, Unread>
+        requires sound { NestReads self.now.nest F.pre G.pre F.post G.post }
         requires below { length cursor.old ≤ self.now.nest.most }
-        ensures given { spec.Reads result (all_of (s.When ∷ []) (spec.reading n.Arm) cursor.old) cursor.new }
+        ensures given { spec.Reads result
+            (all_of (s.When ∷ []) (spec.reading n.Arm) cursor.old) cursor.new }
         ensures fewer { IfOk result (λ _. length cursor.new ≤ length cursor.old) }
     {
-        repeated(
+        all_items(
             cursor,
             &[Sort::When],
             |cursor: &mut Cursor<'_>| self.arm(cursor),
         )
     }
 
-    fn arms(&self, cursor: &mut Cursor<'_>) -> Result<List<ArmTree>, Fault>
-        requires sound { Nests self.now.nest.most (F.pre self.now.nest.expr) (G.pre self.now.nest.query) (F.post self.now.nest.expr) (G.post self.now.nest.query) }
+    fn arms(&self, cursor: &mut Cursor<'_>) -> Result<List<ArmTree>, Unread>
+        requires sound { NestReads self.now.nest F.pre G.pre F.post G.post }
         requires below { length cursor.old ≤ self.now.nest.most }
         ensures given { spec.Reads result (spelled.arms cursor.old) cursor.new }
         ensures fewer { IfOk result (λ _. length cursor.new < length cursor.old) }
@@ -145,8 +146,8 @@ impl<
     }
 
     #[tactic(auto, using(sql_grammar::proofs::Steps::otherwise_is))]
-    fn otherwise(&self, cursor: &mut Cursor<'_>) -> Result<Option<Boxed<ExprTree>>, Fault>
-        requires sound { Nests self.now.nest.most (F.pre self.now.nest.expr) (G.pre self.now.nest.query) (F.post self.now.nest.expr) (G.post self.now.nest.query) }
+    fn otherwise(&self, cursor: &mut Cursor<'_>) -> Result<Option<Boxed<ExprTree>>, Unread>
+        requires sound { NestReads self.now.nest F.pre G.pre F.post G.post }
         requires below { length cursor.old ≤ self.now.nest.most }
         ensures given { spec.Reads result (spec.reading n.Otherwise cursor.old) cursor.new }
         ensures fewer { IfOk result (λ _. length cursor.new ≤ length cursor.old) }
@@ -159,8 +160,8 @@ impl<
     }
 
     #[tactic(auto, using(crate::proofs::Primaries::case_is))]
-    fn case(&self, cursor: &mut Cursor<'_>) -> Result<ExprBody, Fault>
-        requires sound { Nests self.now.nest.most (F.pre self.now.nest.expr) (G.pre self.now.nest.query) (F.post self.now.nest.expr) (G.post self.now.nest.query) }
+    fn case(&self, cursor: &mut Cursor<'_>) -> Result<ExprBody, Unread>
+        requires sound { NestReads self.now.nest F.pre G.pre F.post G.post }
         requires below { length cursor.old ≤ self.now.nest.most }
         ensures given { spec.Reads result (spec.reading n.Case cursor.old) cursor.new }
         ensures fewer { IfOk result (λ _. length cursor.new < length cursor.old) }
@@ -168,12 +169,12 @@ impl<
         cursor.past(Sort::Case)?;
         let arms = self.arms(cursor)?;
         let otherwise = self.otherwise(cursor)?;
-        ended_by(cursor, ExprBody::Case { arms, otherwise }, Sort::End)
+        cursor.value_before(ExprBody::Case { arms, otherwise }, Sort::End)
     }
 
     #[tactic(auto, using(sql_grammar::proofs::Steps::exists_is))]
-    fn exists(&self, cursor: &mut Cursor<'_>) -> Result<ExprBody, Fault>
-        requires sound { Nests self.now.nest.most (F.pre self.now.nest.expr) (G.pre self.now.nest.query) (F.post self.now.nest.expr) (G.post self.now.nest.query) }
+    fn exists(&self, cursor: &mut Cursor<'_>) -> Result<ExprBody, Unread>
+        requires sound { NestReads self.now.nest F.pre G.pre F.post G.post }
         requires below { length cursor.old ≤ self.now.nest.most }
         ensures given { spec.Reads result (spec.reading n.Exists cursor.old) cursor.new }
         ensures fewer { IfOk result (λ _. length cursor.new < length cursor.old) }
@@ -182,8 +183,8 @@ impl<
         Ok(ExprBody::Exists(self.nest.in_parentheses(cursor)?))
     }
 
-    fn inside(&self, cursor: &mut Cursor<'_>) -> Result<ExprBody, Fault>
-        requires sound { Nests self.now.nest.most (F.pre self.now.nest.expr) (G.pre self.now.nest.query) (F.post self.now.nest.expr) (G.post self.now.nest.query) }
+    fn inside(&self, cursor: &mut Cursor<'_>) -> Result<ExprBody, Unread>
+        requires sound { NestReads self.now.nest F.pre G.pre F.post G.post }
         requires below { length cursor.old < self.now.nest.most }
         ensures given { spec.Reads result (spelled.inside cursor.old) cursor.new }
         ensures fewer { IfOk result (λ _. length cursor.new < length cursor.old) }
@@ -196,19 +197,19 @@ impl<
     }
 
     #[tactic(auto, using(crate::proofs::Primaries::parentheses_is))]
-    fn parentheses(&self, cursor: &mut Cursor<'_>) -> Result<ExprBody, Fault>
-        requires sound { Nests self.now.nest.most (F.pre self.now.nest.expr) (G.pre self.now.nest.query) (F.post self.now.nest.expr) (G.post self.now.nest.query) }
+    fn parentheses(&self, cursor: &mut Cursor<'_>) -> Result<ExprBody, Unread>
+        requires sound { NestReads self.now.nest F.pre G.pre F.post G.post }
         requires below { length cursor.old ≤ self.now.nest.most }
         ensures given { spec.Reads result (spec.reading n.Parentheses cursor.old) cursor.new }
         ensures fewer { IfOk result (λ _. length cursor.new < length cursor.old) }
     {
         cursor.past(Sort::Opening)?;
         let body = self.inside(cursor)?;
-        ended_by(cursor, body, Sort::Closing)
+        cursor.value_before(body, Sort::Closing)
     }
 
-    fn body(&self, cursor: &mut Cursor<'_>) -> Result<ExprBody, Fault>
-        requires sound { Nests self.now.nest.most (F.pre self.now.nest.expr) (G.pre self.now.nest.query) (F.post self.now.nest.expr) (G.post self.now.nest.query) }
+    fn body(&self, cursor: &mut Cursor<'_>) -> Result<ExprBody, Unread>
+        requires sound { NestReads self.now.nest F.pre G.pre F.post G.post }
         requires below { length cursor.old ≤ self.now.nest.most }
         ensures given { spec.Reads result (spelled.primary_body cursor.old) cursor.new }
         ensures fewer { IfOk result (λ _. length cursor.new < length cursor.old) }
@@ -237,17 +238,17 @@ impl<
     }
 
     #[tactic(auto, using(crate::proofs::Primaries::primary_is))]
-    pub fn primary(&self, cursor: &mut Cursor<'_>) -> Result<Boxed<ExprTree>, Fault>
-        requires sound { Nests self.now.nest.most (F.pre self.now.nest.expr) (G.pre self.now.nest.query) (F.post self.now.nest.expr) (G.post self.now.nest.query) }
+    pub fn primary(&self, cursor: &mut Cursor<'_>) -> Result<Boxed<ExprTree>, Unread>
+        requires sound { NestReads self.now.nest F.pre G.pre F.post G.post }
         requires below { length cursor.old ≤ self.now.nest.most }
         ensures given { spec.Reads result (spec.reading n.Primary cursor.old) cursor.new }
         ensures fewer { IfOk result (λ _. length cursor.new < length cursor.old) }
     {
-        let at = cursor.place();
+        let at = cursor.offset();
         let body = self.body(cursor)?;
         match node(cursor.alloc(), at, body) {
             Ok(tree) => Ok(tree),
-            Err(NoMemory) => Err(Fault::NoMemory),
+            Err(NoMemory) => Err(Unread::NoMemory),
         }
     }
 }

@@ -1,15 +1,15 @@
 -- Pieces of rules as their functions read them, part by part.
-use Rattle.std.proofs.Common.{◌≡◌, ℕ, List, Option, Some, inl, inr, refl, ◌∙◌}
+use Rattle.std.proofs.Common.{◌≡◌, ℕ, List, Option, Some, is_some, inl, inr, refl, ◌∙◌}
 use Rattle.sql_lexer.specs.declared.token.Token.{Token}
 use Rattle.sql_grammar.specs.Building as b
 use Rattle.sql_grammar.specs.Building.{Word}
-use Rattle.sql_grammar.specs.Cursors.{reading, past, place}
+use Rattle.sql_grammar.specs.Cursors.{reading, past, offset}
 use Rattle.sql_grammar.specs.Descent.{Outcome, Taken, Stopped, and_then, mapped}
-use Rattle.sql_grammar.specs.Pieces as piece
-use Rattle.sql_grammar.specs.Sequences.{both, closed}
+use Rattle.sql_grammar.specs.built.Pieces as piece
+use Rattle.sql_grammar.specs.built.Sequences.{both, value_before}
 use Rattle.sql_grammar.specs.Symbols as n
 use Rattle.sql_grammar.specs.declared.sort.Sort.TheVariants as s
-use Rattle.sql_queries.specs.Sources.{name_behind, marked}
+use Rattle.sql_queries.specs.built.Sources.{name_behind, marked}
 use Rattle.sql_tree.specs.declared.expression.ExprTree.{ExprTree}
 use Rattle.sql_tree.specs.declared.name.Name.{Name}
 use Rattle.sql_tree.specs.declared.query.QueryTree.{QueryTree}
@@ -39,13 +39,13 @@ inner_source_is tokens = by_opening (past s.Opening tokens) where
 
   by_as : (u : Word) (query : QueryTree) (w : Word) (o : Outcome Token (Option Word))
       → mapped inner_of (mapped (λ y. (u, y)) (mapped (λ y. (query, y)) (mapped (λ y. (w, y)) (and_then o (λ found r. mapped (λ y. (found, y)) (reading n.NameOf r))))))
-      ≡ mapped (λ name. (source.Inner query, Some name)) (and_then o (λ _ r. reading n.NameOf r))
+      ≡ mapped (λ name. (source.Inner query, Some name)) (and_then (mapped is_some o) (λ _ r. reading n.NameOf r))
   by_as u query w (Stopped rest) = refl
   by_as u query w (Taken found rest) = by_name u query w found (reading n.NameOf rest)
 
   by_closing : (u : Word) (query : QueryTree) (o : Outcome Token Word)
       → mapped inner_of (mapped (λ y. (u, y)) (mapped (λ y. (query, y)) (and_then o (λ w r. mapped (λ y. (w, y)) (and_then (piece.word_at s.As r) (λ found t. mapped (λ y. (found, y)) (reading n.NameOf t)))))))
-      ≡ mapped (λ name. (source.Inner query, Some name)) (and_then o (λ _ r. and_then (piece.word_at s.As r) (λ _ t. reading n.NameOf t)))
+      ≡ mapped (λ name. (source.Inner query, Some name)) (and_then o (λ _ r. and_then (piece.passes s.As r) (λ _ t. reading n.NameOf t)))
   by_closing u query (Stopped rest) = refl
   by_closing u query (Taken w rest) = by_as u query w (piece.word_at s.As rest)
 
@@ -63,7 +63,7 @@ inner_source_is tokens = by_opening (past s.Opening tokens) where
 
 -- ---- an item with its mark
 
-pub source_is : (tokens : List Token) → reading n.Source tokens ≡ and_then (reading n.Aliased tokens) (λ aliased rest. marked (place tokens) aliased rest)
+pub source_is : (tokens : List Token) → reading n.Source tokens ≡ and_then (reading n.Aliased tokens) (λ aliased rest. marked (offset tokens) aliased rest)
 source_is tokens = reading_is n.Source tokens ∙ by_aliased (reading n.Aliased tokens) where
   by_mark : (at : ℕ) (aliased : FromSource × Option Name) (o : Outcome Token ScopeMark)
       → mapped b.from_item (mapped (λ m. ((at, aliased), m)) o)
@@ -72,10 +72,10 @@ source_is tokens = reading_is n.Source tokens ∙ by_aliased (reading n.Aliased 
   by_mark at (source, alias) (Taken mark rest) = refl
 
   by_aliased : (o : Outcome Token (FromSource × Option Name))
-      → mapped b.from_item (and_then (mapped (λ x. (place tokens, x)) o) (λ v r. mapped (λ m. (v, m)) (reading n.Mark r)))
-      ≡ and_then o (λ aliased rest. marked (place tokens) aliased rest)
+      → mapped b.from_item (and_then (mapped (λ x. (offset tokens, x)) o) (λ v r. mapped (λ m. (v, m)) (reading n.Mark r)))
+      ≡ and_then o (λ aliased rest. marked (offset tokens) aliased rest)
   by_aliased (Stopped rest) = refl
-  by_aliased (Taken (source, alias) rest) = by_mark (place tokens) (source, alias) (reading n.Mark rest)
+  by_aliased (Taken (source, alias) rest) = by_mark (offset tokens) (source, alias) (reading n.Mark rest)
 
 -- ---- joins
 
@@ -137,7 +137,7 @@ abbrev paren_of : Word × (QueryTree × Word) → SetTree
 paren_of v = Paren v.1.0
 
 pub parenthesised_is : (tokens : List Token) → piece.parenthesised tokens
-    ≡ and_then (past s.Opening tokens) (λ _ a. and_then (reading n.Query a) (λ query c. closed (Paren query) c))
+    ≡ and_then (past s.Opening tokens) (λ _ a. and_then (reading n.Query a) (λ query c. value_before s.Closing (Paren query) c))
 parenthesised_is tokens = by_opening (past s.Opening tokens) where
   by_closing : (u : Word) (query : QueryTree) (o : Outcome Token Word)
       → mapped paren_of (mapped (λ y. (u, y)) (mapped (λ y. (query, y)) o)) ≡ mapped (λ _. Paren query) o
@@ -145,12 +145,12 @@ parenthesised_is tokens = by_opening (past s.Opening tokens) where
   by_closing u query (Taken w rest) = refl
 
   by_query : (u : Word) (o : Outcome Token QueryTree)
-      → mapped paren_of (mapped (λ y. (u, y)) (and_then o (λ query c. mapped (λ y. (query, y)) (past s.Closing c)))) ≡ and_then o (λ query c. closed (Paren query) c)
+      → mapped paren_of (mapped (λ y. (u, y)) (and_then o (λ query c. mapped (λ y. (query, y)) (past s.Closing c)))) ≡ and_then o (λ query c. value_before s.Closing (Paren query) c)
   by_query u (Stopped rest) = refl
   by_query u (Taken query rest) = by_closing u query (past s.Closing rest)
 
   by_opening : (o : Outcome Token Word)
       → mapped paren_of (and_then o (λ u a. mapped (λ y. (u, y)) (and_then (reading n.Query a) (λ query c. mapped (λ y. (query, y)) (past s.Closing c)))))
-      ≡ and_then o (λ _ a. and_then (reading n.Query a) (λ query c. closed (Paren query) c))
+      ≡ and_then o (λ _ a. and_then (reading n.Query a) (λ query c. value_before s.Closing (Paren query) c))
   by_opening (Stopped rest) = refl
   by_opening (Taken u rest) = by_query u (reading n.Query rest)

@@ -2,13 +2,13 @@
 use Rattle.std.proofs.Common.{◌≡◌, ℕ, Bool, List, Option, refl, ap, ◌∙◌}
 use Rattle.sql_lexer.specs.declared.token.Token.{Token}
 use Rattle.sql_grammar.specs.Building.{Word}
-use Rattle.sql_grammar.specs.Cursors.{reading, past, place}
+use Rattle.sql_grammar.specs.Cursors.{reading, past, offset}
 use Rattle.sql_grammar.specs.Descent.{Outcome, Taken, Stopped, and_then, mapped}
-use Rattle.sql_grammar.specs.Pieces as piece
+use Rattle.sql_grammar.specs.built.Pieces as piece
 use Rattle.sql_grammar.specs.Symbols as n
 use Rattle.sql_grammar.specs.declared.sort.Sort.TheVariants as s
 use Rattle.sql_grammar.proofs.Queries as queries
-use Rattle.sql_queries.specs.Selects.{clauses_of, clauses, core_of, head}
+use Rattle.sql_queries.specs.built.Selects.{clauses_of, clauses, core_of, head}
 use Rattle.sql_tree.specs.declared.expression.ExprTree.{ExprTree}
 use Rattle.sql_tree.specs.declared.name.ColRef.{ColRef}
 use Rattle.sql_tree.specs.declared.query.SelectItem.{SelectItem}
@@ -59,21 +59,21 @@ by_distinct at p (Taken d e) =
     by_items at p d (reading n.Items e) ∙ ap (λ o. and_then o (λ items rest. mapped (core_of at p d items) (clauses rest))) (queries.items_is e)
 
 by_provenance : (at : ℕ) (o : Outcome Token (Option ℕ))
-    → and_then o (λ p c. and_then (piece.has s.Distinct c) (λ d e. mapped (λ v. piece.core_of at p d v) (piece.items_on e)))
-    ≡ and_then o (λ p c. and_then (piece.has s.Distinct c) (λ d e. and_then (piece.items e) (λ items rest. mapped (core_of at p d items) (clauses rest))))
+    → and_then o (λ p c. and_then (piece.passes s.Distinct c) (λ d e. mapped (λ v. piece.core_of at p d v) (piece.items_on e)))
+    ≡ and_then o (λ p c. and_then (piece.passes s.Distinct c) (λ d e. and_then (piece.items e) (λ items rest. mapped (core_of at p d items) (clauses rest))))
 by_provenance at (Stopped rest) = refl
-by_provenance at (Taken p c) = by_distinct at p (piece.has s.Distinct c)
+by_provenance at (Taken p c) = by_distinct at p (piece.passes s.Distinct c)
 
 by_parts : (tokens : List Token) → reading n.CoreOf tokens
-    ≡ and_then (past s.Select tokens) (λ _ a. and_then (piece.provenance a) (λ p c. and_then (piece.has s.Distinct c) (λ d e.
-    and_then (piece.items e) (λ items rest. mapped (core_of (place tokens) p d items) (clauses rest)))))
+    ≡ and_then (past s.Select tokens) (λ _ a. and_then (piece.provenance a) (λ p c. and_then (piece.passes s.Distinct c) (λ d e.
+    and_then (piece.items e) (λ items rest. mapped (core_of (offset tokens) p d items) (clauses rest)))))
 by_parts tokens = queries.core_is tokens ∙ by_select (past s.Select tokens) where
   by_select : (o : Outcome Token Word)
-      → and_then o (λ _ a. and_then (piece.provenance a) (λ p c. and_then (piece.has s.Distinct c) (λ d e. mapped (λ v. piece.core_of (place tokens) p d v) (piece.items_on e))))
-      ≡ and_then o (λ _ a. and_then (piece.provenance a) (λ p c. and_then (piece.has s.Distinct c) (λ d e.
-      and_then (piece.items e) (λ items rest. mapped (core_of (place tokens) p d items) (clauses rest)))))
+      → and_then o (λ _ a. and_then (piece.provenance a) (λ p c. and_then (piece.passes s.Distinct c) (λ d e. mapped (λ v. piece.core_of (offset tokens) p d v) (piece.items_on e))))
+      ≡ and_then o (λ _ a. and_then (piece.provenance a) (λ p c. and_then (piece.passes s.Distinct c) (λ d e.
+      and_then (piece.items e) (λ items rest. mapped (core_of (offset tokens) p d items) (clauses rest)))))
   by_select (Stopped rest) = refl
-  by_select (Taken w a) = by_provenance (place tokens) (piece.provenance a)
+  by_select (Taken w a) = by_provenance (offset tokens) (piece.provenance a)
 
 -- the words before the items are read at once
 at_once : {X P D : Type 0} (o : Outcome Token Word) (k : List Token → Outcome Token P) (l : List Token → Outcome Token D) (m : P → D → List Token → Outcome Token X)
@@ -90,7 +90,7 @@ at_once {P = P} {D = D} (Taken w a) k l m = by_first (k a) where
   by_first (Taken p c) = by_second p (l c)
 
 pub core_is : (tokens : List Token) → reading n.CoreOf tokens
-    ≡ and_then (head tokens) (λ v e. and_then (piece.items e) (λ items rest. mapped (core_of (place tokens) v.0 v.1 items) (clauses rest)))
+    ≡ and_then (head tokens) (λ v e. and_then (piece.items e) (λ items rest. mapped (core_of (offset tokens) v.0 v.1 items) (clauses rest)))
 core_is tokens =
     by_parts tokens
-    ∙ at_once (past s.Select tokens) piece.provenance (piece.has s.Distinct) (λ p d e. and_then (piece.items e) (λ items rest. mapped (core_of (place tokens) p d items) (clauses rest)))
+    ∙ at_once (past s.Select tokens) piece.provenance (piece.passes s.Distinct) (λ p d e. and_then (piece.items e) (λ items rest. mapped (core_of (offset tokens) p d items) (clauses rest)))

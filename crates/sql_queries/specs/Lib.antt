@@ -1,2 +1,1 @@
-pub mod Selects
-pub mod Sources
+pub mod built

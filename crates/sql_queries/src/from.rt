@@ -3,26 +3,26 @@
 ghost use Rattle.std.specs.Prelude.{◌≡◌, ◌<◌, ◌≤◌, length, IfOk};
 ghost use Rattle.sql_grammar.specs.Building as b;
 ghost use Rattle.sql_grammar.specs.Cursors as spec;
-ghost use Rattle.sql_grammar.specs.Nests.{Nests};
-ghost use Rattle.sql_grammar.specs.Pieces as piece;
+ghost use Rattle.sql_grammar.specs.Nests.{NestReads};
+ghost use Rattle.sql_grammar.specs.built.Pieces as piece;
 ghost use Rattle.sql_grammar.specs.Symbols as n;
-ghost use Rattle.sql_queries.specs.Sources as spelled;
+ghost use Rattle.sql_queries.specs.built.Sources as spelled;
 
-use crate::grammar::Grammar;
+use crate::grammar::Queries;
 use perm_values::{Boxed, List};
-use sql_grammar::{Cursor, Fault, NAMES, Sort, listed, repeated, same_sort, sort_of};
+use sql_grammar::{Cursor, NAMES, Sort, Unread, all_items, list_of, same_sort, sort_of};
 use sql_lexer::Token;
 use sql_tree::{
     ExprTree, FromItem, FromSource, FromTree, JoinStep, JoinWord, Name, QueryTree, ScopeMark,
 };
 
 /// The name of an inner query, behind the parenthesis that closes it.
-fn name_behind(cursor: &mut Cursor<'_>) -> Result<Name, Fault>
+fn name_behind(cursor: &mut Cursor<'_>) -> Result<Name, Unread>
     ensures given { spec.Reads result (spelled.name_behind cursor.old) cursor.new }
     ensures fewer { IfOk result (λ _. length cursor.new < length cursor.old) }
 {
     cursor.past(Sort::Closing)?;
-    cursor.option(Sort::As)?;
+    cursor.passes(Sort::As)?;
     cursor.name()
 }
 
@@ -31,7 +31,7 @@ fn marked(
     cursor: &mut Cursor<'_>,
     at: usize,
     aliased: (FromSource, Option<Name>),
-) -> Result<Boxed<FromItem>, Fault>
+) -> Result<Boxed<FromItem>, Unread>
     ensures given { spec.Reads result (spelled.marked at aliased cursor.old) cursor.new }
     ensures fewer { IfOk result (λ _. length cursor.new ≤ length cursor.old) }
 {
@@ -47,12 +47,12 @@ fn marked(
 }
 
 impl<
-    F: Fn(&mut Cursor<'_>) -> Result<Boxed<ExprTree>, Fault>,
-    G: Fn(&mut Cursor<'_>) -> Result<Boxed<QueryTree>, Fault>,
-> Grammar<F, G> {
+    F: Fn(&mut Cursor<'_>) -> Result<Boxed<ExprTree>, Unread>,
+    G: Fn(&mut Cursor<'_>) -> Result<Boxed<QueryTree>, Unread>,
+> Queries<F, G> {
     #[tactic(auto, using(crate::proofs::Parts::inner_source_is))]
-    fn inner_source(&self, cursor: &mut Cursor<'_>) -> Result<(FromSource, Option<Name>), Fault>
-        requires sound { Nests self.now.nest.most (F.pre self.now.nest.expr) (G.pre self.now.nest.query) (F.post self.now.nest.expr) (G.post self.now.nest.query) }
+    fn inner_source(&self, cursor: &mut Cursor<'_>) -> Result<(FromSource, Option<Name>), Unread>
+        requires sound { NestReads self.now.nest F.pre G.pre F.post G.post }
         requires below { length cursor.old ≤ self.now.nest.most }
         ensures given { spec.Reads result (piece.inner_source cursor.old) cursor.new }
         ensures fewer { IfOk result (λ _. length cursor.new < length cursor.old) }
@@ -64,8 +64,8 @@ impl<
     }
 
     #[tactic(auto, using(sql_grammar::proofs::Queries::aliased_is))]
-    fn aliased(&self, cursor: &mut Cursor<'_>) -> Result<(FromSource, Option<Name>), Fault>
-        requires sound { Nests self.now.nest.most (F.pre self.now.nest.expr) (G.pre self.now.nest.query) (F.post self.now.nest.expr) (G.post self.now.nest.query) }
+    fn aliased(&self, cursor: &mut Cursor<'_>) -> Result<(FromSource, Option<Name>), Unread>
+        requires sound { NestReads self.now.nest F.pre G.pre F.post G.post }
         requires below { length cursor.old ≤ self.now.nest.most }
         ensures given { spec.Reads result (spec.reading n.Aliased cursor.old) cursor.new }
         ensures fewer { IfOk result (λ _. length cursor.new < length cursor.old) }
@@ -78,20 +78,20 @@ impl<
     }
 
     #[tactic(auto, using(crate::proofs::Parts::source_is))]
-    fn from_item(&self, cursor: &mut Cursor<'_>) -> Result<Boxed<FromItem>, Fault>
-        requires sound { Nests self.now.nest.most (F.pre self.now.nest.expr) (G.pre self.now.nest.query) (F.post self.now.nest.expr) (G.post self.now.nest.query) }
+    fn from_item(&self, cursor: &mut Cursor<'_>) -> Result<Boxed<FromItem>, Unread>
+        requires sound { NestReads self.now.nest F.pre G.pre F.post G.post }
         requires below { length cursor.old ≤ self.now.nest.most }
         ensures given { spec.Reads result (spec.reading n.Source cursor.old) cursor.new }
         ensures fewer { IfOk result (λ _. length cursor.new < length cursor.old) }
     {
-        let at = cursor.place();
+        let at = cursor.offset();
         let aliased = self.aliased(cursor)?;
         marked(cursor, at, aliased)
     }
 
     #[tactic(auto, using(crate::proofs::Parts::joined_on_is))]
-    fn joined_on(&self, cursor: &mut Cursor<'_>) -> Result<JoinStep, Fault>
-        requires sound { Nests self.now.nest.most (F.pre self.now.nest.expr) (G.pre self.now.nest.query) (F.post self.now.nest.expr) (G.post self.now.nest.query) }
+    fn joined_on(&self, cursor: &mut Cursor<'_>) -> Result<JoinStep, Unread>
+        requires sound { NestReads self.now.nest F.pre G.pre F.post G.post }
         requires below { length cursor.old ≤ self.now.nest.most }
         ensures given { spec.Reads result (piece.joined_on cursor.old) cursor.new }
         ensures fewer { IfOk result (λ _. length cursor.new < length cursor.old) }
@@ -108,8 +108,8 @@ impl<
     }
 
     #[tactic(auto, using(crate::proofs::Parts::crossed_is))]
-    fn crossed(&self, cursor: &mut Cursor<'_>) -> Result<JoinStep, Fault>
-        requires sound { Nests self.now.nest.most (F.pre self.now.nest.expr) (G.pre self.now.nest.query) (F.post self.now.nest.expr) (G.post self.now.nest.query) }
+    fn crossed(&self, cursor: &mut Cursor<'_>) -> Result<JoinStep, Unread>
+        requires sound { NestReads self.now.nest F.pre G.pre F.post G.post }
         requires below { length cursor.old ≤ self.now.nest.most }
         ensures given { spec.Reads result (piece.crossed cursor.old) cursor.new }
         ensures fewer { IfOk result (λ _. length cursor.new < length cursor.old) }
@@ -124,8 +124,8 @@ impl<
     }
 
     #[tactic(auto, using(sql_grammar::proofs::Queries::join_is))]
-    fn join(&self, cursor: &mut Cursor<'_>) -> Result<JoinStep, Fault>
-        requires sound { Nests self.now.nest.most (F.pre self.now.nest.expr) (G.pre self.now.nest.query) (F.post self.now.nest.expr) (G.post self.now.nest.query) }
+    fn join(&self, cursor: &mut Cursor<'_>) -> Result<JoinStep, Unread>
+        requires sound { NestReads self.now.nest F.pre G.pre F.post G.post }
         requires below { length cursor.old ≤ self.now.nest.most }
         ensures given { spec.Reads result (spec.reading n.Join cursor.old) cursor.new }
         ensures fewer { IfOk result (λ _. length cursor.new < length cursor.old) }
@@ -137,13 +137,13 @@ impl<
         }
     }
 
-    fn joins(&self, cursor: &mut Cursor<'_>) -> Result<List<JoinStep>, Fault>
-        requires sound { Nests self.now.nest.most (F.pre self.now.nest.expr) (G.pre self.now.nest.query) (F.post self.now.nest.expr) (G.post self.now.nest.query) }
+    fn joins(&self, cursor: &mut Cursor<'_>) -> Result<List<JoinStep>, Unread>
+        requires sound { NestReads self.now.nest F.pre G.pre F.post G.post }
         requires below { length cursor.old ≤ self.now.nest.most }
         ensures given { spec.Reads result (piece.joins cursor.old) cursor.new }
         ensures fewer { IfOk result (λ _. length cursor.new ≤ length cursor.old) }
     {
-        repeated(
+        all_items(
             cursor,
             &[
                 Sort::Inner,
@@ -158,8 +158,8 @@ impl<
     }
 
     #[tactic(auto, using(sql_grammar::proofs::Queries::from_is))]
-    fn from_tree(&self, cursor: &mut Cursor<'_>) -> Result<FromTree, Fault>
-        requires sound { Nests self.now.nest.most (F.pre self.now.nest.expr) (G.pre self.now.nest.query) (F.post self.now.nest.expr) (G.post self.now.nest.query) }
+    fn from_tree(&self, cursor: &mut Cursor<'_>) -> Result<FromTree, Unread>
+        requires sound { NestReads self.now.nest F.pre G.pre F.post G.post }
         requires below { length cursor.old ≤ self.now.nest.most }
         ensures given { spec.Reads result (spec.reading n.From cursor.old) cursor.new }
         ensures fewer { IfOk result (λ _. length cursor.new < length cursor.old) }
@@ -172,13 +172,13 @@ impl<
         })
     }
 
-    fn from_list(&self, cursor: &mut Cursor<'_>) -> Result<List<FromTree>, Fault>
-        requires sound { Nests self.now.nest.most (F.pre self.now.nest.expr) (G.pre self.now.nest.query) (F.post self.now.nest.expr) (G.post self.now.nest.query) }
+    fn from_list(&self, cursor: &mut Cursor<'_>) -> Result<List<FromTree>, Unread>
+        requires sound { NestReads self.now.nest F.pre G.pre F.post G.post }
         requires below { length cursor.old ≤ self.now.nest.most }
         ensures given { spec.Reads result (piece.from_list cursor.old) cursor.new }
         ensures fewer { IfOk result (λ _. length cursor.new ≤ length cursor.old) }
     {
-        listed(
+        list_of(
             cursor,
             Sort::Comma,
             |cursor: &mut Cursor<'_>| self.from_tree(cursor),
@@ -186,8 +186,8 @@ impl<
     }
 
     #[tactic(auto, using(sql_grammar::proofs::Queries::sources_is))]
-    pub(crate) fn sources(&self, cursor: &mut Cursor<'_>) -> Result<List<FromTree>, Fault>
-        requires sound { Nests self.now.nest.most (F.pre self.now.nest.expr) (G.pre self.now.nest.query) (F.post self.now.nest.expr) (G.post self.now.nest.query) }
+    pub(crate) fn sources(&self, cursor: &mut Cursor<'_>) -> Result<List<FromTree>, Unread>
+        requires sound { NestReads self.now.nest F.pre G.pre F.post G.post }
         requires below { length cursor.old ≤ self.now.nest.most }
         ensures given { spec.Reads result (spec.reading n.Sources cursor.old) cursor.new }
         ensures fewer { IfOk result (λ _. length cursor.new ≤ length cursor.old) }

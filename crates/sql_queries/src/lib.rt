@@ -6,4 +6,4 @@ mod grammar;
 mod select;
 mod set_operations;
 
-pub use grammar::Grammar;
+pub use grammar::Queries;

@@ -3,14 +3,14 @@
 ghost use Rattle.std.specs.Prelude.{◌≡◌, ◌<◌, ◌≤◌, length, IfOk};
 ghost use Rattle.sql_grammar.specs.Building as b;
 ghost use Rattle.sql_grammar.specs.Cursors as spec;
-ghost use Rattle.sql_grammar.specs.Nests.{Nests};
-ghost use Rattle.sql_grammar.specs.Pieces as piece;
+ghost use Rattle.sql_grammar.specs.Nests.{NestReads};
+ghost use Rattle.sql_grammar.specs.built.Pieces as piece;
 ghost use Rattle.sql_grammar.specs.Symbols as n;
-ghost use Rattle.sql_queries.specs.Selects as spelled;
+ghost use Rattle.sql_queries.specs.built.Selects as spelled;
 
-use crate::grammar::Grammar;
+use crate::grammar::Queries;
 use perm_values::{Boxed, Copyable, List, NoMemory};
-use sql_grammar::{Cursor, Fault, NAMES, Sort, listed};
+use sql_grammar::{Cursor, NAMES, Sort, Unread, list_of};
 use sql_lexer::Token;
 use sql_tree::{ColRef, Core, ExprTree, FromTree, Name, QueryTree, SelectItem};
 use std::alloc::Global;
@@ -57,18 +57,18 @@ impl Clauses {
 }
 
 /// The words before the items: the offset of PROVENANCE, if it stands there, and whether DISTINCT does.
-fn head(cursor: &mut Cursor<'_>) -> Result<(Option<usize>, bool), Fault>
+fn head(cursor: &mut Cursor<'_>) -> Result<(Option<usize>, bool), Unread>
     ensures given { spec.Reads result (spelled.head cursor.old) cursor.new }
     ensures fewer { IfOk result (λ _. length cursor.new < length cursor.old) }
 {
     cursor.past(Sort::Select)?;
     let provenance = cursor.provenance()?;
-    let distinct = cursor.has(Sort::Distinct)?;
+    let distinct = cursor.passes(Sort::Distinct)?;
     Ok((provenance, distinct))
 }
 
 /// An expression of the SELECT list, which was read before, with the name behind it.
-fn named(cursor: &mut Cursor<'_>, expr: Boxed<ExprTree>) -> Result<SelectItem, Fault>
+fn named(cursor: &mut Cursor<'_>, expr: Boxed<ExprTree>) -> Result<SelectItem, Unread>
     ensures given { spec.Reads result (spelled.named expr cursor.old) cursor.new }
     ensures fewer { IfOk result (λ _. length cursor.new ≤ length cursor.old) }
 {
@@ -80,12 +80,12 @@ fn named(cursor: &mut Cursor<'_>, expr: Boxed<ExprTree>) -> Result<SelectItem, F
 }
 
 impl<
-    F: Fn(&mut Cursor<'_>) -> Result<Boxed<ExprTree>, Fault>,
-    G: Fn(&mut Cursor<'_>) -> Result<Boxed<QueryTree>, Fault>,
-> Grammar<F, G> {
+    F: Fn(&mut Cursor<'_>) -> Result<Boxed<ExprTree>, Unread>,
+    G: Fn(&mut Cursor<'_>) -> Result<Boxed<QueryTree>, Unread>,
+> Queries<F, G> {
     #[tactic(auto, using(sql_grammar::proofs::Queries::item_value_is))]
-    fn item_value(&self, cursor: &mut Cursor<'_>) -> Result<SelectItem, Fault>
-        requires sound { Nests self.now.nest.most (F.pre self.now.nest.expr) (G.pre self.now.nest.query) (F.post self.now.nest.expr) (G.post self.now.nest.query) }
+    fn item_value(&self, cursor: &mut Cursor<'_>) -> Result<SelectItem, Unread>
+        requires sound { NestReads self.now.nest F.pre G.pre F.post G.post }
         requires below { length cursor.old < self.now.nest.most }
         ensures given { spec.Reads result (spec.reading n.ItemValue cursor.old) cursor.new }
         ensures fewer { IfOk result (λ _. length cursor.new < length cursor.old) }
@@ -95,8 +95,8 @@ impl<
     }
 
     #[tactic(auto, using(sql_grammar::proofs::Queries::item_is))]
-    fn item(&self, cursor: &mut Cursor<'_>) -> Result<SelectItem, Fault>
-        requires sound { Nests self.now.nest.most (F.pre self.now.nest.expr) (G.pre self.now.nest.query) (F.post self.now.nest.expr) (G.post self.now.nest.query) }
+    fn item(&self, cursor: &mut Cursor<'_>) -> Result<SelectItem, Unread>
+        requires sound { NestReads self.now.nest F.pre G.pre F.post G.post }
         requires below { length cursor.old < self.now.nest.most }
         ensures given { spec.Reads result (spec.reading n.Item cursor.old) cursor.new }
         ensures fewer { IfOk result (λ _. length cursor.new < length cursor.old) }
@@ -111,13 +111,13 @@ impl<
         }
     }
 
-    fn items(&self, cursor: &mut Cursor<'_>) -> Result<List<SelectItem>, Fault>
-        requires sound { Nests self.now.nest.most (F.pre self.now.nest.expr) (G.pre self.now.nest.query) (F.post self.now.nest.expr) (G.post self.now.nest.query) }
+    fn items(&self, cursor: &mut Cursor<'_>) -> Result<List<SelectItem>, Unread>
+        requires sound { NestReads self.now.nest F.pre G.pre F.post G.post }
         requires below { length cursor.old < self.now.nest.most }
         ensures given { spec.Reads result (piece.items cursor.old) cursor.new }
         ensures fewer { IfOk result (λ _. length cursor.new ≤ length cursor.old) }
     {
-        listed(
+        list_of(
             cursor,
             Sort::Comma,
             |cursor: &mut Cursor<'_>| self.item(cursor),
@@ -125,8 +125,8 @@ impl<
     }
 
     /// The condition behind this word, if the word stands next.
-    fn clause(&self, cursor: &mut Cursor<'_>, sort: Sort) -> Result<Option<Boxed<ExprTree>>, Fault>
-        requires sound { Nests self.now.nest.most (F.pre self.now.nest.expr) (G.pre self.now.nest.query) (F.post self.now.nest.expr) (G.post self.now.nest.query) }
+    fn clause(&self, cursor: &mut Cursor<'_>, sort: Sort) -> Result<Option<Boxed<ExprTree>>, Unread>
+        requires sound { NestReads self.now.nest F.pre G.pre F.post G.post }
         requires below { length cursor.old ≤ self.now.nest.most }
         ensures given { spec.Reads result (spelled.clause sort cursor.old) cursor.new }
         ensures fewer { IfOk result (λ _. length cursor.new ≤ length cursor.old) }
@@ -139,8 +139,8 @@ impl<
     }
 
     #[tactic(auto, using(sql_grammar::proofs::Queries::condition_is))]
-    pub fn condition(&self, cursor: &mut Cursor<'_>) -> Result<Option<Boxed<ExprTree>>, Fault>
-        requires sound { Nests self.now.nest.most (F.pre self.now.nest.expr) (G.pre self.now.nest.query) (F.post self.now.nest.expr) (G.post self.now.nest.query) }
+    pub fn condition(&self, cursor: &mut Cursor<'_>) -> Result<Option<Boxed<ExprTree>>, Unread>
+        requires sound { NestReads self.now.nest F.pre G.pre F.post G.post }
         requires below { length cursor.old ≤ self.now.nest.most }
         ensures given { spec.Reads result (spec.reading n.Condition cursor.old) cursor.new }
         ensures fewer { IfOk result (λ _. length cursor.new ≤ length cursor.old) }
@@ -149,8 +149,8 @@ impl<
     }
 
     #[tactic(auto, using(sql_grammar::proofs::Queries::having_is))]
-    fn having(&self, cursor: &mut Cursor<'_>) -> Result<Option<Boxed<ExprTree>>, Fault>
-        requires sound { Nests self.now.nest.most (F.pre self.now.nest.expr) (G.pre self.now.nest.query) (F.post self.now.nest.expr) (G.post self.now.nest.query) }
+    fn having(&self, cursor: &mut Cursor<'_>) -> Result<Option<Boxed<ExprTree>>, Unread>
+        requires sound { NestReads self.now.nest F.pre G.pre F.post G.post }
         requires below { length cursor.old ≤ self.now.nest.most }
         ensures given { spec.Reads result (spec.reading n.Having cursor.old) cursor.new }
         ensures fewer { IfOk result (λ _. length cursor.new ≤ length cursor.old) }
@@ -159,8 +159,8 @@ impl<
     }
 
     /// The clauses behind the items.
-    fn clauses(&self, cursor: &mut Cursor<'_>) -> Result<Clauses, Fault>
-        requires sound { Nests self.now.nest.most (F.pre self.now.nest.expr) (G.pre self.now.nest.query) (F.post self.now.nest.expr) (G.post self.now.nest.query) }
+    fn clauses(&self, cursor: &mut Cursor<'_>) -> Result<Clauses, Unread>
+        requires sound { NestReads self.now.nest F.pre G.pre F.post G.post }
         requires below { length cursor.old ≤ self.now.nest.most }
         ensures given { spec.Reads result (spelled.clauses cursor.old) cursor.new }
         ensures fewer { IfOk result (λ _. length cursor.new ≤ length cursor.old) }
@@ -178,13 +178,13 @@ impl<
     }
 
     #[tactic(auto, using(crate::proofs::Selecting::core_is))]
-    pub(crate) fn core(&self, cursor: &mut Cursor<'_>) -> Result<Boxed<Core>, Fault>
-        requires sound { Nests self.now.nest.most (F.pre self.now.nest.expr) (G.pre self.now.nest.query) (F.post self.now.nest.expr) (G.post self.now.nest.query) }
+    pub(crate) fn core(&self, cursor: &mut Cursor<'_>) -> Result<Boxed<Core>, Unread>
+        requires sound { NestReads self.now.nest F.pre G.pre F.post G.post }
         requires below { length cursor.old ≤ self.now.nest.most }
         ensures given { spec.Reads result (spec.reading n.CoreOf cursor.old) cursor.new }
         ensures fewer { IfOk result (λ _. length cursor.new < length cursor.old) }
     {
-        let at = cursor.place();
+        let at = cursor.offset();
         let (provenance, distinct) = head(cursor)?;
         let items = self.items(cursor)?;
         let clauses = self.clauses(cursor)?;

@@ -3,13 +3,13 @@
 ghost use Rattle.std.specs.Prelude.{◌≡◌, ◌<◌, ◌≤◌, Ok, length, IfOk};
 ghost use Rattle.sql_grammar.specs.Building as b;
 ghost use Rattle.sql_grammar.specs.Cursors as spec;
-ghost use Rattle.sql_grammar.specs.Nests.{Nests};
-ghost use Rattle.sql_grammar.specs.Pieces as piece;
+ghost use Rattle.sql_grammar.specs.Nests.{NestReads};
+ghost use Rattle.sql_grammar.specs.built.Pieces as piece;
 ghost use Rattle.sql_grammar.specs.Symbols as n;
 
-use crate::grammar::Grammar;
-use perm_values::{Boxed, List, NoMemory};
-use sql_grammar::{Cursor, Fault, Sort, repeated, same_sort, sort_of};
+use crate::grammar::Queries;
+use perm_values::{Boxed, List, NoMemory, both};
+use sql_grammar::{Cursor, Sort, Unread, all_items, same_sort, sort_of};
 use sql_lexer::Token;
 use sql_tree::{ExprTree, OrderTree, QueryTree, SetStep, SetTree, SetWord};
 use std::alloc::Global;
@@ -39,18 +39,6 @@ fn set_chain(
     Boxed::new(alloc, SetTree::Chain { first, steps })
 }
 
-/// A result with a value that was there before. It is generic, so that what is let go where the result is wanting isn't taken
-/// apart in each function.
-fn with<A: Drop, B: Drop>(first: Result<A, NoMemory>, second: B) -> Result<(A, B), NoMemory>
-    ensures first_was { IfOk result (λ pair. first ≡ Ok pair.0) }
-    ensures second_was { IfOk result (λ pair. pair.1 ≡ second) }
-{
-    match first {
-        Ok(first) => Ok((first, second)),
-        Err(error) => Err(error),
-    }
-}
-
 fn query_tree(
     alloc: Global,
     at: usize,
@@ -63,8 +51,8 @@ fn query_tree(
     ensures { IfOk result (λ tree. tree ≡ b.query_rest rest at first) }
 {
     let (intersections, behind) = rest;
-    let (term, (unions, ends)) = with(set_chain(alloc, first, intersections), behind)?;
-    let (body, (order, limit)) = with(set_chain(alloc, term, unions), ends)?;
+    let (term, (unions, ends)) = both(set_chain(alloc, first, intersections), Ok(behind))?;
+    let (body, (order, limit)) = both(set_chain(alloc, term, unions), Ok(ends))?;
     let query = QueryTree {
         at,
         body: body.into_inner(),
@@ -75,12 +63,12 @@ fn query_tree(
 }
 
 impl<
-    F: Fn(&mut Cursor<'_>) -> Result<Boxed<ExprTree>, Fault>,
-    G: Fn(&mut Cursor<'_>) -> Result<Boxed<QueryTree>, Fault>,
-> Grammar<F, G> {
+    F: Fn(&mut Cursor<'_>) -> Result<Boxed<ExprTree>, Unread>,
+    G: Fn(&mut Cursor<'_>) -> Result<Boxed<QueryTree>, Unread>,
+> Queries<F, G> {
     #[tactic(auto, using(crate::proofs::Parts::parenthesised_is))]
-    fn parenthesised(&self, cursor: &mut Cursor<'_>) -> Result<Boxed<SetTree>, Fault>
-        requires sound { Nests self.now.nest.most (F.pre self.now.nest.expr) (G.pre self.now.nest.query) (F.post self.now.nest.expr) (G.post self.now.nest.query) }
+    fn parenthesised(&self, cursor: &mut Cursor<'_>) -> Result<Boxed<SetTree>, Unread>
+        requires sound { NestReads self.now.nest F.pre G.pre F.post G.post }
         requires below { length cursor.old ≤ self.now.nest.most }
         ensures given { spec.Reads result (piece.parenthesised cursor.old) cursor.new }
         ensures fewer { IfOk result (λ _. length cursor.new < length cursor.old) }
@@ -88,12 +76,12 @@ impl<
         cursor.past(Sort::Opening)?;
         let query = self.nest.nested_query(cursor)?;
         let tree = Boxed::new(cursor.alloc(), SetTree::Paren(query))?;
-        cursor.closed(tree)
+        cursor.value_before(tree, Sort::Closing)
     }
 
     #[tactic(auto, using(sql_grammar::proofs::Queries::operand_is))]
-    fn operand(&self, cursor: &mut Cursor<'_>) -> Result<Boxed<SetTree>, Fault>
-        requires sound { Nests self.now.nest.most (F.pre self.now.nest.expr) (G.pre self.now.nest.query) (F.post self.now.nest.expr) (G.post self.now.nest.query) }
+    fn operand(&self, cursor: &mut Cursor<'_>) -> Result<Boxed<SetTree>, Unread>
+        requires sound { NestReads self.now.nest F.pre G.pre F.post G.post }
         requires below { length cursor.old ≤ self.now.nest.most }
         ensures given { spec.Reads result (spec.reading n.Operand cursor.old) cursor.new }
         ensures fewer { IfOk result (λ _. length cursor.new < length cursor.old) }
@@ -107,15 +95,15 @@ impl<
     }
 
     #[tactic(auto, using(sql_grammar::proofs::Queries::intersect_is))]
-    fn intersect_step(&self, cursor: &mut Cursor<'_>) -> Result<SetStep, Fault>
-        requires sound { Nests self.now.nest.most (F.pre self.now.nest.expr) (G.pre self.now.nest.query) (F.post self.now.nest.expr) (G.post self.now.nest.query) }
+    fn intersect_step(&self, cursor: &mut Cursor<'_>) -> Result<SetStep, Unread>
+        requires sound { NestReads self.now.nest F.pre G.pre F.post G.post }
         requires below { length cursor.old ≤ self.now.nest.most }
         ensures given { spec.Reads result (spec.reading n.IntersectStep cursor.old) cursor.new }
         ensures fewer { IfOk result (λ _. length cursor.new < length cursor.old) }
     {
         cursor.past(Sort::Intersect)?;
-        let all = cursor.has(Sort::All)?;
-        let at = cursor.place();
+        let all = cursor.passes(Sort::All)?;
+        let at = cursor.offset();
         let operand = self.operand(cursor)?;
         Ok(SetStep {
             word: SetWord::Intersect,
@@ -125,13 +113,13 @@ impl<
         })
     }
 
-    fn intersections(&self, cursor: &mut Cursor<'_>) -> Result<List<SetStep>, Fault>
-        requires sound { Nests self.now.nest.most (F.pre self.now.nest.expr) (G.pre self.now.nest.query) (F.post self.now.nest.expr) (G.post self.now.nest.query) }
+    fn intersections(&self, cursor: &mut Cursor<'_>) -> Result<List<SetStep>, Unread>
+        requires sound { NestReads self.now.nest F.pre G.pre F.post G.post }
         requires below { length cursor.old ≤ self.now.nest.most }
         ensures given { spec.Reads result (piece.intersections cursor.old) cursor.new }
         ensures fewer { IfOk result (λ _. length cursor.new ≤ length cursor.old) }
     {
-        repeated(
+        all_items(
             cursor,
             &[Sort::Intersect],
             |cursor: &mut Cursor<'_>| self.intersect_step(cursor),
@@ -139,8 +127,8 @@ impl<
     }
 
     #[tactic(auto, using(sql_grammar::proofs::Queries::term_is))]
-    fn term(&self, cursor: &mut Cursor<'_>) -> Result<Boxed<SetTree>, Fault>
-        requires sound { Nests self.now.nest.most (F.pre self.now.nest.expr) (G.pre self.now.nest.query) (F.post self.now.nest.expr) (G.post self.now.nest.query) }
+    fn term(&self, cursor: &mut Cursor<'_>) -> Result<Boxed<SetTree>, Unread>
+        requires sound { NestReads self.now.nest F.pre G.pre F.post G.post }
         requires below { length cursor.old ≤ self.now.nest.most }
         ensures given { spec.Reads result (spec.reading n.Term cursor.old) cursor.new }
         ensures fewer { IfOk result (λ _. length cursor.new < length cursor.old) }
@@ -151,16 +139,16 @@ impl<
     }
 
     #[tactic(auto, using(sql_grammar::proofs::Queries::union_is))]
-    fn union_step(&self, cursor: &mut Cursor<'_>) -> Result<SetStep, Fault>
-        requires sound { Nests self.now.nest.most (F.pre self.now.nest.expr) (G.pre self.now.nest.query) (F.post self.now.nest.expr) (G.post self.now.nest.query) }
+    fn union_step(&self, cursor: &mut Cursor<'_>) -> Result<SetStep, Unread>
+        requires sound { NestReads self.now.nest F.pre G.pre F.post G.post }
         requires below { length cursor.old ≤ self.now.nest.most }
         ensures given { spec.Reads result (spec.reading n.UnionStep cursor.old) cursor.new }
         ensures fewer { IfOk result (λ _. length cursor.new < length cursor.old) }
     {
         let token = cursor.one(&[Sort::Union, Sort::Except])?;
         let word = set_word(token);
-        let all = cursor.has(Sort::All)?;
-        let at = cursor.place();
+        let all = cursor.passes(Sort::All)?;
+        let at = cursor.offset();
         let operand = self.term(cursor)?;
         Ok(SetStep {
             word,
@@ -170,13 +158,13 @@ impl<
         })
     }
 
-    fn unions(&self, cursor: &mut Cursor<'_>) -> Result<List<SetStep>, Fault>
-        requires sound { Nests self.now.nest.most (F.pre self.now.nest.expr) (G.pre self.now.nest.query) (F.post self.now.nest.expr) (G.post self.now.nest.query) }
+    fn unions(&self, cursor: &mut Cursor<'_>) -> Result<List<SetStep>, Unread>
+        requires sound { NestReads self.now.nest F.pre G.pre F.post G.post }
         requires below { length cursor.old ≤ self.now.nest.most }
         ensures given { spec.Reads result (piece.unions cursor.old) cursor.new }
         ensures fewer { IfOk result (λ _. length cursor.new ≤ length cursor.old) }
     {
-        repeated(
+        all_items(
             cursor,
             &[Sort::Union, Sort::Except],
             |cursor: &mut Cursor<'_>| self.union_step(cursor),
@@ -186,8 +174,8 @@ impl<
     fn unions_on(
         &self,
         cursor: &mut Cursor<'_>,
-    ) -> Result<(List<SetStep>, (List<OrderTree>, Option<i64>)), Fault>
-        requires sound { Nests self.now.nest.most (F.pre self.now.nest.expr) (G.pre self.now.nest.query) (F.post self.now.nest.expr) (G.post self.now.nest.query) }
+    ) -> Result<(List<SetStep>, (List<OrderTree>, Option<i64>)), Unread>
+        requires sound { NestReads self.now.nest F.pre G.pre F.post G.post }
         requires below { length cursor.old ≤ self.now.nest.most }
         ensures given { spec.Reads result (piece.unions_on cursor.old) cursor.new }
         ensures fewer { IfOk result (λ _. length cursor.new ≤ length cursor.old) }
@@ -205,9 +193,9 @@ impl<
             List<SetStep>,
             (List<SetStep>, (List<OrderTree>, Option<i64>)),
         ),
-        Fault,
+        Unread,
     >
-        requires sound { Nests self.now.nest.most (F.pre self.now.nest.expr) (G.pre self.now.nest.query) (F.post self.now.nest.expr) (G.post self.now.nest.query) }
+        requires sound { NestReads self.now.nest F.pre G.pre F.post G.post }
         requires below { length cursor.old ≤ self.now.nest.most }
         ensures given { spec.Reads result (piece.query_rest cursor.old) cursor.new }
         ensures fewer { IfOk result (λ _. length cursor.new ≤ length cursor.old) }
@@ -219,13 +207,13 @@ impl<
 
     /// A query, whose inner queries are read by another function.
     #[tactic(auto, using(sql_grammar::proofs::Queries::query_is))]
-    pub fn query_body(&self, cursor: &mut Cursor<'_>) -> Result<Boxed<QueryTree>, Fault>
-        requires sound { Nests self.now.nest.most (F.pre self.now.nest.expr) (G.pre self.now.nest.query) (F.post self.now.nest.expr) (G.post self.now.nest.query) }
+    pub fn query_body(&self, cursor: &mut Cursor<'_>) -> Result<Boxed<QueryTree>, Unread>
+        requires sound { NestReads self.now.nest F.pre G.pre F.post G.post }
         requires below { length cursor.old ≤ self.now.nest.most }
         ensures given { spec.Reads result (spec.reading n.Query cursor.old) cursor.new }
         ensures fewer { IfOk result (λ _. length cursor.new < length cursor.old) }
     {
-        let at = cursor.place();
+        let at = cursor.offset();
         let first = self.operand(cursor)?;
         let rest = self.query_rest(cursor)?;
         Ok(query_tree(cursor.alloc(), at, first, rest)?)

@@ -4,7 +4,7 @@ use Rattle.sql_grammar.specs.FirstWrong.{IsBegun, IsWrongAt}
 use Rattle.sql_grammar.specs.Grammar.{sql}
 use Rattle.sql_grammar.specs.Rules.{symbol, Spelled}
 use Rattle.sql_grammar.specs.Symbols.{ScriptOf}
-use Rattle.sql_parser.specs.Spells.{place_in}
+use Rattle.sql_parser.specs.Spells.{offset_in}
 use Rattle.sql_parser.proofs.laws.an_unexpected_token_has_one_offset.Goals as goal
 
 abbrev Begun : List Token → Type 0
@@ -42,4 +42,4 @@ pub returns : goal.returns
 returns c = λ tokens length a b x y.
     let wrong : x.wrong ≡ y.wrong =
     same [] x.first.before y.first.before x.wrong y.wrong (sym x.first.splits ∙ y.first.splits) x.first.begun y.first.begun x.first.wrong y.first.wrong in
-    x.place ∙ ap (place_in length) wrong ∙ sym y.place
+    x.offset ∙ ap (offset_in length) wrong ∙ sym y.offset

@@ -8,7 +8,7 @@ use Rattle.sql_grammar.specs.Tables.{sql_tables}
 use Rattle.sql_grammar.proofs.Decided.{goes_on, decided}
 use Rattle.sql_grammar.proofs.Exact.{whole-spelled, stopped-wrong, left-wrong}
 use Rattle.sql_grammar.proofs.Samples.{samples}
-use Rattle.sql_parser.specs.Spells.{Spells, IsUnexpected, place_in}
+use Rattle.sql_parser.specs.Spells.{Spells, IsUnexpected, offset_in}
 use Rattle.sql_tree.specs.declared.statement.Script.{Script}
 use Rattle.sql_parser.proofs.laws.tokens_spell_a_script_or_one_is_unexpected.Goals as goal
 
@@ -21,15 +21,15 @@ by_read tokens length (Taken script (t ∷ rest)) e = inr (
   record {
     wrong = t ∷ rest;
     first = left-wrong sql sql_tables goes_on decided samples ScriptOf tokens rest t script e;
-    place = refl;
+    offset = refl;
   },
 )
 by_read tokens length (Stopped rest) e = inr (
-  place_in length rest,
+  offset_in length rest,
   record {
     wrong = rest;
     first = stopped-wrong sql sql_tables goes_on decided samples ScriptOf tokens rest e;
-    place = refl;
+    offset = refl;
   },
 )
 

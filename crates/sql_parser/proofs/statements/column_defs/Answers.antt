@@ -6,4 +6,4 @@ use Rattle.sql_parser.proofs.statements.column_defs.Goals as goal
 
 pub returns-clause-given : goal.returns-clause-given
 returns-clause-given c =
-    c.listed.ensures.given (reading n.Column) (record { reads = λ old new r met. search rules; fewer = reading-keeps n.Column })
+    c.list_of.ensures.given (reading n.Column) (record { reads = λ old new r met. search rules; fewer = reading-keeps n.Column })

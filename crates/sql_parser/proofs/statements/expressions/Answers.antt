@@ -6,4 +6,4 @@ use Rattle.sql_parser.proofs.statements.expressions.Goals as goal
 
 pub returns-clause-given : goal.returns-clause-given
 returns-clause-given c = rw (exprs_is c.args.cursor.now)
-    (c.listed.ensures.given (reading n.Expr) (record { reads = λ old new r met. search rules; fewer = reading-keeps n.Expr }))
+    (c.list_of.ensures.given (reading n.Expr) (record { reads = λ old new r met. search rules; fewer = reading-keeps n.Expr }))

@@ -6,4 +6,4 @@ use Rattle.sql_parser.proofs.statements.rows.Goals as goal
 
 pub returns-clause-given : goal.returns-clause-given
 returns-clause-given c =
-    c.listed.ensures.given (reading n.Row) (record { reads = λ old new r met. search rules; fewer = reading-keeps n.Row })
+    c.list_of.ensures.given (reading n.Row) (record { reads = λ old new r met. search rules; fewer = reading-keeps n.Row })

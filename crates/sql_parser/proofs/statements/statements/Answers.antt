@@ -6,7 +6,7 @@ use Rattle.sql_grammar.specs.Descent.{Taken}
 use Rattle.sql_grammar.specs.Lists.{listed}
 use Rattle.sql_grammar.specs.declared.sort.Sort.TheVariants.{Semicolon}
 use Rattle.sql_grammar.proofs.Listing.{fails-on}
-use Rattle.sql_parser.specs.Statements.{optional_statement, statements}
+use Rattle.sql_parser.specs.built.Statements.{optional_statement, statements}
 use Rattle.sql_parser.proofs.Keeping.{Keeping, keeping-first, keeping-next, keeping-stopped, keeping-done}
 use Rattle.sql_parser.proofs.statements.statements.Goals as goal
 
@@ -24,13 +24,13 @@ loop-cursor-init c =
 pub returns-in_err-optional_statement-2-clause-given : goal.returns-in_err-optional_statement-2-clause-given
 returns-in_err-optional_statement-2-clause-given c =
     let whole = listed Semicolon optional_statement c.args.cursor.now in
-    let fault = c.in_err-optional_statement-2.field-0.0 in
+    let unread = c.in_err-optional_statement-2.field-0.0 in
     let rest = c.optional_statement-in-loop-cursor.new.cursor in
     let p = err_from_is_err_and c.from_residual-in_err-optional_statement-2.result c.from_residual-in_err-optional_statement-2.ensures.1 in
     let seen : sees (Semicolon ∷ []) c.loop-cursor.cursor ≡ true = sym c.sees.ensures ∙ c.loop-cursor-test.true in
     let passed : past Semicolon c.loop-cursor.cursor ≡ Taken tt c.past.new.self = c.in_ok-past.ensures.given in
-    let e : Reads (Err fault) (optional_statement c.past.new.self) rest = c.in_err-optional_statement-2.ensures.given in
-    rw (p.1, p.2) (fails-on fault (optional_statement c.past.new.self) (statements c.args.cursor.now) rest
+    let e : Reads (Err unread) (optional_statement c.past.new.self) rest = c.in_err-optional_statement-2.ensures.given in
+    rw (p.1, p.2) (fails-on unread (optional_statement c.past.new.self) (statements c.args.cursor.now) rest
     (λ stopped. keeping-stopped whole c.loop-cursor.kept c.loop-cursor.cursor c.past.new.self rest seen passed stopped c.loop-cursor.invariant.keeping) e)
 
 pub loop-cursor-preserved : goal.loop-cursor-preserved

@@ -4,8 +4,8 @@ use Rattle.sql_grammar.specs.Symbols as n
 use Rattle.sql_grammar.proofs.Steps.{reading-keeps}
 use Rattle.sql_grammar.proofs.cursor.Cursor.columns.Goals as goal
 
-pub listed-requires : goal.listed-requires
-listed-requires c = record { callable = λ old within. tt; fewer = λ old new x met. reading-keeps n.ColumnOf old.now x new.now (search rules) }
+pub list_of-requires : goal.list_of-requires
+list_of-requires c = record { callable = λ old within. tt; fewer = λ old new x met. reading-keeps n.ColumnOf old.now x new.now (search rules) }
 
 pub returns-clause-given : goal.returns-clause-given
-returns-clause-given c = c.listed.ensures.given (reading n.ColumnOf) (record { reads = λ old new r met. search rules; fewer = reading-keeps n.ColumnOf })
+returns-clause-given c = c.list_of.ensures.given (reading n.ColumnOf) (record { reads = λ old new r met. search rules; fewer = reading-keeps n.ColumnOf })

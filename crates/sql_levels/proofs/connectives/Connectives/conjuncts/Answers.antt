@@ -6,4 +6,4 @@ use Rattle.sql_levels.proofs.connectives.Connectives.conjuncts.Goals as goal
 
 pub returns-clause-given : goal.returns-clause-given
 returns-clause-given g c =
-    rw c.into_inner.ensures at (c.more_listed.ensures.given (reading n.Negated) (record { reads = λ old new r met. search rules; fewer = reading-keeps n.Negated }))
+    rw c.into_inner.ensures at (c.list_from.ensures.given (reading n.Negated) (record { reads = λ old new r met. search rules; fewer = reading-keeps n.Negated }))

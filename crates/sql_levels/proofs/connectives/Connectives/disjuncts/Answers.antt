@@ -6,4 +6,4 @@ use Rattle.sql_levels.proofs.connectives.Connectives.disjuncts.Goals as goal
 
 pub returns-clause-given : goal.returns-clause-given
 returns-clause-given g c =
-    rw c.into_inner.ensures at (c.more_listed.ensures.given (reading n.Both) (record { reads = λ old new r met. search rules; fewer = reading-keeps n.Both }))
+    rw c.into_inner.ensures at (c.list_from.ensures.given (reading n.Both) (record { reads = λ old new r met. search rules; fewer = reading-keeps n.Both }))

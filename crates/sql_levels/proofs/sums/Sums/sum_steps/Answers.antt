@@ -6,4 +6,4 @@ use Rattle.sql_levels.proofs.sums.Sums.sum_steps.Goals as goal
 
 pub returns-clause-given : goal.returns-clause-given
 returns-clause-given g c =
-    c.repeated.ensures.given (reading n.SumStep) (record { reads = λ old new r met. search rules; fewer = reading-takes n.SumStep refl })
+    c.all_items.ensures.given (reading n.SumStep) (record { reads = λ old new r met. search rules; fewer = reading-takes n.SumStep refl })

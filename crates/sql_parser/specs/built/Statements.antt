@@ -1,0 +1,47 @@
+-- Pieces of statements that have functions of their own.
+use Rattle.std.specs.Prelude.{ℕ, cond, List, [], ◌∷◌, Option, Some, None}
+use Rattle.std.specs.Borrow.{Bor}
+use Rattle.sql_lexer.specs.declared.token.Token.{Token}
+use Rattle.sql_grammar.specs.Building.{Word, present}
+use Rattle.sql_grammar.specs.Cursors.{reading, sees}
+use Rattle.sql_grammar.specs.Descent.{Outcome, mapped}
+use Rattle.sql_grammar.specs.Lists.{listed}
+use Rattle.sql_grammar.specs.built.Pieces.{by}
+use Rattle.sql_grammar.specs.Rules.{word, token, symbol, ◌then◌, optional}
+use Rattle.sql_grammar.specs.Symbols as n
+use Rattle.sql_grammar.specs.Tables.{begins}
+use Rattle.sql_grammar.specs.declared.sort.Sort.TheVariants as s
+use Rattle.sql_tree.specs.declared.statement.Statement.{Statement}
+use Rattle.sql_tree.specs.declared.statement.StatementBody.{StatementBody}
+use Rattle.sql_tree.specs.declared.statement.StatementBody.TheVariants.{Select}
+
+-- the mark that stands for NULL; none is the empty one
+abbrev pub mark_of : Option (Bor Token) → List ℕ
+mark_of None = []
+mark_of (Some t) = t.now.spelled
+
+abbrev pub marked : Option (Bor Token) → Option (Word × Token)
+marked None = None
+marked (Some t) = Some (tt, t.now)
+
+abbrev pub null : List Token → Outcome Token (Option (Word × Token))
+null tokens = by (optional (word s.Null then token (s.Literal ∷ []))) tokens
+
+-- what a statement says, by its first token
+abbrev pub statement_body : List Token → Outcome Token StatementBody
+statement_body tokens =
+    cond (sees (begins n.Create) tokens) (reading n.Create tokens)
+    (cond (sees (begins n.Copy) tokens) (reading n.Copy tokens)
+    (cond (sees (begins n.Insert) tokens) (reading n.Insert tokens)
+    (cond (sees (begins n.Delete) tokens) (reading n.Delete tokens)
+    (cond (sees (begins n.Drop) tokens) (reading n.Drop tokens)
+    (cond (sees (begins n.Explain) tokens) (reading n.Explain tokens)
+    (cond (sees (begins n.Show) tokens) (reading n.Show tokens)
+    (mapped Select (reading n.Query tokens))))))))
+
+abbrev pub optional_statement : List Token → Outcome Token (Option Statement)
+optional_statement tokens = by (optional (symbol n.StatementOf)) tokens
+
+-- the statements that are there, with semicolons between them
+abbrev pub statements : List Token → Outcome Token (List Statement)
+statements tokens = mapped present (listed s.Semicolon optional_statement tokens)

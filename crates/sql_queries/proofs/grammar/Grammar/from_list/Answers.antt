@@ -1,8 +1,0 @@
-use Rattle.std.proofs.Common.{rules}
-use Rattle.sql_grammar.specs.Cursors.{reading}
-use Rattle.sql_grammar.specs.Symbols as n
-use Rattle.sql_grammar.proofs.Steps.{reading-keeps}
-use Rattle.sql_queries.proofs.grammar.Grammar.from_list.Goals as goal
-
-pub returns-clause-given : goal.returns-clause-given
-returns-clause-given g c = c.listed.ensures.given (reading n.From) (record { reads = λ old new r met. search rules; fewer = reading-keeps n.From })

@@ -1,8 +1,0 @@
-use Rattle.std.proofs.Common.{refl, rules}
-use Rattle.sql_grammar.specs.Cursors.{reading}
-use Rattle.sql_grammar.specs.Symbols as n
-use Rattle.sql_grammar.proofs.Steps.{reading-takes}
-use Rattle.sql_queries.proofs.grammar.Grammar.joins.Goals as goal
-
-pub returns-clause-given : goal.returns-clause-given
-returns-clause-given g c = c.repeated.ensures.given (reading n.Join) (record { reads = λ old new r met. search rules; fewer = reading-takes n.Join refl })

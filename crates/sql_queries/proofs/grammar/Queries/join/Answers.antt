@@ -1,0 +1,9 @@
+use Rattle.std.proofs.Common.{arith}
+use Rattle.sql_grammar.proofs.Queries.{join_is}
+use Rattle.sql_queries.proofs.grammar.Queries.join.Goals as goal
+
+pub returns-then-sees_any-clause-given : goal.returns-then-sees_any-clause-given
+returns-then-sees_any-clause-given g c = grind (arith, join_is)
+
+pub returns-else-sees_any-clause-given : goal.returns-else-sees_any-clause-given
+returns-else-sees_any-clause-given g c = grind (arith, join_is)
