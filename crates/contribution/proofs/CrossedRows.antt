@@ -32,12 +32,12 @@ source_width source = length (kinds_in source.kinds source.places)
 abbrev pub source_rows : Database → TableSource → Bag
 source_rows db source = held_by db source ++ (nulls (source_width source) ∷ [])
 
-abbrev pub pairs_of : Bag → Bag → Bag
-pairs_of us vs = flat_map (λ u. map (λ v. u ++ v) vs) us
+abbrev pub every_pair : Bag → Bag → Bag
+every_pair us vs = flat_map (λ u. map (λ v. u ++ v) vs) us
 
 abbrev pub crossed_rows : Database → List TableSource → Bag
 crossed_rows db [] = [] ∷ []
-crossed_rows db (source ∷ sources) = pairs_of (source_rows db source) (crossed_rows db sources)
+crossed_rows db (source ∷ sources) = every_pair (source_rows db source) (crossed_rows db sources)
 
 -- ---- the meaning
 
@@ -54,15 +54,15 @@ gather-goods : (f : Row → Outcome Bag) (g : Row → Bag) → ((u : Row) → f 
 gather-goods f g good [] = refl
 gather-goods f g good (u ∷ us) = λ i. both (λ ys zs. ys ++ zs) (good u i) (gather-goods f g good us i)
 
-abbrev always_on : List Row → Row → Outcome Value
+abbrev pub always_on : List Row → Row → Outcome Value
 always_on env = condition_on always env no_subs
 
-always_met : (env : List Row) (us vs : Bag) → met_pairs (always_on env) us vs ≡ Good (pairs_of us vs)
+always_met : (env : List Row) (us vs : Bag) → met_pairs (always_on env) us vs ≡ Good (every_pair us vs)
 always_met env us vs = gather-goods (λ u. gather (λ v. kept (always_on env) (u ++ v)) vs) (λ u. map (λ v. u ++ v) vs) (λ u. gather-singles (λ v. u ++ v) vs) us
 
-all_pairs : (env : List Row) (left_width right_width : ℕ) (us vs : Bag) → joined_rows Inner (always_on env) left_width right_width us vs ≡ Good (pairs_of us vs)
+pub all_pairs : (env : List Row) (left_width right_width : ℕ) (us vs : Bag) → joined_rows Inner (always_on env) left_width right_width us vs ≡ Good (every_pair us vs)
 all_pairs env left_width right_width us vs =
-    ap (mapped (λ pairs. pairs ++ [] ++ [])) (always_met env us vs) ∙ ap Good (append-nil (pairs_of us vs ++ []) ∙ append-nil (pairs_of us vs))
+    ap (mapped (λ pairs. pairs ++ [] ++ [])) (always_met env us vs) ∙ ap Good (append-nil (every_pair us vs ++ []) ∙ append-nil (every_pair us vs))
 
 pub meaning-crossed : (sources : List TableSource) (db : Database) (env : List Row) → meaning (crossed sources Single) db env ≡ Good (crossed_rows db sources)
 meaning-crossed [] db env = refl

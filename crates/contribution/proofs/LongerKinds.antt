@@ -36,6 +36,13 @@ longer-names l = record { named = at l } where
   at (more_items items more l) zero place kind e = slice_get-longer items more place kind e
   at (more_items items more l) (suc level) place kind e = at l level place kind e
 
+-- the first columns of a longer row have their names
+pub names-more : (kinds more : List Kind) (outer : List (List Kind)) → NamesAlso (kinds ∷ outer) ((kinds ++ more) ∷ outer)
+names-more kinds more outer = record { named = at } where
+  at : (level place : ℕ) (kind : Kind) → column_kind (kinds ∷ outer) level place ≡ Some kind → column_kind ((kinds ++ more) ∷ outer) level place ≡ Some kind
+  at zero place kind e = slice_get-longer kinds more place kind e
+  at (suc level) place kind e = e
+
 -- beside the same columns of a node's own row
 pub names-own : (kinds : List Kind) {outer longer : List (List Kind)} → NamesAlso outer longer → NamesAlso (kinds ∷ outer) (kinds ∷ longer)
 names-own kinds {outer} {longer} n = record { named = at } where

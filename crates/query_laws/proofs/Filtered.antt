@@ -16,7 +16,7 @@ kept-rows condition u = by_case (condition u) where
   by_case (Good v) = refl
   by_case (Bad faults) = refl
 
-put_before : (b : Bool) (u : Row) (us : Bag) → cond b (u ∷ []) [] ++ us ≡ cond b (u ∷ us) us
+pub put_before : (b : Bool) (u : Row) (us : Bag) → cond b (u ∷ []) [] ++ us ≡ cond b (u ∷ us) us
 put_before true u us = refl
 put_before false u us = refl
 

@@ -45,7 +45,7 @@ none-in : {X : Type 0} (test : X → Bool) (xs : List X) → ((x : X) → IsIn x
 none-in test [] h = refl
 none-in test (x ∷ xs) h = or_from (test x) (list_any test xs) (h x (inl refl)) (none-in test xs (λ y i. h y (inr i)))
 
-any-map : {X Y : Type 0} (test : Y → Bool) (f : X → Y) (xs : List X) → list_any test (map f xs) ≡ list_any (λ x. test (f x)) xs
+pub any-map : {X Y : Type 0} (test : Y → Bool) (f : X → Y) (xs : List X) → list_any test (map f xs) ≡ list_any (λ x. test (f x)) xs
 any-map test f [] = refl
 any-map test f (x ∷ xs) = ap (λ b. test (f x) || b) (any-map test f xs)
 

@@ -37,7 +37,7 @@ module _ (outer : List (List Kind)) (q : Query) (db : Database) (env : List Row)
 pub blank-width : (places : List Place) → length (flat (all_empty places)) ≡ length (place_kinds places)
 blank-width places = row_fits-length (flat (all_empty places)) (place_kinds places) (flat-fits (all_empty-fits places)).fit
 
-nulls-append : (n m : ℕ) → nulls (n + m) ≡ nulls n ++ nulls m
+pub nulls-append : (n m : ℕ) → nulls (n + m) ≡ nulls n ++ nulls m
 nulls-append zero m = ap nulls (omega arith)
 nulls-append (suc n) m =
     let next : suc n + m ≡ suc (n + m) = omega arith in
@@ -47,7 +47,7 @@ pub length-nulls : (n : ℕ) → length (nulls n) ≡ n
 length-nulls zero = refl
 length-nulls (suc n) = ap suc (length-nulls n)
 
-flat-all_empty : (places : List Place) → flat (all_empty places) ≡ nulls (length (place_kinds places))
+pub flat-all_empty : (places : List Place) → flat (all_empty places) ≡ nulls (length (place_kinds places))
 flat-all_empty [] = refl
 flat-all_empty (place ∷ places) =
     ap (λ row. nulls (length place.kinds) ++ row) (flat-all_empty places)

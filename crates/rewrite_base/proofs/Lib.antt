@@ -1,5 +1,6 @@
 pub mod BesideLists
 pub mod Faults
+pub mod FlatRows
 pub mod Itself
 pub mod JoinSublinks
 pub mod JoinedOutcomes

@@ -1,6 +1,7 @@
 -- The columns of what stands for a source's input, and then those at the source's places, are a rewriting of the source.
-use Rattle.std.proofs.Common.{◌≡◌, ◌↔◌, ℕ, true, List, [], ◌∷◌, ◌++◌, map, length, Contains, refl, sym, ap, ◌∙◌, subst, subst₂, append-nil, arith}
+use Rattle.std.proofs.Common.{◌≡◌, ◌↔◌, ℕ, true, List, [], ◌∷◌, ◌++◌, map, length, Contains, refl, sym, ap, ◌∙◌, subst, subst₂, append-nil, arith, ◌<◌}
 use Rattle.std.proofs.lemmas.List.{map-append}
+use Rattle.std.proofs.lemmas.List.Elements.{All-append}
 use Rattle.std.specs.List.{range_with_len}
 use Rattle.perm_values.specs.Rows.{picked}
 use Rattle.perm_values.specs.declared.kind.Kind.{Kind}
@@ -27,8 +28,10 @@ use Rattle.contribution.specs.Fitting.{Fitting}
 use Rattle.contribution.proofs.ColumnQueries.{formed-columns, kinds_of-columns, meaning-columns}
 use Rattle.contribution.proofs.NodeQueries.{plain-projected}
 use Rattle.rewrite_base.proofs.Faults.{SameFaults}
-use Rattle.rewrite_core.proofs.NodeRows.{Flattened, rewritten-where}
-use Rattle.rewrite_core.proofs.RowColumns.{from_start, places_in-append, places_in-range, row-width}
+use Rattle.rewrite_base.proofs.FlatRows.{Flattened}
+use Rattle.rewrite_core.proofs.NodeRows.{rewritten-where}
+use Rattle.rewrite_base.proofs.Places.{within-range}
+use Rattle.rewrite_core.proofs.RowColumns.{from_start, row-width}
 use Rattle.rewrite_core.proofs.RuleRows.{rows-from_beside}
 use Rattle.query_laws.proofs.NodeLists.{base-lists}
 use Rattle.query_laws.specs.SublinkLists.{InAnswer}
@@ -52,7 +55,7 @@ columns_of b places = ProjectOf b (column_items (kinds_of b) (order_of b places)
 
 pub order-within : (b : Query) (places : List ℕ) → PlacesIn (width_of b) places → PlacesIn (width_of b) (order_of b places)
 order-within b places within =
-    places_in-append (width_of b) (range_with_len 0 (width_of b)) places (places_in-range (width_of b) 0 (width_of b) (omega arith)) within
+    All-append (λ place. place < (width_of b)) (range_with_len 0 (width_of b)) places (within-range (width_of b) 0 (width_of b) (omega arith)) within
 
 module _ (q b : Query) (places : List ℕ) (label : Label) (stands : Stands q b) where
   abbrev node : Query

@@ -21,12 +21,12 @@ use Rattle.bag_algebra.specs.declared.query.Query.TheVariants.{Filter}
 use Rattle.contribution.proofs.AddedColumns.{columns-added, condition-same}
 use Rattle.contribution.proofs.GoodRows.{from-gather, from-kept}
 use Rattle.contribution.proofs.JoinMembers.{in-gather, in-kept}
-use Rattle.contribution.proofs.LongerKinds.{has_kind-longer}
+use Rattle.contribution.proofs.LongerKinds.{has_kind-longer, names-more}
 use Rattle.contribution.specs.Fitting.{Fitting}
 use Rattle.contribution.proofs.NodeQueries.{meaning-chosen, formed-chosen, plain-chosen}
 use Rattle.rewrite_base.proofs.Faults.{SameFaults, kept-alike, gather-bad_alike}
-use Rattle.rewrite_core.proofs.NodeRows.{Flattened, flattened, stands_beside, Made, rewritten-over}
-use Rattle.rewrite_core.proofs.RowColumns.{names-more, row-begins}
+use Rattle.rewrite_base.proofs.FlatRows.{Flattened, flattened, stands_beside, row-begins}
+use Rattle.rewrite_core.proofs.NodeRows.{Made, rewritten-over}
 use Rattle.rewrite_core.proofs.RuleRows.{beside-from_rewrite, rows-from_beside}
 use Rattle.rewrite_core.proofs.Unlinked.{listed-followed, followed-listed}
 use Rattle.rewrite_base.specs.Rewritten.{Beside}

@@ -35,9 +35,11 @@ use Rattle.contribution.proofs.NodeQueries.{formed-pairs, meaning-pairs, plain-p
 use Rattle.contribution.specs.MovedColumns.{IsMoved}
 use Rattle.bag_algebra.proofs.Truths.{both-true}
 use Rattle.rewrite_base.proofs.Faults.{SameFaults, kept-alike, gather-bad_alike, good-mapped, mapped-same_faults, same_faults-then}
-use Rattle.rewrite_core.proofs.JoinColumns.{all-columns, all-within, flat-all_empty, length-nulls, nulls-append, own-columns, own-within}
-use Rattle.rewrite_core.proofs.NodeRows.{Flattened, flattened, stands_beside, Made, rewritten-over_both}
-use Rattle.rewrite_core.proofs.RowColumns.{flat-append, list-width, row-width, width-rewriting}
+use Rattle.rewrite_base.proofs.KeptRows.{flat-append, flat-all_empty, length-nulls, nulls-append, list-width}
+use Rattle.rewrite_core.proofs.JoinColumns.{all-columns, all-within, own-columns, own-within}
+use Rattle.rewrite_base.proofs.FlatRows.{Flattened, flattened, stands_beside}
+use Rattle.rewrite_core.proofs.NodeRows.{Made, rewritten-over_both}
+use Rattle.rewrite_core.proofs.RowColumns.{row-width, width-rewriting}
 use Rattle.rewrite_core.proofs.RuleRows.{beside-from_rewrite, rows-from_beside}
 use Rattle.rewrite_core.proofs.Unlinked.{none-contribute}
 use Rattle.rewrite_core.specs.JoinColumns.{own_places, added_places, IsLaidOut}

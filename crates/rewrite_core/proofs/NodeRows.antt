@@ -1,21 +1,14 @@
 -- What is left to show of a rule, once what its inputs mean is taken apart: that node and rewriting are bad alike, and where
 -- they are good, that the rewriting has the node's rows beside their lists, and no others.
-use Rattle.std.proofs.Common.{◌≡◌, List, ◌++◌, Contains, refl, sym, ap, ◌∙◌, subst, subst₂}
-use Rattle.bag_algebra.proofs.Members.{IsIn, in-member, member-in}
+use Rattle.std.proofs.Common.{◌≡◌, List, refl, sym, ap, ◌∙◌, subst, subst₂}
 use Rattle.bag_algebra.specs.Bags.{Row, Bag}
 use Rattle.bag_algebra.specs.Meaning.{Database, meaning, witnesses}
-use Rattle.bag_algebra.specs.Means.{Witness, flat, good_rows}
+use Rattle.bag_algebra.specs.Means.{Witness}
 use Rattle.bag_algebra.specs.Outcome.{Outcome, Good, Bad, and_then, both_then, union}
 use Rattle.bag_algebra.specs.declared.query.Query.{Query}
-use Rattle.contribution.proofs.NoRowLost.{none_lost}
 use Rattle.rewrite_base.proofs.Faults.{SameFaults}
+use Rattle.rewrite_base.proofs.FlatRows.{Flattened, beside-flattened}
 use Rattle.rewrite_base.specs.Rewritten.{Beside, Rewritten}
-use Rattle.bag_algebra.proofs.MembersByIndex.{contains-from_in}
-
--- beside each of its lists each row is there, and nothing else is
-pub record Flattened (lists : Row → List Witness) (us vs : Bag) : Type 0 where
-  pub there : (t : Row) (w : Witness) → IsIn t us → Contains (lists t) w → IsIn (t ++ flat w) vs
-  pub back : (x : Row) → IsIn x vs → (t : Row) × (w : Witness) × IsIn t us × Contains (lists t) w × (t ++ flat w ≡ x)
 
 -- both are good and stand beside one another, or both are bad with one set of faults
 pub data BothStand (lists : Row → List Witness) : Outcome Bag → Outcome Bag → Type 0 where
@@ -28,42 +21,12 @@ both_stand lists (Good us) (Bad g) r = absurd r
 both_stand lists (Bad f) (Good vs) r = absurd r
 both_stand lists (Bad f) (Bad g) r = subst (λ h. BothStand lists (Bad f) (Bad h)) r (both_bad f)
 
--- a row of the first bag beside one of its lists
-pub record Stands_beside (lists : Row → List Witness) (vs : Bag) (t : Row) : Type 0 where
-  pub list : Witness
-  pub is_list : Contains (lists t) list
-  pub row : IsIn (t ++ flat list) vs
-
-module _ (lists : Row → List Witness) (us vs : Bag) (b : Beside lists us vs) where
-  pub flattened : Flattened lists us vs
-  flattened = record {
-    there = λ t w i c. member-in (t ++ flat w) vs (b.there t w (in-member t us i) c);
-    back = λ x i. let r = b.back x (in-member x vs i) in (r.origin, r.list, member-in r.origin us r.row, r.is_list, r.whole);
-  }
-
-  pub stands_beside : (t : Row) → IsIn t us → Stands_beside lists vs t
-  stands_beside t i =
-      let some = b.covers t (in-member t us i) in
-      record { list = some.list; is_list = some.is_list; row = flattened.there t some.list i some.is_list }
-
 module _ (n p : Query) (db : Database) (env : List Row) where
-  -- every row has a list
-  beside-flattened : (ts zs : Bag) → meaning n db env ≡ Good ts → Flattened (witnesses n db env) ts zs → Beside (witnesses n db env) ts zs
-  beside-flattened ts zs good f = record {
-    covers = λ t h.
-        let listed = (none_lost n db env).listed t (subst (λ o. IsIn t (good_rows o)) (sym good) (member-in t ts h)) in
-        record { list = listed.0; is_list = contains-from_in listed.0 (witnesses n db env t) listed.1 };
-    there = λ t w h c. in-member (t ++ flat w) zs (f.there t w (member-in t ts h) c);
-    back = λ x h.
-        let r = f.back x (member-in x zs h) in
-        record { origin = r.0; list = r.1; row = in-member r.0 ts r.2; is_list = r.3; whole = r.4 };
-  }
-
   pub rewritten-where : (o s : Outcome Bag) → meaning n db env ≡ o → meaning p db env ≡ s → SameFaults o s →
       ((ts zs : Bag) → o ≡ Good ts → s ≡ Good zs → Flattened (witnesses n db env) ts zs) →
       Rewritten (witnesses n db env) (meaning n db env) (meaning p db env)
   rewritten-where (Good ts) (Good zs) e f same rows =
-      subst₂ (Rewritten (witnesses n db env)) (sym e) (sym f) (beside-flattened ts zs e (rows ts zs refl refl))
+      subst₂ (Rewritten (witnesses n db env)) (sym e) (sym f) (beside-flattened n db env ts zs e (rows ts zs refl refl))
   rewritten-where (Good ts) (Bad g) e f same rows = absurd same
   rewritten-where (Bad g) (Good zs) e f same rows = absurd same
   rewritten-where (Bad g) (Bad h) e f same rows = subst₂ (Rewritten (witnesses n db env)) (sym e) (sym f) same

@@ -1,6 +1,6 @@
 -- The items of a projection over a rewriting of its input, and then the input's provenance columns, are a rewriting of the
 -- projection.
-use Rattle.std.proofs.Common.{◌≡◌, ◌↔◌, inl, inr, true, List, [], ◌∷◌, ◌++◌, Contains, refl, sym, ap, ◌∙◌, subst, append-nil, arith}
+use Rattle.std.proofs.Common.{◌≡◌, ◌↔◌, true, List, [], ◌∷◌, ◌++◌, Contains, refl, sym, ap, ◌∙◌, subst, append-nil, arith}
 use Rattle.std.specs.List.{range_with_len}
 use Rattle.perm_values.specs.Rows.{picked}
 use Rattle.perm_values.specs.declared.kind.Kind.{Kind}
@@ -27,15 +27,18 @@ use Rattle.bag_algebra.specs.declared.query.Query.{Query, end_of-Sublink}
 use Rattle.bag_algebra.specs.declared.query.Query.TheVariants.{Project}
 use Rattle.contribution.proofs.AddedColumns.{columns-added, all_items-same}
 use Rattle.contribution.proofs.GoodRows.{from-each}
-use Rattle.contribution.proofs.LongerKinds.{all-kept, has_kind-longer}
+use Rattle.contribution.proofs.LongerKinds.{all-kept, has_kind-longer, names-more}
 use Rattle.contribution.specs.Fitting.{Fitting}
 use Rattle.contribution.proofs.ColumnQueries.{column_items-formed, column_items-kinds}
 use Rattle.contribution.proofs.NodeQueries.{meaning-projected, formed-projected, plain-projected}
 use Rattle.contribution.proofs.Padding.{items-append, kinds-append}
 use Rattle.contribution.specs.ItemKinds.{item_kinds}
-use Rattle.rewrite_base.proofs.Faults.{SameFaults, same_faults-made, each-bad_alike, good-mapped}
-use Rattle.rewrite_core.proofs.NodeRows.{Flattened, flattened, stands_beside, Made, rewritten-over}
-use Rattle.rewrite_core.proofs.RowColumns.{behind, names-more, places_in-range, row-begins, row-width, list-width, width-rewriting, width-provenance}
+use Rattle.rewrite_base.proofs.Faults.{SameFaults, same_faults-made, each-bad_alike, good-mapped, in-each}
+use Rattle.rewrite_base.proofs.FlatRows.{Flattened, flattened, stands_beside, row-begins}
+use Rattle.rewrite_core.proofs.NodeRows.{Made, rewritten-over}
+use Rattle.rewrite_base.proofs.Places.{within-range}
+use Rattle.rewrite_base.proofs.KeptRows.{list-width}
+use Rattle.rewrite_core.proofs.RowColumns.{behind, row-width, width-rewriting, width-provenance}
 use Rattle.rewrite_core.proofs.RuleRows.{beside-from_rewrite, rows-from_beside}
 use Rattle.rewrite_core.proofs.Unlinked.{listed-followed, followed-listed}
 use Rattle.rewrite_core.specs.ProvenanceColumns.{provenance_places, provenance_items}
@@ -46,24 +49,6 @@ use Rattle.query_laws.specs.ListsOfNodes.{ProjectList}
 use Rattle.query_laws.specs.SublinkLists.{InAnswer}
 
 -- ---- items that give on each row what they make, and then more
-
-module _ {X : Type 0} (f : X → Outcome Row) where
-  in-made : (t : Row) (x : X) (rest : Outcome Bag) (all : Bag) → both (λ u us. u ∷ us) (f x) rest ≡ Good all → f x ≡ Good t → IsIn t all
-  in-made t x (Good us) all e g = subst (IsIn t) (ap good_rows (ap (λ o. both (λ u us. u ∷ us) o (Good us)) (sym g) ∙ e)) (inl refl)
-  in-made t x (Bad h) all e g = absurd (cc (ap (λ o. both (λ u us. u ∷ us) o (Bad h)) (sym g) ∙ e))
-
-  in-later : (t : Row) (o : Outcome Row) (rest : Outcome Bag) (all : Bag) → both (λ u us. u ∷ us) o rest ≡ Good all →
-      ((us : Bag) → rest ≡ Good us → IsIn t us) → IsIn t all
-  in-later t (Good u) (Good us) all e later = subst (IsIn t) (ap good_rows e) (inr (later us refl))
-  in-later t (Good u) (Bad h) all e later = absurd (cc e)
-  in-later t (Bad g) (Good us) all e later = absurd (cc e)
-  in-later t (Bad g) (Bad h) all e later = absurd (cc e)
-
-  -- what an item gives is among what all give
-  pub in-each : (t : Row) (x : X) (xs : List X) (all : Bag) → each f xs ≡ Good all → IsIn x xs → f x ≡ Good t → IsIn t all
-  in-each t x [] all e i g = absurd i
-  in-each t x (y ∷ xs) all e (inl same) g = in-made t y (each f xs) all e (ap f same ∙ g)
-  in-each t x (y ∷ xs) all e (inr i) g = in-later t (f y) (each f xs) all e (λ us h. in-each t x xs us h i g)
 
 mapped-first : (behind : Row) (o : Outcome Value) (s : Outcome Row) →
     both (λ v vs. v ∷ vs) o (mapped (λ t. t ++ behind) s) ≡ mapped (λ t. t ++ behind) (both (λ v vs. v ∷ vs) o s)
@@ -111,7 +96,7 @@ module _ (q r : Query) (items : List Item) (given : IsRewrite q r) where
         (all-kept (λ (item : Item). HasKind (kinds_of q ∷ outer) [] item.expr item.kind) (λ (item : Item). HasKind ((kinds_of q ++ place_kinds (shape q)) ∷ outer) [] item.expr item.kind) items
         (λ item h. has_kind-longer (names-more (kinds_of q) (place_kinds (shape q)) outer) [] item.expr item.kind h) formed.items))
         (column_items-formed (kinds_of r) outer (provenance_places q r)
-        (let e = width-rewriting q r given outer formed.input in places_in-range (width_of r) (width_of q) _ (omega arith))))
+        (let e = width-rewriting q r given outer formed.input in within-range (width_of r) (width_of q) _ (omega arith))))
 
     module _ (db : Database) (env : List Row) (tables : TablesFit db node) (fitting : env_fits env outer ≡ true) where
       abbrev on : Row → Outcome Row

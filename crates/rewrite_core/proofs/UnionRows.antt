@@ -29,9 +29,11 @@ use Rattle.contribution.proofs.NodeQueries.{plain-projected}
 use Rattle.contribution.proofs.Padding.{formed-padded, kinds_of-padded, meaning-padded}
 use Rattle.contribution.specs.NullItems.{padded_row}
 use Rattle.bag_algebra.proofs.Truths.{both-true}
-use Rattle.rewrite_core.proofs.JoinColumns.{flat-all_empty}
-use Rattle.rewrite_core.proofs.NodeRows.{Flattened, flattened, Made, rewritten-over_both}
-use Rattle.rewrite_core.proofs.RowColumns.{behind, between, flat-append, list-width, places_in-range, row-width, width-provenance, width-rewriting}
+use Rattle.rewrite_base.proofs.FlatRows.{Flattened, flattened}
+use Rattle.rewrite_core.proofs.NodeRows.{Made, rewritten-over_both}
+use Rattle.rewrite_base.proofs.Places.{within-range}
+use Rattle.rewrite_base.proofs.KeptRows.{flat-append, list-width, flat-all_empty}
+use Rattle.rewrite_core.proofs.RowColumns.{behind, between, row-width, width-provenance, width-rewriting}
 use Rattle.rewrite_core.proofs.RuleRows.{beside-from_rewrite, rows-from_beside}
 use Rattle.rewrite_core.specs.UnionColumns.{items_behind, padded_behind, provenance_kinds}
 use Rattle.rewrite_base.specs.Rewritten.{Beside}
@@ -95,8 +97,8 @@ padded-tables P q n (kind ∷ kinds) each = (each, tt)
 padded-formed : (outer : List (List Kind)) (q : Query) (n : ℕ) (kinds : List Kind) → n ≤ width_of q → WellFormed outer q → WellFormed outer (padded_behind q n kinds)
 padded-formed outer q n [] within formed = formed
 padded-formed outer q n (kind ∷ kinds) within formed =
-    formed-padded q (range_with_len 0 n) (kind ∷ kinds) (range_with_len n (width_of q - n)) (places_in-range (width_of q) 0 n (omega arith))
-    (places_in-range (width_of q) n (width_of q - n) (omega arith)) outer formed
+    formed-padded q (range_with_len 0 n) (kind ∷ kinds) (range_with_len n (width_of q - n)) (within-range (width_of q) 0 n (omega arith))
+    (within-range (width_of q) n (width_of q - n) (omega arith)) outer formed
 
 padded-meaning : (db : Database) (env : List Row) (q : Query) (n : ℕ) (kinds : List Kind) →
     meaning (padded_behind q n kinds) db env ≡ mapped (map (row_behind (width_of q) n kinds)) (meaning q db env)

@@ -12,12 +12,12 @@ use Rattle.contribution.specs.MovedColumns.{IsMoved}
 
 -- the columns of the inputs, where the left has so many, the left row so many in all, and the right so many
 abbrev pub own_places : ℕ → ℕ → ℕ → List ℕ
-own_places left left_row right = range_with_len 0 left ++ range_with_len left_row ((left_row + right) - left_row)
+own_places left left_row right = range_with_len 0 left ++ range_with_len left_row right
 
 -- those of provenance, where the right row has so many in all
 abbrev pub added_places : ℕ → ℕ → ℕ → ℕ → List ℕ
 added_places left left_row right right_row =
-    range_with_len left (left_row - left) ++ range_with_len (left_row + right) ((left_row + right_row) - (left_row + right))
+    range_with_len left (left_row - left) ++ range_with_len (left_row + right) (right_row - right)
 
 -- the join of the rewritings on the condition, with its columns at their places there
 pub record IsPaired (kind : JoinKind) (left left_rewriting right right_rewriting : Query) (condition : Expr) (pairs : Query) : Type 0 where

@@ -1,5 +1,5 @@
 -- Rows beside the candidates of one sublink after another.
-use Rattle.std.proofs.Common.{◌≡◌, ℕ, true, List, [], ◌∷◌, ◌++◌, length, append_assoc, append-nil, IsTrue, refl, sym, ap, ◌∙◌, subst}
+use Rattle.std.proofs.Common.{◌≡◌, ℕ, true, List, [], ◌∷◌, ◌++◌, length, append_assoc, append-nil, refl, sym, ap, ◌∙◌, subst}
 use Rattle.std.proofs.lemmas.Bool.{and_from}
 use Rattle.perm_values.specs.declared.kind.Kind.{Kind}
 use Rattle.perm_values.specs.declared.value.Value.{Value}
@@ -9,25 +9,23 @@ use Rattle.bag_algebra.proofs.TablesRead.{reads_among-each}
 use Rattle.bag_algebra.proofs.Truths.{left-true, right-true}
 use Rattle.bag_algebra.proofs.Widths.{place_kinds-append}
 use Rattle.bag_algebra.specs.Bags.{Row, Bag}
-use Rattle.bag_algebra.specs.Built.{row_of_subs}
 use Rattle.bag_algebra.specs.BuiltForms.{AllSubsForm, EachTableOfSubs, SubsForm-row_of_subs, subs_kinds}
 use Rattle.bag_algebra.specs.Children.{subs_denote, subs_shape}
 use Rattle.bag_algebra.specs.Fits.{TablesFit, bag_fits, env_fits, row_begins}
 use Rattle.bag_algebra.specs.Kinds.{kinds_of, place_kinds, shape, width_of}
 use Rattle.bag_algebra.specs.Meaning.{Database, meaning}
 use Rattle.bag_algebra.specs.Means.{Witness, flat}
-use Rattle.bag_algebra.specs.Outcome.{Faults, Outcome, Good, Bad}
+use Rattle.bag_algebra.specs.Outcome.{Faults, Good, Bad}
 use Rattle.bag_algebra.specs.Rewriting.{IsRewrite, Stands, is_plain}
 use Rattle.bag_algebra.specs.Scoped.{over_tables}
 use Rattle.bag_algebra.specs.TablesRead.{EachTable}
-use Rattle.bag_algebra.specs.WellFormed.{WellFormed, SubsForm, sub_kind}
+use Rattle.bag_algebra.specs.WellFormed.{WellFormed, sub_kind}
 use Rattle.bag_algebra.specs.declared.query.Query.{Query}
 use Rattle.bag_algebra.specs.declared.query.Sublink.{Sublink}
 use Rattle.contribution.proofs.AddedColumns.{columns-added, subs-same}
 use Rattle.contribution.proofs.CrossBases.{tables-cross_base}
 use Rattle.contribution.proofs.Growth.{row_begins-longer}
 use Rattle.contribution.specs.CrossBase.{cross_base_of}
-use Rattle.contribution.specs.Fitting.{Fitting}
 use Rattle.rewrite_base.proofs.KeptRows.{flat-append, row-width}
 use Rattle.contribution.proofs.LongerKinds.{NamesAlso, well_formed-longer}
 use Rattle.query_laws.specs.Agreeing.{SubsAgree}
@@ -35,9 +33,9 @@ use Rattle.query_laws.specs.Standing.{SubsStand}
 use Rattle.bag_algebra.specs.BuiltScopes.{all_over_tables, all_plain}
 use Rattle.rewrite_sublink.proofs.Extending.{Extended, GoodOn, one-reached}
 use Rattle.rewrite_sublink.proofs.Forming.{by, whole, fitting-longer, kinds-contributed, bad-contributed, plain-contributed, tables-contributed, formed-contributed}
-use Rattle.rewrite_sublink.specs.Candidates.{all_contributed, contributed}
+use Rattle.rewrite_sublink.specs.Candidates.{all_contributed}
 use Rattle.rewrite_sublink.specs.SubRewritings.{SubsRewritten}
-use Rattle.query_laws.proofs.Contributed.{AllGood, all_good, each_contributes-from, one_of_each}
+use Rattle.query_laws.proofs.Contributed.{all_good, each_contributes-from, one_of_each}
 use Rattle.query_laws.proofs.PairedLists.{OneOfEach}
 use Rattle.query_laws.specs.SublinkLists.{Contributes, EachContributes, no_sublink, one_more}
 

@@ -1,6 +1,6 @@
 -- Which candidates match: on bags alone. A sublink's rows vs have lists, and the rows rs stand beside these; where the rows
 -- that pass a test decide, a candidate needs a matching row that passes it, else any matching row.
-use Rattle.std.proofs.Common.{◌≡◌, ◌⊎◌, inl, inr, ℕ, ◌+◌, Bool, true, false, cond, List, [], ◌∷◌, ◌++◌, map, filter, length, Contains, IsTrue, refl, sym, ap, ◌∙◌, subst, append-nil, true≢false}
+use Rattle.std.proofs.Common.{◌≡◌, ◌⊎◌, inl, inr, ℕ, Bool, true, false, cond, List, [], ◌∷◌, ◌++◌, filter, length, Contains, IsTrue, refl, sym, ap, ◌∙◌, subst, append-nil, true≢false}
 use Rattle.std.specs.List.{list_any, flat_map, range_with_len}
 use Rattle.perm_values.specs.Rows.{picked, same_row}
 use Rattle.perm_values.specs.ValueLaws.{row_decides}

@@ -1,65 +1,31 @@
 -- Rows beside the candidates that are contributions: one sublink, and then one after another.
-use Rattle.std.proofs.Common.{◌≡◌, ℕ, inl, inr, Bool, true, false, List, [], ◌∷◌, ◌++◌, map, filter, length, append_assoc, append-nil, refl, sym, ap, ◌∙◌, subst}
-use Rattle.std.proofs.lemmas.Bool.{and_from}
-use Rattle.std.specs.List.{flat_map}
+use Rattle.std.proofs.Common.{◌≡◌, Bool, true, false, List, ◌∷◌, ◌++◌, map, filter, length, sym, ap, ◌∙◌, subst}
 use Rattle.perm_values.specs.declared.kind.Kind.{Kind}
 use Rattle.perm_values.specs.declared.value.Value.{Value}
 use Rattle.perm_values.specs.declared.value.Value.TheVariants.{Boolean}
-use Rattle.bag_algebra.proofs.Members.{IsIn, in-map, from-map, in-filter, from-filter, in-flat_map, from-flat_map, in-member}
-use Rattle.bag_algebra.proofs.Outcomes.{both-is}
-use Rattle.bag_algebra.proofs.Truths.{left-true, right-true}
+use Rattle.bag_algebra.proofs.Members.{IsIn, in-map, from-map, in-filter, from-filter, in-flat_map, from-flat_map}
 use Rattle.bag_algebra.specs.Bags.{Row, Bag}
-use Rattle.bag_algebra.specs.Built.{meaning-Filter, row_of_subs}
-use Rattle.bag_algebra.specs.BuiltForms.{AllSubsForm, EachTableOfSubs, SubsForm-row_of_subs}
+use Rattle.bag_algebra.specs.Built.{meaning-Filter}
 use Rattle.bag_algebra.specs.Children.{subs_denote, sublink_value}
-use Rattle.bag_algebra.specs.Fits.{TablesFit, bag_fits, env_fits, row_begins}
+use Rattle.bag_algebra.specs.Fits.{TablesFit, env_fits, row_begins}
 use Rattle.bag_algebra.specs.Kinds.{kinds_of, width_of}
 use Rattle.bag_algebra.specs.Meaning.{Database, meaning, condition_on}
-use Rattle.bag_algebra.specs.Means.{Witness, flat, is_met, kept, joined_rows, met_pairs, no_subs}
-use Rattle.bag_algebra.specs.Outcome.{Outcome, Good, Bad, and_then, both, both_then, gather, mapped}
+use Rattle.bag_algebra.specs.Means.{Witness, flat, is_met, kept, joined_rows, no_subs}
+use Rattle.bag_algebra.specs.Outcome.{Outcome, Good, and_then, both_then, gather}
 use Rattle.bag_algebra.specs.Rewriting.{IsRewrite, Stands}
 use Rattle.bag_algebra.specs.Scoped.{over_tables}
 use Rattle.bag_algebra.specs.WellFormed.{WellFormed, sub_form}
 use Rattle.bag_algebra.specs.declared.query.JoinKind.TheVariants.{Inner}
 use Rattle.bag_algebra.specs.declared.query.Query.{Query}
 use Rattle.bag_algebra.specs.declared.query.Sublink.{Sublink}
-use Rattle.contribution.proofs.AddedColumns.{columns-added, subs-same}
-use Rattle.contribution.proofs.Growth.{row_begins-longer}
+use Rattle.contribution.proofs.CrossedRows.{all_pairs, every_pair}
 use Rattle.contribution.specs.Conjunctions.{always}
-use Rattle.contribution.specs.CrossBase.{cross_base_of}
-use Rattle.rewrite_base.proofs.KeptRows.{flat-append}
 use Rattle.rewrite_base.specs.KeptColumns.{pairs_of}
-use Rattle.query_laws.specs.Standing.{SubStands, SubsStand}
-use Rattle.bag_algebra.specs.BuiltScopes.{all_over_tables}
 use Rattle.contribution.proofs.NodeQueries.{meaning-pairs}
 use Rattle.rewrite_sublink.proofs.MatchingRows.{gather-kept}
-use Rattle.rewrite_sublink.proofs.OneSublink.{stand, base, base-rows, candidate-width, test, test-good, passing-contributes, contributing-passes, contributing-in_base}
-use Rattle.rewrite_sublink.specs.Candidates.{matching, tested, deciding, test_condition, test_subs, contributed, all_contributed}
-use Rattle.rewrite_sublink.specs.SubRewritings.{SubsRewritten}
-use Rattle.query_laws.proofs.Contributed.{all_good, each_contributes-from, one_of_each}
-use Rattle.query_laws.proofs.PairedLists.{OneOfEach}
-use Rattle.query_laws.specs.SublinkLists.{Contributes, EachContributes, no_sublink, one_more}
-
--- ---- all pairs
-
-gather-singles : (f : Row → Row) (us : Bag) → gather (λ u. Good (f u ∷ [])) us ≡ Good (map f us)
-gather-singles f [] = refl
-gather-singles f (u ∷ us) = ap (both (λ ys zs. ys ++ zs) (Good (f u ∷ []))) (gather-singles f us)
-
-gather-goods : (f : Row → Outcome Bag) (g : Row → Bag) → ((u : Row) → f u ≡ Good (g u)) → (us : Bag) → gather f us ≡ Good (flat_map g us)
-gather-goods f g good [] = refl
-gather-goods f g good (u ∷ us) = λ i. both (λ ys zs. ys ++ zs) (good u i) (gather-goods f g good us i)
-
-abbrev every_pair : Bag → Bag → Bag
-every_pair us vs = flat_map (λ u. map (λ v. u ++ v) vs) us
-
-pairs-joined : (env : List Row) (left_width right_width : ℕ) (us vs : Bag) →
-    joined_rows Inner (condition_on always env no_subs) left_width right_width us vs ≡ Good (every_pair us vs)
-pairs-joined env left_width right_width us vs =
-    let on = condition_on always env no_subs in
-    let met : met_pairs on us vs ≡ Good (every_pair us vs) =
-    gather-goods (λ u. gather (λ v. kept on (u ++ v)) vs) (λ u. map (λ v. u ++ v) vs) (λ u. gather-singles (λ v. u ++ v) vs) us in
-    ap (mapped (λ pairs. pairs ++ [] ++ [])) met ∙ ap Good (append-nil (every_pair us vs ++ []) ∙ append-nil (every_pair us vs))
+use Rattle.rewrite_sublink.proofs.OneSublink.{stand, base, base-rows, candidate-width, test-good, passing-contributes, contributing-passes, contributing-in_base}
+use Rattle.rewrite_sublink.specs.Candidates.{matching, deciding, test_condition, test_subs, contributed}
+use Rattle.query_laws.specs.SublinkLists.{Contributes}
 
 -- ---- one sublink
 
@@ -122,7 +88,7 @@ module _ (kinds : List Kind) (outer : List (List Kind)) (db : Database) (env : L
         ∙ (λ i. both_then (rows_good i)
         ((base-rows kinds outer db env fits sub s r stands rewritten over formed fitting tables).1 i)
         (joined_rows Inner (condition_on always env no_subs) (width_of rows) (width_of the_base)))
-        ∙ pairs-joined env (width_of rows) (width_of the_base) us candidates)
+        ∙ all_pairs env (width_of rows) (width_of the_base) us candidates)
         ∙ gather-kept on (λ z. is_met (on z)) (every_pair us candidates) good-pair
 
     extended-one : Extended (λ b c. Contributes db env b sub c) us passing

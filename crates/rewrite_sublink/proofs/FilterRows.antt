@@ -1,5 +1,5 @@
 -- The rule of a selection with sublinks.
-use Rattle.std.proofs.Common.{◌≡◌, ◌↔◌, ℕ, true, List, [], ◌∷◌, ◌++◌, Contains, append_assoc, refl, sym, ap, ◌∙◌, subst}
+use Rattle.std.proofs.Common.{◌≡◌, ◌↔◌, ℕ, true, List, ◌∷◌, ◌++◌, Contains, append_assoc, refl, sym, ap, ◌∙◌, subst}
 use Rattle.std.proofs.lemmas.Bool.{and_from}
 use Rattle.perm_values.specs.declared.kind.Kind.{Kind}
 use Rattle.perm_values.specs.declared.kind.Kind.TheVariants.{Boolean}
@@ -28,7 +28,7 @@ use Rattle.contribution.proofs.AddedColumns.{columns-added, condition_with_subs-
 use Rattle.contribution.proofs.GoodRows.{from-gather, from-kept}
 use Rattle.contribution.proofs.Growth.{row_begins-longer}
 use Rattle.contribution.proofs.JoinMembers.{in-gather, in-kept}
-use Rattle.contribution.proofs.LongerKinds.{NamesAlso, has_kind-longer}
+use Rattle.contribution.proofs.LongerKinds.{NamesAlso, has_kind-longer, names-more}
 use Rattle.contribution.specs.Fitting.{Fitting}
 use Rattle.rewrite_base.proofs.JoinedOutcomes.{rewritten-from_related}
 use Rattle.rewrite_base.proofs.KeptRewriting.{rewriting-related}
@@ -39,9 +39,10 @@ use Rattle.rewrite_base.proofs.BesideLists.{same-from_rewritten}
 use Rattle.rewrite_base.specs.Rewritten.{Beside}
 use Rattle.rewrite_sublink.proofs.AllSublinks.{Ready, AllGoodOn, Reached, good-longer, contributes-longer, contributes-shorter, kinds-all, bad-all, plain-all, tables-all, formed-all, reached, stand-plain, stand-tables, stand-form, stand-kinds, stand-agree}
 use Rattle.rewrite_sublink.proofs.Extending.{Extended}
-use Rattle.rewrite_sublink.proofs.Forming.{by, names-more}
+use Rattle.rewrite_sublink.proofs.Forming.{by}
 use Rattle.rewrite_base.proofs.Faults.{SameFaults, kept-alike, gather-bad_alike}
-use Rattle.rewrite_sublink.proofs.NodeRows.{row-begins, first-good, Flattened, flattened, listed, Reaching, reaching-over}
+use Rattle.rewrite_base.proofs.FlatRows.{Flattened, flattened, row-begins, stands_beside}
+use Rattle.rewrite_sublink.proofs.NodeRows.{first-good, Reaching, reaching-over}
 use Rattle.rewrite_sublink.specs.Candidates.{all_contributed}
 use Rattle.query_laws.proofs.NodeLists.{filter-lists}
 use Rattle.query_laws.specs.ListsOfNodes.{Followed}
@@ -215,7 +216,7 @@ module _ (q r : Query) (condition : Expr) (subs standing : List Sublink) (rewrit
         reaching : meaning r db env ≡ Good vs → Reaching node first p db env bad (gather (kept on) us) (gather (kept on_stand) vs)
         reaching is_rewriting = record {
           faults = gather-bad_alike (kept on) (kept on_stand) us vs (record {
-            there = λ t i. let s = listed (witnesses q db env) us vs b t i in (t ++ flat s.list, s.row, alike t s.list i);
+            there = λ t i. let s = stands_beside (witnesses q db env) us vs b t i in (t ++ flat s.list, s.row, alike t s.list i);
             back = λ x j.
                 let row = beside_rows.back x j in
                 (row.0, row.2, subst (λ y. SameFaults (kept on row.0) (kept on_stand y)) row.4 (alike row.0 row.1 row.2));

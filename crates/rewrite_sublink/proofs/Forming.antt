@@ -1,6 +1,6 @@
 -- Rows beside the candidates of a sublink: of which kinds they are, that they are well formed where the node is, plain, and
 -- read the tables of what they are made of.
-use Rattle.std.proofs.Common.{◌≡◌, ℕ, zero, suc, ◌+◌, ◌<◌, ◌≤◌, Bool, true, ◌&&◌, List, [], ◌∷◌, ◌++◌, length, Option, Some, None, append_assoc, length-append, refl, sym, ap, ◌∙◌, subst, arith}
+use Rattle.std.proofs.Common.{◌≡◌, ℕ, ◌<◌, ◌≤◌, true, ◌&&◌, List, [], ◌∷◌, ◌++◌, length, Option, Some, None, append_assoc, length-append, refl, sym, ap, ◌∙◌, subst, arith}
 use Rattle.std.proofs.lemmas.Bool.{and_from}
 use Rattle.null_logic.specs.declared.truth.Truth.{Truth}
 use Rattle.perm_values.specs.declared.kind.Kind.{Kind}
@@ -12,13 +12,13 @@ use Rattle.bag_algebra.specs.Children.{subs_denote}
 use Rattle.bag_algebra.specs.Kinds.{kinds_of, kind_in, place_kinds, shape, width_of}
 use Rattle.bag_algebra.specs.Meaning.{Database, meaning, condition_on}
 use Rattle.bag_algebra.specs.Means.{kept, joined_rows, no_subs}
-use Rattle.bag_algebra.specs.Outcome.{Faults, Outcome, Good, Bad, and_then, both_then, gather}
+use Rattle.bag_algebra.specs.Outcome.{Faults, Bad, and_then, both_then, gather}
 use Rattle.bag_algebra.specs.Rewriting.{IsRewrite, Stands, is_plain}
 use Rattle.bag_algebra.specs.Scoped.{over_tables}
 use Rattle.bag_algebra.specs.TablesRead.{EachTable}
-use Rattle.bag_algebra.specs.WellFormed.{WellFormed, HasKind, PlacesIn, column_kind, sub_form}
+use Rattle.bag_algebra.specs.WellFormed.{WellFormed, HasKind, sub_form}
 use Rattle.bag_algebra.specs.declared.expr.Expr.{Expr}
-use Rattle.bag_algebra.specs.declared.expr.Expr.TheVariants.{IsTruth, Sub}
+use Rattle.bag_algebra.specs.declared.expr.Expr.TheVariants.{Sub}
 use Rattle.bag_algebra.specs.declared.query.JoinKind.TheVariants.{Inner, Left}
 use Rattle.bag_algebra.specs.declared.query.Query.{Query, more_of-Sublink, end_of-Sublink}
 use Rattle.bag_algebra.specs.declared.query.Query.TheVariants.{Single}
@@ -26,7 +26,7 @@ use Rattle.bag_algebra.specs.declared.query.SubKind.{SubKind}
 use Rattle.bag_algebra.specs.declared.query.SubKind.TheVariants.{Exists, Any, All, Scalar}
 use Rattle.bag_algebra.specs.declared.query.Sublink.{Sublink}
 use Rattle.contribution.proofs.CrossBases.{meaning-cross_base, kinds_of-cross_base, plain-cross_base, formed-cross_base}
-use Rattle.contribution.proofs.LongerKinds.{NamesAlso, slice_get-longer, subs_form-longer, well_formed-longer}
+use Rattle.contribution.proofs.LongerKinds.{NamesAlso, names-more, subs_form-longer, well_formed-longer}
 use Rattle.contribution.specs.Conjunctions.{always}
 use Rattle.contribution.specs.CrossBase.{cross_base_of}
 use Rattle.rewrite_base.specs.KeptColumns.{pairs_of}
@@ -40,13 +40,6 @@ use Rattle.rewrite_sublink.specs.Candidates.{matching, or_nulls, same_as_outer, 
 -- what one type has, an equal one has
 pub by : {A B : Type 0} → A ≡ B → A → B
 by e a = subst (λ (X : Type 0). X) e a
-
--- the first columns of a longer row have their names
-pub names-more : (kinds more : List Kind) (outer : List (List Kind)) → NamesAlso (kinds ∷ outer) ((kinds ++ more) ∷ outer)
-names-more kinds more outer = record { named = at } where
-  at : (level place : ℕ) (kind : Kind) → column_kind (kinds ∷ outer) level place ≡ Some kind → column_kind ((kinds ++ more) ∷ outer) level place ≡ Some kind
-  at zero place kind e = slice_get-longer kinds more place kind e
-  at (suc level) place kind e = e
 
 -- what stands for a sublink's query has its form, also where more columns are named
 pub fitting-longer : (sub : Sublink) (s : Query) → Stands sub.query s → (scopes longer : List (List Kind)) → NamesAlso scopes longer → WellFormed scopes sub.query →

@@ -1,5 +1,5 @@
 -- What the query of the matching rows means under a candidate, of which kinds it is, and when it is well formed.
-use Rattle.std.proofs.Common.{◌≡◌, ℕ, ◌+◌, ◌≤◌, Bool, true, false, cond, not, ◌||◌, List, [], ◌∷◌, ◌++◌, map, filter, length, append-nil, length-append, refl, sym, ap, ◌∙◌, subst, arith, inl, inr}
+use Rattle.std.proofs.Common.{◌≡◌, ℕ, ◌+◌, Bool, true, false, cond, not, ◌||◌, List, [], ◌∷◌, ◌++◌, map, filter, length, append-nil, length-append, refl, sym, ap, ◌∙◌, arith, inl, inr}
 use Rattle.std.proofs.lemmas.List.FromFn.{length-range_with_len}
 use Rattle.std.specs.List.{list_any, range_with_len}
 use Rattle.perm_values.specs.Rows.{picked, same_row}
@@ -9,16 +9,16 @@ use Rattle.perm_values.specs.declared.value.Value.{Value}
 use Rattle.perm_values.specs.declared.value.Value.TheVariants.{Boolean}
 use Rattle.bag_algebra.proofs.Members.{IsIn}
 use Rattle.bag_algebra.specs.Bags.{Row, Bag, nulls}
-use Rattle.bag_algebra.specs.Expressions.{value}
 use Rattle.bag_algebra.specs.Kinds.{kinds_of, kinds_in, width_of}
 use Rattle.bag_algebra.specs.Meaning.{Database, meaning, condition_on}
 use Rattle.bag_algebra.specs.Means.{no_subs, holds_of, is_met, kept, joined_rows}
 use Rattle.bag_algebra.specs.Outcome.{Outcome, Good, and_then, mapped, both, both_then, gather}
-use Rattle.bag_algebra.specs.WellFormed.{WellFormed, HasKind}
+use Rattle.bag_algebra.specs.WellFormed.{WellFormed}
 use Rattle.bag_algebra.specs.declared.query.JoinKind.TheVariants.{Left}
 use Rattle.bag_algebra.specs.declared.query.Query.{Query}
 use Rattle.bag_algebra.specs.declared.query.Query.TheVariants.{Single}
 use Rattle.contribution.specs.Conjunctions.{always}
+use Rattle.query_laws.proofs.Filtered.{put_before}
 use Rattle.rewrite_base.proofs.Places.{at-between, within-range}
 use Rattle.contribution.proofs.NodeQueries.{meaning-pairs, meaning-chosen, formed-pairs, formed-chosen}
 use Rattle.rewrite_sublink.proofs.Contributing.{padded_rows, matching_rows}
@@ -31,16 +31,12 @@ kept-if : (condition : Row → Outcome Value) (u : Row) (b : Bool) → condition
 kept-if condition u true e = ap (mapped (λ v. cond (holds_of v) (u ∷ []) [])) e
 kept-if condition u false e = ap (mapped (λ v. cond (holds_of v) (u ∷ []) [])) e
 
-joined-if : (b : Bool) (u : Row) (us : Bag) → cond b (u ∷ []) [] ++ us ≡ cond b (u ∷ us) us
-joined-if true u us = refl
-joined-if false u us = refl
-
 pub gather-kept : (condition : Row → Outcome Value) (test : Row → Bool) (us : Bag) → ((u : Row) → IsIn u us → condition u ≡ Good (Boolean (test u))) →
     gather (kept condition) us ≡ Good (filter test us)
 gather-kept condition test [] good = refl
 gather-kept condition test (u ∷ us) good =
     (λ i. both (λ ys zs. ys ++ zs) (kept-if condition u (test u) (good u (inl refl)) i) (gather-kept condition test us (λ v h. good v (inr h)) i))
-    ∙ ap Good (joined-if (test u) u (filter test us))
+    ∙ ap Good (put_before (test u) u (filter test us))
 
 -- ---- the rows, or one row of NULLs
 

@@ -1,6 +1,6 @@
 -- The one lemma of a sublink on a row: where the sublink is good there, a candidate passes the test exactly where it is one of
 -- its contributions, flattened; and the test is good on every candidate.
-use Rattle.std.proofs.Common.{◌≡◌, ◌↔◌, ℕ, ◌+◌, inl, inr, Bool, true, false, cond, List, [], ◌∷◌, ◌++◌, filter, length, Option, Some, None, Contains, IsTrue, append-nil, length-append, refl, sym, ap, ◌∙◌, subst, arith}
+use Rattle.std.proofs.Common.{◌≡◌, ◌↔◌, ℕ, Bool, true, false, cond, List, [], ◌∷◌, ◌++◌, length, Option, Some, None, Contains, IsTrue, append-nil, refl, sym, ap, ◌∙◌, subst, arith}
 use Rattle.std.proofs.lemmas.Bool.{and_from}
 use Rattle.std.specs.List.{list_any, flat_map, range_with_len}
 use Rattle.perm_values.specs.Rows.{picked}
@@ -9,15 +9,14 @@ use Rattle.perm_values.specs.declared.value.Value.{Value}
 use Rattle.perm_values.specs.declared.value.Value.TheVariants.{Null, Boolean}
 use Rattle.bag_algebra.proofs.BagLaws.{permuted-from_same_bag}
 use Rattle.bag_algebra.proofs.Members.{IsIn, in-member, member-in}
-use Rattle.bag_algebra.proofs.MembersByIndex.{in-from_contains, contains-from_in}
 use Rattle.bag_algebra.proofs.Outcomes.{both_then-parts}
 use Rattle.bag_algebra.proofs.TablesRead.{reads_among-fit}
 use Rattle.bag_algebra.specs.Bags.{Row, Bag, member}
 use Rattle.bag_algebra.specs.Children.{subs_denote, sublink_value}
 use Rattle.bag_algebra.specs.Fits.{TablesFit, env_fits, row_begins}
 use Rattle.bag_algebra.specs.Kinds.{kinds_of, place_kinds, shape, width_of}
-use Rattle.bag_algebra.specs.Meaning.{Database, denote, meaning, witnesses, optional_value, condition_on}
-use Rattle.bag_algebra.specs.Means.{Means, Witness, flat, all_empty, cell, chosen, contribution_of, good_rows, good_value, holds_of, is_met, is_some_row, sub_value}
+use Rattle.bag_algebra.specs.Meaning.{Database, meaning, witnesses, optional_value, condition_on}
+use Rattle.bag_algebra.specs.Means.{Means, Witness, flat, all_empty, cell, chosen, good_rows, good_value, is_met, is_some_row, sub_value}
 use Rattle.bag_algebra.specs.Outcome.{Outcome, Good, Bad, both_then}
 use Rattle.bag_algebra.specs.Rewriting.{IsRewrite, SameRows, Stands}
 use Rattle.bag_algebra.specs.Scoped.{over_tables}

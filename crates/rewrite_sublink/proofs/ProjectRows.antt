@@ -2,7 +2,6 @@
 use Rattle.std.proofs.Common.{◌≡◌, ◌↔◌, ℕ, ◌+◌, ◌-◌, ◌≤◌, ◌<◌, true, slice_index_or, All, List, [], ◌∷◌, ◌++◌, map, length, Contains, append_assoc, append-nil, length-append, refl, sym, ap, ◌∙◌, subst, arith}
 use Rattle.std.proofs.lemmas.Bool.{and_from}
 use Rattle.std.proofs.lemmas.List.{map-append, length-map}
-use Rattle.std.proofs.lemmas.List.FromFn.{length-range_with_len}
 use Rattle.std.proofs.lemmas.List.Elements.{All-append}
 use Rattle.std.specs.List.{range_with_len}
 use Rattle.perm_values.specs.Rows.{picked, value_at}
@@ -10,7 +9,7 @@ use Rattle.perm_values.specs.declared.kind.Kind.{Kind}
 use Rattle.perm_values.specs.declared.kind.Kind.TheVariants as kind
 use Rattle.perm_values.specs.declared.value.Value.{Value}
 use Rattle.perm_values.specs.declared.value.Value.TheVariants.{Null}
-use Rattle.bag_algebra.proofs.Members.{IsIn, in-map, from-map, in-member, member-in}
+use Rattle.bag_algebra.proofs.Members.{IsIn, in-map, from-map, in-member}
 use Rattle.bag_algebra.proofs.Outcomes.{mapped-is}
 use Rattle.bag_algebra.proofs.TablesRead.{reads_among-each, reads_among-itself}
 use Rattle.bag_algebra.proofs.Widths.{place_kinds-append}
@@ -21,7 +20,7 @@ use Rattle.bag_algebra.specs.Children.{subs_denote, subs_shape}
 use Rattle.bag_algebra.specs.ColumnItems.{column_item, column_items}
 use Rattle.bag_algebra.specs.Expressions.{value}
 use Rattle.bag_algebra.specs.Fits.{TablesFit, bag_fits, env_fits, row_begins}
-use Rattle.bag_algebra.specs.Kinds.{kinds_of, kinds_in, kind_in, place_kinds, shape, width_of}
+use Rattle.bag_algebra.specs.Kinds.{kinds_of, kinds_in, place_kinds, shape, width_of}
 use Rattle.bag_algebra.specs.Meaning.{Database, meaning, witnesses, items_on}
 use Rattle.bag_algebra.specs.Means.{SubMeans, Witness, flat, good_rows}
 use Rattle.bag_algebra.specs.Outcome.{Faults, Outcome, Good, Bad, and_then, both, each, mapped}
@@ -35,7 +34,7 @@ use Rattle.bag_algebra.specs.declared.query.Sublink.{Sublink}
 use Rattle.contribution.proofs.AddedColumns.{columns-added, items_with_subs-same}
 use Rattle.contribution.proofs.GoodRows.{from-each}
 use Rattle.contribution.proofs.Growth.{row_begins-longer}
-use Rattle.contribution.proofs.LongerKinds.{NamesAlso, all-kept, has_kind-longer}
+use Rattle.contribution.proofs.LongerKinds.{NamesAlso, all-kept, has_kind-longer, names-more}
 use Rattle.contribution.specs.Fitting.{Fitting}
 use Rattle.rewrite_base.proofs.JoinedOutcomes.{rewritten-from_related}
 use Rattle.rewrite_base.proofs.KeptRewriting.{rewriting-related}
@@ -50,9 +49,10 @@ use Rattle.rewrite_base.proofs.BesideLists.{same-from_rewritten}
 use Rattle.rewrite_base.specs.Rewritten.{Beside}
 use Rattle.rewrite_sublink.proofs.AllSublinks.{Ready, AllGoodOn, Reached, good-longer, contributes-longer, contributes-shorter, kinds-all, bad-all, plain-all, tables-all, formed-all, reached, stand-plain, stand-tables, stand-form, stand-kinds, stand-agree}
 use Rattle.rewrite_sublink.proofs.Extending.{Extended}
-use Rattle.rewrite_sublink.proofs.Forming.{by, names-more}
+use Rattle.rewrite_sublink.proofs.Forming.{by}
 use Rattle.rewrite_base.proofs.Faults.{SameFaults, same_faults-made, each-bad_alike, in-each}
-use Rattle.rewrite_sublink.proofs.NodeRows.{row-begins, first-of_good, Flattened, flattened, listed, Reaching, reaching-over}
+use Rattle.rewrite_base.proofs.FlatRows.{Flattened, flattened, row-begins, stands_beside}
+use Rattle.rewrite_sublink.proofs.NodeRows.{first-of_good, Reaching, reaching-over}
 use Rattle.rewrite_sublink.specs.Candidates.{all_contributed, beside_row, answer_places, answer_columns}
 use Rattle.query_laws.proofs.AnswerRows.{answer-in, answer-from}
 use Rattle.query_laws.proofs.NodeLists.{project-lists}
@@ -387,7 +387,7 @@ module _ (q r : Query) (items : List Item) (subs standing : List Sublink) (rewri
         reaching : meaning r db env ≡ Good vs → Reaching node first p db env bad (each on us) (each all_on vs)
         reaching is_rewriting = record {
           faults = each-bad_alike on all_on us vs (record {
-            there = λ u i. let s = listed (witnesses q db env) us vs b u i in (u ++ flat s.list, s.row, alike u s.list i s.is_list);
+            there = λ u i. let s = stands_beside (witnesses q db env) us vs b u i in (u ++ flat s.list, s.row, alike u s.list i s.is_list);
             back = λ x j.
                 let row = beside_rows.back x j in
                 (row.0, row.2, subst (λ y. SameFaults (on row.0) (all_on y)) row.4 (alike row.0 row.1 row.2 row.3));

@@ -1,8 +1,8 @@
 -- What the test of a candidate is on a row, where the sublink and the query of the matching rows are good.
-use Rattle.std.proofs.Common.{◌≡◌, ℕ, Bool, true, false, cond, ◌||◌, List, [], ◌∷◌, map, filter, Option, Some, None, refl, sym, ap, ◌∙◌}
-use Rattle.std.specs.List.{list_any, flat_map}
+use Rattle.std.proofs.Common.{◌≡◌, Bool, true, false, cond, List, [], ◌∷◌, map, filter, Option, Some, refl, sym, ap, ◌∙◌}
+use Rattle.std.specs.List.{list_any}
 use Rattle.null_logic.specs.Comparison.{compare_values}
-use Rattle.null_logic.specs.Logic.{is_true, known, truth_not, truth_of, value_of}
+use Rattle.null_logic.specs.Logic.{is_true, truth_not, value_of}
 use Rattle.null_logic.specs.declared.compare.Compare.{Compare}
 use Rattle.null_logic.specs.declared.truth.Truth.{Truth}
 use Rattle.null_logic.specs.declared.truth.Truth.TheVariants.{True, False, Unknown}
@@ -13,7 +13,6 @@ use Rattle.bag_algebra.specs.Bags.{Row, Bag}
 use Rattle.bag_algebra.specs.Built.{value-Case, value-IsTruth}
 use Rattle.bag_algebra.specs.Children.{subs_denote}
 use Rattle.bag_algebra.specs.Expressions.{value, has_truth, chosen_arm}
-use Rattle.bag_algebra.specs.Kinds.{kinds_of}
 use Rattle.bag_algebra.specs.Meaning.{Database, meaning, optional_value, condition_on}
 use Rattle.bag_algebra.specs.Means.{cell, comparisons, some_of, all_of, sub_value, chosen, is_some_row}
 use Rattle.bag_algebra.specs.Outcome.{Outcome, Good, and_then, mapped, both, both_then}
@@ -22,10 +21,10 @@ use Rattle.bag_algebra.specs.declared.expr.Expr.TheVariants.{Sub}
 use Rattle.bag_algebra.specs.declared.query.Query.{Query}
 use Rattle.bag_algebra.specs.declared.query.SubKind.{SubKind}
 use Rattle.bag_algebra.specs.declared.query.SubKind.TheVariants.{Exists, Any, All, Scalar}
-use Rattle.bag_algebra.specs.declared.query.Sublink.{Sublink}
 use Rattle.contribution.proofs.TruthKept.{some_of-is_true, all_of-is_false}
 use Rattle.contribution.proofs.ColumnQueries.{meaning-columns}
 use Rattle.rewrite_sublink.specs.Candidates.{deciding, test_condition, test_subs, first_column}
+use Rattle.query_laws.proofs.SublinkValues.{any-map}
 
 -- whether a value lets its row contribute where it decides: it compares true for ANY, false for ALL
 abbrev pub passes_of : SubKind → Value → Value → Bool
@@ -35,10 +34,6 @@ passes_of (All c) x y = is_true (truth_not (compare_values c x y))
 passes_of Scalar x y = false
 
 -- ---- tests of lists
-
-any-map : {X Y : Type 0} (test : Y → Bool) (f : X → Y) (xs : List X) → list_any test (map f xs) ≡ list_any (λ x. test (f x)) xs
-any-map test f [] = refl
-any-map test f (x ∷ xs) = ap (λ b. test (f x) || b) (any-map test f xs)
 
 none-any : {X : Type 0} (xs : List X) → list_any (λ (x : X). false) xs ≡ false
 none-any [] = refl

@@ -28,17 +28,17 @@ pub fn limit(
         drop(rewriting);
         return Err(NoMemory);
     };
-    let Limited { rows, columns } = plain;
+    let FirstRows { rows, columns } = plain;
     join_on_first_columns(alloc, rows, rewriting, columns, columns)
 }
 
 /// The first rows of a query, and the number of their columns.
-struct Limited {
+struct FirstRows {
     rows: Query,
     columns: usize,
 }
 
-fn limited(alloc: Global, input: Query, keys: &[Key], count: u64) -> Result<Limited, NoMemory>
+fn limited(alloc: Global, input: Query, keys: &[Key], count: u64) -> Result<FirstRows, NoMemory>
     ensures rows { IfOk result (λ plain. plain.rows ≡ Limit input keys.now count) }
     ensures columns { IfOk result (λ plain. plain.columns ≡ width_of input) }
 {
@@ -46,7 +46,7 @@ fn limited(alloc: Global, input: Query, keys: &[Key], count: u64) -> Result<Limi
         drop(input);
         return Err(NoMemory);
     };
-    Ok(Limited {
+    Ok(FirstRows {
         rows: Query::limit(alloc, input, keys, count)?,
         columns,
     })

@@ -1,9 +1,6 @@
-use Rattle.std.proofs.Common.{◌≡◌, ◌+◌, ℕ, List, length, map, length-append, sym, ap, ◌∙◌, subst}
-use Rattle.std.proofs.lemmas.List.{length-map}
-use Rattle.bag_algebra.specs.Built.{kinds_of-Aggregate}
-use Rattle.bag_algebra.specs.Kinds.{kinds_of, kinds_in, kind_in, width_of}
+use Rattle.std.proofs.Common.{sym, ◌∙◌, subst}
+use Rattle.bag_algebra.proofs.Widths.{width-Aggregate}
 use Rattle.bag_algebra.specs.Rewriting.{IsRewrite, Stands}
-use Rattle.bag_algebra.specs.declared.query.Aggr.{Aggr}
 use Rattle.bag_algebra.specs.declared.query.JoinKind.TheVariants.{Left}
 use Rattle.bag_algebra.specs.declared.query.Query.{Query}
 use Rattle.bag_algebra.specs.declared.query.Query.TheVariants.{Aggregate}
@@ -12,12 +9,6 @@ use Rattle.contribution.proofs.NodeQueries.{of_made}
 use Rattle.rewrite_core.proofs.AggregateRows.{aggregate-made}
 use Rattle.rewrite_core.specs.SameGroups.{same_groups}
 use Rattle.rewrite_core.proofs.grouping.aggregate.Goals as goal
-
-width-Aggregate : (input : Query) (groups : List ℕ) (aggregates : List Aggr) → width_of (Aggregate input groups aggregates) ≡ length groups + length aggregates
-width-Aggregate input groups aggregates =
-    ap length (kinds_of-Aggregate input groups aggregates)
-    ∙ length-append (kinds_in (kinds_of input) groups) (map (λ (aggregate : Aggr). aggregate.kind) aggregates)
-    ∙ (λ i. length-map groups (kind_in (kinds_of input)) i + length-map aggregates (λ (aggregate : Aggr). aggregate.kind) i)
 
 pub returns : goal.returns
 returns c =

@@ -1,4 +1,4 @@
-use Rattle.std.proofs.Common.{◌≡◌, [], refl, List, ℕ, Result, Ok, Err, IfOk}
+use Rattle.std.proofs.Common.{[], refl, List, ℕ, Result, Ok, Err, IfOk}
 use Rattle.perm_values.specs.declared.no_memory.NoMemory.{NoMemory}
 use Rattle.bag_algebra.specs.ColumnItems.{column_items}
 use Rattle.bag_algebra.specs.Kinds.{kinds_of}

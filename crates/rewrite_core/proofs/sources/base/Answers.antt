@@ -7,7 +7,7 @@ use Rattle.bag_algebra.specs.Rewriting.{IsRewrite, Stands}
 use Rattle.bag_algebra.specs.declared.query.Label.{Label}
 use Rattle.bag_algebra.specs.declared.query.Query.{Query, end_of-Sublink}
 use Rattle.bag_algebra.specs.declared.query.Query.TheVariants.{Base}
-use Rattle.rewrite_core.proofs.BaseRows.{order_of, columns_of, rewrite-Base}
+use Rattle.rewrite_core.proofs.BaseRows.{order_of, rewrite-Base}
 use Rattle.rewrite_core.proofs.sources.base.Goals as goal
 
 rewrite-laid : (input : Query) (places order : List ℕ) (result : Result Query NoMemory) → order ≡ order_of input places →
