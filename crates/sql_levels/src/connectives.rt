@@ -70,10 +70,7 @@ impl<T: Fn(&mut Cursor<'_>) -> Result<Boxed<ExprTree>, Unread>> Connectives<T> {
         let at = cursor.offset();
         let nots = words(cursor, Sort::Not)?;
         let part = self.part(cursor)?;
-        match negated(cursor.alloc(), at, nots.len() as u64, part) {
-            Ok(tree) => Ok(tree),
-            Err(NoMemory) => Err(Unread::NoMemory),
-        }
+        Ok(negated(cursor.alloc(), at, nots.len() as u64, part)?)
     }
 
     /// A part, and those that stand behind it, each behind AND.
@@ -109,10 +106,7 @@ impl<T: Fn(&mut Cursor<'_>) -> Result<Boxed<ExprTree>, Unread>> Connectives<T> {
         }
         let at = first.get().at;
         let parts = self.conjuncts(cursor, first)?;
-        match connected(cursor.alloc(), at, Operator::And, parts) {
-            Ok(tree) => Ok(tree),
-            Err(NoMemory) => Err(Unread::NoMemory),
-        }
+        Ok(connected(cursor.alloc(), at, Operator::And, parts)?)
     }
 
     /// A part, and those that stand behind it, each behind OR.
@@ -149,9 +143,6 @@ impl<T: Fn(&mut Cursor<'_>) -> Result<Boxed<ExprTree>, Unread>> Connectives<T> {
         }
         let at = first.get().at;
         let parts = self.disjuncts(cursor, first)?;
-        match connected(cursor.alloc(), at, Operator::Or, parts) {
-            Ok(tree) => Ok(tree),
-            Err(NoMemory) => Err(Unread::NoMemory),
-        }
+        Ok(connected(cursor.alloc(), at, Operator::Or, parts)?)
     }
 }

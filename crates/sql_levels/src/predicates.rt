@@ -10,7 +10,7 @@ ghost use Rattle.sql_grammar.specs.declared.sort.Sort.TheVariants as s;
 
 use crate::tail::Tail;
 use null_logic::{Compare, Truth};
-use perm_values::{Boxed, NoMemory};
+use perm_values::Boxed;
 use sql_grammar::{Cursor, Nest, Sort, Unread, same_sort, sort_of};
 use sql_lexer::Token;
 use sql_tree::{ExprTree, QueryTree};
@@ -161,10 +161,7 @@ impl<
             return Ok(part);
         }
         let (negated, tail) = self.is_test(cursor)?;
-        match tail.on(cursor.alloc(), negated, part) {
-            Ok(tree) => Ok(tree),
-            Err(NoMemory) => Err(Unread::NoMemory),
-        }
+        Ok(tail.on(cursor.alloc(), negated, part)?)
     }
 
     fn quantified(&self, cursor: &mut Cursor<'_>, op: Compare) -> Result<Tail, Unread>
@@ -218,10 +215,7 @@ impl<
             return Ok(part);
         }
         let tail = self.comparison(cursor)?;
-        match tail.on(cursor.alloc(), false, part) {
-            Ok(tree) => Ok(tree),
-            Err(NoMemory) => Err(Unread::NoMemory),
-        }
+        Ok(tail.on(cursor.alloc(), false, part)?)
     }
 
     fn among(&self, cursor: &mut Cursor<'_>) -> Result<Tail, Unread>
@@ -319,9 +313,6 @@ impl<
         }
         let negated = cursor.passes(Sort::Not)?;
         let tail = self.range(cursor)?;
-        match tail.on(cursor.alloc(), negated, part) {
-            Ok(tree) => Ok(tree),
-            Err(NoMemory) => Err(Unread::NoMemory),
-        }
+        Ok(tail.on(cursor.alloc(), negated, part)?)
     }
 }

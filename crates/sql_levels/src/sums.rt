@@ -92,10 +92,7 @@ impl<P: Fn(&mut Cursor<'_>) -> Result<Boxed<ExprTree>, Unread>> Sums<P> {
         let at = cursor.offset();
         let minuses = words(cursor, Sort::Minus)?;
         let part = self.part(cursor)?;
-        match signed(cursor.alloc(), at, minuses.len() as u64, part) {
-            Ok(tree) => Ok(tree),
-            Err(NoMemory) => Err(Unread::NoMemory),
-        }
+        Ok(signed(cursor.alloc(), at, minuses.len() as u64, part)?)
     }
 
     #[tactic(auto, using(sql_grammar::proofs::Steps::product_step_is))]
@@ -140,10 +137,7 @@ impl<P: Fn(&mut Cursor<'_>) -> Result<Boxed<ExprTree>, Unread>> Sums<P> {
     {
         let first = self.sign(cursor)?;
         let steps = self.product_steps(cursor)?;
-        match chain(cursor.alloc(), first, steps) {
-            Ok(tree) => Ok(tree),
-            Err(NoMemory) => Err(Unread::NoMemory),
-        }
+        Ok(chain(cursor.alloc(), first, steps)?)
     }
 
     #[tactic(auto, using(sql_grammar::proofs::Steps::sum_step_is))]
@@ -188,9 +182,6 @@ impl<P: Fn(&mut Cursor<'_>) -> Result<Boxed<ExprTree>, Unread>> Sums<P> {
     {
         let first = self.product(cursor)?;
         let steps = self.sum_steps(cursor)?;
-        match chain(cursor.alloc(), first, steps) {
-            Ok(tree) => Ok(tree),
-            Err(NoMemory) => Err(Unread::NoMemory),
-        }
+        Ok(chain(cursor.alloc(), first, steps)?)
     }
 }

@@ -72,10 +72,7 @@ fn named(cursor: &mut Cursor<'_>, first: &Token<'_>) -> Result<ExprBody, Unread>
     ensures fewer { IfOk result (λ _. length cursor.new ≤ length cursor.old) }
 {
     let second = cursor.name_behind_dot()?;
-    match column(cursor.alloc(), first, second) {
-        Ok(body) => Ok(body),
-        Err(NoMemory) => Err(Unread::NoMemory),
-    }
+    Ok(column(cursor.alloc(), first, second)?)
 }
 
 fn count_rows(cursor: &mut Cursor<'_>) -> Result<ExprBody, Unread>
@@ -107,7 +104,7 @@ impl<
         })
     }
 
-    #[tactic(auto, using(crate::proofs::Primaries::counted_is))]
+    #[tactic(auto, using(crate::proofs::PrimariesRead::counted_is))]
     fn counted(&self, cursor: &mut Cursor<'_>) -> Result<ExprBody, Unread>
         requires sound { NestReads self.now.nest F.pre G.pre F.post G.post }
         requires below { length cursor.old < self.now.nest.most }
@@ -132,7 +129,7 @@ impl<
         cursor.value_before(body, Sort::Closing)
     }
 
-    #[tactic(auto, using(crate::proofs::Primaries::count_is))]
+    #[tactic(auto, using(crate::proofs::PrimariesRead::count_is))]
     pub(crate) fn count(&self, cursor: &mut Cursor<'_>) -> Result<ExprBody, Unread>
         requires sound { NestReads self.now.nest F.pre G.pre F.post G.post }
         requires below { length cursor.old ≤ self.now.nest.most }
@@ -170,7 +167,7 @@ impl<
         })
     }
 
-    #[tactic(auto, using(crate::proofs::Primaries::aggregate_is))]
+    #[tactic(auto, using(crate::proofs::PrimariesRead::aggregate_is))]
     pub(crate) fn aggregate(&self, cursor: &mut Cursor<'_>) -> Result<ExprBody, Unread>
         requires sound { NestReads self.now.nest F.pre G.pre F.post G.post }
         requires below { length cursor.old ≤ self.now.nest.most }
@@ -205,7 +202,7 @@ impl<
         Ok(ExprBody::Coalesce(self.enclosed_list(cursor)?))
     }
 
-    #[tactic(auto, using(crate::proofs::Primaries::coalesce_is))]
+    #[tactic(auto, using(crate::proofs::PrimariesRead::coalesce_is))]
     pub(crate) fn coalesce(&self, cursor: &mut Cursor<'_>) -> Result<ExprBody, Unread>
         requires sound { NestReads self.now.nest F.pre G.pre F.post G.post }
         requires below { length cursor.old ≤ self.now.nest.most }
@@ -232,7 +229,7 @@ impl<
         cursor.value_before(ExprBody::NullIf { first, second }, Sort::Closing)
     }
 
-    #[tactic(auto, using(crate::proofs::Primaries::null_if_is))]
+    #[tactic(auto, using(crate::proofs::PrimariesRead::null_if_is))]
     pub(crate) fn null_if(&self, cursor: &mut Cursor<'_>) -> Result<ExprBody, Unread>
         requires sound { NestReads self.now.nest F.pre G.pre F.post G.post }
         requires below { length cursor.old ≤ self.now.nest.most }
@@ -249,7 +246,7 @@ impl<
 }
 
 /// A column, which begins with a name that is no function's word.
-#[tactic(auto, using(crate::proofs::Primaries::reference_is))]
+#[tactic(auto, using(crate::proofs::PrimariesRead::reference_is))]
 pub(crate) fn column_of(cursor: &mut Cursor<'_>) -> Result<ExprBody, Unread>
     ensures given { spec.Reads result (spec.reading n.Reference cursor.old) cursor.new }
     ensures fewer { IfOk result (λ _. length cursor.new < length cursor.old) }

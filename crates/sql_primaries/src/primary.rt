@@ -72,10 +72,7 @@ pub fn literal(cursor: &mut Cursor<'_>) -> Result<ExprBody, Unread>
     ensures fewer { IfOk result (λ _. length cursor.new < length cursor.old) }
 {
     let token = cursor.one(&LITERALS)?;
-    match literal_of(cursor.alloc(), token) {
-        Ok(body) => Ok(body),
-        Err(NoMemory) => Err(Unread::NoMemory),
-    }
+    Ok(literal_of(cursor.alloc(), token)?)
 }
 
 #[tactic(auto, using(sql_grammar::proofs::Steps::cast_kind_is))]
@@ -159,7 +156,7 @@ impl<
         Ok(Some(self.nest.expression(cursor)?))
     }
 
-    #[tactic(auto, using(crate::proofs::Primaries::case_is))]
+    #[tactic(auto, using(crate::proofs::PrimariesRead::case_is))]
     fn case(&self, cursor: &mut Cursor<'_>) -> Result<ExprBody, Unread>
         requires sound { NestReads self.now.nest F.pre G.pre F.post G.post }
         requires below { length cursor.old ≤ self.now.nest.most }
@@ -196,7 +193,7 @@ impl<
         }
     }
 
-    #[tactic(auto, using(crate::proofs::Primaries::parentheses_is))]
+    #[tactic(auto, using(crate::proofs::PrimariesRead::parentheses_is))]
     fn parentheses(&self, cursor: &mut Cursor<'_>) -> Result<ExprBody, Unread>
         requires sound { NestReads self.now.nest F.pre G.pre F.post G.post }
         requires below { length cursor.old ≤ self.now.nest.most }
@@ -237,7 +234,7 @@ impl<
         }
     }
 
-    #[tactic(auto, using(crate::proofs::Primaries::primary_is))]
+    #[tactic(auto, using(crate::proofs::PrimariesRead::primary_is))]
     pub fn primary(&self, cursor: &mut Cursor<'_>) -> Result<Boxed<ExprTree>, Unread>
         requires sound { NestReads self.now.nest F.pre G.pre F.post G.post }
         requires below { length cursor.old ≤ self.now.nest.most }
@@ -246,9 +243,6 @@ impl<
     {
         let at = cursor.offset();
         let body = self.body(cursor)?;
-        match node(cursor.alloc(), at, body) {
-            Ok(tree) => Ok(tree),
-            Err(NoMemory) => Err(Unread::NoMemory),
-        }
+        Ok(node(cursor.alloc(), at, body)?)
     }
 }

@@ -1,5 +1,5 @@
 use Rattle.std.proofs.Common.{arith}
-use Rattle.sql_primaries.proofs.Primaries.{reference_is}
+use Rattle.sql_primaries.proofs.PrimariesRead.{reference_is}
 use Rattle.sql_primaries.proofs.calls.column_of.Goals as goal
 
 pub returns-in_err-token-clause-given : goal.returns-in_err-token-clause-given

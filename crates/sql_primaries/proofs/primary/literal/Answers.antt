@@ -5,5 +5,5 @@ use Rattle.sql_primaries.proofs.primary.literal.Goals as goal
 pub returns-in_err-token-clause-given : goal.returns-in_err-token-clause-given
 returns-in_err-token-clause-given c = grind (arith, literal_is)
 
-pub returns-in-Ok-clause-given : goal.returns-in-Ok-clause-given
-returns-in-Ok-clause-given c = grind (arith, literal_is)
+pub returns-clause-given : goal.returns-clause-given
+returns-clause-given c = grind (arith, literal_is)

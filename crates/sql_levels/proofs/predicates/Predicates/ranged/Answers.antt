@@ -11,5 +11,5 @@ returns-in_err-negated-clause-given g c = grind (arith, ranged_is)
 pub returns-in_err-tail-clause-given : goal.returns-in_err-tail-clause-given
 returns-in_err-tail-clause-given g c = grind (arith, ranged_is)
 
-pub returns-in-Ok-clause-given : goal.returns-in-Ok-clause-given
-returns-in-Ok-clause-given g c = grind (arith, ranged_is)
+pub returns-clause-given : goal.returns-clause-given
+returns-clause-given g c = grind (arith, ranged_is)

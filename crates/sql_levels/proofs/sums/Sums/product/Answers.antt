@@ -8,5 +8,5 @@ returns-in_err-first-clause-given g c = grind (arith, product_is)
 pub returns-in_err-steps-clause-given : goal.returns-in_err-steps-clause-given
 returns-in_err-steps-clause-given g c = grind (arith, product_is)
 
-pub returns-in-Ok-clause-given : goal.returns-in-Ok-clause-given
-returns-in-Ok-clause-given g c = grind (arith, product_is)
+pub returns-clause-given : goal.returns-clause-given
+returns-clause-given g c = grind (arith, product_is)

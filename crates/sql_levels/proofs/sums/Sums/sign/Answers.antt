@@ -8,5 +8,5 @@ returns-in_err-minuses-clause-given g c = grind (arith, sign_is)
 pub returns-in_err-part-clause-given : goal.returns-in_err-part-clause-given
 returns-in_err-part-clause-given g c = grind (arith, sign_is)
 
-pub returns-in-Ok-clause-given : goal.returns-in-Ok-clause-given
-returns-in-Ok-clause-given g c = grind (arith, sign_is)
+pub returns-clause-given : goal.returns-clause-given
+returns-clause-given g c = grind (arith, sign_is)

@@ -1,5 +1,5 @@
 use Rattle.std.proofs.Common.{arith}
-use Rattle.sql_primaries.proofs.Primaries.{aggregate_is}
+use Rattle.sql_primaries.proofs.PrimariesRead.{aggregate_is}
 use Rattle.sql_primaries.proofs.grammar.Primaries.aggregate.Goals as goal
 
 pub returns-in_err-token-clause-given : goal.returns-in_err-token-clause-given

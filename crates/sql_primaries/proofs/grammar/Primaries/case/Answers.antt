@@ -1,5 +1,5 @@
 use Rattle.std.proofs.Common.{arith}
-use Rattle.sql_primaries.proofs.Primaries.{case_is}
+use Rattle.sql_primaries.proofs.PrimariesRead.{case_is}
 use Rattle.sql_primaries.proofs.grammar.Primaries.case.Goals as goal
 
 pub returns-in_err-past-clause-given : goal.returns-in_err-past-clause-given

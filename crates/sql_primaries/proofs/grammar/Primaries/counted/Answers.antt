@@ -1,5 +1,5 @@
 use Rattle.std.proofs.Common.{arith}
-use Rattle.sql_primaries.proofs.Primaries.{counted_is}
+use Rattle.sql_primaries.proofs.PrimariesRead.{counted_is}
 use Rattle.sql_primaries.proofs.grammar.Primaries.counted.Goals as goal
 
 pub returns-then-sees-clause-given : goal.returns-then-sees-clause-given

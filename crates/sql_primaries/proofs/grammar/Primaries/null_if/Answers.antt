@@ -1,5 +1,5 @@
 use Rattle.std.proofs.Common.{arith}
-use Rattle.sql_primaries.proofs.Primaries.{null_if_is}
+use Rattle.sql_primaries.proofs.PrimariesRead.{null_if_is}
 use Rattle.sql_primaries.proofs.grammar.Primaries.null_if.Goals as goal
 
 pub returns-in_err-token-clause-given : goal.returns-in_err-token-clause-given

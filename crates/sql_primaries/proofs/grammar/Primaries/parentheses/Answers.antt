@@ -1,5 +1,5 @@
 use Rattle.std.proofs.Common.{arith}
-use Rattle.sql_primaries.proofs.Primaries.{parentheses_is}
+use Rattle.sql_primaries.proofs.PrimariesRead.{parentheses_is}
 use Rattle.sql_primaries.proofs.grammar.Primaries.parentheses.Goals as goal
 
 pub returns-in_err-past-clause-given : goal.returns-in_err-past-clause-given
