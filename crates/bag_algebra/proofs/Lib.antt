@@ -11,7 +11,6 @@ pub mod NeverBad
 pub mod OneKind
 pub mod Outcomes
 pub mod Rest
-pub mod Seeking
 pub mod SetCounts
 pub mod SortedBags
 pub mod TablesRead

@@ -1,6 +1,5 @@
 pub mod Bags
 pub mod Built
-pub mod BuiltEvery
 pub mod BuiltFaultFree
 pub mod BuiltForms
 pub mod BuiltMeasures
@@ -8,7 +7,6 @@ pub mod BuiltScopes
 pub mod Children
 pub mod Closed
 pub mod ColumnItems
-pub mod EveryNode
 pub mod Expressions
 pub mod FaultFree
 pub mod Fits
@@ -21,7 +19,6 @@ pub mod Patterns
 pub mod PlaceNames
 pub mod Rewriting
 pub mod Scoped
-pub mod Sought
 pub mod TableRows
 pub mod TablesRead
 pub mod WellFormed

@@ -1,4 +1,4 @@
-//! How large a query is, of which kinds its columns are, and the tests of queries: plain, scoped, free of faults.
+//! How large a query is, how many columns it has, and the tests of queries: plain, scoped, free of faults.
 
 mod faults;
 mod kinds;
@@ -7,7 +7,7 @@ mod scopes;
 mod sizes;
 
 pub use faults::{fault_free, faultless};
-pub use kinds::{kind_at, width};
+pub use kinds::width;
 pub use laws::{
     expressions_have_one_kind, fault_free_queries_meet_no_fault,
     faultless_expressions_meet_no_fault, more_sublinks_change_nothing,

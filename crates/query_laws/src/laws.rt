@@ -8,7 +8,7 @@ ghost use Rattle.perm_values.specs.Rows.{same_row, picked};
 ghost use Rattle.perm_values.specs.declared.key.Key.{Key};
 ghost use Rattle.perm_values.specs.declared.kind.Kind.{Kind};
 ghost use Rattle.perm_values.specs.declared.value.Value.TheVariants.{Null, Integer};
-ghost use Rattle.perm_values.specs.declared.value.Value.{Value as Cell};
+ghost use Rattle.perm_values.specs.declared.value.Value.{Value};
 ghost use Rattle.bag_algebra.specs.Bags.{Row, Bag, count, member};
 ghost use Rattle.bag_algebra.specs.Children.{subs_denote};
 ghost use Rattle.bag_algebra.specs.Expressions.{value};
@@ -65,7 +65,8 @@ pub fn project_adds_counts()
 /// A row has the sum, over the pairs that make it and whose condition is true, of the products of their counts, and the
 /// counts of the unmatched rows of a kept side that make it beside NULLs. What the pairs meet is met.
 pub fn join_multiplies_counts()
-    ensures { (kind : JoinKind) (left right : Query) (condition : Expr) (subs : List Sublink) (db : Database) (env : List Row) →
+    ensures { (kind : JoinKind) (left right : Query) (condition : Expr) (subs : List Sublink) (db : Database)
+        (env : List Row) →
         IsJoined kind (condition_on condition env (subs_denote subs db env)) (width_of left) (width_of right) (meaning left db env) (meaning right db env) (meaning (Join kind left right condition subs) db env) }
 {}
 
@@ -97,7 +98,9 @@ pub fn distinct_has_each_row_once()
 /// class. Without groups exactly one row. A bad argument on a row is met, and otherwise a sum that doesn't fit.
 pub fn aggregate_has_a_row_for_each_class()
     ensures { (input : Query) (groups : List ℕ) (aggregates : List Aggr) (db : Database) (env : List Row) →
-        IsGrouped groups (map (λ (aggregate : Aggr). aggregate.function) aggregates) (arguments_on aggregates env) (meaning input db env) (meaning (Aggregate input groups aggregates) db env) }
+        IsGrouped groups (map (λ (aggregate : Aggr). aggregate.function) aggregates)
+        (arguments_on aggregates env) (meaning input db env)
+        (meaning (Aggregate input groups aggregates) db env) }
 {}
 
 /// LIMIT gives the first rows of the input in the printed order.
@@ -131,22 +134,30 @@ pub fn every_bag_can_be_listed()
 /// Each law above sees bags and fixes its node's answer: for inputs that are the same, bad with one set of faults or good
 /// with one bag, whatever keeps the law is the same.
 pub fn laws_leave_no_choice()
-    ensures filter { (condition : Row → Outcome Cell) (input other a b : Outcome Bag) →
+    ensures filter { (condition : Row → Outcome Value) (input other a b : Outcome Bag) →
         SameRows input other → IsFiltered condition input a → IsFiltered condition other b → SameRows a b }
     ensures project { (items : Row → Outcome Row) (input other a b : Outcome Bag) →
         SameRows input other → IsProjected items input a → IsProjected items other b → SameRows a b }
-    ensures join { (kind : JoinKind) (condition : Row → Outcome Cell) (left_width right_width : ℕ) (left right other another a b : Outcome Bag) →
-        SameRows left other → SameRows right another → IsJoined kind condition left_width right_width left right a → IsJoined kind condition left_width right_width other another b → SameRows a b }
+    ensures join { (kind : JoinKind) (condition : Row → Outcome Value) (left_width right_width : ℕ)
+        (left right other another a b : Outcome Bag) →
+        SameRows left other → SameRows right another →
+        IsJoined kind condition left_width right_width left right a →
+        IsJoined kind condition left_width right_width other another b → SameRows a b }
     ensures union_of { (all : Bool) (left right other another a b : Outcome Bag) →
-        SameRows left other → SameRows right another → IsCombined ◌+◌ in_either all left right a → IsCombined ◌+◌ in_either all other another b → SameRows a b }
+        SameRows left other → SameRows right another → IsCombined ◌+◌ in_either all left right a →
+        IsCombined ◌+◌ in_either all other another b → SameRows a b }
     ensures intersect { (all : Bool) (left right other another a b : Outcome Bag) →
-        SameRows left other → SameRows right another → IsCombined min in_both all left right a → IsCombined min in_both all other another b → SameRows a b }
+        SameRows left other → SameRows right another → IsCombined min in_both all left right a →
+        IsCombined min in_both all other another b → SameRows a b }
     ensures except { (all : Bool) (left right other another a b : Outcome Bag) →
-        SameRows left other → SameRows right another → IsCombined ◌-◌ in_left_alone all left right a → IsCombined ◌-◌ in_left_alone all other another b → SameRows a b }
+        SameRows left other → SameRows right another → IsCombined ◌-◌ in_left_alone all left right a →
+        IsCombined ◌-◌ in_left_alone all other another b → SameRows a b }
     ensures distinct { (input other a b : Outcome Bag) →
         SameRows input other → IsDistinct input a → IsDistinct other b → SameRows a b }
-    ensures aggregate { (groups : List ℕ) (functions : List AggFn) (arguments : Row → Outcome Row) (input other a b : Outcome Bag) →
-        SameRows input other → IsGrouped groups functions arguments input a → IsGrouped groups functions arguments other b → SameRows a b }
+    ensures aggregate { (groups : List ℕ) (functions : List AggFn) (arguments : Row → Outcome Row)
+        (input other a b : Outcome Bag) →
+        SameRows input other → IsGrouped groups functions arguments input a →
+        IsGrouped groups functions arguments other b → SameRows a b }
     ensures limit { (keys : List Key) (most : ℕ) (input other a b : Outcome Bag) →
         SameRows input other → IsLimited keys most input a → IsLimited keys most other b → SameRows a b }
     ensures provenance { (lists : Row → List Witness) (input other a b : Outcome Bag) →
@@ -157,31 +168,32 @@ pub fn laws_leave_no_choice()
 /// are NULL; otherwise SUM is the exact sum and out of range where that doesn't fit, MIN is the first value in order and
 /// MAX the last. The order of the values doesn't count.
 pub fn aggregates_look_at_what_is_not_null()
-    ensures count_rows { (vs : List Cell) →
+    ensures count_rows { (vs : List Value) →
         aggregated CountRows vs ≡ Good (Integer (pos (length vs))) }
-    ensures count { (vs : List Cell) →
+    ensures count { (vs : List Value) →
         aggregated Count vs ≡ Good (Integer (pos (count_by (λ v. not (is_null v)) vs))) }
-    ensures count_distinct { (vs distinct : List Cell) →
+    ensures count_distinct { (vs distinct : List Value) →
         ListsValues distinct vs → aggregated CountDistinct vs ≡ Good (Integer (pos (length distinct))) }
-    ensures distinct_values { (vs : List Cell) → (distinct : List Cell) × ListsValues distinct vs }
-    ensures sum_of_none { (vs : List Cell) → present vs ≡ [] → aggregated Sum vs ≡ Good Null }
-    ensures sum { (vs : List Cell) →
-        present vs ≢ [] → IsTrue (fits_64 (total (present vs))) → aggregated Sum vs ≡ Good (Integer (total (present vs))) }
-    ensures sum_out_of_range { (vs : List Cell) →
+    ensures distinct_values { (vs : List Value) → (distinct : List Value) × ListsValues distinct vs }
+    ensures sum_of_none { (vs : List Value) → present vs ≡ [] → aggregated Sum vs ≡ Good Null }
+    ensures sum { (vs : List Value) →
+        present vs ≢ [] → IsTrue (fits_64 (total (present vs))) →
+        aggregated Sum vs ≡ Good (Integer (total (present vs))) }
+    ensures sum_out_of_range { (vs : List Value) →
         IsFalse (fits_64 (total (present vs))) → aggregated Sum vs ≡ Bad (only OutOfRange) }
-    ensures min_of_none { (vs : List Cell) → present vs ≡ [] → aggregated Min vs ≡ Good Null }
-    ensures least { (vs : List Cell) →
-        present vs ≢ [] → (v : Cell) × IsLeast v (present vs) × (aggregated Min vs ≡ Good v) }
-    ensures max_of_none { (vs : List Cell) → present vs ≡ [] → aggregated Max vs ≡ Good Null }
-    ensures greatest { (vs : List Cell) →
-        present vs ≢ [] → (v : Cell) × IsGreatest v (present vs) × (aggregated Max vs ≡ Good v) }
-    ensures any_order { (function : AggFn) (vs ws : List Cell) →
-        ((v : Cell) → occurrences v vs ≡ occurrences v ws) → aggregated function vs ≡ aggregated function ws }
+    ensures min_of_none { (vs : List Value) → present vs ≡ [] → aggregated Min vs ≡ Good Null }
+    ensures least { (vs : List Value) →
+        present vs ≢ [] → (v : Value) × IsLeast v (present vs) × (aggregated Min vs ≡ Good v) }
+    ensures max_of_none { (vs : List Value) → present vs ≡ [] → aggregated Max vs ≡ Good Null }
+    ensures greatest { (vs : List Value) →
+        present vs ≢ [] → (v : Value) × IsGreatest v (present vs) × (aggregated Max vs ≡ Good v) }
+    ensures any_order { (function : AggFn) (vs ws : List Value) →
+        ((v : Value) → occurrences v vs ≡ occurrences v ws) → aggregated function vs ≡ aggregated function ws }
 {}
 
 /// What is bad meets a fault: the set is never empty.
 pub fn what_is_bad_meets_a_fault()
-    ensures expressions { (e : Expr) (u : Row) (env : List Row) (answers : List Cell) (faults : Faults) →
+    ensures expressions { (e : Expr) (u : Row) (env : List Row) (answers : List Value) (faults : Faults) →
         value e u env answers ≡ Bad faults → (fault : RunFault) × IsTrue (has faults fault) }
     ensures queries { (q : Query) (db : Database) (env : List Row) (faults : Faults) →
         meaning q db env ≡ Bad faults → (fault : RunFault) × IsTrue (has faults fault) }

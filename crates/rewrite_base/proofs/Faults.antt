@@ -1,10 +1,10 @@
 -- Outcomes that are bad alike: what looks at every item meets the faults of the items, however often each comes.
-use Rattle.std.proofs.Common.{◌≡◌, cond, List, [], ◌∷◌, ◌++◌, refl, sym, ap, ◌∙◌, subst, subst₂}
+use Rattle.std.proofs.Common.{◌≡◌, cond, List, [], ◌∷◌, ◌++◌, inl, inr, refl, sym, ap, ◌∙◌, subst, subst₂}
 use Rattle.std.specs.Prelude.{⊤}
 use Rattle.perm_values.specs.declared.value.Value.{Value}
 use Rattle.bag_algebra.proofs.Members.{IsIn}
-use Rattle.bag_algebra.specs.Bags.{Row}
-use Rattle.bag_algebra.specs.Means.{holds_of, kept}
+use Rattle.bag_algebra.specs.Bags.{Row, Bag}
+use Rattle.bag_algebra.specs.Means.{good_rows, holds_of, kept}
 use Rattle.bag_algebra.specs.Outcome.{Faults, Outcome, Good, Bad, mapped, both, gather, each}
 use Rattle.contribution.proofs.SetsOfRows.{SetAgree, set_agree-refl, set_bad, gather-matched}
 
@@ -112,3 +112,23 @@ pub each-bad_alike : {X Y Z W : Type 0} (f : X → Outcome Z) (g : Y → Outcome
     SameFaults (each f xs) (each g ys)
 each-bad_alike f g xs ys alike =
     bare-agree (each f xs) (each g ys) (subst₂ SetAgree (sym (bare-each f xs)) (sym (bare-each g ys)) (bare-matched f g xs ys alike))
+
+-- ---- what items give
+
+module _ {X : Type 0} (f : X → Outcome Row) where
+  in-made : (t : Row) (x : X) (rest : Outcome Bag) (all : Bag) → both (λ u us. u ∷ us) (f x) rest ≡ Good all → f x ≡ Good t → IsIn t all
+  in-made t x (Good us) all e g = subst (IsIn t) (ap good_rows (ap (λ o. both (λ u us. u ∷ us) o (Good us)) (sym g) ∙ e)) (inl refl)
+  in-made t x (Bad h) all e g = absurd (cc (ap (λ o. both (λ u us. u ∷ us) o (Bad h)) (sym g) ∙ e))
+
+  in-later : (t : Row) (o : Outcome Row) (rest : Outcome Bag) (all : Bag) → both (λ u us. u ∷ us) o rest ≡ Good all →
+      ((us : Bag) → rest ≡ Good us → IsIn t us) → IsIn t all
+  in-later t (Good u) (Good us) all e later = subst (IsIn t) (ap good_rows e) (inr (later us refl))
+  in-later t (Good u) (Bad h) all e later = absurd (cc e)
+  in-later t (Bad g) (Good us) all e later = absurd (cc e)
+  in-later t (Bad g) (Bad h) all e later = absurd (cc e)
+
+  -- what an item gives is among what all give
+  pub in-each : (t : Row) (x : X) (xs : List X) (all : Bag) → each f xs ≡ Good all → IsIn x xs → f x ≡ Good t → IsIn t all
+  in-each t x [] all e i g = absurd i
+  in-each t x (y ∷ xs) all e (inl same) g = in-made t y (each f xs) all e (ap f same ∙ g)
+  in-each t x (y ∷ xs) all e (inr i) g = in-later t (f y) (each f xs) all e (λ us h. in-each t x xs us h i g)

@@ -100,7 +100,7 @@ module _ (count from : ℕ) where
       value (same_as_first count from) (first ++ middle ++ (other ++ last)) env [] ≡ Good (Boolean (same_row first other))
   same-value env first middle other last e f g =
       let row = first ++ middle ++ (other ++ last) in
-      tests-value row env [] firsts others as_many
+      tests-value row env [] 0 firsts others as_many
       ∙ (λ i. Good (Boolean (same_row
       ((ap (picked firsts) (append_assoc first middle (other ++ last)) ∙ at-between Null [] first (middle ++ (other ++ last)) 0 count refl e) i)
       (at-between Null (first ++ middle) other last from count f g i))))
@@ -112,7 +112,7 @@ module _ (count from : ℕ) where
       let wide : length kinds ≡ from + (count + length last) =
       length-append (first ++ middle) (first ++ last) ∙ (λ i. f i + (length-append first last ∙ ap (λ n. n + length last) e) i) in
       let long : count ≤ from = omega (arith, e, f, length-append first middle) in
-      conjunction-formed kinds outer [] firsts others
+      conjunction-formed kinds outer [] 0 kinds refl firsts others
       (within-range (length kinds) 0 count (omega (arith, wide, long)))
       (within-range (length kinds) from count (omega (arith, wide)))
       (ap (λ ks. kinds_in ks firsts) (append_assoc first middle (first ++ last))

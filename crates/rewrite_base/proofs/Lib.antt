@@ -1,11 +1,11 @@
 pub mod BesideLists
+pub mod Faults
 pub mod Itself
 pub mod JoinSublinks
 pub mod JoinedOutcomes
 pub mod JoinedRows
 pub mod KeptRewriting
 pub mod KeptRows
-pub mod OpenSublinks
 pub mod Places
 pub mod Provenance
 pub mod WithoutPlaces

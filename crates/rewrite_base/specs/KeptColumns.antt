@@ -17,7 +17,7 @@ kept_places kept left_out all = range_with_len 0 kept ++ range_with_len (kept + 
 
 -- so many of the first columns are the same as those from a place on
 abbrev pub same_as_first : (count from : ℕ) → Expr
-same_as_first count from = all_hold (same_tests (range_with_len 0 count) (range_with_len from count))
+same_as_first count from = all_hold (same_tests 0 (range_with_len 0 count) (range_with_len from count))
 
 -- one of so many of the first columns isn't the same as its fellow behind the place
 abbrev pub differs_from_first : (count from : ℕ) → Expr

@@ -11,7 +11,9 @@ ghost use Rattle.rewrite_base.specs.Rewritten.{Rewritten};
 /// or good with the other's rows beside their flattened lists as its rows.
 pub fn rewritings_stand_beside_lists()
     ensures beside { (q p : Query) (db : Database) (env : List Row) →
-        SameSet (meaning (Prov q) db env) (meaning p db env) → Rewritten (witnesses q db env) (meaning q db env) (meaning p db env) }
+        SameSet (meaning (Prov q) db env) (meaning p db env) →
+        Rewritten (witnesses q db env) (meaning q db env) (meaning p db env) }
     ensures same { (q p : Query) (db : Database) (env : List Row) →
-        Rewritten (witnesses q db env) (meaning q db env) (meaning p db env) → SameSet (meaning (Prov q) db env) (meaning p db env) }
+        Rewritten (witnesses q db env) (meaning q db env) (meaning p db env) →
+        SameSet (meaning (Prov q) db env) (meaning p db env) }
 {}

@@ -1,12 +1,11 @@
 //! Joins of which some columns are left out.
-ghost use Rattle.std.specs.Prelude.{◌≡◌, ◌+◌, ◌-◌, ◌^◌, ◌≤◌, ◌++◌, IfOk, IfErr};
-ghost use Rattle.std.specs.List.{range_with_len};
+ghost use Rattle.std.specs.Prelude.{◌≡◌, ◌+◌, ◌-◌, ◌^◌, ◌≤◌, IfOk, IfErr};
 ghost use Rattle.bag_algebra.specs.Kinds.{width_of};
 ghost use Rattle.bag_algebra.specs.declared.query.JoinKind.TheVariants.{Inner};
 ghost use Rattle.rewrite_base.specs.KeptColumns.{columns_kept, differs_from_first, kept_places, pairs_of, same_as_first};
 
 use bag_algebra::{Expr, JoinKind, Query, width};
-use contribution::{joined, regroup, same_columns};
+use contribution::{join_on, regroup, same_columns};
 use null_logic::Operator;
 use perm_values::{List, NoMemory};
 use std::alloc::Global;
@@ -34,25 +33,14 @@ pub fn exact_width(query: &Query) -> Result<usize, NoMemory>
     Ok(count)
 }
 
-/// As many places, from the first on. It fails only for want of memory.
-pub fn columns_from(alloc: Global, first: usize, count: usize) -> Result<List<usize>, NoMemory>
-    ensures { IfOk result (λ places. places ≡ range_with_len first count) }
-{
-    let mut places = List::new(alloc);
-    for place in first..sum(first, count)? {
-        places.push(place)?;
-    }
-    Ok(places)
-}
-
 /// Whether so many of the first columns are, one by one, the same as those from a place on, two NULLs included. It fails
 /// only for want of memory.
 pub fn same_as_first(alloc: Global, count: usize, from: usize) -> Result<Expr, NoMemory>
     ensures { IfOk result (λ test. test ≡ same_as_first count from) }
 {
-    let first = columns_from(alloc, 0, count)?;
-    let others = columns_from(alloc, from, count)?;
-    same_columns(alloc, first.as_slice(), others.as_slice())
+    let first = List::range(alloc, 0, count)?;
+    let others = List::range(alloc, from, count)?;
+    same_columns(alloc, 0, first.as_slice(), others.as_slice())
 }
 
 /// The join of the queries on the condition, without sublinks, and of its columns the first `kept` and those behind the
@@ -66,10 +54,9 @@ pub fn join_kept(
     kept: usize,
     left_out: usize,
 ) -> Result<Query, NoMemory>
-    requires { kept ≤ width_of left }
     ensures { IfOk result (λ p. p ≡ columns_kept (pairs_of kind left right condition) kept left_out) }
 {
-    let pairs = joined(alloc, kind, left, right, condition)?;
+    let pairs = join_on(alloc, kind, left, right, condition)?;
     let Ok(order) = kept_order(alloc, &pairs, kept, left_out) else {
         drop(pairs);
         return Err(NoMemory);
@@ -87,8 +74,8 @@ fn kept_order(
 {
     let behind = sum(kept, left_out)?;
     let all = exact_width(query)?;
-    let mut order = columns_from(alloc, 0, kept)?;
-    order.append(columns_from(alloc, behind, all.saturating_sub(behind))?)?;
+    let mut order = List::range(alloc, 0, kept)?;
+    order.append(List::range(alloc, behind, all.saturating_sub(behind))?)?;
     Ok(order)
 }
 
@@ -106,15 +93,15 @@ pub fn differs_from_first(alloc: Global, count: usize, from: usize) -> Result<Ex
 
 /// Each row of the left query beside the rows of the right one that begin with the same columns, without these. It fails only
 /// for want of memory.
-pub fn matched(
+pub fn join_on_first_columns(
     alloc: Global,
     left: Query,
     right: Query,
     columns: usize,
     kept: usize,
 ) -> Result<Query, NoMemory>
-    requires { kept ≤ width_of left }
-    ensures { IfOk result (λ p. p ≡ columns_kept (pairs_of Inner left right (same_as_first columns kept)) kept columns) }
+    ensures { IfOk result (λ p.
+        p ≡ columns_kept (pairs_of Inner left right (same_as_first columns kept)) kept columns) }
 {
     let Ok(same) = same_as_first(alloc, columns, kept) else {
         drop(left);

@@ -87,7 +87,7 @@ module _ (groups : List ℕ) (from : ℕ) where
   class-value : (env : List Row) (t u more : Row) → length t ≡ from → length groups ≤ from → PlacesIn (length u) groups →
       value (same_groups groups from) (t ++ (u ++ more)) env [] ≡ Good (Boolean (same_row (take (length groups) t) (picked groups u)))
   class-value env t u more e h within =
-      tests-value (t ++ (u ++ more)) env [] firsts others as_many
+      tests-value (t ++ (u ++ more)) env [] 0 firsts others as_many
       ∙ (λ i. Good (Boolean (same_row (at-first Null t (u ++ more) (omega (arith, e, h)) i) (at-others Null t u more e within i))))
 
   class-formed : (outer : List (List Kind)) (keys rest second more : List Kind) → length (keys ++ rest) ≡ from → keys ≡ kinds_in second groups → PlacesIn (length second) groups →
@@ -97,7 +97,7 @@ module _ (groups : List ℕ) (from : ℕ) where
       let wide : length kinds ≡ from + (length second + length more) =
       length-append (keys ++ rest) (second ++ more) ∙ (λ i. e i + length-append second more i) in
       let many : length keys ≡ length groups = ap length same ∙ length-map groups (kind_in second) in
-      conjunction-formed kinds outer [] firsts others
+      conjunction-formed kinds outer [] 0 kinds refl firsts others
       (within-range (length kinds) 0 (length groups) (omega (arith, wide, e, many, length-append keys rest)))
       (within-moved (length second) (length kinds) from groups (omega (arith, wide)) within)
       (ap (λ ks. kinds_in ks firsts) (append_assoc keys rest (second ++ more))

@@ -26,7 +26,7 @@ use Rattle.bag_algebra.specs.declared.query.Query.TheVariants.{Base}
 use Rattle.contribution.specs.Fitting.{Fitting}
 use Rattle.contribution.proofs.ColumnQueries.{formed-columns, kinds_of-columns, meaning-columns}
 use Rattle.contribution.proofs.NodeQueries.{plain-projected}
-use Rattle.rewrite_core.proofs.Faults.{SameFaults}
+use Rattle.rewrite_base.proofs.Faults.{SameFaults}
 use Rattle.rewrite_core.proofs.NodeRows.{Flattened, rewritten-where}
 use Rattle.rewrite_core.proofs.RowColumns.{from_start, places_in-append, places_in-range, row-width}
 use Rattle.rewrite_core.proofs.RuleRows.{rows-from_beside}

@@ -24,7 +24,7 @@ use Rattle.contribution.proofs.JoinMembers.{in-gather, in-kept}
 use Rattle.contribution.proofs.LongerKinds.{has_kind-longer}
 use Rattle.contribution.specs.Fitting.{Fitting}
 use Rattle.contribution.proofs.NodeQueries.{meaning-chosen, formed-chosen, plain-chosen}
-use Rattle.rewrite_core.proofs.Faults.{SameFaults, kept-alike, gather-bad_alike}
+use Rattle.rewrite_base.proofs.Faults.{SameFaults, kept-alike, gather-bad_alike}
 use Rattle.rewrite_core.proofs.NodeRows.{Flattened, flattened, stands_beside, Made, rewritten-over}
 use Rattle.rewrite_core.proofs.RowColumns.{names-more, row-begins}
 use Rattle.rewrite_core.proofs.RuleRows.{beside-from_rewrite, rows-from_beside}

@@ -33,8 +33,8 @@ use Rattle.contribution.specs.Fitting.{Fitting}
 use Rattle.contribution.proofs.ColumnQueries.{formed-columns, kinds_of-columns, meaning-columns}
 use Rattle.contribution.proofs.NodeQueries.{formed-pairs, meaning-pairs, plain-pairs, plain-projected}
 use Rattle.contribution.specs.MovedColumns.{IsMoved}
-use Rattle.rewrite_core.proofs.Closing.{both-true}
-use Rattle.rewrite_core.proofs.Faults.{SameFaults, kept-alike, gather-bad_alike, good-mapped, mapped-same_faults, same_faults-then}
+use Rattle.bag_algebra.proofs.Truths.{both-true}
+use Rattle.rewrite_base.proofs.Faults.{SameFaults, kept-alike, gather-bad_alike, good-mapped, mapped-same_faults, same_faults-then}
 use Rattle.rewrite_core.proofs.JoinColumns.{all-columns, all-within, flat-all_empty, length-nulls, nulls-append, own-columns, own-within}
 use Rattle.rewrite_core.proofs.NodeRows.{Flattened, flattened, stands_beside, Made, rewritten-over_both}
 use Rattle.rewrite_core.proofs.RowColumns.{flat-append, list-width, row-width, width-rewriting}
@@ -428,7 +428,7 @@ module _ (kind : JoinKind) (left left_rewriting right right_rewriting : Query) (
   rewrite-JoinOf =
       let inputs = tables_read left ++ tables_read right in
       record {
-        plain = plain-projected pairs (column_items (kinds_of pairs) order) ∙ plain-pairs kind left_rewriting right_rewriting on ∙ both-true left_given.plain right_given.plain;
+        plain = plain-projected pairs (column_items (kinds_of pairs) order) ∙ plain-pairs kind left_rewriting right_rewriting on ∙ both-true _ _ left_given.plain right_given.plain;
         kinds = λ outer formed. kinds-rewriting outer formed;
         formed = λ outer formed. formed-rewriting outer formed;
         tables = (

@@ -1,9 +1,7 @@
 pub mod AggregateRows
 pub mod BaseRows
-pub mod Closing
 pub mod DistinctRows
 pub mod ExceptRows
-pub mod Faults
 pub mod FilterRows
 pub mod IntersectRows
 pub mod JoinColumns

@@ -8,7 +8,7 @@ use Rattle.bag_algebra.specs.Means.{Witness, flat, good_rows}
 use Rattle.bag_algebra.specs.Outcome.{Outcome, Good, Bad, and_then, both_then, union}
 use Rattle.bag_algebra.specs.declared.query.Query.{Query}
 use Rattle.contribution.proofs.NoRowLost.{none_lost}
-use Rattle.rewrite_core.proofs.Faults.{SameFaults}
+use Rattle.rewrite_base.proofs.Faults.{SameFaults}
 use Rattle.rewrite_base.specs.Rewritten.{Beside, Rewritten}
 use Rattle.bag_algebra.proofs.MembersByIndex.{contains-from_in}
 

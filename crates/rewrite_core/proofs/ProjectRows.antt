@@ -33,7 +33,7 @@ use Rattle.contribution.proofs.ColumnQueries.{column_items-formed, column_items-
 use Rattle.contribution.proofs.NodeQueries.{meaning-projected, formed-projected, plain-projected}
 use Rattle.contribution.proofs.Padding.{items-append, kinds-append}
 use Rattle.contribution.specs.ItemKinds.{item_kinds}
-use Rattle.rewrite_core.proofs.Faults.{SameFaults, same_faults-made, each-bad_alike, good-mapped}
+use Rattle.rewrite_base.proofs.Faults.{SameFaults, same_faults-made, each-bad_alike, good-mapped}
 use Rattle.rewrite_core.proofs.NodeRows.{Flattened, flattened, stands_beside, Made, rewritten-over}
 use Rattle.rewrite_core.proofs.RowColumns.{behind, names-more, places_in-range, row-begins, row-width, list-width, width-rewriting, width-provenance}
 use Rattle.rewrite_core.proofs.RuleRows.{beside-from_rewrite, rows-from_beside}

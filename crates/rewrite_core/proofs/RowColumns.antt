@@ -1,7 +1,5 @@
 -- The columns of a query's rows and of their flattened lists, and what stands at consecutive places of rows and kinds.
 use Rattle.std.proofs.Common.{◌≡◌, ℕ, zero, suc, ◌+◌, ◌-◌, ◌<◌, ◌≤◌, true, List, [], ◌∷◌, ◌++◌, map, length, slice_index_or, Some, Contains, refl, sym, ap, ◌∙◌, subst, append_assoc, append-nil, arith, length-append}
-use Rattle.std.proofs.lemmas.List.{map-id}
-use Rattle.std.proofs.lemmas.List.FromFn.{map-range_with_len_more}
 use Rattle.std.specs.List.{range_with_len}
 use Rattle.perm_values.specs.declared.kind.Kind.{Kind}
 use Rattle.bag_algebra.proofs.Members.{IsIn}
@@ -42,12 +40,6 @@ flat-append (Held row ∷ v) w = ap (λ r. row ++ r) (flat-append v w) ∙ sym (
 flat-append (Empty width ∷ v) w = ap (λ r. nulls width ++ r) (flat-append v w) ∙ sym (append_assoc (nulls width) (flat v) (flat w))
 
 -- ---- consecutive places
-
-pub range-more : (start count place : ℕ) → start + count ≡ place → range_with_len start (count + 1) ≡ range_with_len start count ++ place ∷ []
-range-more start count place e =
-    sym (map-id (range_with_len start (count + 1)))
-    ∙ map-range_with_len_more (λ n. n) start count place e
-    ∙ ap (λ places. places ++ place ∷ []) (map-id (range_with_len start count))
 
 module _ {X : Type 0} (other : X) where
   there : (before : List X) (x : X) (after : List X) → slice_index_or (before ++ x ∷ after) (length before) other ≡ x

@@ -28,7 +28,7 @@ use Rattle.contribution.specs.Fitting.{Fitting}
 use Rattle.contribution.proofs.NodeQueries.{plain-projected}
 use Rattle.contribution.proofs.Padding.{formed-padded, kinds_of-padded, meaning-padded}
 use Rattle.contribution.specs.NullItems.{padded_row}
-use Rattle.rewrite_core.proofs.Closing.{both-true}
+use Rattle.bag_algebra.proofs.Truths.{both-true}
 use Rattle.rewrite_core.proofs.JoinColumns.{flat-all_empty}
 use Rattle.rewrite_core.proofs.NodeRows.{Flattened, flattened, Made, rewritten-over_both}
 use Rattle.rewrite_core.proofs.RowColumns.{behind, between, flat-append, list-width, places_in-range, row-width, width-provenance, width-rewriting}
@@ -280,7 +280,7 @@ module _ (all : Bool) (left left_rewriting right right_rewriting : Query) (left_
 
   rewrite-UnionOf : IsRewrite node rewriting
   rewrite-UnionOf = record {
-    plain = both-true (padded-plain left_rewriting (width_of left_rewriting) (provenance_kinds right right_rewriting) ∙ left_given.plain)
+    plain = both-true _ _ (padded-plain left_rewriting (width_of left_rewriting) (provenance_kinds right right_rewriting) ∙ left_given.plain)
         (padded-plain right_rewriting (width_of right) (provenance_kinds left left_rewriting) ∙ right_given.plain);
     kinds = λ outer formed. kinds-rewriting outer formed;
     formed = λ outer formed. formed-rewriting outer formed;

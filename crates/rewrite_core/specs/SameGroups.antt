@@ -6,4 +6,4 @@ use Rattle.contribution.specs.Conjunctions.{all_hold, same_tests}
 
 -- the first columns are the same as those at the places of the groups, counted from a place on
 abbrev pub same_groups : List ℕ → (from : ℕ) → Expr
-same_groups groups from = all_hold (same_tests (range_with_len 0 (length groups)) (map (λ place. from + place) groups))
+same_groups groups from = all_hold (same_tests 0 (range_with_len 0 (length groups)) (map (λ place. from + place) groups))

@@ -1,33 +1,31 @@
-//! The rule.
-ghost use Rattle.std.specs.Prelude.{◌≡◌, ◌+◌, ◌≤◌, IfOk, IsTrue, length, map};
-ghost use Rattle.bag_algebra.specs.EveryNode.{no_open_sublink};
+//! The rule of groupings.
+ghost use Rattle.std.specs.Prelude.{◌≡◌, ◌+◌, IfOk, length, map};
 ghost use Rattle.bag_algebra.specs.Kinds.{width_of};
 ghost use Rattle.bag_algebra.specs.Rewriting.{IsRewrite, Stands};
 ghost use Rattle.bag_algebra.specs.declared.query.JoinKind.TheVariants.{Left};
 ghost use Rattle.bag_algebra.specs.declared.query.Query.TheVariants.{Aggregate};
-ghost use Rattle.bag_algebra.specs.declared.query.Query.{Query as Node};
+ghost use Rattle.bag_algebra.specs.declared.query.Query.{Query};
 ghost use Rattle.rewrite_base.specs.KeptColumns.{pairs_of, columns_kept};
 ghost use Rattle.rewrite_core.specs.SameGroups.{same_groups};
 
 use bag_algebra::{Aggr, Expr, JoinKind, Query};
 use contribution::same_columns;
-use perm_values::{Boxed, Copyable, List, NoMemory};
-use rewrite_base::{columns_from, exact_width, join_kept, sum};
+use perm_values::{List, NoMemory, both};
+use rewrite_base::{exact_width, join_kept, sum};
 use std::alloc::Global;
 
 /// A rewriting of the grouping of what the input stands for: each row of the grouping beside the rewriting's rows with the
 /// same group values, two NULLs being the same, and beside NULLs where there is none, which is so for the one row over no
-/// row alone. It has an open sublink only where the input or the rewriting has one, and fails only for want of memory.
+/// row alone. It fails only for want of memory.
 pub fn aggregate(
     alloc: Global,
-    input: &Query,
+    input: Query,
     rewriting: Query,
     groups: &[usize],
     aggregates: &[Aggr],
 ) -> Result<Query, NoMemory>
-    ensures rewrites { IfOk result (λ p. (q : Node) → Stands q input.now → IsRewrite q rewriting → IsRewrite (Aggregate q groups.now aggregates.now) p) }
-    ensures closed { IsTrue (no_open_sublink input.now) → IsTrue (no_open_sublink rewriting) →
-        IfOk result (λ p. IsTrue (no_open_sublink p)) }
+    ensures { IfOk result (λ p. (q : Query) → Stands q input → IsRewrite q rewriting →
+        IsRewrite (Aggregate q groups.now aggregates.now) p) }
 {
     let Ok(plain) = plain_grouping(alloc, input, groups, aggregates) else {
         drop(rewriting);
@@ -50,22 +48,42 @@ struct Plain {
 
 fn plain_grouping(
     alloc: Global,
-    input: &Query,
+    input: Query,
     groups: &[usize],
     aggregates: &[Aggr],
 ) -> Result<Plain, NoMemory>
-    ensures rows { IfOk result (λ plain. plain.rows ≡ Aggregate input.now groups.now aggregates.now) }
+    ensures rows { IfOk result (λ plain. plain.rows ≡ Aggregate input groups.now aggregates.now) }
     ensures kept { IfOk result (λ plain. plain.kept ≡ length groups.now + length aggregates.now) }
-    ensures columns { IfOk result (λ plain. plain.columns ≡ width_of input.now) }
+    ensures columns { IfOk result (λ plain. plain.columns ≡ width_of input) }
 {
-    let kept = sum(groups.len(), aggregates.len())?;
-    let columns = exact_width(input)?;
-    let rows = aggregated(alloc, input, groups, aggregates)?;
+    let Ok((kept, columns)) = both(sum(groups.len(), aggregates.len()), exact_width(&input)) else {
+        drop(input);
+        return Err(NoMemory);
+    };
     Ok(Plain {
-        rows,
+        rows: grouped_rows(alloc, input, groups, aggregates)?,
         kept,
         columns,
     })
+}
+
+fn grouped_rows(
+    alloc: Global,
+    input: Query,
+    groups: &[usize],
+    aggregates: &[Aggr],
+) -> Result<Query, NoMemory>
+    ensures { IfOk result (λ p. p ≡ Aggregate input groups.now aggregates.now) }
+{
+    let copies = both(
+        List::copy_of(alloc, groups),
+        List::copy_of(alloc, aggregates),
+    );
+    let Ok((groups, aggregates)) = copies else {
+        drop(input);
+        return Err(NoMemory);
+    };
+    Query::aggregate(alloc, input, groups, aggregates)
 }
 
 /// Each row of the grouping beside the rewriting's rows of its class, without the columns before the provenance.
@@ -77,8 +95,8 @@ fn beside_class(
     kept: usize,
     columns: usize,
 ) -> Result<Query, NoMemory>
-    requires { kept ≤ width_of plain }
-    ensures { IfOk result (λ p. p ≡ columns_kept (pairs_of Left plain rewriting (same_groups groups.now kept)) kept columns) }
+    ensures { IfOk result (λ p. p ≡
+        columns_kept (pairs_of Left plain rewriting (same_groups groups.now kept)) kept columns) }
 {
     let Ok(same) = same_groups(alloc, groups, kept) else {
         drop(plain);
@@ -95,41 +113,13 @@ fn outwards() -> JoinKind
     JoinKind::Left
 }
 
-fn aggregated(
-    alloc: Global,
-    input: &Query,
-    groups: &[usize],
-    aggregates: &[Aggr],
-) -> Result<Query, NoMemory>
-    ensures { IfOk result (λ p. p ≡ Aggregate input.now groups.now aggregates.now) }
-{
-    let groups = copied(alloc, groups)?;
-    let aggregates = copied(alloc, aggregates)?;
-    let input = Boxed::new(alloc, input.copy(alloc)?)?;
-    Ok(Query::Aggregate {
-        input,
-        groups,
-        aggregates,
-    })
-}
-
-fn copied<T: Copyable>(alloc: Global, items: &[T]) -> Result<List<T>, NoMemory>
-    ensures { IfOk result (λ list. list ≡ items.now) }
-{
-    let mut list = List::new(alloc);
-    for item in items {
-        list.push(item.copy(alloc)?)?;
-    }
-    Ok(list)
-}
-
 /// Whether the first columns are the same as those at the places of the groups, counted from a place on.
 fn same_groups(alloc: Global, groups: &[usize], from: usize) -> Result<Expr, NoMemory>
     ensures { IfOk result (λ test. test ≡ same_groups groups.now from) }
 {
-    let first = columns_from(alloc, 0, groups.len())?;
+    let first = List::range(alloc, 0, groups.len())?;
     let others = counted_from(alloc, groups, from)?;
-    same_columns(alloc, first.as_slice(), others.as_slice())
+    same_columns(alloc, 0, first.as_slice(), others.as_slice())
 }
 
 fn counted_from(alloc: Global, places: &[usize], from: usize) -> Result<List<usize>, NoMemory>

@@ -1,22 +1,22 @@
 //! The rule of joins.
-ghost use Rattle.std.specs.Prelude.{◌≡◌, ◌&&◌, ◌++◌, [], IfOk, IsTrue};
-ghost use Rattle.bag_algebra.specs.EveryNode.{no_open_sublink};
+ghost use Rattle.std.specs.Prelude.{◌≡◌, ◌++◌, [], IfOk};
 ghost use Rattle.bag_algebra.specs.Kinds.{width_of};
 ghost use Rattle.bag_algebra.specs.Rewriting.{IsRewrite};
 ghost use Rattle.bag_algebra.specs.declared.query.Query.TheVariants.{Join};
-ghost use Rattle.bag_algebra.specs.declared.query.Query.{Query as Node};
+ghost use Rattle.bag_algebra.specs.declared.query.Query.{Query};
 ghost use Rattle.contribution.specs.MovedColumns.{IsMoved};
 ghost use Rattle.rewrite_core.specs.JoinColumns.{own_places, added_places, IsPaired, IsLaidOut};
 
-use crate::columns::{add_places, column_count, laid};
+use crate::columns::with_columns;
 use bag_algebra::{Expr, JoinKind, Query};
-use contribution::{joined, moved};
+use contribution::{join_on, moved};
 use perm_values::{List, NoMemory};
+use rewrite_base::{exact_width, sum};
 use std::alloc::Global;
 
 /// A rewriting of a join of any kind on a condition without sublinks: that join of the rewritings, on the condition with its
 /// columns at their places there, and then the columns of the join before those of provenance, the left ones first. It
-/// has an open sublink only where one of the rewritings has one, and fails only for want of memory.
+/// fails only for want of memory.
 pub fn join(
     alloc: Global,
     kind: JoinKind,
@@ -28,9 +28,7 @@ pub fn join(
 ) -> Result<Query, NoMemory>
     requires left { IsRewrite left.now left_rewriting }
     requires right { IsRewrite right.now right_rewriting }
-    ensures rewrites { IfOk result (λ p. IsRewrite (Join kind left.now right.now condition.now []) p) }
-    ensures closed { IsTrue (no_open_sublink left_rewriting) → IsTrue (no_open_sublink right_rewriting) →
-        IfOk result (λ p. IsTrue (no_open_sublink p)) }
+    ensures { IfOk result (λ p. IsRewrite (Join kind left.now right.now condition.now []) p) }
 {
     let Ok(order) = all_columns(alloc, left, &left_rewriting, right, &right_rewriting) else {
         drop(left_rewriting);
@@ -60,10 +58,9 @@ fn laid_out(
     condition: &Expr,
     order: &[usize],
 ) -> Result<Query, NoMemory>
-    ensures rewrites { IfOk result (λ p. (q : Node) → ((whole : Node) →
-        IsLaidOut kind left.now left_rewriting right.now right_rewriting condition.now order.now whole → IsRewrite q whole) → IsRewrite q p) }
-    ensures closed { IsTrue (no_open_sublink left_rewriting) → IsTrue (no_open_sublink right_rewriting) →
-        IfOk result (λ p. IsTrue (no_open_sublink p)) }
+    ensures { IfOk result (λ p. (q : Query) → ((whole : Query) →
+        IsLaidOut kind left.now left_rewriting right.now right_rewriting condition.now order.now whole →
+        IsRewrite q whole) → IsRewrite q p) }
 {
     let pairs = paired(
         alloc,
@@ -74,7 +71,7 @@ fn laid_out(
         right_rewriting,
         condition,
     )?;
-    laid(alloc, pairs, order)
+    with_columns(alloc, pairs, order)
 }
 
 /// The join of the rewritings on the condition over their columns.
@@ -87,15 +84,15 @@ fn paired(
     right_rewriting: Query,
     condition: &Expr,
 ) -> Result<Query, NoMemory>
-    ensures made { IfOk result (λ p. IsPaired kind left.now left_rewriting right.now right_rewriting condition.now p) }
-    ensures closed { IfOk result (λ p. no_open_sublink p ≡ (no_open_sublink left_rewriting && no_open_sublink right_rewriting)) }
+    ensures { IfOk result (λ p.
+        IsPaired kind left.now left_rewriting right.now right_rewriting condition.now p) }
 {
     let Ok(condition) = over_rewritings(alloc, left, &left_rewriting, right, condition) else {
         drop(left_rewriting);
         drop(right_rewriting);
         return Err(NoMemory);
     };
-    joined(alloc, kind, left_rewriting, right_rewriting, condition)
+    join_on(alloc, kind, left_rewriting, right_rewriting, condition)
 }
 
 /// The condition on the columns of the inputs, where they stand in the pairs of rows of the rewritings.
@@ -120,14 +117,12 @@ fn own_columns(
     left_rewriting: &Query,
     right: &Query,
 ) -> Result<List<usize>, NoMemory>
-    ensures { IfOk result (λ order. order ≡ own_places (width_of left.now) (width_of left_rewriting.now) (width_of right.now)) }
+    ensures { IfOk result (λ order.
+        order ≡ own_places (width_of left.now) (width_of left_rewriting.now) (width_of right.now)) }
 {
-    let mut order = List::new(alloc);
-    let left_width = column_count(alloc, left)?;
-    add_places(&mut order, 0, left_width)?;
-    let start = column_count(alloc, left_rewriting)?;
-    let right_width = column_count(alloc, right)?;
-    add_places(&mut order, start, start + right_width)?;
+    let mut order = List::range(alloc, 0, exact_width(left)?)?;
+    let start = exact_width(left_rewriting)?;
+    order.append(List::range(alloc, start, exact_width(right)?)?)?;
     Ok(order)
 }
 
@@ -144,11 +139,27 @@ fn all_columns(
         ++ added_places (width_of left.now) (width_of left_rewriting.now) (width_of right.now) (width_of right_rewriting.now)) }
 {
     let mut order = own_columns(alloc, left, left_rewriting, right)?;
-    let left_width = column_count(alloc, left)?;
-    let left_end = column_count(alloc, left_rewriting)?;
-    let right_width = column_count(alloc, right)?;
-    let right_end = column_count(alloc, right_rewriting)?;
-    add_places(&mut order, left_width, left_end)?;
-    add_places(&mut order, left_end + right_width, left_end + right_end)?;
+    order.append(added_columns(alloc, left, left_rewriting, right, right_rewriting)?)?;
+    Ok(order)
+}
+
+/// The places of the columns of provenance in the pairs of rows of the rewritings.
+fn added_columns(
+    alloc: Global,
+    left: &Query,
+    left_rewriting: &Query,
+    right: &Query,
+    right_rewriting: &Query,
+) -> Result<List<usize>, NoMemory>
+    ensures { IfOk result (λ order. order ≡ added_places (width_of left.now) (width_of left_rewriting.now)
+        (width_of right.now) (width_of right_rewriting.now)) }
+{
+    let left_width = exact_width(left)?;
+    let left_end = exact_width(left_rewriting)?;
+    let right_width = exact_width(right)?;
+    let right_end = exact_width(right_rewriting)?;
+    let start = sum(left_end, right_width)?;
+    let mut order = List::range(alloc, left_width, left_end.saturating_sub(left_width))?;
+    order.append(List::range(alloc, start, right_end.saturating_sub(right_width))?)?;
     Ok(order)
 }

@@ -1,14 +1,13 @@
 //! The rules of nodes over one input.
-ghost use Rattle.std.specs.Prelude.{◌≡◌, ◌++◌, [], Ok, IfOk, IsTrue};
-ghost use Rattle.bag_algebra.specs.EveryNode.{no_open_sublink};
+ghost use Rattle.std.specs.Prelude.{◌≡◌, ◌++◌, [], Ok, IfOk};
 ghost use Rattle.bag_algebra.specs.Rewriting.{IsRewrite};
 ghost use Rattle.bag_algebra.specs.declared.query.Query.TheVariants.{Distinct, Filter, Project};
 ghost use Rattle.rewrite_core.specs.ProvenanceColumns.{provenance_items};
 
-use crate::columns::{add_places, column_count, columns_at};
 use bag_algebra::{Expr, Item, Query};
-use contribution::{filtered, projection};
+use contribution::{columns_at, projection, selection};
 use perm_values::{Copyable, List, NoMemory};
+use rewrite_base::exact_width;
 use std::alloc::Global;
 
 /// A rewriting of the input's distinct rows: that of the input, since how often a row stands in a rewriting is free. It
@@ -17,14 +16,12 @@ pub fn distinct(input: &Query, rewriting: Query) -> Result<Query, NoMemory>
     requires { IsRewrite input.now rewriting }
     ensures rewrites { IfOk result (λ p. IsRewrite (Distinct input.now) p) }
     ensures itself { result ≡ Ok rewriting }
-    ensures closed { IsTrue (no_open_sublink rewriting) → IfOk result (λ p. IsTrue (no_open_sublink p)) }
 {
     Ok(rewriting)
 }
 
 /// A rewriting of the input's rows on which the condition, without sublinks, is true: the condition over the input's
-/// rewriting, whose first columns are the input's. It has an open sublink only where the input's rewriting has one, and fails
-/// only for want of memory.
+/// rewriting, whose first columns are the input's. It fails only for want of memory.
 pub fn filter(
     alloc: Global,
     input: &Query,
@@ -32,19 +29,17 @@ pub fn filter(
     condition: &Expr,
 ) -> Result<Query, NoMemory>
     requires { IsRewrite input.now rewriting }
-    ensures rewrites { IfOk result (λ p. IsRewrite (Filter input.now condition.now []) p) }
-    ensures closed { IsTrue (no_open_sublink rewriting) → IfOk result (λ p. IsTrue (no_open_sublink p)) }
+    ensures { IfOk result (λ p. IsRewrite (Filter input.now condition.now []) p) }
 {
     let Ok(condition) = condition.copy(alloc) else {
         drop(rewriting);
         return Err(NoMemory);
     };
-    filtered(alloc, rewriting, condition)
+    selection(alloc, rewriting, condition)
 }
 
 /// A rewriting of what the items, without sublinks, make of the input's rows: the items over the input's rewriting, and
-/// then its provenance columns. It has an open sublink only where the input's rewriting has one, and fails only for want of
-/// memory.
+/// then its provenance columns. It fails only for want of memory.
 pub fn project(
     alloc: Global,
     input: &Query,
@@ -52,8 +47,7 @@ pub fn project(
     items: &[Item],
 ) -> Result<Query, NoMemory>
     requires { IsRewrite input.now rewriting }
-    ensures rewrites { IfOk result (λ p. IsRewrite (Project input.now items.now []) p) }
-    ensures closed { IsTrue (no_open_sublink rewriting) → IfOk result (λ p. IsTrue (no_open_sublink p)) }
+    ensures { IfOk result (λ p. IsRewrite (Project input.now items.now []) p) }
 {
     let Ok(items) = with_provenance(alloc, input, &rewriting, items) else {
         drop(rewriting);
@@ -71,10 +65,7 @@ fn with_provenance(
 ) -> Result<List<Item>, NoMemory>
     ensures { IfOk result (λ all. all ≡ items.now ++ provenance_items input.now rewriting.now) }
 {
-    let mut all = List::new(alloc);
-    for item in items {
-        all.push(item.copy(alloc)?)?;
-    }
+    let mut all = List::copy_of(alloc, items)?;
     all.append(provenance_items(alloc, input, rewriting)?)?;
     Ok(all)
 }
@@ -83,9 +74,8 @@ fn with_provenance(
 fn provenance_items(alloc: Global, input: &Query, rewriting: &Query) -> Result<List<Item>, NoMemory>
     ensures { IfOk result (λ items. items ≡ provenance_items input.now rewriting.now) }
 {
-    let start = column_count(alloc, input)?;
-    let end = column_count(alloc, rewriting)?;
-    let mut order = List::new(alloc);
-    add_places(&mut order, start, end)?;
+    let start = exact_width(input)?;
+    let end = exact_width(rewriting)?;
+    let order = List::range(alloc, start, end.saturating_sub(start))?;
     columns_at(alloc, rewriting, order.as_slice())
 }

@@ -1,7 +1,6 @@
 //! The rules that rewrite a node to a plain query with the rows of their PROVENANCE.
 
 mod columns;
-mod nodes;
 mod others;
 mod rules;
 

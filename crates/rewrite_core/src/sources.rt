@@ -1,40 +1,36 @@
 //! The rule of sources.
-ghost use Rattle.std.specs.Prelude.{◌≡◌, ◌++◌, IfOk, IsTrue};
+ghost use Rattle.std.specs.Prelude.{◌≡◌, ◌++◌, IfOk};
 ghost use Rattle.std.specs.List.{range_with_len};
-ghost use Rattle.bag_algebra.specs.EveryNode.{no_open_sublink};
 ghost use Rattle.bag_algebra.specs.Kinds.{width_of};
 ghost use Rattle.bag_algebra.specs.Rewriting.{IsRewrite, Stands};
-ghost use Rattle.bag_algebra.specs.declared.query.Label.{Label as Named};
+ghost use Rattle.bag_algebra.specs.declared.query.Label.{Label};
 ghost use Rattle.bag_algebra.specs.declared.query.Query.TheVariants.{Base};
-ghost use Rattle.bag_algebra.specs.declared.query.Query.{Query as Whole};
+ghost use Rattle.bag_algebra.specs.declared.query.Query.{Query};
 
-use crate::columns::{add_places, column_count, laid};
+use crate::columns::with_columns;
 use bag_algebra::Query;
 use perm_values::{List, NoMemory};
+use rewrite_base::exact_width;
 use std::alloc::Global;
 
 /// A rewriting of the source with these places over a query for which the input stands: the input's columns, and then those
-/// at the places. It has an open sublink only where the input has one, and fails only for want of memory.
+/// at the places. It fails only for want of memory.
 pub fn base(alloc: Global, input: Query, places: &[usize]) -> Result<Query, NoMemory>
-    ensures rewrites { IfOk result (λ p. (q : Whole) (label : Named) → Stands q input → IsRewrite (Base q places.now label) p) }
-    ensures closed { IsTrue (no_open_sublink input) → IfOk result (λ p. IsTrue (no_open_sublink p)) }
+    ensures { IfOk result (λ p. (q : Query) (label : Label) →
+        Stands q input → IsRewrite (Base q places.now label) p) }
 {
     let Ok(order) = columns_and(alloc, &input, places) else {
         drop(input);
         return Err(NoMemory);
     };
-    laid(alloc, input, order.as_slice())
+    with_columns(alloc, input, order.as_slice())
 }
 
 /// The places of all columns of the query, and then those.
 fn columns_and(alloc: Global, query: &Query, places: &[usize]) -> Result<List<usize>, NoMemory>
     ensures { IfOk result (λ order. order ≡ range_with_len 0 (width_of query.now) ++ places.now) }
 {
-    let count = column_count(alloc, query)?;
-    let mut order = List::new(alloc);
-    add_places(&mut order, 0, count)?;
-    for place in places {
-        order.push(*place)?;
-    }
+    let mut order = List::range(alloc, 0, exact_width(query)?)?;
+    order.append(List::copy_of(alloc, places)?)?;
     Ok(order)
 }

@@ -1,9 +1,8 @@
 //! The rule of unions.
-ghost use Rattle.std.specs.Prelude.{◌≡◌, ◌&&◌, ◌-◌, [], true, IfOk, IsTrue};
+ghost use Rattle.std.specs.Prelude.{◌≡◌, [], true, IfOk};
 ghost use Rattle.std.specs.List.{range_with_len};
 ghost use Rattle.bag_algebra.specs.ColumnItems.{column_items};
-ghost use Rattle.bag_algebra.specs.EveryNode.{no_open_sublink};
-ghost use Rattle.bag_algebra.specs.Kinds.{kinds_in, kinds_of, width_of};
+ghost use Rattle.bag_algebra.specs.Kinds.{kinds_of, width_of};
 ghost use Rattle.bag_algebra.specs.Patterns.{ProjectOf, UnionOf};
 ghost use Rattle.bag_algebra.specs.Rewriting.{IsRewrite};
 ghost use Rattle.bag_algebra.specs.declared.query.Query.TheVariants.{Union};
@@ -11,16 +10,14 @@ ghost use Rattle.bag_algebra.specs.declared.query.Query.{end_of-Sublink};
 ghost use Rattle.rewrite_base.specs.UnionSides.{before_nulls};
 ghost use Rattle.rewrite_core.specs.UnionColumns.{items_behind, padded_behind, provenance_kinds};
 
-use crate::columns::{add_places, column_count, columns_at};
 use bag_algebra::{Item, Query};
-use contribution::{kind_or_text, kinds, null_items, projection};
-use perm_values::{Boxed, Kind, List, NoMemory};
-use rewrite_base::{UnionSide, before_nulls};
+use contribution::{columns_at, kinds, kinds_at, null_items, projection};
+use perm_values::{Kind, List, NoMemory};
+use rewrite_base::{UnionSide, before_nulls, exact_width};
 use std::alloc::Global;
 
 /// A rewriting of a union, with all rows or each once, since how often a row stands in a rewriting is free: the rows of both
-/// rewritings, each with NULLs at the other's provenance columns, the left ones first. It has an open sublink only where one
-/// of the rewritings has one, and fails only for want of memory.
+/// rewritings, each with NULLs at the other's provenance columns, the left ones first. It fails only for want of memory.
 pub fn union_of(
     alloc: Global,
     all: bool,
@@ -31,9 +28,7 @@ pub fn union_of(
 ) -> Result<Query, NoMemory>
     requires left { IsRewrite left.now left_rewriting }
     requires right { IsRewrite right.now right_rewriting }
-    ensures rewrites { IfOk result (λ p. IsRewrite (Union all left.now right.now) p) }
-    ensures closed { IsTrue (no_open_sublink left_rewriting) → IsTrue (no_open_sublink right_rewriting) →
-        IfOk result (λ p. IsTrue (no_open_sublink p)) }
+    ensures { IfOk result (λ p. IsRewrite (Union all left.now right.now) p) }
 {
     let Ok(right_added) = added_kinds(alloc, right, &right_rewriting) else {
         drop(left_rewriting);
@@ -59,9 +54,9 @@ fn both_padded(
     right_rewriting: Query,
     right_added: &[Kind],
 ) -> Result<Query, NoMemory>
-    ensures made { IfOk result (λ p. p ≡ UnionOf true (padded_behind left_rewriting (width_of left_rewriting) right_added.now)
+    ensures { IfOk result (λ p. p ≡
+        UnionOf true (padded_behind left_rewriting (width_of left_rewriting) right_added.now)
         (padded_behind right_rewriting (width_of right.now) (provenance_kinds left.now left_rewriting))) }
-    ensures closed { IfOk result (λ p. no_open_sublink p ≡ (no_open_sublink left_rewriting && no_open_sublink right_rewriting)) }
 {
     let Ok(left_added) = added_kinds(alloc, left, &left_rewriting) else {
         drop(left_rewriting);
@@ -89,14 +84,14 @@ fn beside(
     right_rewriting: Query,
     left_added: &[Kind],
 ) -> Result<Query, NoMemory>
-    ensures made { IfOk result (λ p. p ≡ UnionOf true left_side (padded_behind right_rewriting (width_of right.now) left_added.now)) }
-    ensures closed { IfOk result (λ p. no_open_sublink p ≡ (no_open_sublink left_side && no_open_sublink right_rewriting)) }
+    ensures { IfOk result (λ p. p ≡
+        UnionOf true left_side (padded_behind right_rewriting (width_of right.now) left_added.now)) }
 {
     let Ok(right_side) = padded(alloc, UnionSide::Right, right, right_rewriting, left_added) else {
         drop(left_side);
         return Err(NoMemory);
     };
-    union_all(alloc, left_side, right_side)
+    Query::union(alloc, true, left_side, right_side)
 }
 
 /// The side's rewriting with NULLs of the added kinds.
@@ -107,10 +102,10 @@ fn padded(
     rewriting: Query,
     added: &[Kind],
 ) -> Result<Query, NoMemory>
-    ensures made { IfOk result (λ p. p ≡ padded_behind rewriting (before_nulls side (width_of query.now) (width_of rewriting)) added.now) }
-    ensures closed { IfOk result (λ p. no_open_sublink p ≡ no_open_sublink rewriting) }
+    ensures { IfOk result (λ p. p ≡
+        padded_behind rewriting (before_nulls side (width_of query.now) (width_of rewriting)) added.now) }
 {
-    let Ok(first) = null_place(alloc, side, query, &rewriting) else {
+    let Ok(first) = null_place(side, query, &rewriting) else {
         drop(rewriting);
         return Err(NoMemory);
     };
@@ -118,23 +113,17 @@ fn padded(
 }
 
 /// How many columns of the side's rewriting stand before the NULLs.
-fn null_place(
-    alloc: Global,
-    side: UnionSide,
-    query: &Query,
-    rewriting: &Query,
-) -> Result<usize, NoMemory>
+fn null_place(side: UnionSide, query: &Query, rewriting: &Query) -> Result<usize, NoMemory>
     ensures { IfOk result (λ first. first ≡ before_nulls side (width_of query.now) (width_of rewriting.now)) }
 {
-    let own = column_count(alloc, query)?;
-    let all = column_count(alloc, rewriting)?;
+    let own = exact_width(query)?;
+    let all = exact_width(rewriting)?;
     Ok(before_nulls(side, own, all))
 }
 
 /// The query with NULLs of the added kinds behind its first columns; with no kinds, the query as it is.
 fn padded_at(alloc: Global, query: Query, first: usize, added: &[Kind]) -> Result<Query, NoMemory>
-    ensures made { IfOk result (λ p. p ≡ padded_behind query first added.now) }
-    ensures closed { IfOk result (λ p. no_open_sublink p ≡ no_open_sublink query) }
+    ensures { IfOk result (λ p. p ≡ padded_behind query first added.now) }
 {
     if added.is_empty() {
         return Ok(query);
@@ -143,8 +132,7 @@ fn padded_at(alloc: Global, query: Query, first: usize, added: &[Kind]) -> Resul
 }
 
 fn widened(alloc: Global, query: Query, first: usize, added: &[Kind]) -> Result<Query, NoMemory>
-    ensures made { IfOk result (λ p. p ≡ ProjectOf query (items_behind query first added.now) [] end_of-Sublink) }
-    ensures closed { IfOk result (λ p. no_open_sublink p ≡ no_open_sublink query) }
+    ensures { IfOk result (λ p. p ≡ ProjectOf query (items_behind query first added.now) [] end_of-Sublink) }
 {
     let Ok(items) = padded_columns(alloc, &query, first, added) else {
         drop(query);
@@ -162,23 +150,23 @@ fn padded_columns(
 ) -> Result<List<Item>, NoMemory>
     ensures { IfOk result (λ items. items ≡ items_behind query.now first added.now) }
 {
+    let rest = exact_width(query)?.saturating_sub(first);
     let mut items = columns_between(alloc, query, 0, first)?;
     items.append(null_items(alloc, added)?)?;
-    let end = column_count(alloc, query)?;
-    items.append(columns_between(alloc, query, first, end)?)?;
+    items.append(columns_between(alloc, query, first, rest)?)?;
     Ok(items)
 }
 
+/// As many columns of the query, from a place on.
 fn columns_between(
     alloc: Global,
     query: &Query,
     start: usize,
-    end: usize,
+    count: usize,
 ) -> Result<List<Item>, NoMemory>
-    ensures { IfOk result (λ items. items ≡ column_items (kinds_of query.now) (range_with_len start (end - start))) }
+    ensures { IfOk result (λ items. items ≡ column_items (kinds_of query.now) (range_with_len start count)) }
 {
-    let mut order = List::new(alloc);
-    add_places(&mut order, start, end)?;
+    let order = List::range(alloc, start, count)?;
     columns_at(alloc, query, order.as_slice())
 }
 
@@ -186,35 +174,8 @@ fn columns_between(
 fn added_kinds(alloc: Global, query: &Query, rewriting: &Query) -> Result<List<Kind>, NoMemory>
     ensures { IfOk result (λ added. added ≡ provenance_kinds query.now rewriting.now) }
 {
-    let start = column_count(alloc, query)?;
+    let start = exact_width(query)?;
     let columns = kinds(alloc, rewriting)?;
-    let mut order = List::new(alloc);
-    add_places(&mut order, start, columns.len())?;
+    let order = List::range(alloc, start, columns.len().saturating_sub(start))?;
     kinds_at(alloc, columns.as_slice(), order.as_slice())
-}
-
-fn kinds_at(alloc: Global, columns: &[Kind], order: &[usize]) -> Result<List<Kind>, NoMemory>
-    ensures { IfOk result (λ found. found ≡ kinds_in columns.now order.now) }
-{
-    let mut found = List::new(alloc);
-    for place in order {
-        found.push(kind_or_text(columns, *place))?;
-    }
-    Ok(found)
-}
-
-fn union_all(alloc: Global, left: Query, right: Query) -> Result<Query, NoMemory>
-    ensures made { IfOk result (λ p. p ≡ UnionOf true left right) }
-    ensures closed { IfOk result (λ p. no_open_sublink p ≡ (no_open_sublink left && no_open_sublink right)) }
-{
-    let Ok(left) = Boxed::new(alloc, left) else {
-        drop(right);
-        return Err(NoMemory);
-    };
-    let right = Boxed::new(alloc, right)?;
-    Ok(Query::Union {
-        all: true,
-        left,
-        right,
-    })
 }

@@ -3,19 +3,24 @@ ghost use Rattle.std.specs.Prelude.{◌≡◌, IfOk, IsTrue};
 ghost use Rattle.bag_algebra.specs.Rewriting.{IsRewrite, Stands};
 ghost use Rattle.bag_algebra.specs.Scoped.{is_scoped, traceable};
 ghost use Rattle.bag_algebra.specs.declared.query.Query.TheVariants.{Prov};
-ghost use Rattle.bag_algebra.specs.declared.query.Query.{Query as Node};
+ghost use Rattle.bag_algebra.specs.declared.query.Query.{Query};
 ghost use Rattle.query_laws.specs.Standing.{SubsStand};
 ghost use Rattle.bag_algebra.specs.BuiltScopes.{all_scoped, all_traceable};
 ghost use Rattle.rewrite_driver.specs.FirstColumns.{KeepsRows};
+ghost use Rattle.rewrite_driver.specs.Places.{has_places};
 ghost use Rattle.rewrite_sublink.specs.SubRewritings.{SubsRewritten};
 
-use crate::steps::{
-    add_rewriting, add_standing, aggregate_rule, aggregate_standing, base_rule, distinct_rule,
-    distinct_standing, except_rule, except_standing, filter_rule, filter_standing, has_places,
-    intersect_rule, intersect_standing, join_rule, join_standing, limit_rule, limit_standing,
-    project_rule, project_standing, provenance_standing, table, union_rule, union_standing,
+use crate::rules::{
+    aggregate_rule, base_rule, distinct_rule, except_rule, filter_rule, intersect_rule, join_rule,
+    limit_rule, project_rule, union_rule,
 };
+use crate::standing::{
+    aggregate_standing, distinct_standing, except_standing, filter_standing, intersect_standing,
+    join_standing, limit_standing, project_standing, provenance_standing, table, union_standing,
+};
+use crate::sublinks::{add_rewriting, add_standing};
 use bag_algebra::{Query, Sublink};
+use contribution::shape;
 use perm_values::{List, NoMemory};
 use std::alloc::Global;
 
@@ -23,12 +28,12 @@ use std::alloc::Global;
 /// under which the query is, reading the query's tables alone, with the same rows, as often, or the same faults, on every
 /// database and under all outer rows that fit. Where the query is the PROVENANCE of another, its first columns are, as a set,
 /// the other's rows. It fails only for want of memory.
-pub fn eliminate(alloc: Global, query: Query) -> Result<Query, NoMemory>
-    requires { IsTrue (is_scoped query) }
-    ensures stands { IfOk result (λ plain. Stands query plain) }
-    ensures no_row_lost { (q : Node) → query ≡ Prov q → IfOk result (λ plain. KeepsRows q plain) }
+pub fn eliminate(alloc: Global, query: &Query) -> Result<Query, NoMemory>
+    requires { IsTrue (is_scoped query.now) }
+    ensures stands { IfOk result (λ plain. Stands query.now plain) }
+    ensures no_row_lost { (q : Query) → query.now ≡ Prov q → IfOk result (λ plain. KeepsRows q plain) }
 {
-    stand(alloc, &query)
+    stand(alloc, query)
 }
 
 /// A plain query that stands for the query. Each arm hands on the results of its calls as they are: a query that is at hand
@@ -251,4 +256,12 @@ fn rewritten_subs(alloc: Global, subs: &[Sublink]) -> Result<List<Query>, NoMemo
         add_rewriting(&mut rewritings, query)?;
     }
     Ok(rewritings)
+}
+
+/// Whether PROVENANCE of the query has columns of its own. It fails only for want of memory.
+fn has_places(alloc: Global, query: &Query) -> Result<bool, NoMemory>
+    ensures { IfOk result (λ found. found ≡ has_places query.now) }
+{
+    let list = shape(alloc, query)?;
+    Ok(list.places.len() > 0)
 }

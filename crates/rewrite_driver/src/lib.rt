@@ -1,13 +1,10 @@
-//! Takes PROVENANCE out of a query.
+//! Takes PROVENANCE out of a query, a node at a time: what stands for a node over what stands for its parts, and a rewriting
+//! of a node over rewritings of its parts.
 #![tactic(auto)]
 
 mod driver;
-mod steps;
+mod rules;
+mod standing;
+mod sublinks;
 
 pub use driver::eliminate;
-pub use steps::{
-    add_rewriting, add_standing, aggregate_rule, aggregate_standing, base_rule, distinct_rule,
-    distinct_standing, except_rule, except_standing, filter_rule, filter_standing, has_places,
-    intersect_rule, intersect_standing, join_rule, join_standing, limit_rule, limit_standing,
-    project_rule, project_standing, provenance_standing, table, union_rule, union_standing,
-};

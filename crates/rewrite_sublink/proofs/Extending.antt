@@ -25,7 +25,8 @@ use Rattle.bag_algebra.specs.declared.query.Query.{Query}
 use Rattle.bag_algebra.specs.declared.query.Sublink.{Sublink}
 use Rattle.contribution.proofs.AddedColumns.{columns-added, subs-same}
 use Rattle.contribution.proofs.Growth.{row_begins-longer}
-use Rattle.contribution.specs.CrossBase.{always, cross_base_of}
+use Rattle.contribution.specs.Conjunctions.{always}
+use Rattle.contribution.specs.CrossBase.{cross_base_of}
 use Rattle.rewrite_base.proofs.KeptRows.{flat-append}
 use Rattle.rewrite_base.specs.KeptColumns.{pairs_of}
 use Rattle.query_laws.specs.Standing.{SubStands, SubsStand}

@@ -27,7 +27,8 @@ use Rattle.bag_algebra.specs.declared.query.SubKind.TheVariants.{Exists, Any, Al
 use Rattle.bag_algebra.specs.declared.query.Sublink.{Sublink}
 use Rattle.contribution.proofs.CrossBases.{meaning-cross_base, kinds_of-cross_base, plain-cross_base, formed-cross_base}
 use Rattle.contribution.proofs.LongerKinds.{NamesAlso, slice_get-longer, subs_form-longer, well_formed-longer}
-use Rattle.contribution.specs.CrossBase.{always, cross_base_of}
+use Rattle.contribution.specs.Conjunctions.{always}
+use Rattle.contribution.specs.CrossBase.{cross_base_of}
 use Rattle.rewrite_base.specs.KeptColumns.{pairs_of}
 use Rattle.bag_algebra.specs.BuiltScopes.{all_plain, is_plain-Filter}
 use Rattle.contribution.proofs.ColumnQueries.{all-first, all-nothing, formed-columns}

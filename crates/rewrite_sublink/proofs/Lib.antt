@@ -1,14 +1,12 @@
 pub mod AllSublinks
-pub mod Closing
 pub mod Contributing
 pub mod Extending
-pub mod Faults
 pub mod FilterRows
 pub mod Forming
+pub mod Lengths
 pub mod MatchingRows
 pub mod NodeRows
 pub mod OneSublink
-pub mod OuterTests
 pub mod ProjectRows
 pub mod Steps
 pub mod TestValues

@@ -18,11 +18,11 @@ use Rattle.bag_algebra.specs.WellFormed.{WellFormed, HasKind}
 use Rattle.bag_algebra.specs.declared.query.JoinKind.TheVariants.{Left}
 use Rattle.bag_algebra.specs.declared.query.Query.{Query}
 use Rattle.bag_algebra.specs.declared.query.Query.TheVariants.{Single}
-use Rattle.contribution.specs.CrossBase.{always}
+use Rattle.contribution.specs.Conjunctions.{always}
 use Rattle.rewrite_base.proofs.Places.{at-between, within-range}
 use Rattle.contribution.proofs.NodeQueries.{meaning-pairs, meaning-chosen, formed-pairs, formed-chosen}
 use Rattle.rewrite_sublink.proofs.Contributing.{padded_rows, matching_rows}
-use Rattle.rewrite_sublink.proofs.OuterTests.{outer_tests-value, outer_tests-formed}
+use Rattle.contribution.proofs.SameTests.{tests-value, conjunction-formed}
 use Rattle.rewrite_sublink.specs.Candidates.{same_as_outer, or_nulls, matching}
 
 -- ---- conditions that are good on each row
@@ -71,7 +71,7 @@ meaning-matching rows db outer env rs count from own good =
     meaning-chosen (or_nulls rows) (same_as_outer count from own) db (outer ∷ env)
     ∙ ap (λ o. and_then o (gather (kept condition))) (meaning-or_nulls rows db (outer ∷ env) rs good)
     ∙ gather-kept condition (λ r. same_row (picked (range_with_len from count) outer) (picked (range_with_len own count) r)) (padded_rows (width_of rows) rs)
-    (λ r h. outer_tests-value r outer env [] (range_with_len from count) (range_with_len own count)
+    (λ r h. tests-value r (outer ∷ env) [] 1 (range_with_len from count) (range_with_len own count)
     (length-range_with_len from count ∙ sym (length-range_with_len own count)))
 
 -- ---- its form
@@ -87,7 +87,7 @@ formed-matching rows first last outer own_kinds candidate count from own kinds_a
     let long : length (kinds_of rows) ≡ own + count = ap length kinds_are ∙ length-append own_kinds candidate ∙ (λ i. g i + f i) in
     formed-chosen (or_nulls rows) (same_as_outer count from own) scopes
     (formed-pairs Left Single rows always scopes tt w (record { fitting = refl; gives = refl }))
-    (outer_tests-formed (kinds_of rows) (first ++ last) outer [] (range_with_len from count) (range_with_len own count)
+    (conjunction-formed (kinds_of rows) ((first ++ last) ∷ outer) [] 1 (first ++ last) refl (range_with_len from count) (range_with_len own count)
     (within-range (length (first ++ last)) from count (omega (arith, wide)))
     (within-range (length (kinds_of rows)) own count (omega (arith, long)))
     (ap (λ ks. kinds_in ks (range_with_len from count)) whole

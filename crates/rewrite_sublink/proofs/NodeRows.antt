@@ -17,7 +17,7 @@ use Rattle.contribution.proofs.WhereGood.{each-in}
 use Rattle.contribution.specs.Fitting.{Fitting}
 use Rattle.rewrite_base.proofs.JoinedOutcomes.{Related, answer-listed}
 use Rattle.rewrite_base.specs.Rewritten.{Beside}
-use Rattle.rewrite_sublink.proofs.Faults.{SameFaults}
+use Rattle.rewrite_base.proofs.Faults.{SameFaults}
 
 -- the rows of a query's answer begin with its columns
 pub row-begins : (outer : List (List Kind)) (q : Query) (db : Database) (env : List Row) → Fitting outer q db env → (us : Bag) → meaning q db env ≡ Good us →

@@ -51,7 +51,7 @@ use Rattle.rewrite_base.specs.Rewritten.{Beside}
 use Rattle.rewrite_sublink.proofs.AllSublinks.{Ready, AllGoodOn, Reached, good-longer, contributes-longer, contributes-shorter, kinds-all, bad-all, plain-all, tables-all, formed-all, reached, stand-plain, stand-tables, stand-form, stand-kinds, stand-agree}
 use Rattle.rewrite_sublink.proofs.Extending.{Extended}
 use Rattle.rewrite_sublink.proofs.Forming.{by, names-more}
-use Rattle.rewrite_sublink.proofs.Faults.{SameFaults, same_faults-made, each-bad_alike, in-each}
+use Rattle.rewrite_base.proofs.Faults.{SameFaults, same_faults-made, each-bad_alike, in-each}
 use Rattle.rewrite_sublink.proofs.NodeRows.{row-begins, first-of_good, Flattened, flattened, listed, Reaching, reaching-over}
 use Rattle.rewrite_sublink.specs.Candidates.{all_contributed, beside_row, answer_places, answer_columns}
 use Rattle.query_laws.proofs.AnswerRows.{answer-in, answer-from}

@@ -9,7 +9,7 @@ use Rattle.bag_algebra.specs.Kinds.{kinds_of, width_of}
 use Rattle.bag_algebra.specs.Patterns.{FilterOf, ProjectOf}
 use Rattle.bag_algebra.specs.declared.expr.Arm.{Arm}
 use Rattle.bag_algebra.specs.declared.expr.Expr.{Expr}
-use Rattle.bag_algebra.specs.declared.expr.Expr.TheVariants.{Case, Col, IsTruth, Same, Sub}
+use Rattle.bag_algebra.specs.declared.expr.Expr.TheVariants.{Case, IsTruth, Sub}
 use Rattle.bag_algebra.specs.declared.expr.Item.{Item}
 use Rattle.bag_algebra.specs.declared.query.JoinKind.TheVariants.{Inner, Left}
 use Rattle.bag_algebra.specs.declared.query.Query.{Query, end_of-Sublink}
@@ -17,25 +17,15 @@ use Rattle.bag_algebra.specs.declared.query.Query.TheVariants.{Filter, Single}
 use Rattle.bag_algebra.specs.declared.query.SubKind.{SubKind}
 use Rattle.bag_algebra.specs.declared.query.SubKind.TheVariants.{Exists, Any, All, Scalar}
 use Rattle.bag_algebra.specs.declared.query.Sublink.{Sublink}
-use Rattle.contribution.specs.CrossBase.{always, cross_base_of}
+use Rattle.contribution.specs.CrossBase.{cross_base_of}
 use Rattle.rewrite_base.specs.KeptColumns.{pairs_of}
-use Rattle.contribution.specs.Conjunctions.{all_hold}
+use Rattle.contribution.specs.Conjunctions.{all_hold, always, same_tests}
 
 -- ---- the rows of a sublink that match a candidate
 
--- a column of the nearest outer row is the same as one of the node's own row
-abbrev pub outer_test : ℕ → ℕ → Expr
-outer_test outer own = Same (Col 1 outer) (Col 0 own)
-
--- place by place
-abbrev pub outer_tests : List ℕ → List ℕ → List Expr
-outer_tests [] owns = []
-outer_tests (outer ∷ outers) [] = []
-outer_tests (outer ∷ outers) (own ∷ owns) = outer_test outer own ∷ outer_tests outers owns
-
 -- so many columns of the nearest outer row, from a place on, are the same as the own row's from another place on
 abbrev pub same_as_outer : (count from own : ℕ) → Expr
-same_as_outer count from own = all_hold (outer_tests (range_with_len from count) (range_with_len own count))
+same_as_outer count from own = all_hold (same_tests 1 (range_with_len from count) (range_with_len own count))
 
 -- the rows, or one row of NULLs where there is none
 abbrev pub or_nulls : Query → Query

@@ -4,15 +4,16 @@ ghost use Rattle.bag_algebra.specs.Kinds.{width_of};
 ghost use Rattle.bag_algebra.specs.Scoped.{over_tables};
 ghost use Rattle.bag_algebra.specs.declared.expr.Expr.TheVariants.{IsTruth, Sub};
 ghost use Rattle.bag_algebra.specs.declared.query.JoinKind.TheVariants.{Inner};
-ghost use Rattle.contribution.specs.CrossBase.{always, cross_base_of};
+ghost use Rattle.contribution.specs.Conjunctions.{always};
+ghost use Rattle.contribution.specs.CrossBase.{cross_base_of};
 ghost use Rattle.rewrite_base.specs.KeptColumns.{pairs_of};
 ghost use Rattle.bag_algebra.specs.BuiltScopes.{all_over_tables};
 ghost use Rattle.rewrite_sublink.specs.Candidates.{all_contributed, contributed, deciding, deciding_arm, exists_in, matching, sub_over, test_condition, test_subs, tested};
 
 use crate::decisions::deciding;
-use crate::matching::{Columns, always, first_column, matching};
+use crate::matching::{Columns, first_column, matching};
 use bag_algebra::{Arm, Expr, JoinKind, Query, SubKind, Sublink};
-use contribution::{cross_base, joined};
+use contribution::{always, cross_base, join_on};
 use null_logic::Truth;
 use perm_values::{Boxed, Copyable, List, NoMemory};
 use rewrite_base::exact_width;
@@ -46,7 +47,8 @@ fn with_contribution(
     rewriting: &Query,
 ) -> Result<Query, NoMemory>
     requires { IsTrue (over_tables sub.now.query) }
-    ensures { IfOk result (λ p. p ≡ contributed rows (cross_base_of sub.now.query) standing.now rewriting.now) }
+    ensures { IfOk result (λ p.
+        p ≡ contributed rows (cross_base_of sub.now.query) standing.now rewriting.now) }
 {
     let Candidates { pairs, columns } = beside_candidates(alloc, rows, sub, standing)?;
     let Ok(found) = matching(alloc, rewriting, columns) else {
@@ -71,7 +73,8 @@ fn beside_candidates(
     standing: &Sublink,
 ) -> Result<Candidates, NoMemory>
     requires { IsTrue (over_tables sub.now.query) }
-    ensures pairs { IfOk result (λ made. made.pairs ≡ pairs_of Inner rows (cross_base_of sub.now.query) always) }
+    ensures pairs { IfOk result (λ made.
+        made.pairs ≡ pairs_of Inner rows (cross_base_of sub.now.query) always) }
     ensures count { IfOk result (λ made. made.columns.count ≡ width_of (cross_base_of sub.now.query)) }
     ensures from { IfOk result (λ made. made.columns.from ≡ width_of rows) }
     ensures own { IfOk result (λ made. made.columns.own ≡ width_of standing.now.query) }
@@ -85,7 +88,7 @@ fn beside_candidates(
         drop(base);
         return Err(NoMemory);
     };
-    let pairs = joined(alloc, JoinKind::Inner, rows, base, always())?;
+    let pairs = join_on(alloc, JoinKind::Inner, rows, base, always())?;
     Ok(Candidates { pairs, columns })
 }
 
@@ -105,13 +108,12 @@ fn candidate_columns(rows: &Query, base: &Query, standing: &Sublink) -> Result<C
 fn tested(alloc: Global, pairs: Query, standing: &Sublink, found: &Query) -> Result<Query, NoMemory>
     ensures { IfOk result (λ p. p ≡ tested pairs standing.now found.now) }
 {
-    let input = Boxed::new(alloc, pairs)?;
-    let Test { condition, subs } = test_of(alloc, standing, found)?;
-    Ok(Query::Filter {
-        input,
-        condition,
-        subs,
-    })
+    let Ok(test) = test_of(alloc, standing, found) else {
+        drop(pairs);
+        return Err(NoMemory);
+    };
+    let Test { condition, subs } = test;
+    Query::filter(alloc, pairs, condition, subs)
 }
 
 /// A condition and the sublinks that it reads.
@@ -122,7 +124,8 @@ struct Test {
 
 fn test_of(alloc: Global, standing: &Sublink, found: &Query) -> Result<Test, NoMemory>
     ensures condition { IfOk result (λ test. test.condition ≡ test_condition (deciding standing.now.kind)) }
-    ensures subs { IfOk result (λ test. test.subs ≡ test_subs (deciding standing.now.kind) standing.now found.now) }
+    ensures subs { IfOk result (λ test.
+        test.subs ≡ test_subs (deciding standing.now.kind) standing.now found.now) }
 {
     match deciding(standing.kind) {
         None => {
@@ -153,7 +156,8 @@ fn with_decision(
     standing: &Sublink,
     found: &Query,
 ) -> Result<List<Sublink>, NoMemory>
-    ensures { IfOk result (λ subs. subs ≡ exists_in found.now ∷ standing.now ∷ sub_over standing.now found.now ∷ []) }
+    ensures { IfOk result (λ subs.
+        subs ≡ exists_in found.now ∷ standing.now ∷ sub_over standing.now found.now ∷ []) }
 {
     let mut subs = existing(alloc, found)?;
     add_same(alloc, standing, &mut subs)?;
@@ -194,7 +198,7 @@ fn add_over(
 fn sub_over(alloc: Global, standing: &Sublink, found: &Query) -> Result<Sublink, NoMemory>
     ensures { IfOk result (λ sub. sub ≡ sub_over standing.now found.now) }
 {
-    let tested = copied(alloc, &standing.tested)?;
+    let tested = standing.tested.copy(alloc)?;
     let Ok(query) = first_column(alloc, found) else {
         drop(tested);
         return Err(NoMemory);
@@ -204,15 +208,6 @@ fn sub_over(alloc: Global, standing: &Sublink, found: &Query) -> Result<Sublink,
         tested,
         query,
     })
-}
-
-fn copied(alloc: Global, tested: &Option<Expr>) -> Result<Option<Expr>, NoMemory>
-    ensures { IfOk result (λ copy. copy ≡ tested.now) }
-{
-    match tested {
-        Some(tested) => Ok(Some(tested.copy(alloc)?)),
-        None => Ok(None),
-    }
 }
 
 /// Where the sublink has the truth that decides, whether it has that over the matching rows too; else whether there is one.

@@ -1,10 +1,9 @@
 //! What the rows beside a sublink's candidates are chosen by.
 ghost use Rattle.std.specs.Prelude.{◌≡◌};
-ghost use Rattle.bag_algebra.specs.declared.expr.Expr.TheVariants.{Col};
 ghost use Rattle.bag_algebra.specs.declared.query.JoinKind.TheVariants.{Left};
 ghost use Rattle.rewrite_sublink.specs.Candidates.{deciding};
 
-use bag_algebra::{Expr, JoinKind, SubKind};
+use bag_algebra::{JoinKind, SubKind};
 use null_logic::Truth;
 
 /// The value with which a sublink lets those rows alone contribute that compare so: a true ANY, a false ALL.
@@ -26,9 +25,9 @@ pub fn outwards() -> JoinKind
     JoinKind::Left
 }
 
-/// A column of the candidate, which stands in the nearest outer row.
-pub fn candidate_column(place: usize) -> Expr
-    ensures { result ≡ Col 1 place }
+/// Where a candidate stands, seen from the rows of a sublink's query: in the nearest outer row.
+pub fn candidate_level() -> usize
+    ensures { result ≡ 1 }
 {
-    Expr::Col { level: 1, place }
+    1
 }

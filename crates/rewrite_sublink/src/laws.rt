@@ -17,15 +17,19 @@ ghost use Rattle.rewrite_sublink.specs.SubRewritings.{SubsRewritten};
 /// rewriting of it, under all outer rows and with the same faults. `standing` has for each sublink a plain one that
 /// stands for it, and `rewritings` a rewriting of each sublink's query.
 pub fn filters_over_candidates_rewrite()
-    ensures { (q rewriting : Query) (condition : Expr) (subs standing : List Sublink) (rewritings : List Query) →
-        IsTrue (all_over_tables subs) → IsRewrite q rewriting → SubsStand subs standing → SubsRewritten subs rewritings →
+    ensures { (q rewriting : Query) (condition : Expr) (subs standing : List Sublink)
+        (rewritings : List Query) →
+        IsTrue (all_over_tables subs) → IsRewrite q rewriting → SubsStand subs standing →
+        SubsRewritten subs rewritings →
         IsRewrite (Filter q condition subs) (all_contributed (Filter rewriting condition standing) subs standing rewritings) }
 {}
 
 /// So is, of a Project, what its items make of its input's rewriting, beside that rewriting's provenance and the candidates.
 pub fn projects_over_candidates_rewrite()
-    ensures { (q rewriting : Query) (items : List Item) (subs standing : List Sublink) (rewritings : List Query) →
-        IsTrue (all_over_tables subs) → IsRewrite q rewriting → SubsStand subs standing → SubsRewritten subs rewritings →
+    ensures { (q rewriting : Query) (items : List Item) (subs standing : List Sublink)
+        (rewritings : List Query) →
+        IsTrue (all_over_tables subs) → IsRewrite q rewriting → SubsStand subs standing →
+        SubsRewritten subs rewritings →
         IsRewrite (Project q items subs)
         (answer_columns (all_contributed (Project rewriting (beside_row rewriting items) standing) subs standing rewritings)
         (width_of q) (width_of rewriting) (length items)) }

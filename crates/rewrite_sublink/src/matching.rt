@@ -1,17 +1,11 @@
 //! The rows of a sublink's rewriting that match a candidate.
-ghost use Rattle.std.specs.Prelude.{◌≡◌, [], IfOk, length};
-ghost use Rattle.bag_algebra.specs.ColumnItems.{column_items};
-ghost use Rattle.bag_algebra.specs.Kinds.{kinds_of};
-ghost use Rattle.contribution.specs.CrossBase.{always};
-ghost use Rattle.contribution.specs.Conjunctions.{all_hold};
-ghost use Rattle.rewrite_sublink.specs.Candidates.{first_column, matching, or_nulls, outer_test, outer_tests, same_as_outer};
+ghost use Rattle.std.specs.Prelude.{◌≡◌, IfOk};
+ghost use Rattle.rewrite_sublink.specs.Candidates.{first_column, matching, or_nulls, same_as_outer};
 
-use crate::decisions::{candidate_column, outwards};
+use crate::decisions::{candidate_level, outwards};
 use bag_algebra::{Expr, Query};
-use contribution::{column_items, filtered, joined, kinds, projection};
-use null_logic::Operator;
-use perm_values::{Boxed, Copyable, Kind, List, NoMemory, Value};
-use rewrite_base::columns_from;
+use contribution::{always, columns_at, join_on, projection, same_columns, selection};
+use perm_values::{Copyable, List, NoMemory};
 use std::alloc::Global;
 
 /// Where a candidate stands: as many columns, from a place on in the outer row, and from another place on in the rows of the
@@ -36,82 +30,29 @@ pub(crate) fn matching(
         drop(rows);
         return Err(NoMemory);
     };
-    filtered(alloc, rows, same)
+    selection(alloc, rows, same)
 }
 
 fn or_nulls(alloc: Global, rewriting: &Query) -> Result<Query, NoMemory>
     ensures { IfOk result (λ p. p ≡ or_nulls rewriting.now) }
 {
     let rows = rewriting.copy(alloc)?;
-    joined(alloc, outwards(), Query::Single, rows, always())
-}
-
-pub(crate) fn always() -> Expr
-    ensures { result ≡ always }
-{
-    Expr::Lit {
-        value: Value::Boolean(true),
-        kind: Kind::Boolean,
-    }
+    join_on(alloc, outwards(), Query::Single, rows, always())
 }
 
 /// Whether the own columns are, one by one, the same as the candidate's, two NULLs included.
 fn same_as_outer(alloc: Global, columns: Columns) -> Result<Expr, NoMemory>
     ensures { IfOk result (λ test. test ≡ same_as_outer columns.count columns.from columns.own) }
 {
-    let outers = columns_from(alloc, columns.from, columns.count)?;
-    let owns = columns_from(alloc, columns.own, columns.count)?;
-    let tests = outer_tests(alloc, outers.as_slice(), owns.as_slice())?;
-    Ok(conjunction(tests))
-}
-
-fn outer_tests(alloc: Global, outers: &[usize], owns: &[usize]) -> Result<List<Expr>, NoMemory>
-    requires { length outers.now ≡ length owns.now }
-    ensures { IfOk result (λ tests. tests ≡ outer_tests outers.now owns.now) }
-{
-    let mut tests = List::new(alloc);
-    for at in 0..outers.len() {
-        tests.push(outer_test(alloc, outers[at], owns[at])?)?;
-    }
-    Ok(tests)
-}
-
-fn outer_test(alloc: Global, outer: usize, own: usize) -> Result<Expr, NoMemory>
-    ensures { IfOk result (λ test. test ≡ outer_test outer own) }
-{
-    let first = Boxed::new(alloc, candidate_column(outer))?;
-    let second = Boxed::new(
-        alloc,
-        Expr::Col {
-            level: 0,
-            place: own,
-        },
-    )?;
-    Ok(Expr::Same { first, second })
-}
-
-/// All tests at once; without a test it is TRUE.
-fn conjunction(tests: List<Expr>) -> Expr
-    ensures { result ≡ all_hold tests }
-{
-    if tests.len() > 1 {
-        return Expr::Op {
-            op: Operator::And,
-            parts: tests,
-        };
-    }
-    let mut tests = tests;
-    match tests.pop() {
-        Some(test) => test,
-        None => always(),
-    }
+    let theirs = List::range(alloc, columns.from, columns.count)?;
+    let own = List::range(alloc, columns.own, columns.count)?;
+    same_columns(alloc, candidate_level(), theirs.as_slice(), own.as_slice())
 }
 
 pub(crate) fn first_column(alloc: Global, query: &Query) -> Result<Query, NoMemory>
     ensures { IfOk result (λ p. p ≡ first_column query.now) }
 {
-    let columns = kinds(alloc, query)?;
-    let items = column_items(alloc, columns.as_slice(), &[0])?;
+    let items = columns_at(alloc, query, &[0])?;
     let rows = query.copy(alloc)?;
     projection(alloc, rows, items)
 }

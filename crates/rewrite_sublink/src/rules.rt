@@ -1,8 +1,6 @@
-//! The rules.
-ghost use Rattle.std.specs.Prelude.{◌≡◌, [], IfOk, IsTrue, length};
-ghost use Rattle.bag_algebra.specs.EveryNode.{no_open_sublink};
-ghost use Rattle.bag_algebra.specs.ColumnItems.{column_items};
-ghost use Rattle.bag_algebra.specs.Kinds.{kinds_of, width_of};
+//! The rules of Filters and Projects with sublinks.
+ghost use Rattle.std.specs.Prelude.{◌≡◌, IfOk, IsTrue, length};
+ghost use Rattle.bag_algebra.specs.Kinds.{width_of};
 ghost use Rattle.bag_algebra.specs.Rewriting.{IsRewrite};
 ghost use Rattle.bag_algebra.specs.declared.query.Query.TheVariants.{Filter, Project};
 ghost use Rattle.query_laws.specs.Standing.{SubsStand};
@@ -12,16 +10,15 @@ ghost use Rattle.rewrite_sublink.specs.SubRewritings.{SubsRewritten};
 
 use crate::candidates::with_contributions;
 use bag_algebra::{Expr, Item, Query, Sublink};
-use contribution::{column_items, kinds, projection};
-use perm_values::{Boxed, Copyable, List, NoMemory};
-use rewrite_base::{columns_from, exact_width, sum};
+use contribution::{columns_at, regroup};
+use perm_values::{Copyable, List, NoMemory, both};
+use rewrite_base::{exact_width, sum};
 use std::alloc::Global;
 
 /// A rewriting of the input's rows on which the condition is true, where sublinks of any kind stand in it: the condition
 /// over the input's rewriting, and then for each sublink in turn the candidates of its cross base that are one of its
 /// contributions. `standing` has for each sublink a plain one that stands for it, and `sub_rewritings` a rewriting of each
-/// sublink's query, in their order. Without sublinks it has an open sublink only where the input's rewriting has one. It
-/// fails only for want of memory.
+/// sublink's query, in their order. It fails only for want of memory.
 pub fn filter_with(
     alloc: Global,
     input: &Query,
@@ -35,8 +32,7 @@ pub fn filter_with(
     requires input { IsRewrite input.now rewriting }
     requires standing { SubsStand subs.now standing.now }
     requires rewritten { SubsRewritten subs.now sub_rewritings }
-    ensures rewrites { IfOk result (λ p. IsRewrite (Filter input.now condition.now subs.now) p) }
-    ensures closed { subs.now ≡ [] → IsTrue (no_open_sublink rewriting) → IfOk result (λ p. IsTrue (no_open_sublink p)) }
+    ensures { IfOk result (λ p. IsRewrite (Filter input.now condition.now subs.now) p) }
 {
     let rows = own_rows(alloc, rewriting, condition, standing)?;
     with_contributions(alloc, rows, subs, standing, sub_rewritings.as_slice())
@@ -45,8 +41,7 @@ pub fn filter_with(
 /// A rewriting of what the items make of the input's rows, where sublinks of any kind stand in them: the items over the
 /// input's rewriting, and then for each sublink in turn the candidates of its cross base that are one of its contributions.
 /// `standing` has for each sublink a plain one that stands for it, and `sub_rewritings` a rewriting of each sublink's query,
-/// in their order. Without sublinks it has an open sublink only where the input's rewriting has one. It fails only for want
-/// of memory.
+/// in their order. It fails only for want of memory.
 pub fn project_with(
     alloc: Global,
     input: &Query,
@@ -60,8 +55,7 @@ pub fn project_with(
     requires input { IsRewrite input.now rewriting }
     requires standing { SubsStand subs.now standing.now }
     requires rewritten { SubsRewritten subs.now sub_rewritings }
-    ensures rewrites { IfOk result (λ p. IsRewrite (Project input.now items.now subs.now) p) }
-    ensures closed { subs.now ≡ [] → IsTrue (no_open_sublink rewriting) → IfOk result (λ p. IsTrue (no_open_sublink p)) }
+    ensures { IfOk result (λ p. IsRewrite (Project input.now items.now subs.now) p) }
 {
     let rewritings = sub_rewritings.as_slice();
     items_with(alloc, input, rewriting, items, subs, standing, rewritings)
@@ -106,14 +100,11 @@ fn own_rows(
 ) -> Result<Query, NoMemory>
     ensures { IfOk result (λ p. p ≡ Filter rewriting condition.now standing.now) }
 {
-    let input = Boxed::new(alloc, rewriting)?;
-    let subs = copied(alloc, standing)?;
-    let condition = condition.copy(alloc)?;
-    Ok(Query::Filter {
-        input,
-        condition,
-        subs,
-    })
+    let Ok((condition, subs)) = both(condition.copy(alloc), List::copy_of(alloc, standing)) else {
+        drop(rewriting);
+        return Err(NoMemory);
+    };
+    Query::filter(alloc, rewriting, condition, subs)
 }
 
 /// The rows of the rewriting with the items behind them, and what stands for the sublinks.
@@ -125,33 +116,24 @@ fn own_items(
 ) -> Result<Query, NoMemory>
     ensures { IfOk result (λ p. p ≡ Project rewriting (beside_row rewriting items.now) standing.now) }
 {
-    let Ok(items) = beside_row(alloc, &rewriting, items) else {
+    let parts = both(
+        beside_row(alloc, &rewriting, items),
+        List::copy_of(alloc, standing),
+    );
+    let Ok((items, subs)) = parts else {
         drop(rewriting);
         return Err(NoMemory);
     };
-    let input = Boxed::new(alloc, rewriting)?;
-    let subs = copied(alloc, standing)?;
-    Ok(Query::Project { input, items, subs })
+    Query::project(alloc, rewriting, items, subs)
 }
 
 fn beside_row(alloc: Global, query: &Query, items: &[Item]) -> Result<List<Item>, NoMemory>
     ensures { IfOk result (λ all. all ≡ beside_row query.now items.now) }
 {
-    let columns = kinds(alloc, query)?;
-    let places = columns_from(alloc, 0, columns.len())?;
-    let mut all = column_items(alloc, columns.as_slice(), places.as_slice())?;
-    all.append(copied(alloc, items)?)?;
+    let places = List::range(alloc, 0, exact_width(query)?)?;
+    let mut all = columns_at(alloc, query, places.as_slice())?;
+    all.append(List::copy_of(alloc, items)?)?;
     Ok(all)
-}
-
-fn copied<T: Copyable>(alloc: Global, items: &[T]) -> Result<List<T>, NoMemory>
-    ensures { IfOk result (λ list. list ≡ items.now) }
-{
-    let mut list = List::new(alloc);
-    for item in items {
-        list.push(item.copy(alloc)?)?;
-    }
-    Ok(list)
 }
 
 /// The items, the provenance of the rewriting, and what the sublinks contribute.
@@ -164,39 +146,26 @@ fn answer_columns(
 ) -> Result<Query, NoMemory>
     ensures { IfOk result (λ p. p ≡ answer_columns query own row made) }
 {
-    let Ok(items) = answer_items(alloc, &query, own, row, made) else {
+    let Ok(places) = answer_places(alloc, &query, own, row, made) else {
         drop(query);
         return Err(NoMemory);
     };
-    projection(alloc, query, items)
+    regroup(alloc, query, places.as_slice())
 }
 
-fn answer_items(
+fn answer_places(
     alloc: Global,
     query: &Query,
     own: usize,
     row: usize,
     made: usize,
-) -> Result<List<Item>, NoMemory>
-    ensures { IfOk result (λ items. items ≡ column_items (kinds_of query.now) (answer_places own row made (width_of query.now))) }
-{
-    let columns = kinds(alloc, query)?;
-    let places = answer_places(alloc, own, row, made, columns.len())?;
-    column_items(alloc, columns.as_slice(), places.as_slice())
-}
-
-fn answer_places(
-    alloc: Global,
-    own: usize,
-    row: usize,
-    made: usize,
-    all: usize,
 ) -> Result<List<usize>, NoMemory>
-    ensures { IfOk result (λ places. places ≡ answer_places own row made all) }
+    ensures { IfOk result (λ places. places ≡ answer_places own row made (width_of query.now)) }
 {
     let behind = sum(row, made)?;
-    let mut places = columns_from(alloc, row, made)?;
-    places.append(columns_from(alloc, own, row.saturating_sub(own))?)?;
-    places.append(columns_from(alloc, behind, all.saturating_sub(behind))?)?;
+    let all = exact_width(query)?;
+    let mut places = List::range(alloc, row, made)?;
+    places.append(List::range(alloc, own, row.saturating_sub(own))?)?;
+    places.append(List::range(alloc, behind, all.saturating_sub(behind))?)?;
     Ok(places)
 }

@@ -1,6 +1,4 @@
-ghost use Rattle.std.specs.Prelude.{◌≡◌, IfOk, IsSome, OnOk, true};
-ghost use Rattle.bag_algebra.specs.Rewriting.{Stands};
-ghost use Rattle.bag_algebra.specs.Scoped.{is_scoped};
+ghost use Rattle.std.specs.Prelude.{IfOk, IsSome, OnOk};
 ghost use Rattle.statement_meaning.specs.Answers.{IsText};
 ghost use Rattle.statement_meaning.specs.Ready.{CanRun};
 ghost use Rattle.statement_meaning.specs.Turns.{select};
@@ -8,10 +6,10 @@ ghost use Rattle.statement_steps.specs.Printed.{IsPrinted};
 ghost use Rattle.statement_steps.specs.Runs.{IsAnswered};
 
 use crate::runner::Runner;
-use bag_algebra::{Answer, Query};
+use bag_algebra::Answer;
 use csv_tables::answer_text;
 use perm_catalog::Catalog;
-use perm_values::{Bytes, Chars, Copyable, NoMemory};
+use perm_values::{Bytes, Chars};
 use rewrite_driver::eliminate;
 use row_values::ExecError;
 use statement_meaning::StepRefusal;
@@ -30,18 +28,9 @@ pub fn select(
     ensures text { IsText (select catalog.now at answer.now) catalog.now result }
     ensures ran { IfOk result (λ text. IsAnswered catalog.now answer.now text runner.new) }
 {
-    let plain = without_provenance(alloc, &answer.query)?;
+    let plain = eliminate(alloc, &answer.query)?;
     let told = runner.run(alloc, plain, answer.keys.as_slice(), catalog.tables());
     text_of(alloc, at, answer.names.as_slice(), told, runner)
-}
-
-/// A query that stands for this one and can be run.
-fn without_provenance(alloc: Global, query: &Query) -> Result<Query, NoMemory>
-    requires { is_scoped query.now ≡ true }
-    ensures { IfOk result (λ plain. Stands query.now plain) }
-{
-    let whole = query.copy(alloc)?;
-    eliminate(alloc, whole)
 }
 
 /// The text of the last run's rows in their order, or the refusal of a statement at an offset.

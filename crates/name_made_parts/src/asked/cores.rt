@@ -73,8 +73,8 @@ pub fn clauses_of(
     selected: Result<(Option<Condition>, Listed), NoMemory>,
     distinct: bool,
 ) -> Result<Clauses, NoMemory>
-    ensures made { IfOk result (λ made. IsOkAnd groups (λ groups. IsOkAnd kept (λ kept. IsOkAnd selected (λ selected.
-        made ≡ record {
+    ensures made { IfOk result (λ made. IsOkAnd groups (λ groups. IsOkAnd kept (λ kept.
+        IsOkAnd selected (λ selected. made ≡ record {
           condition = kept.condition;
           groups = groups;
           having = selected.0;
@@ -153,8 +153,8 @@ pub fn scope_grouped(alloc: Global, own: Scope, core: &Core) -> Result<Scope, No
 
 /// The places of the GROUP BY columns, where the core's rows stand for groups.
 fn groups_made(alloc: Global, scope: &Scope, core: &Core) -> Result<Option<List<usize>>, NoMemory>
-    ensures { IfOk result (λ places. (c : Contents) → places ≡
-        (group_scope scope.now (core_groups core.now) (having_part c core.now) (select_parts c core.now)).groups) }
+    ensures { IfOk result (λ places. (c : Contents) → places ≡ (group_scope scope.now
+        (core_groups core.now) (having_part c core.now) (select_parts c core.now)).groups) }
 {
     if !is_grouped(core) {
         return Ok(None);

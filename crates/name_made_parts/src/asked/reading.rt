@@ -34,7 +34,8 @@ pub fn shown_names(query: &QueryTree, around: &Around) -> Result<ShownNames, NoM
 
 fn names_shown(alloc: Global, shown: QueryShown) -> Result<ShownNames, NoMemory>
     ensures { IfOk result (λ found.
-        (found.names ≡ names_of (settled_columns (columns_of shown.columns))) × (found.places ≡ shown.places)) }
+        (found.names ≡ names_of (settled_columns (columns_of shown.columns)))
+        × (found.places ≡ shown.places)) }
 {
     let names = column_names(alloc, shown.columns.as_slice())?;
     let QueryShown { places, .. } = shown;

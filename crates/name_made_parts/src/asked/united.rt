@@ -215,8 +215,8 @@ fn kind_of_first(columns: &[ShownColumn]) -> Option<Kind>
 /// The kind at which the query of a scalar sublink is made.
 pub fn scalar_kind(query: &QueryTree, wanted: Kind, here: &Here) -> Result<Kind, NoMemory>
     requires { IsSound here.now.catalog.now }
-    ensures { IfOk result (λ kind. kind ≡ settled
-        (first_kind (query_means_at (query_of here.now.catalog.now query.now) (around_of (surroundings here.now))))
+    ensures { IfOk result (λ kind. kind ≡ settled (first_kind
+        (query_means_at (query_of here.now.catalog.now query.now) (around_of (surroundings here.now))))
         wanted) }
 {
     let column = first_kind(query, here)?;

@@ -24,31 +24,42 @@ pub fn nodes_see_rows_alone()
     ensures base { (input other : Query) (places : List ℕ) (label : Label) (db : Database) (env : List Row) →
         SameRows (meaning input db env) (meaning other db env) →
         SameRows (meaning (Base input places label) db env) (meaning other db env) }
-    ensures filter { (input other : Query) (condition : Expr) (subs others : List Sublink) (db : Database) (env : List Row) →
+    ensures filter { (input other : Query) (condition : Expr) (subs others : List Sublink) (db : Database)
+        (env : List Row) →
         SameRows (meaning input db env) (meaning other db env) →
-        ((us : Bag) (u : Row) → meaning input db env ≡ Good us → IsTrue (member u us) → SubsAgree db env u subs others) →
+        ((us : Bag) (u : Row) → meaning input db env ≡ Good us → IsTrue (member u us) →
+        SubsAgree db env u subs others) →
         SameRows (meaning (Filter input condition subs) db env) (meaning (Filter other condition others) db env) }
-    ensures project { (input other : Query) (items : List Item) (subs others : List Sublink) (db : Database) (env : List Row) →
+    ensures project { (input other : Query) (items : List Item) (subs others : List Sublink) (db : Database)
+        (env : List Row) →
         SameRows (meaning input db env) (meaning other db env) →
-        ((us : Bag) (u : Row) → meaning input db env ≡ Good us → IsTrue (member u us) → SubsAgree db env u subs others) →
+        ((us : Bag) (u : Row) → meaning input db env ≡ Good us → IsTrue (member u us) →
+        SubsAgree db env u subs others) →
         SameRows (meaning (Project input items subs) db env) (meaning (Project other items others) db env) }
-    ensures join { (kind : JoinKind) (left right other another : Query) (condition : Expr) (subs others : List Sublink) (db : Database) (env : List Row) →
-        SameRows (meaning left db env) (meaning other db env) → SameRows (meaning right db env) (meaning another db env) →
-        width_of left ≡ width_of other → width_of right ≡ width_of another → ((u : Row) → SubsAgree db env u subs others) →
+    ensures join { (kind : JoinKind) (left right other another : Query) (condition : Expr)
+        (subs others : List Sublink) (db : Database) (env : List Row) →
+        SameRows (meaning left db env) (meaning other db env) →
+        SameRows (meaning right db env) (meaning another db env) →
+        width_of left ≡ width_of other → width_of right ≡ width_of another →
+        ((u : Row) → SubsAgree db env u subs others) →
         SameRows (meaning (Join kind left right condition subs) db env) (meaning (Join kind other another condition others) db env) }
     ensures union_of { (all : Bool) (left right other another : Query) (db : Database) (env : List Row) →
-        SameRows (meaning left db env) (meaning other db env) → SameRows (meaning right db env) (meaning another db env) →
+        SameRows (meaning left db env) (meaning other db env) →
+        SameRows (meaning right db env) (meaning another db env) →
         SameRows (meaning (Union all left right) db env) (meaning (Union all other another) db env) }
     ensures intersect { (all : Bool) (left right other another : Query) (db : Database) (env : List Row) →
-        SameRows (meaning left db env) (meaning other db env) → SameRows (meaning right db env) (meaning another db env) →
+        SameRows (meaning left db env) (meaning other db env) →
+        SameRows (meaning right db env) (meaning another db env) →
         SameRows (meaning (Intersect all left right) db env) (meaning (Intersect all other another) db env) }
     ensures except { (all : Bool) (left right other another : Query) (db : Database) (env : List Row) →
-        SameRows (meaning left db env) (meaning other db env) → SameRows (meaning right db env) (meaning another db env) →
+        SameRows (meaning left db env) (meaning other db env) →
+        SameRows (meaning right db env) (meaning another db env) →
         SameRows (meaning (Except all left right) db env) (meaning (Except all other another) db env) }
     ensures distinct { (input other : Query) (db : Database) (env : List Row) →
         SameRows (meaning input db env) (meaning other db env) →
         SameRows (meaning (Distinct input) db env) (meaning (Distinct other) db env) }
-    ensures aggregate { (input other : Query) (groups : List ℕ) (aggregates : List Aggr) (db : Database) (env : List Row) →
+    ensures aggregate { (input other : Query) (groups : List ℕ) (aggregates : List Aggr) (db : Database)
+        (env : List Row) →
         SameRows (meaning input db env) (meaning other db env) →
         SameRows (meaning (Aggregate input groups aggregates) db env) (meaning (Aggregate other groups aggregates) db env) }
     ensures limit { (input other : Query) (keys : List Key) (most : ℕ) (db : Database) (env : List Row) →
@@ -59,18 +70,26 @@ pub fn nodes_see_rows_alone()
 /// What stands for a node's inputs and for its sublinks' queries gives a node that stands for it; what stands for the input
 /// of a source stands for the source.
 pub fn nodes_over_what_stands_stand()
-    ensures base { (q b : Query) (places : List ℕ) (label : Label) → Stands q b → Stands (Base q places label) b }
-    ensures filter { (q b : Query) (condition : Expr) (subs others : List Sublink) → Stands q b → SubsStand subs others →
+    ensures base { (q b : Query) (places : List ℕ) (label : Label) → Stands q b →
+        Stands (Base q places label) b }
+    ensures filter { (q b : Query) (condition : Expr) (subs others : List Sublink) → Stands q b →
+        SubsStand subs others →
         Stands (Filter q condition subs) (Filter b condition others) }
-    ensures project { (q b : Query) (items : List Item) (subs others : List Sublink) → Stands q b → SubsStand subs others →
+    ensures project { (q b : Query) (items : List Item) (subs others : List Sublink) → Stands q b →
+        SubsStand subs others →
         Stands (Project q items subs) (Project b items others) }
-    ensures join { (kind : JoinKind) (q b r d : Query) (condition : Expr) (subs others : List Sublink) → Stands q b → Stands r d →
+    ensures join { (kind : JoinKind) (q b r d : Query) (condition : Expr) (subs others : List Sublink) →
+        Stands q b → Stands r d →
         SubsStand subs others → Stands (Join kind q r condition subs) (Join kind b d condition others) }
-    ensures union_of { (all : Bool) (q b r d : Query) → Stands q b → Stands r d → Stands (Union all q r) (Union all b d) }
-    ensures intersect { (all : Bool) (q b r d : Query) → Stands q b → Stands r d → Stands (Intersect all q r) (Intersect all b d) }
-    ensures except { (all : Bool) (q b r d : Query) → Stands q b → Stands r d → Stands (Except all q r) (Except all b d) }
+    ensures union_of { (all : Bool) (q b r d : Query) → Stands q b → Stands r d →
+        Stands (Union all q r) (Union all b d) }
+    ensures intersect { (all : Bool) (q b r d : Query) → Stands q b → Stands r d →
+        Stands (Intersect all q r) (Intersect all b d) }
+    ensures except { (all : Bool) (q b r d : Query) → Stands q b → Stands r d →
+        Stands (Except all q r) (Except all b d) }
     ensures distinct { (q b : Query) → Stands q b → Stands (Distinct q) (Distinct b) }
     ensures aggregate { (q b : Query) (groups : List ℕ) (aggregates : List Aggr) → Stands q b →
         Stands (Aggregate q groups aggregates) (Aggregate b groups aggregates) }
-    ensures limit { (q b : Query) (keys : List Key) (most : ℕ) → Stands q b → Stands (Limit q keys most) (Limit b keys most) }
+    ensures limit { (q b : Query) (keys : List Key) (most : ℕ) → Stands q b →
+        Stands (Limit q keys most) (Limit b keys most) }
 {}

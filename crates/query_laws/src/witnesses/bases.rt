@@ -1,6 +1,6 @@
 //! The cross base of a query holds its flattened lists.
 ghost use Rattle.std.specs.Prelude.{◌≡◌, List, Contains, IsTrue};
-ghost use Rattle.perm_values.specs.declared.value.Value.{Value as Cell};
+ghost use Rattle.perm_values.specs.declared.value.Value.{Value};
 ghost use Rattle.bag_algebra.specs.Bags.{Row, Bag, member};
 ghost use Rattle.bag_algebra.specs.Meaning.{Database, meaning, witnesses};
 ghost use Rattle.bag_algebra.specs.Means.{Witness, flat};

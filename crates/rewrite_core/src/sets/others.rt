@@ -1,6 +1,5 @@
 //! The rows that EXCEPT leaves, beside the right rows that differ from them.
-ghost use Rattle.std.specs.Prelude.{◌≡◌, ◌≤◌, IfOk};
-ghost use Rattle.bag_algebra.specs.Kinds.{width_of};
+ghost use Rattle.std.specs.Prelude.{◌≡◌, IfOk};
 ghost use Rattle.bag_algebra.specs.declared.query.JoinKind.TheVariants.{Inner, Left};
 ghost use Rattle.bag_algebra.specs.declared.query.Query.TheVariants.{Except};
 ghost use Rattle.rewrite_base.specs.KeptColumns.{columns_kept, differs_from_first, pairs_of, same_as_first};
@@ -9,8 +8,8 @@ ghost use Rattle.rewrite_core.specs.OtherRows.{remaining};
 
 use crate::sets::columns::{Columns, columns_of};
 use bag_algebra::{JoinKind, Query};
-use contribution::joined;
-use perm_values::{Boxed, Copyable, NoMemory};
+use contribution::join_on;
+use perm_values::NoMemory;
 use rewrite_base::{differs_from_first, join_kept, same_as_first};
 use std::alloc::Global;
 
@@ -24,12 +23,13 @@ pub(crate) struct Counted {
 pub(crate) fn remaining(
     alloc: Global,
     all: bool,
-    left: &Query,
+    left: Query,
     rewriting: Query,
-    right: &Query,
+    right: Query,
 ) -> Result<Counted, NoMemory>
-    ensures rows { IfOk result (λ rest. rest.rows ≡ remaining (Except all left.now right.now) rewriting rest.columns.own rest.columns.kept) }
-    ensures columns { IfOk result (λ rest. ColumnsOf rest.columns left.now rewriting) }
+    ensures rows { IfOk result (λ rest. rest.rows ≡
+        remaining (Except all left right) rewriting rest.columns.own rest.columns.kept) }
+    ensures columns { IfOk result (λ rest. ColumnsOf rest.columns left rewriting) }
 {
     let Ok(plain) = difference(alloc, all, left, &rewriting, right) else {
         drop(rewriting);
@@ -45,18 +45,20 @@ pub(crate) fn remaining(
 fn difference(
     alloc: Global,
     all: bool,
-    left: &Query,
+    left: Query,
     rewriting: &Query,
-    right: &Query,
+    right: Query,
 ) -> Result<Counted, NoMemory>
-    ensures rows { IfOk result (λ plain. plain.rows ≡ Except all left.now right.now) }
-    ensures columns { IfOk result (λ plain. ColumnsOf plain.columns left.now rewriting.now) }
+    ensures rows { IfOk result (λ plain. plain.rows ≡ Except all left right) }
+    ensures columns { IfOk result (λ plain. ColumnsOf plain.columns left rewriting.now) }
 {
-    let columns = columns_of(left, rewriting)?;
-    let left = Boxed::new(alloc, left.copy(alloc)?)?;
-    let right = Boxed::new(alloc, right.copy(alloc)?)?;
+    let Ok(columns) = columns_of(&left, rewriting) else {
+        drop(left);
+        drop(right);
+        return Err(NoMemory);
+    };
     Ok(Counted {
-        rows: Query::Except { all, left, right },
+        rows: Query::except(alloc, all, left, right)?,
         columns,
     })
 }
@@ -74,7 +76,7 @@ fn same_rows(
         drop(plain);
         return Err(NoMemory);
     };
-    joined(alloc, JoinKind::Inner, rewriting, plain, same)
+    join_on(alloc, JoinKind::Inner, rewriting, plain, same)
 }
 
 /// The rows that remain, each beside the rows of the right rewriting that begin with another row, or beside NULLs.
@@ -84,8 +86,9 @@ pub(crate) fn beside_others(
     right: Query,
     columns: Columns,
 ) -> Result<Query, NoMemory>
-    requires { columns.kept ≤ width_of rest }
-    ensures { IfOk result (λ p. p ≡ columns_kept (pairs_of Left rest right (differs_from_first columns.own columns.right)) columns.kept columns.left_out) }
+    ensures { IfOk result (λ p. p ≡
+        columns_kept (pairs_of Left rest right (differs_from_first columns.own columns.right))
+        columns.kept columns.left_out) }
 {
     let Ok(others) = differs_from_first(alloc, columns.own, columns.right) else {
         drop(rest);

@@ -4,11 +4,17 @@ use Rattle.bag_algebra.specs.Kinds.{kinds_of}
 use Rattle.bag_algebra.specs.Patterns.{ProjectOf}
 use Rattle.bag_algebra.specs.Rewriting.{IsRewrite}
 use Rattle.bag_algebra.specs.declared.query.Query.{Query, end_of-Sublink}
+use Rattle.contribution.proofs.NodeQueries.{of_made}
 use Rattle.rewrite_core.proofs.Unprojected.{rewrite-unprojected}
-use Rattle.rewrite_core.proofs.columns.laid.Goals as goal
+use Rattle.rewrite_core.proofs.columns.with_columns.Goals as goal
 
-pub returns-then-all-clause-rewrites : goal.returns-then-all-clause-rewrites
-returns-then-all-clause-rewrites c = λ q given.
+pub returns-then-all : goal.returns-then-all
+returns-then-all c = λ q given.
     rewrite-unprojected q c.args.query
     (subst (λ order. IsRewrite q (ProjectOf c.args.query (column_items (kinds_of c.args.query) order) [] end_of-Sublink))
     (c.in-Ok.ensures c.if-all.true) given)
+
+pub returns : goal.returns
+returns c =
+    of_made (λ p. (q : Query) → IsRewrite q (ProjectOf c.args.query (column_items (kinds_of c.args.query) c.args.order.now) [] end_of-Sublink) → IsRewrite q p)
+    c.regroup.result _ c.regroup.ensures.made (λ q given. given)

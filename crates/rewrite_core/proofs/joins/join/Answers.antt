@@ -21,7 +21,7 @@ rewrite-laid kind left left_rewriting right right_rewriting condition order (Ok 
     (subst (λ order. IsLaidOut kind left left_rewriting right right_rewriting condition order whole) e made))
 rewrite-laid kind left left_rewriting right right_rewriting condition order (Err error) left_given right_given e laid = tt
 
-pub returns-clause-rewrites : goal.returns-clause-rewrites
-returns-clause-rewrites c =
+pub returns : goal.returns
+returns c =
     rewrite-laid c.args.kind c.args.left.now c.args.left_rewriting c.args.right.now c.args.right_rewriting c.args.condition.now _ c.laid_out.result
-    c.requires.left c.requires.right (c.as_slice.ensures ∙ c.in-Ok.ensures) c.laid_out.ensures.rewrites
+    c.requires.left c.requires.right (c.as_slice.ensures ∙ c.in-Ok.ensures) c.laid_out.ensures

@@ -18,7 +18,7 @@ rewrite-pairs kind left left_rewriting right right_rewriting pairs condition ord
     laid q (whole (ProjectOf pairs (column_items (kinds_of pairs) order) [] end_of-Sublink) (record { pairs = pairs; paired = paired; columns = refl }))
 rewrite-pairs kind left left_rewriting right right_rewriting pairs condition order (Err error) paired laid = tt
 
-pub returns-clause-rewrites : goal.returns-clause-rewrites
-returns-clause-rewrites c =
-    rewrite-pairs c.args.kind c.args.left.now c.args.left_rewriting c.args.right.now c.args.right_rewriting _ c.args.condition.now c.args.order.now c.laid.result
-    c.in_ok-pairs.ensures.made c.laid.ensures.rewrites
+pub returns : goal.returns
+returns c =
+    rewrite-pairs c.args.kind c.args.left.now c.args.left_rewriting c.args.right.now c.args.right_rewriting _ c.args.condition.now c.args.order.now c.with_columns.result
+    c.in_ok-pairs.ensures c.with_columns.ensures

@@ -4,15 +4,11 @@ use Rattle.bag_algebra.specs.Rewriting.{IsRewrite}
 use Rattle.bag_algebra.specs.declared.query.Query.{end_of-Sublink}
 use Rattle.bag_algebra.specs.declared.query.Query.TheVariants.{Filter}
 use Rattle.contribution.proofs.NodeQueries.{of_made}
-use Rattle.rewrite_core.proofs.Closing.{closed-made}
 use Rattle.rewrite_core.proofs.FilterRows.{rewrite-Filter}
 use Rattle.rewrite_core.proofs.nodes.filter.Goals as goal
 
-pub returns-clause-rewrites : goal.returns-clause-rewrites
-returns-clause-rewrites c =
-    of_made (λ p. IsRewrite (Filter c.args.input.now c.args.condition.now []) p) c.filtered.result _
-    (subst (λ e. IfOk c.filtered.result (λ p. p ≡ FilterOf c.args.rewriting e [] end_of-Sublink)) c.in-Ok.ensures c.filtered.ensures.made)
+pub returns : goal.returns
+returns c =
+    of_made (λ p. IsRewrite (Filter c.args.input.now c.args.condition.now []) p) c.selection.result _
+    (subst (λ e. IfOk c.selection.result (λ p. p ≡ FilterOf c.args.rewriting e [] end_of-Sublink)) c.in-Ok.ensures c.selection.ensures.made)
     (rewrite-Filter c.args.input.now c.args.rewriting c.args.condition.now c.requires)
-
-pub returns-clause-closed : goal.returns-clause-closed
-returns-clause-closed c = closed-made c.filtered.result c.args.rewriting c.filtered.ensures.closed

@@ -4,15 +4,11 @@ use Rattle.bag_algebra.specs.Rewriting.{IsRewrite}
 use Rattle.bag_algebra.specs.declared.query.Query.{end_of-Sublink}
 use Rattle.bag_algebra.specs.declared.query.Query.TheVariants.{Project}
 use Rattle.contribution.proofs.NodeQueries.{of_made}
-use Rattle.rewrite_core.proofs.Closing.{closed-made}
 use Rattle.rewrite_core.proofs.ProjectRows.{rewrite-Project}
 use Rattle.rewrite_core.proofs.nodes.project.Goals as goal
 
-pub returns-clause-rewrites : goal.returns-clause-rewrites
-returns-clause-rewrites c =
+pub returns : goal.returns
+returns c =
     of_made (λ p. IsRewrite (Project c.args.input.now c.args.items.now []) p) c.projection.result _
     (subst (λ items. IfOk c.projection.result (λ p. p ≡ ProjectOf c.args.rewriting items [] end_of-Sublink)) c.in-Ok.ensures c.projection.ensures.made)
     (rewrite-Project c.args.input.now c.args.rewriting c.args.items.now c.requires)
-
-pub returns-clause-closed : goal.returns-clause-closed
-returns-clause-closed c = closed-made c.projection.result c.args.rewriting c.projection.ensures.closed

@@ -8,7 +8,6 @@ use Rattle.bag_algebra.specs.declared.query.Label.{Label}
 use Rattle.bag_algebra.specs.declared.query.Query.{Query, end_of-Sublink}
 use Rattle.bag_algebra.specs.declared.query.Query.TheVariants.{Base}
 use Rattle.rewrite_core.proofs.BaseRows.{order_of, columns_of, rewrite-Base}
-use Rattle.rewrite_core.proofs.Closing.{closed-made}
 use Rattle.rewrite_core.proofs.sources.base.Goals as goal
 
 rewrite-laid : (input : Query) (places order : List ℕ) (result : Result Query NoMemory) → order ≡ order_of input places →
@@ -20,9 +19,6 @@ rewrite-laid input places order (Ok p) e laid = λ q label stands.
     (rewrite-Base q input places label stands))
 rewrite-laid input places order (Err error) e laid = tt
 
-pub returns-clause-rewrites : goal.returns-clause-rewrites
-returns-clause-rewrites c =
-    rewrite-laid c.args.input c.args.places.now _ c.laid.result (c.as_slice.ensures ∙ c.in-Ok.ensures) c.laid.ensures.rewrites
-
-pub returns-clause-closed : goal.returns-clause-closed
-returns-clause-closed c = closed-made c.laid.result c.args.input c.laid.ensures.closed
+pub returns : goal.returns
+returns c =
+    rewrite-laid c.args.input c.args.places.now _ c.with_columns.result (c.as_slice.ensures ∙ c.in-Ok.ensures) c.with_columns.ensures

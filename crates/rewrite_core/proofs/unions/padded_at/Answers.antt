@@ -16,11 +16,11 @@ padded-some : (query : Query) (first : ℕ) (kinds : List Kind) (result : Result
 padded-some query first [] result some made = absurd (omega arith)
 padded-some query first (kind ∷ kinds) result some made = made
 
-pub returns-then-is_empty-clause-made : goal.returns-then-is_empty-clause-made
-returns-then-is_empty-clause-made c =
+pub returns-then-is_empty : goal.returns-then-is_empty
+returns-then-is_empty c =
     padded-none c.args.query c.args.first c.args.added.now (grind (arith, common_steps, c.is_empty.ensures, c.if-is_empty.true))
 
-pub returns-clause-made : goal.returns-clause-made
-returns-clause-made c =
+pub returns : goal.returns
+returns c =
     padded-some c.args.query c.args.first c.args.added.now c.widened.result (grind (arith, common_steps, c.is_empty.ensures, c.if-is_empty.false))
-    c.widened.ensures.made
+    c.widened.ensures

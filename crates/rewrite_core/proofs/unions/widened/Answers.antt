@@ -3,6 +3,6 @@ use Rattle.bag_algebra.specs.Patterns.{ProjectOf}
 use Rattle.bag_algebra.specs.declared.query.Query.{end_of-Sublink}
 use Rattle.rewrite_core.proofs.unions.widened.Goals as goal
 
-pub returns-clause-made : goal.returns-clause-made
-returns-clause-made c =
+pub returns : goal.returns
+returns c =
     subst (λ items. IfOk c.projection.result (λ p. p ≡ ProjectOf c.args.query items [] end_of-Sublink)) c.in-Ok.ensures c.projection.ensures.made

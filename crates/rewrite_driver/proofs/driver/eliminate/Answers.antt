@@ -7,5 +7,5 @@ use Rattle.rewrite_driver.proofs.MadeQueries.{where_made}
 
 pub returns-clause-no_row_lost : goal.returns-clause-no_row_lost
 returns-clause-no_row_lost c q is =
-    where_made (λ plain. Stands c.args.query plain) (λ plain. KeepsRows q plain) c.stand.result
+    where_made (λ plain. Stands c.args.query.now plain) (λ plain. KeepsRows q plain) c.stand.result
     (λ plain stands. keeps-rows q plain (subst (λ n. Stands n plain) is stands)) c.stand.ensures

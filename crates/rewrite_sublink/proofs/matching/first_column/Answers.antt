@@ -1,11 +1,9 @@
-use Rattle.std.proofs.Common.{◌≡◌, ◌∙◌, [], ◌∷◌, IfOk, subst}
-use Rattle.bag_algebra.specs.ColumnItems.{column_items}
+use Rattle.std.proofs.Common.{◌≡◌, [], IfOk, subst}
 use Rattle.bag_algebra.specs.Patterns.{ProjectOf}
 use Rattle.bag_algebra.specs.declared.query.Query.{Query, end_of-Sublink}
 use Rattle.rewrite_sublink.proofs.matching.first_column.Goals as goal
 
 pub returns : goal.returns
 returns c =
-    let items = c.in_ok-items.ensures.made ∙ (λ j. column_items ((c.as_slice.ensures ∙ c.in_ok-columns.ensures) j) (0 ∷ [])) in
     subst (λ (p : Query). IfOk c.projection.result (λ q. q ≡ p))
-    (λ i. ProjectOf (c.in_ok-rows.ensures i) (items i) [] end_of-Sublink) c.projection.ensures.made
+    (λ i. ProjectOf (c.in_ok-rows.ensures i) (c.in_ok-items.ensures i) [] end_of-Sublink) c.projection.ensures.made

@@ -5,4 +5,4 @@ use Rattle.rewrite_sublink.proofs.matching.matching.Goals as goal
 
 pub returns : goal.returns
 returns c =
-    subst₂ (λ rows test. IfOk c.filtered.result (λ p. p ≡ FilterOf rows test [] end_of-Sublink)) c.in_ok-rows.ensures c.in-Ok.ensures c.filtered.ensures.made
+    subst₂ (λ rows test. IfOk c.selection.result (λ p. p ≡ FilterOf rows test [] end_of-Sublink)) c.in_ok-rows.ensures c.in-Ok.ensures c.selection.ensures.made

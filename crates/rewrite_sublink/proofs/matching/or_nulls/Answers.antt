@@ -6,5 +6,5 @@ use Rattle.rewrite_sublink.proofs.matching.or_nulls.Goals as goal
 
 pub returns : goal.returns
 returns c =
-    subst (λ (p : Query). IfOk c.joined.result (λ q. q ≡ p))
-    (λ i. JoinOf (c.outwards.ensures i) Single (c.in_ok-rows.ensures i) (c.always.ensures i) [] end_of-Sublink) c.joined.ensures.made
+    subst (λ (p : Query). IfOk c.join_on.result (λ q. q ≡ p))
+    (λ i. JoinOf (c.outwards.ensures i) Single (c.in_ok-rows.ensures i) (c.always.ensures i) [] end_of-Sublink) c.join_on.ensures.made

@@ -1,10 +1,9 @@
-use Rattle.std.proofs.Common.{◌≡◌, ◌∙◌, IfOk, IsTrue, length, sym, ap, subst₂}
-use Rattle.bag_algebra.specs.EveryNode.{no_open_sublink}
+use Rattle.std.proofs.Common.{◌≡◌, ◌∙◌, IfOk, length, sym, ap, subst₂}
 use Rattle.bag_algebra.specs.Rewriting.{IsRewrite}
 use Rattle.bag_algebra.specs.declared.query.Query.TheVariants.{Filter}
 use Rattle.contribution.proofs.NodeQueries.{of_made}
 use Rattle.rewrite_sublink.proofs.AllSublinks.{ready}
-use Rattle.rewrite_sublink.proofs.Closing.{stand-length, rewritten-length, closed-filter}
+use Rattle.rewrite_sublink.proofs.Lengths.{stand-length, rewritten-length}
 use Rattle.rewrite_sublink.proofs.FilterRows.{rewrite-Filter_with}
 use Rattle.rewrite_sublink.proofs.rules.filter_with.Goals as goal
 use Rattle.rewrite_sublink.specs.Candidates.{all_contributed}
@@ -16,19 +15,11 @@ with_contributions-requires c = record {
   rewritten = rewritten-length c.args.subs.now c.args.sub_rewritings c.requires.rewritten ∙ sym (ap length c.as_slice.ensures);
 }
 
-pub returns-clause-rewrites : goal.returns-clause-rewrites
-returns-clause-rewrites c =
+pub returns : goal.returns
+returns c =
     of_made (IsRewrite (Filter c.args.input.now c.args.condition.now c.args.subs.now)) c.with_contributions.result
     (all_contributed (Filter c.args.rewriting c.args.condition.now c.args.standing.now) c.args.subs.now c.args.standing.now c.args.sub_rewritings)
     (subst₂ (λ rows rewritings. IfOk c.with_contributions.result (λ p. p ≡ all_contributed rows c.args.subs.now c.args.standing.now rewritings))
     c.in_ok-rows.ensures c.as_slice.ensures c.with_contributions.ensures)
     (rewrite-Filter_with c.args.input.now c.args.rewriting c.args.condition.now c.args.subs.now c.args.standing.now c.args.sub_rewritings c.requires.input
     (ready c.args.subs.now c.args.standing.now c.args.sub_rewritings c.requires.standing c.requires.rewritten c.requires.over_tables))
-
-pub returns-clause-closed : goal.returns-clause-closed
-returns-clause-closed c = λ none closed.
-    of_made (λ p. IsTrue (no_open_sublink p)) c.with_contributions.result
-    (all_contributed (Filter c.args.rewriting c.args.condition.now c.args.standing.now) c.args.subs.now c.args.standing.now c.args.sub_rewritings)
-    (subst₂ (λ rows rewritings. IfOk c.with_contributions.result (λ p. p ≡ all_contributed rows c.args.subs.now c.args.standing.now rewritings))
-    c.in_ok-rows.ensures c.as_slice.ensures c.with_contributions.ensures)
-    (closed-filter c.args.rewriting c.args.condition.now c.args.subs.now c.args.standing.now c.args.sub_rewritings c.requires.standing none closed)

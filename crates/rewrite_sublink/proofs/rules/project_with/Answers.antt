@@ -1,12 +1,11 @@
-use Rattle.std.proofs.Common.{◌≡◌, ◌∙◌, IfOk, IsTrue, length, sym, ap, subst}
-use Rattle.bag_algebra.specs.EveryNode.{no_open_sublink}
+use Rattle.std.proofs.Common.{◌≡◌, ◌∙◌, IfOk, length, sym, ap, subst}
 use Rattle.bag_algebra.specs.Kinds.{width_of}
 use Rattle.bag_algebra.specs.Rewriting.{IsRewrite}
 use Rattle.bag_algebra.specs.declared.query.Query.TheVariants.{Project}
 use Rattle.contribution.proofs.NodeQueries.{of_made}
 use Rattle.rewrite_sublink.proofs.AllSublinks.{ready}
 use Rattle.rewrite_sublink.proofs.ProjectRows.{rewrite-Project_with}
-use Rattle.rewrite_sublink.proofs.Closing.{stand-length, rewritten-length, closed-project}
+use Rattle.rewrite_sublink.proofs.Lengths.{stand-length, rewritten-length}
 use Rattle.rewrite_sublink.proofs.rules.project_with.Goals as goal
 use Rattle.rewrite_sublink.specs.Candidates.{all_contributed, answer_columns, beside_row}
 
@@ -17,8 +16,8 @@ items_with-requires c = record {
   rewritten = rewritten-length c.args.subs.now c.args.sub_rewritings c.requires.rewritten ∙ sym (ap length c.as_slice-rewritings.ensures);
 }
 
-pub returns-clause-rewrites : goal.returns-clause-rewrites
-returns-clause-rewrites c =
+pub returns : goal.returns
+returns c =
     let r = c.args.rewriting in
     let subs = c.args.subs.now in
     let standing = c.args.standing.now in
@@ -29,15 +28,3 @@ returns-clause-rewrites c =
     c.as_slice-rewritings.ensures c.items_with.ensures)
     (rewrite-Project_with c.args.input.now r c.args.items.now subs standing c.args.sub_rewritings c.requires.input
     (ready subs standing c.args.sub_rewritings c.requires.standing c.requires.rewritten c.requires.over_tables))
-
-pub returns-clause-closed : goal.returns-clause-closed
-returns-clause-closed c = λ none closed.
-    let r = c.args.rewriting in
-    let subs = c.args.subs.now in
-    let standing = c.args.standing.now in
-    of_made (λ p. IsTrue (no_open_sublink p)) c.items_with.result
-    (answer_columns (all_contributed (Project r (beside_row r c.args.items.now) standing) subs standing c.args.sub_rewritings) (width_of c.args.input.now) (width_of r) (length c.args.items.now))
-    (subst (λ rewritings. IfOk c.items_with.result (λ q. q ≡
-    answer_columns (all_contributed (Project r (beside_row r c.args.items.now) standing) subs standing rewritings) (width_of c.args.input.now) (width_of r) (length c.args.items.now)))
-    c.as_slice-rewritings.ensures c.items_with.ensures)
-    (closed-project r (beside_row r c.args.items.now) subs standing c.args.sub_rewritings (width_of c.args.input.now) (width_of r) (length c.args.items.now) c.requires.standing none closed)

@@ -1,25 +1,18 @@
-use Rattle.std.proofs.Common.{sym, subst₂, arith}
+use Rattle.std.proofs.Common.{sym, subst₂}
 use Rattle.bag_algebra.specs.Rewriting.{IsRewrite}
 use Rattle.bag_algebra.specs.declared.query.JoinKind.TheVariants.{Inner}
 use Rattle.bag_algebra.specs.declared.query.Query.TheVariants.{Intersect}
-use Rattle.rewrite_base.proofs.OpenSublinks.{closed-kept}
 use Rattle.rewrite_base.specs.KeptColumns.{same_as_first, pairs_of, columns_kept}
 use Rattle.contribution.proofs.NodeQueries.{of_made}
 use Rattle.rewrite_core.proofs.IntersectRows.{intersect-made}
 use Rattle.rewrite_core.proofs.sets.rules.intersect.Goals as goal
 
-pub matched-requires : goal.matched-requires
-matched-requires c = omega (arith, c.in-Ok.ensures.kept)
-
-pub returns-clause-rewrites : goal.returns-clause-rewrites
-returns-clause-rewrites c =
+pub returns : goal.returns
+returns c =
     of_made (λ p. IsRewrite c.args.left.now c.args.left_rewriting → IsRewrite c.args.right.now c.args.right_rewriting →
-    IsRewrite (Intersect c.args.all c.args.left.now c.args.right.now) p) c.matched.result _ c.matched.ensures
+    IsRewrite (Intersect c.args.all c.args.left.now c.args.right.now) p) c.join_on_first_columns.result _ c.join_on_first_columns.ensures
     (λ l r.
     subst₂ (λ n k. IsRewrite (Intersect c.args.all c.args.left.now c.args.right.now)
     (columns_kept (pairs_of Inner c.args.left_rewriting c.args.right_rewriting (same_as_first n k)) k n))
     (sym c.in-Ok.ensures.own) (sym c.in-Ok.ensures.kept)
     (intersect-made c.args.all c.args.left.now c.args.right.now c.args.left_rewriting c.args.right_rewriting l r))
-
-pub returns-clause-closed : goal.returns-clause-closed
-returns-clause-closed c = λ l r. closed-kept Inner c.args.left_rewriting c.args.right_rewriting _ l r _ _ c.matched.result c.matched.ensures

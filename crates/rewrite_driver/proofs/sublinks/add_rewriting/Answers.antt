@@ -1,0 +1,11 @@
+use Rattle.std.proofs.Common.{◌∷◌, ◌++◌, []}
+use Rattle.bag_algebra.specs.Rewriting.{IsRewrite}
+use Rattle.perm_values.proofs.Taken.{opened}
+use Rattle.rewrite_driver.proofs.MadeQueries.{appended}
+use Rattle.rewrite_driver.proofs.SublinkLists.{rewritten-more}
+use Rattle.rewrite_sublink.specs.SubRewritings.{SubsRewritten}
+use Rattle.rewrite_driver.proofs.sublinks.add_rewriting.Goals as goal
+
+pub returns : goal.returns
+returns c subs sub h k =
+    appended (SubsRewritten (subs ++ sub ∷ [])) _ _ _ c.push.ensures.ok (rewritten-more subs _ sub _ h (opened (λ p. IsRewrite sub.query p) c.args.query _ c.in_ok-query.was k))

@@ -1,0 +1,15 @@
+use Rattle.std.proofs.Common.{◌∷◌, ◌++◌, [], sym, subst}
+use Rattle.bag_algebra.specs.Rewriting.{Stands}
+use Rattle.query_laws.specs.Standing.{SubsStand}
+use Rattle.perm_values.proofs.Taken.{opened}
+use Rattle.rewrite_driver.proofs.MadeQueries.{appended}
+use Rattle.rewrite_driver.proofs.SublinkLists.{stand-more}
+use Rattle.rewrite_driver.proofs.sublinks.add_standing.Goals as goal
+
+pub returns : goal.returns
+returns c subs h k =
+    appended (SubsStand (subs ++ c.args.sub.now ∷ [])) _ _ _ c.push.ensures.ok (stand-more subs _ c.args.sub.now _ h (record {
+      kind = sym c.in_ok-other.ensures.kind_kept;
+      tested = sym c.in_ok-other.ensures.tested_kept;
+      query = subst (λ b. Stands c.args.sub.now.query b) (sym c.in_ok-other.ensures.over) (opened (λ b. Stands c.args.sub.now.query b) c.args.query _ c.in_ok-query.was k);
+    }))
