@@ -1,5 +1,5 @@
 //! Cores, with their clauses.
-ghost use Rattle.std.specs.Prelude.{◌≡◌, Bool, not, drop, length, ◌∷◌, [], List as Items, IfOk, OnOk, map, option_map};
+ghost use Rattle.std.specs.Prelude.{◌≡◌, Bool, not, drop, length, ◌∷◌, [], List, IfOk, OnOk, map, option_map};
 ghost use Rattle.perm_catalog.specs.Sound.{IsSound};
 ghost use Rattle.name_meaning.specs.Cores.{in_clause, optional_meant};
 ghost use Rattle.name_meaning.specs.Meanings.{means_at};
@@ -7,20 +7,19 @@ ghost use Rattle.name_meaning.specs.Scopes.{ScopeItem, scope_of};
 ghost use Rattle.name_meaning.specs.Trees.{core_of, item_of, part_of};
 ghost use Rattle.name_made_nodes.specs.Listed.{MakesItems};
 ghost use Rattle.name_made_nodes.specs.Makes.{MakesQuery};
-ghost use Rattle.name_meaning.specs.declared.answer.Break.{Break as Broken};
+ghost use Rattle.name_meaning.specs.declared.answer.Break.{Break};
 ghost use Rattle.name_seen_parts.specs.Named.{here_only, scopes_of};
-ghost use Rattle.name_seen_parts.specs.Standing.{around_of as standing_of, surroundings};
+ghost use Rattle.name_seen_parts.specs.Standing.{around_of, surroundings};
 ghost use Rattle.name_made_parts.specs.Cored.{Keeps, MakesClauses, MakesList, MakesSelected, core_over_items, having_part, items_meant, select_parts, sources_meant};
 ghost use Rattle.name_made_parts.specs.Sources.{IsScope};
 
 use crate::expressions::made;
-use crate::query_results::{clauses_of, kept_of, listed_of, scope_grouped};
 use crate::sources::sources_made;
 use bag_algebra::{Aggr, Item, Query};
 use name_made_nodes::{Clauses, Condition, Listed, Within, add_value, beside, core_of};
 use name_made_parts::{
-    Kept, add_star, add_table_star, behind_aggregates, core_trace, groups_of, item_kind,
-    scope_or_none,
+    Kept, add_star, add_table_star, behind_aggregates, clauses_of, core_trace, groups_of,
+    item_kind, kept_of, listed_of, scope_grouped, scope_or_none,
 };
 use name_meaning::Scope;
 use name_seen_cores::in_clause;
@@ -33,7 +32,7 @@ use sql_tree::{Core, ExprTree, SelectItem};
 pub(crate) fn core_made(core: &Core, wanted: &[Kind], around: &Around) -> Result<Query, NoMemory>
     requires { IsSound around.now.catalog.now }
     ensures { IfOk result (λ query. MakesQuery
-        ((core_of around.now.catalog.now core.now).means (standing_of around.now)) wanted.now query) }
+        ((core_of around.now.catalog.now core.now).means (around_of around.now)) wanted.now query) }
 {
     let inner = Around {
         alloc: around.alloc,
@@ -52,8 +51,11 @@ pub(crate) fn core_made(core: &Core, wanted: &[Kind], around: &Around) -> Result
 #[cycle(made)]
 fn over_items(core: &Core, wanted: &[Kind], around: &Around, own: Scope) -> Result<Query, NoMemory>
     requires { IsSound around.now.catalog.now }
-    ensures { IfOk result (λ query. IsScope (sources_meant around.now.catalog.now (standing_of around.now) core.now) own → (breaks : Items Broken) (items : Items ScopeItem)
-        → own ≡ scope_of items → MakesQuery (core_over_items around.now.catalog.now (standing_of around.now) core.now breaks items) wanted.now query) }
+    ensures { IfOk result (λ query.
+        IsScope (sources_meant around.now.catalog.now (around_of around.now) core.now) own
+        → (breaks : List Break) (items : List ScopeItem) → own ≡ scope_of items → MakesQuery
+        (core_over_items around.now.catalog.now (around_of around.now) core.now breaks items)
+        wanted.now query) }
 {
     let scope = scope_grouped(around.alloc, own, core)?;
     let clauses = clauses_made(core, wanted, around, &scope);
@@ -71,7 +73,8 @@ fn clauses_made(
     scope: &Scope,
 ) -> Result<Clauses, NoMemory>
     requires { IsSound around.now.catalog.now }
-    ensures { IfOk result (MakesClauses around.now.catalog.now (standing_of around.now) core.now scope.now wanted.now) }
+    ensures { IfOk result
+        (MakesClauses around.now.catalog.now (around_of around.now) core.now scope.now wanted.now) }
 {
     let groups = groups_of(around.alloc, scope);
     let kept = condition_made(&core.condition, false, around, scope);
@@ -88,8 +91,9 @@ fn selected_made(
     scope: &Scope,
 ) -> Result<(Option<Condition>, Listed), NoMemory>
     requires { IsSound around.now.catalog.now }
-    ensures { IfOk result (λ made. MakesSelected (standing_of around.now) scope.now (having_part around.now.catalog.now core.now)
-        (select_parts around.now.catalog.now core.now) wanted.now made.0 made.1) }
+    ensures { IfOk result (λ made. MakesSelected (around_of around.now) scope.now
+        (having_part around.now.catalog.now core.now) (select_parts around.now.catalog.now core.now)
+        wanted.now made.0 made.1) }
 {
     let kept = condition_made(&core.having, true, around, scope)?;
     let Kept {
@@ -109,8 +113,9 @@ fn condition_made(
     scope: &Scope,
 ) -> Result<Kept, NoMemory>
     requires { IsSound around.now.catalog.now }
-    ensures { IfOk result (Keeps (optional_meant (in_clause (here_only (not in_groups) scope.now) (scopes_of around.now.outer.now) around.now.trace in_groups)
-        (option_map (part_of around.now.catalog.now) condition.now))) }
+    ensures { IfOk result (Keeps (optional_meant
+        (in_clause (here_only (not in_groups) scope.now) (scopes_of around.now.outer.now)
+        around.now.trace in_groups) (option_map (part_of around.now.catalog.now) condition.now))) }
 {
     match condition {
         None => Ok(Kept {
@@ -131,7 +136,8 @@ fn kept_made(
 ) -> Result<Kept, NoMemory>
     requires { IsSound around.now.catalog.now }
     ensures { IfOk result (Keeps (Some (means_at (part_of around.now.catalog.now tree.now)
-        (in_clause (here_only (not in_groups) scope.now) (scopes_of around.now.outer.now) around.now.trace in_groups)))) }
+        (in_clause (here_only (not in_groups) scope.now) (scopes_of around.now.outer.now)
+        around.now.trace in_groups)))) }
 {
     let scopes = inside(scope, !in_groups, &*around.outer)?;
     let here = Here {
@@ -155,7 +161,8 @@ fn list_made(
     scope: &Scope,
 ) -> Result<Listed, NoMemory>
     requires { IsSound around.now.catalog.now }
-    ensures { IfOk result (MakesList (standing_of around.now) scope.now (map (item_of around.now.catalog.now) items.now) wanted.now aggregates) }
+    ensures { IfOk result (MakesList (around_of around.now) scope.now
+        (map (item_of around.now.catalog.now) items.now) wanted.now aggregates) }
 {
     let Ok(scopes) = inside(scope, false, &*around.outer) else {
         drop(aggregates);
@@ -183,7 +190,8 @@ fn items_made(
 ) -> Result<List<Item>, NoMemory>
     requires { IsSound here.now.catalog.now }
     ensures { IfOk result (λ made. (has_from : Bool) → MakesItems here.now.standing.sublinks
-        (items_meant has_from scope.now (surroundings here.now) (map (item_of here.now.catalog.now) items.now)) wanted.now [] made found.old found.new) }
+        (items_meant has_from scope.now (surroundings here.now)
+        (map (item_of here.now.catalog.now) items.now)) wanted.now [] made found.old found.new) }
 {
     let mut made_items = List::new(here.alloc);
     for item in items {
@@ -207,7 +215,8 @@ fn item_listed(
 ) -> Result<(), NoMemory>
     requires { IsSound here.now.catalog.now }
     ensures { OnOk result ((has_from : Bool) → MakesItems here.now.standing.sublinks
-        (items_meant has_from scope.now (surroundings here.now) (item_of here.now.catalog.now item.now ∷ [])) (drop (length items.old) wanted.now) items.old items.new found.old found.new) }
+        (items_meant has_from scope.now (surroundings here.now) (item_of here.now.catalog.now item.now ∷ []))
+        (drop (length items.old) wanted.now) items.old items.new found.old found.new) }
 {
     match item {
         SelectItem::Star { .. } => add_star(scope, items),

@@ -1,10 +1,10 @@
 //! Expressions, made where they stand at the kinds that are wanted of them.
 ghost use Rattle.std.specs.Prelude.{◌≡◌, ℕ, false, [], IfOk, map};
-ghost use Rattle.bag_algebra.specs.declared.expr.Expr.TheVariants.{Lit as Number, Op as Operated};
+ghost use Rattle.bag_algebra.specs.declared.expr.Expr.TheVariants.{Lit, Op};
 ghost use Rattle.perm_catalog.specs.Sound.{IsSound};
-ghost use Rattle.perm_values.specs.declared.kind.Kind.{Kind as Sort};
-ghost use Rattle.perm_values.specs.declared.kind.Kind.TheVariants.{Boolean as Truths, Integer as Counts};
-ghost use Rattle.perm_values.specs.declared.value.Value.TheVariants.{Integer as Whole};
+ghost use Rattle.perm_values.specs.declared.kind.Kind.{Kind};
+ghost use Rattle.perm_values.specs.declared.kind.Kind.TheVariants as kind;
+ghost use Rattle.perm_values.specs.declared.value.Value.TheVariants as value;
 ghost use Rattle.name_meaning.specs.Meanings.{means_at, query_means_at};
 ghost use Rattle.name_meaning.specs.Operands.{node, operand};
 ghost use Rattle.name_meaning.specs.Sublinks.{aggregated, around_of, exists_meant, if_standing, in_argument, in_tested, scalar_meant};
@@ -42,7 +42,8 @@ pub fn made(
 ) -> Result<Expr, NoMemory>
     requires { IsSound here.now.catalog.now }
     ensures { IfOk result (λ e. Makes here.now.standing.sublinks
-        (means_at (part_of here.now.catalog.now tree.now) (surroundings here.now)) wanted e found.old found.new) }
+        (means_at (part_of here.now.catalog.now tree.now) (surroundings here.now)) wanted e
+        found.old found.new) }
 {
     let alloc = here.alloc;
     match &tree.body {
@@ -220,7 +221,7 @@ pub fn made(
 }
 
 fn integer_read(number: &i64) -> Expr
-    ensures { result ≡ Number (Whole number.now) Counts }
+    ensures { result ≡ Lit (value.Integer number.now) kind.Integer }
 {
     integer_value(*number)
 }
@@ -236,7 +237,8 @@ fn operands_made(
 ) -> Result<List<Expr>, NoMemory>
     requires { IsSound here.now.catalog.now }
     ensures { IfOk result (λ parts. MakesMore here.now.standing.sublinks alike
-        (map (operand (surroundings here.now) need) (map (part_of here.now.catalog.now) trees.now)) [] parts found.old found.new) }
+        (map (operand (surroundings here.now) need) (map (part_of here.now.catalog.now) trees.now)) [] parts
+        found.old found.new) }
 {
     let mut parts = List::new(here.alloc);
     for tree in trees {
@@ -259,7 +261,8 @@ fn operator_made(
 ) -> Result<Expr, NoMemory>
     requires { IsSound here.now.catalog.now }
     ensures { IfOk result (λ e. Makes here.now.standing.sublinks
-        (node gives (Operated op) (map (operand (surroundings here.now) need) (map (part_of here.now.catalog.now) trees.now))) wanted e found.old found.new) }
+        (node gives (Op op) (map (operand (surroundings here.now) need)
+        (map (part_of here.now.catalog.now) trees.now))) wanted e found.old found.new) }
 {
     let alike = alike_of_all(need, gives, trees, wanted, here)?;
     let parts = operands_made(trees, need, alike, here, found);
@@ -274,7 +277,8 @@ fn steps_made(
     found: &mut Within,
 ) -> Result<List<ChainStep>, NoMemory>
     requires { IsSound here.now.catalog.now }
-    ensures { IfOk result (λ made. (alike : Sort) → MakesSteps here.now.standing.sublinks alike (surroundings here.now)
+    ensures { IfOk result (λ made. (alike : Kind)
+        → MakesSteps here.now.standing.sublinks alike (surroundings here.now)
         (map (step_of here.now.catalog.now) steps.now) made found.old found.new) }
 {
     let mut made_steps = List::new(here.alloc);
@@ -315,9 +319,10 @@ fn aggregated(
     found: &mut Within,
 ) -> Result<Expr, NoMemory>
     requires { IsSound here.now.catalog.now }
-    ensures { IfOk result (λ e. (at argument_at : ℕ) (wanted : Sort) → Makes here.now.standing.sublinks
+    ensures { IfOk result (λ e. (at argument_at : ℕ) (wanted : Kind) → Makes here.now.standing.sublinks
         (aggregated (surroundings here.now) at word argument_at
-        (means_at (part_of here.now.catalog.now argument.now) (in_argument (surroundings here.now)))) wanted e found.old found.new) }
+        (means_at (part_of here.now.catalog.now argument.now) (in_argument (surroundings here.now)))) wanted e
+        found.old found.new) }
 {
     let scopes = ungrouped(&*here.scopes);
     let inner = Here {
@@ -337,9 +342,11 @@ fn aggregated(
 #[cycle(made)]
 fn exists_made(query: &QueryTree, here: &Here, found: &mut Within) -> Result<Expr, NoMemory>
     requires { IsSound here.now.catalog.now }
-    ensures { IfOk result (λ e. (at query_at : ℕ) (wanted : Sort) → Makes here.now.standing.sublinks
-        (if_standing (surroundings here.now) at (Some Truths) (exists_meant (surroundings here.now) query_at
-        (query_means_at (query_of here.now.catalog.now query.now) (around_of (surroundings here.now))))) wanted e found.old found.new) }
+    ensures { IfOk result (λ e. (at query_at : ℕ) (wanted : Kind) → Makes here.now.standing.sublinks
+        (if_standing (surroundings here.now) at (Some kind.Boolean)
+        (exists_meant (surroundings here.now) query_at
+        (query_means_at (query_of here.now.catalog.now query.now) (around_of (surroundings here.now)))))
+        wanted e found.old found.new) }
 {
     if !here.standing.sublinks {
         return Ok(null_at(Kind::Boolean));
@@ -358,7 +365,8 @@ fn scalar_made(
     requires { IsSound here.now.catalog.now }
     ensures { IfOk result (λ e. (at query_at : ℕ) → Makes here.now.standing.sublinks
         (if_standing (surroundings here.now) at None (scalar_meant (surroundings here.now) query_at
-        (query_means_at (query_of here.now.catalog.now query.now) (around_of (surroundings here.now))))) wanted e found.old found.new) }
+        (query_means_at (query_of here.now.catalog.now query.now) (around_of (surroundings here.now)))))
+        wanted e found.old found.new) }
 {
     if !here.standing.sublinks {
         return Ok(null_at(wanted));
@@ -379,7 +387,8 @@ fn linked(
 ) -> Result<Expr, NoMemory>
     requires { IsSound here.now.catalog.now }
     ensures { IfOk result (λ e. Links kind tested
-        (query_means_at (query_of here.now.catalog.now query.now) (around_of (surroundings here.now))) wanted.now e found.old found.new) }
+        (query_means_at (query_of here.now.catalog.now query.now) (around_of (surroundings here.now)))
+        wanted.now e found.old found.new) }
 {
     let around = Around {
         alloc: here.alloc,
@@ -402,7 +411,8 @@ fn tested_made(
 ) -> Result<Expr, NoMemory>
     requires { IsSound here.now.catalog.now }
     ensures { IfOk result (λ e. Makes false
-        (means_at (part_of here.now.catalog.now tree.now) (in_tested (surroundings here.now))) wanted e found.old found.new) }
+        (means_at (part_of here.now.catalog.now tree.now) (in_tested (surroundings here.now))) wanted e
+        found.old found.new) }
 {
     let inner = Here {
         alloc: here.alloc,

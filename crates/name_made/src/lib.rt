@@ -4,7 +4,6 @@
 mod cores;
 mod expressions;
 mod queries;
-mod query_results;
 mod sources;
 
 pub use expressions::made;

@@ -1,12 +1,12 @@
 //! Queries and set operations, made at the kinds that are wanted of their columns.
 ghost use Rattle.std.specs.Prelude.{◌≡◌, IfOk, map};
 ghost use Rattle.perm_catalog.specs.Sound.{IsSound};
-ghost use Rattle.name_meaning.specs.Meanings.{QueryMeant as Meaning, query_means_at};
+ghost use Rattle.name_meaning.specs.Meanings.{QueryMeant, query_means_at};
 ghost use Rattle.name_meaning.specs.Queries.{set_chain};
 ghost use Rattle.name_meaning.specs.Trees.{query_of, set_of_tree, set_step_of};
 ghost use Rattle.name_made_nodes.specs.Chained.{Serves};
 ghost use Rattle.name_made_nodes.specs.Makes.{MakesQuery};
-ghost use Rattle.name_seen_parts.specs.Standing.{around_of as standing_of};
+ghost use Rattle.name_seen_parts.specs.Standing.{around_of};
 
 use crate::cores::core_made;
 use bag_algebra::Query;
@@ -23,19 +23,19 @@ use sql_tree::{QueryTree, SetStep, SetTree};
 pub fn query_made(tree: &QueryTree, wanted: &[Kind], around: &Around) -> Result<Query, NoMemory>
     requires { IsSound around.now.catalog.now }
     ensures { IfOk result (λ query. MakesQuery
-        (query_means_at (query_of around.now.catalog.now tree.now) (standing_of around.now)) wanted.now query) }
+        (query_means_at (query_of around.now.catalog.now tree.now) (around_of around.now)) wanted.now query) }
 {
-    let proving = is_proving(&tree.body, around);
+    let with_provenance = is_proving(&tree.body, around);
     let inner = Around {
         alloc: around.alloc,
         catalog: &*around.catalog,
         outer: &*around.outer,
-        trace: trace_inside(around.trace, proving),
+        trace: trace_inside(around.trace, with_provenance),
         provable: around.provable,
     };
     let keys = limit_keys(tree, &inner)?;
     let body = set_made(&tree.body, wanted, &inner);
-    finished_of(around.alloc, body, keys, tree.limit, proving)
+    finished_of(around.alloc, body, keys, tree.limit, with_provenance)
 }
 
 /// The tree of set operations where it stands.
@@ -43,7 +43,7 @@ pub fn query_made(tree: &QueryTree, wanted: &[Kind], around: &Around) -> Result<
 fn set_made(tree: &SetTree, wanted: &[Kind], around: &Around) -> Result<Query, NoMemory>
     requires { IsSound around.now.catalog.now }
     ensures { IfOk result (λ query. MakesQuery
-        ((set_of_tree around.now.catalog.now tree.now).means (standing_of around.now)) wanted.now query) }
+        ((set_of_tree around.now.catalog.now tree.now).means (around_of around.now)) wanted.now query) }
 {
     match tree {
         SetTree::Core(core) => core_made(core.get(), wanted, around),
@@ -83,9 +83,11 @@ fn chained(
     around: &Around,
 ) -> Result<Query, NoMemory>
     requires { IsSound around.now.catalog.now }
-    ensures { IfOk result (λ query. (meant : Meaning) → MakesQuery meant kinds.now first
-        → Serves (set_chain (standing_of around.now) meant (map (set_step_of around.now.catalog.now) steps.now)) kinds.now
-        → query ≡ (set_chain (standing_of around.now) meant (map (set_step_of around.now.catalog.now) steps.now)).make kinds.now) }
+    ensures { IfOk result (λ query. (meant : QueryMeant) → MakesQuery meant kinds.now first
+        → Serves (set_chain (around_of around.now) meant
+        (map (set_step_of around.now.catalog.now) steps.now)) kinds.now
+        → query ≡ (set_chain (around_of around.now) meant
+        (map (set_step_of around.now.catalog.now) steps.now)).make kinds.now) }
 {
     let inner = Around {
         alloc: around.alloc,

@@ -1,5 +1,5 @@
 //! What FROM reads, with its joins.
-ghost use Rattle.std.specs.Prelude.{◌≡◌, ℕ, [], List as Items, IfOk, map, option_map};
+ghost use Rattle.std.specs.Prelude.{◌≡◌, ℕ, [], List, IfOk, map, option_map};
 ghost use Rattle.perm_catalog.specs.Sound.{IsSound};
 ghost use Rattle.name_meaning.specs.Froms.{from_all, in_on, on_made};
 ghost use Rattle.name_meaning.specs.Meanings.{means_at};
@@ -10,10 +10,12 @@ ghost use Rattle.name_made_parts.specs.Sources.{MakesFrom, MakesJoin, MakesOn, M
 
 use crate::expressions::made;
 use crate::queries::query_made;
-use crate::query_results::{marked_of, with_next, with_right};
 use bag_algebra::{Expr, Query};
 use name_made_nodes::{Within, truth_value};
-use name_made_parts::{behind, input_or_single, join_kind, named_item, segment, shown_names};
+use name_made_parts::{
+    behind, input_or_single, join_kind, marked_of, named_item, segment, shown_names, with_next,
+    with_right,
+};
 use name_meaning::Scope;
 use name_seen_cores::in_on;
 use name_seen_from::trace_under;
@@ -29,7 +31,8 @@ pub(crate) fn sources_made(
     scope: &Scope,
 ) -> Result<Query, NoMemory>
     requires { IsSound around.now.catalog.now }
-    ensures { IfOk result (MakesFrom (from_all (scopes_of around.now.outer.now) around.now.trace (map (from_of around.now.catalog.now) sources.now)) 0 scope.now) }
+    ensures { IfOk result (MakesFrom (from_all (scopes_of around.now.outer.now) around.now.trace
+        (map (from_of around.now.catalog.now) sources.now)) 0 scope.now) }
 {
     let mut whole = None;
     let mut first = 0;
@@ -54,8 +57,9 @@ fn source_made(
     scope: &Scope,
 ) -> Result<Query, NoMemory>
     requires { IsSound around.now.catalog.now }
-    ensures { IfOk result (λ query. (earlier : Items (Items ℕ)) →
-        MakesFrom ((from_of around.now.catalog.now source.now).means (scopes_of around.now.outer.now) around.now.trace earlier) first scope.now query) }
+    ensures { IfOk result (λ query. (earlier : List (List ℕ)) →
+        MakesFrom ((from_of around.now.catalog.now source.now).means (scopes_of around.now.outer.now)
+        around.now.trace earlier) first scope.now query) }
 {
     let mut whole = item_made(&source.first, around)?;
     for (place, step) in source.joins.as_slice().iter().enumerate() {
@@ -75,7 +79,8 @@ fn join_made(
     scope: &Scope,
 ) -> Result<Query, NoMemory>
     requires { IsSound around.now.catalog.now }
-    ensures { IfOk result (MakesJoin (scopes_of around.now.outer.now) around.now.trace (join_of around.now.catalog.now step.now) first count scope.now whole) }
+    ensures { IfOk result (MakesJoin (scopes_of around.now.outer.now) around.now.trace
+        (join_of around.now.catalog.now step.now) first count scope.now whole) }
 {
     let condition = on_made(&step.condition, first, count, around, scope);
     let right = item_made(&step.item, around);
@@ -92,7 +97,8 @@ fn on_made(
     scope: &Scope,
 ) -> Result<Expr, NoMemory>
     requires { IsSound around.now.catalog.now }
-    ensures { IfOk result (MakesOn (scopes_of around.now.outer.now) around.now.trace (option_map (part_of around.now.catalog.now) condition.now) first count scope.now) }
+    ensures { IfOk result (MakesOn (scopes_of around.now.outer.now) around.now.trace
+        (option_map (part_of around.now.catalog.now) condition.now) first count scope.now) }
 {
     match condition {
         None => Ok(truth_value(true)),
@@ -109,9 +115,11 @@ fn on_made(
 #[cycle(made)]
 fn on_items(tree: &ExprTree, around: &Around, own: &Scope) -> Result<Expr, NoMemory>
     requires { IsSound around.now.catalog.now }
-    ensures { IfOk result (λ e. (items : Items ScopeItem) → own.now ≡ scope_of items →
-        (means_at (part_of around.now.catalog.now tree.now) (in_on items (scopes_of around.now.outer.now) around.now.trace)).breaks ≡ []
-        → e ≡ on_made (Some (means_at (part_of around.now.catalog.now tree.now) (in_on items (scopes_of around.now.outer.now) around.now.trace)))) }
+    ensures { IfOk result (λ e. (items : List ScopeItem) → own.now ≡ scope_of items →
+        (means_at (part_of around.now.catalog.now tree.now)
+        (in_on items (scopes_of around.now.outer.now) around.now.trace)).breaks ≡ []
+        → e ≡ on_made (Some (means_at (part_of around.now.catalog.now tree.now)
+        (in_on items (scopes_of around.now.outer.now) around.now.trace)))) }
 {
     let scopes = inside(own, false, &*around.outer)?;
     let here = Here {
@@ -130,8 +138,9 @@ fn on_items(tree: &ExprTree, around: &Around, own: &Scope) -> Result<Expr, NoMem
 #[cycle(made)]
 fn item_made(item: &FromItem, around: &Around) -> Result<Query, NoMemory>
     requires { IsSound around.now.catalog.now }
-    ensures { IfOk result (λ query. (earlier : Items (Items ℕ)) →
-        MakesSource ((from_item_of around.now.catalog.now item.now).means (scopes_of around.now.outer.now) around.now.trace earlier) query) }
+    ensures { IfOk result (λ query. (earlier : List (List ℕ)) →
+        MakesSource ((from_item_of around.now.catalog.now item.now).means (scopes_of around.now.outer.now)
+        around.now.trace earlier) query) }
 {
     match &item.source {
         FromSource::Named(name) => named_item(around.alloc, &*around.catalog, name, &item.mark),

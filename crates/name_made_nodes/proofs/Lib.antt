@@ -4,5 +4,5 @@ pub mod FormsMade
 pub mod ItemLists
 pub mod Linking
 pub mod Parts
-pub mod Repeated
+pub mod Times
 pub mod United

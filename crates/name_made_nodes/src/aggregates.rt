@@ -1,6 +1,6 @@
 //! Aggregates, which stand behind the groups in the rows of a grouped core.
-ghost use Rattle.std.specs.Prelude.{◌≡◌, ℕ, Bool, ◌<◌, ◌^◌, IfOk};
-ghost use Rattle.perm_values.specs.declared.kind.Kind.{Kind as Sort};
+ghost use Rattle.std.specs.Prelude.{◌≡◌, ℕ, Bool, ◌<◌, ◌^◌, Some, IfOk, IsOkAnd};
+ghost use Rattle.perm_values.specs.declared.kind.Kind.{Kind};
 ghost use Rattle.name_meaning.specs.Meanings.{Surroundings};
 ghost use Rattle.name_meaning.specs.Scopes.{group_count};
 ghost use Rattle.name_meaning.specs.Sublinks.{aggregate_kind, aggregate_made, argument_wanted, function_of, rows_counted};
@@ -54,7 +54,7 @@ fn aggregate_kind(word: AggWord, argument: Option<Kind>) -> Kind
 }
 
 /// An aggregate behind those found so far.
-pub fn aggregate_made(
+fn add_aggregate(
     groups: usize,
     word: AggWord,
     argument_kind: Option<Kind>,
@@ -62,8 +62,9 @@ pub fn aggregate_made(
     found: &mut Within,
 ) -> Result<Expr, NoMemory>
     requires { groups < 2 ^ 63 }
-    ensures { (here : Surroundings) → group_count here.scopes ≡ groups
-        → IfOk result (λ made. IsBuilt (aggregate_made here word argument_kind argument (before_of found.old)) made found.old found.new) }
+    ensures { (here : Surroundings) → group_count here.scopes ≡ groups → IfOk result (λ made.
+        IsBuilt (aggregate_made here word argument_kind argument (before_of found.old)) made
+        found.old found.new) }
 {
     let place = groups + found.aggregates.len();
     let function = function_of(word);
@@ -76,11 +77,30 @@ pub fn aggregate_made(
     Ok(Expr::Col { level: 0, place })
 }
 
+/// An aggregate of an argument, behind those found so far.
+pub fn aggregate_of(
+    groups: usize,
+    word: AggWord,
+    kind: Option<Kind>,
+    argument: Result<Expr, NoMemory>,
+    found: &mut Within,
+) -> Result<Expr, NoMemory>
+    requires { groups < 2 ^ 63 }
+    ensures { (here : Surroundings) → group_count here.scopes ≡ groups
+        → IfOk result (λ made. IsOkAnd argument (λ argument.
+        IsBuilt (aggregate_made here word kind (Some argument) (before_of found.old)) made
+        found.old found.new)) }
+{
+    let argument = argument?;
+    add_aggregate(groups, word, kind, Some(argument), found)
+}
+
 /// An aggregate without an argument, behind those found so far.
 pub fn count_made(groups: usize, word: AggWord, found: &mut Within) -> Result<Expr, NoMemory>
     requires { groups < 2 ^ 63 }
-    ensures { (here : Surroundings) → group_count here.scopes ≡ groups → IfOk result (λ e. (may_link : Bool) (at : ℕ) (wanted : Sort) →
-        Makes may_link (rows_counted here at word) wanted e found.old found.new) }
+    ensures { (here : Surroundings) → group_count here.scopes ≡ groups
+        → IfOk result (λ e. (may_link : Bool) (at : ℕ) (wanted : Kind)
+        → Makes may_link (rows_counted here at word) wanted e found.old found.new) }
 {
-    aggregate_made(groups, word, None, None, found)
+    add_aggregate(groups, word, None, None, found)
 }

@@ -1,11 +1,11 @@
 //! Cores, of clauses that are made.
-ghost use Rattle.std.specs.Prelude.{◌≡◌, IfOk};
+ghost use Rattle.std.specs.Prelude.{◌≡◌, IfOk, IsOkAnd};
 ghost use Rattle.name_meaning.specs.Cores.{aggregated_input};
 ghost use Rattle.name_made_nodes.specs.Cored.{condition_over, clauses_over, listed_over};
 
-use crate::nodes::{aggregate, distinct_if, filter, project};
+use crate::nodes::distinct_if;
 use bag_algebra::{Aggr, Expr, Item, Query, Sublink};
-use perm_values::{List, NoMemory};
+use perm_values::{List, NoMemory, both};
 use std::alloc::Global;
 
 /// A condition that is made, with its sublinks.
@@ -34,9 +34,15 @@ pub struct Clauses {
 }
 
 /// The core of these clauses over the rows of its FROM.
-pub fn core_query(alloc: Global, input: Query, clauses: Clauses) -> Result<Query, NoMemory>
-    ensures { IfOk result (λ made. made ≡ clauses_over input clauses) }
+pub fn core_of(
+    alloc: Global,
+    input: Result<Query, NoMemory>,
+    clauses: Result<Clauses, NoMemory>,
+) -> Result<Query, NoMemory>
+    ensures { IfOk result (λ made. IsOkAnd input (λ input. IsOkAnd clauses (λ clauses.
+        made ≡ clauses_over input clauses))) }
 {
+    let (input, clauses) = both(input, clauses)?;
     let Clauses {
         condition,
         groups,
@@ -64,7 +70,7 @@ fn condition_over(
 {
     match condition {
         None => Ok(input),
-        Some(Condition { expr, subs }) => filter(alloc, input, expr, subs),
+        Some(Condition { expr, subs }) => Query::filter(alloc, input, expr, subs),
     }
 }
 
@@ -94,7 +100,7 @@ fn listed_over(
         drop(subs);
         return Err(NoMemory);
     };
-    project(alloc, kept, items, subs)
+    Query::project(alloc, kept, items, subs)
 }
 
 /// The groups of the rows with their aggregates, or the rows themselves.
@@ -111,6 +117,6 @@ fn grouped_if(
             drop(aggregates);
             Ok(rows)
         }
-        Some(groups) => aggregate(alloc, rows, groups, aggregates),
+        Some(groups) => Query::aggregate(alloc, rows, groups, aggregates),
     }
 }

@@ -1,12 +1,10 @@
 //! Sources of provenance: what an item of FROM reads, with the columns to which it is followed.
 ghost use Rattle.std.specs.Prelude.{◌≡◌, [], map, slice_index_or, position, IfOk};
-ghost use Rattle.std.specs.List.{range_with_len};
-ghost use Rattle.bag_algebra.specs.declared.query.Label.TheVariants.{External as Outside, Relation as Whole};
-ghost use Rattle.bag_algebra.specs.declared.query.Query.TheVariants.{Base as Source, Table as Stored};
+ghost use Rattle.bag_algebra.specs.declared.query.Label.TheVariants.{External, Relation};
+ghost use Rattle.bag_algebra.specs.declared.query.Query.TheVariants.{Base, Table};
 ghost use Rattle.perm_catalog.specs.Columns.{column_kinds};
 ghost use Rattle.name_meaning.specs.Froms.{all_places, external, named_so, names_at, names_of, place_of, table_columns, table_plain, texts_of};
 
-use crate::nodes::source;
 use bag_algebra::{Label, Query};
 use perm_catalog::{Column, TableEntry};
 use perm_values::{Chars, Copyable, Kind, List, NoMemory};
@@ -23,7 +21,8 @@ fn column_kinds(alloc: Global, columns: &[Column]) -> Result<List<Kind>, NoMemor
     Ok(kinds)
 }
 
-fn column_names(alloc: Global, columns: &[Column]) -> Result<List<Chars>, NoMemory>
+/// The names of a table's columns.
+pub fn column_names(alloc: Global, columns: &[Column]) -> Result<List<Chars>, NoMemory>
     ensures { IfOk result (λ names. names ≡ names_of (table_columns columns.now)) }
 {
     let mut names = List::new(alloc);
@@ -31,27 +30,6 @@ fn column_names(alloc: Global, columns: &[Column]) -> Result<List<Chars>, NoMemo
         names.push(column.name.copy(alloc)?)?;
     }
     Ok(names)
-}
-
-/// The places from 0 on.
-fn places_below(alloc: Global, count: usize) -> Result<List<usize>, NoMemory>
-    ensures { IfOk result (λ places. places ≡ range_with_len 0 count) }
-{
-    let mut places = List::new(alloc);
-    for place in 0..count {
-        places.push(place)?;
-    }
-    Ok(places)
-}
-
-fn copied_places(alloc: Global, places: &[usize]) -> Result<List<usize>, NoMemory>
-    ensures { IfOk result (λ copy. copy ≡ places.now) }
-{
-    let mut copy = List::new(alloc);
-    for place in places {
-        copy.push(*place)?;
-    }
-    Ok(copy)
 }
 
 /// The name at a place; none there is empty.
@@ -87,12 +65,12 @@ pub fn external(
         drop(query);
         return Err(NoMemory);
     };
-    let Ok(places) = copied_places(alloc, places) else {
+    let Ok(places) = List::copy_of(alloc, places) else {
         drop(query);
         drop(columns);
         return Err(NoMemory);
     };
-    source(alloc, query, places, Label::External { columns })
+    Query::base(alloc, query, places, Label::External { columns })
 }
 
 /// The query as a source of all its columns, under the name of a relation.
@@ -102,9 +80,9 @@ pub fn whole_source(
     label: &Chars,
     names: List<Chars>,
 ) -> Result<Query, NoMemory>
-    ensures { IfOk result (λ made. made ≡ Source query (all_places names) (Whole label.now names)) }
+    ensures { IfOk result (λ made. made ≡ Base query (all_places names) (Relation label.now names)) }
 {
-    let Ok(places) = places_below(alloc, names.len()) else {
+    let Ok(places) = List::range(alloc, 0, names.len()) else {
         drop(query);
         drop(names);
         return Err(NoMemory);
@@ -115,7 +93,7 @@ pub fn whole_source(
         drop(places);
         return Err(NoMemory);
     };
-    source(
+    Query::base(
         alloc,
         query,
         places,
@@ -174,7 +152,8 @@ pub fn attributes_of(
     names: &[Chars],
     attributes: &[Name],
 ) -> Result<Query, NoMemory>
-    ensures { IfOk result (λ made. made ≡ Source query (map (place_of names.now) (texts_of attributes.now)) (Outside (texts_of attributes.now))) }
+    ensures { IfOk result (λ made. made ≡ Base query
+        (map (place_of names.now) (texts_of attributes.now)) (External (texts_of attributes.now))) }
 {
     let Ok(places) = attribute_places(alloc, names, attributes) else {
         drop(query);
@@ -185,12 +164,12 @@ pub fn attributes_of(
         drop(places);
         return Err(NoMemory);
     };
-    source(alloc, query, places, Label::External { columns })
+    Query::base(alloc, query, places, Label::External { columns })
 }
 
 /// The rows of a table.
 pub fn table_rows(alloc: Global, table: &TableEntry) -> Result<Query, NoMemory>
-    ensures { IfOk result (λ made. made ≡ Stored table.now.id (column_kinds table.now.columns)) }
+    ensures { IfOk result (λ made. made ≡ Table table.now.id (column_kinds table.now.columns)) }
 {
     let kinds = column_kinds(alloc, table.columns.as_slice())?;
     Ok(Query::Table {

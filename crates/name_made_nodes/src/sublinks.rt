@@ -1,10 +1,11 @@
 //! Sublinks, each with the number under which its node holds it.
-ghost use Rattle.std.specs.Prelude.{◌≡◌, cond, length, IfOk};
+ghost use Rattle.std.specs.Prelude.{◌≡◌, cond, length, IfOk, IsOkAnd};
 ghost use Rattle.null_logic.specs.declared.compare.Compare.TheVariants.{Equal, NotEqual};
-ghost use Rattle.bag_algebra.specs.declared.expr.Expr.TheVariants.{Sub as Numbered};
+ghost use Rattle.bag_algebra.specs.declared.expr.Expr.TheVariants.{Sub};
 ghost use Rattle.name_meaning.specs.Expressions.{in_kind};
 ghost use Rattle.name_made_nodes.specs.Makes.{with_sub};
 
+use crate::together::beside;
 use crate::within::Within;
 use bag_algebra::{Expr, Query, SubKind, Sublink};
 use null_logic::Compare;
@@ -33,15 +34,16 @@ pub fn in_list_kind(negated: bool) -> SubKind
 }
 
 /// A sublink behind those found so far.
-pub fn sublink_made(
+pub fn sublink_of(
     kind: SubKind,
     tested: Option<Expr>,
-    query: Query,
+    query: Result<Query, NoMemory>,
     found: &mut Within,
 ) -> Result<Expr, NoMemory>
-    ensures number { IfOk result (λ made. made ≡ Numbered (length found.old.subs)) }
-    ensures stands { IfOk result (λ _. found.new ≡ with_sub found.old (record { kind = kind; tested = tested; query = query })) }
+    ensures { IfOk result (λ made. IsOkAnd query (λ query. (made ≡ Sub (length found.old.subs))
+        × (found.new ≡ with_sub found.old (record { kind = kind; tested = tested; query = query })))) }
 {
+    let (tested, query) = beside(tested, query)?;
     let number = found.subs.len();
     found.subs.push(Sublink {
         kind,

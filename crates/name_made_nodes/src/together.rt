@@ -31,7 +31,8 @@ pub(crate) fn two<T: Drop>(
     first: Result<T, NoMemory>,
     second: Result<T, NoMemory>,
 ) -> Result<List<T>, NoMemory>
-    ensures { IfOk result (λ all. IsOkAnd first (λ first. IsOkAnd second (λ second. all ≡ first ∷ second ∷ []))) }
+    ensures { IfOk result (λ all. IsOkAnd first (λ first. IsOkAnd second (λ second.
+        all ≡ first ∷ second ∷ []))) }
 {
     let (first, second) = both(first, second)?;
     let mut all = List::new(alloc);

@@ -1,7 +1,7 @@
 //! The kinds that are wanted of parts which may be of any.
 ghost use Rattle.std.specs.Prelude.{◌≡◌, map};
-ghost use Rattle.perm_catalog.specs.Contents.{Contents as Held};
-ghost use Rattle.perm_values.specs.declared.kind.Kind.{Kind as Sort};
+ghost use Rattle.perm_catalog.specs.Contents.{Contents};
+ghost use Rattle.perm_values.specs.declared.kind.Kind.{Kind};
 ghost use Rattle.name_meaning.specs.Expressions.{first_need};
 ghost use Rattle.name_meaning.specs.Meanings.{settled};
 ghost use Rattle.name_meaning.specs.Operands.{alike_wanted, wanted_of};
@@ -44,7 +44,8 @@ pub fn wanted_of(alike: Kind, need: Need) -> Kind
 
 /// The kind that a chain wants of its first operand: what its first step does.
 pub fn chain_start(steps: &[ExprStep]) -> Kind
-    ensures { (c : Held) (alike : Sort) → result ≡ wanted_of alike (first_need (map (step_of c) steps.now)) }
+    ensures { (c : Contents) (alike : Kind)
+        → result ≡ wanted_of alike (first_need (map (step_of c) steps.now)) }
 {
     if steps.is_empty() {
         Kind::Text

@@ -104,15 +104,15 @@ step-is c step = setstep-record c step.word step.all step.at step.operand
 -- ---- queries
 
 abbrev pub inside : Bool → Around → Around
-inside proving around = record { outer = around.outer; trace = cond proving InProvenance around.trace; provable = around.provable }
+inside with_provenance around = record { outer = around.outer; trace = cond with_provenance InProvenance around.trace; provable = around.provable }
 
-of-proving : (around : Around) (at : ℕ) (body : BodyPart) (order : List OrderTree) (limit : Option ℤ) (wanted : List Kind) (proving : Bool) (keys : List Key) (made query : Query)
-    → is_proving around body ≡ proving
-    → ((q : Query) → (body.means (inside proving around)).breaks ≡ [] → limited limit keys q ≡ limited limit (keys_of (body.means (inside proving around)).columns order) q)
-    → MakesQuery (body.means (inside proving around)) wanted made
-    → query ≡ cond proving (Prov (limited limit keys made)) (limited limit keys made)
+of-provenance : (around : Around) (at : ℕ) (body : BodyPart) (order : List OrderTree) (limit : Option ℤ) (wanted : List Kind) (with_provenance : Bool) (keys : List Key) (made query : Query)
+    → is_proving around body ≡ with_provenance
+    → ((q : Query) → (body.means (inside with_provenance around)).breaks ≡ [] → limited limit keys q ≡ limited limit (keys_of (body.means (inside with_provenance around)).columns order) q)
+    → MakesQuery (body.means (inside with_provenance around)) wanted made
+    → query ≡ cond with_provenance (Prov (limited limit keys made)) (limited limit keys made)
     → MakesQuery (query_seen around at body order limit) wanted query
-of-proving around at body order limit wanted true keys made query asks keyed makes is =
+of-provenance around at body order limit wanted true keys made query asks keyed makes is =
     let m = body.means (inside true around) in
     rw asks
     (record {
@@ -120,7 +120,7 @@ of-proving around at body order limit wanted true keys made query asks keyed mak
           let own = none-first m.breaks (keys_breaks m.columns order) whole in
           is ∙ ap Prov (keyed made own) ∙ ap (λ (q : Query). Prov (limited limit (keys_of m.columns order) q)) (makes.makes own);
     })
-of-proving around at body order limit wanted false keys made query asks keyed makes is =
+of-provenance around at body order limit wanted false keys made query asks keyed makes is =
     let m = body.means (inside false around) in
     rw asks
     (record {
@@ -129,14 +129,14 @@ of-proving around at body order limit wanted false keys made query asks keyed ma
           is ∙ keyed made own ∙ ap (λ (q : Query). limited limit (keys_of m.columns order) q) (makes.makes own);
     })
 
-pub query-is : (c : Contents) (around : Around) (tree : QueryTree) (wanted : List Kind) (proving : Bool) (keys : List Key) (made query : Query)
-    → proving ≡ is_proving around (set_of_tree c tree.body)
-    → ((q : Query) → ((set_of_tree c tree.body).means (inside proving around)).breaks ≡ []
-    → limited tree.limit keys q ≡ limited tree.limit (keys_of ((set_of_tree c tree.body).means (inside proving around)).columns tree.order) q)
-    → MakesQuery ((set_of_tree c tree.body).means (inside proving around)) wanted made
-    → query ≡ cond proving (Prov (limited tree.limit keys made)) (limited tree.limit keys made)
+pub query-is : (c : Contents) (around : Around) (tree : QueryTree) (wanted : List Kind) (with_provenance : Bool) (keys : List Key) (made query : Query)
+    → with_provenance ≡ is_proving around (set_of_tree c tree.body)
+    → ((q : Query) → ((set_of_tree c tree.body).means (inside with_provenance around)).breaks ≡ []
+    → limited tree.limit keys q ≡ limited tree.limit (keys_of ((set_of_tree c tree.body).means (inside with_provenance around)).columns tree.order) q)
+    → MakesQuery ((set_of_tree c tree.body).means (inside with_provenance around)) wanted made
+    → query ≡ cond with_provenance (Prov (limited tree.limit keys made)) (limited tree.limit keys made)
     → MakesQuery (query_means_at (query_of c tree) around) wanted query
 unfolding token query_means_at
-query-is c around tree wanted proving keys made query asks keyed makes is =
+query-is c around tree wanted with_provenance keys made query asks keyed makes is =
     rw (querytree-record c tree.at tree.body tree.order tree.limit)
-    (of-proving around tree.at (set_of_tree c tree.body) tree.order tree.limit wanted proving keys made query (sym asks) keyed makes is)
+    (of-provenance around tree.at (set_of_tree c tree.body) tree.order tree.limit wanted with_provenance keys made query (sym asks) keyed makes is)

@@ -8,7 +8,7 @@ mod reading;
 mod united;
 
 pub use cores::{
-    Kept, behind_aggregates, condition_found, core_trace, groups_made, groups_of, listed_with,
+    Kept, behind_aggregates, clauses_of, core_trace, groups_of, kept_of, listed_of, scope_grouped,
     scope_or_none,
 };
 pub use items::item_kind;

@@ -45,7 +45,8 @@ fn key_place(columns: &[ShownColumn], key: &OrderKey) -> usize
 
 /// The place of the first column of this name; 0 where there is none.
 fn place_named(columns: &[ShownColumn], name: &Chars) -> usize
-    ensures { result ≡ option_map_or (λ place. place) (position (is_named name.now) (columns_of columns.now)) 0 }
+    ensures { result
+        ≡ option_map_or (λ place. place) (position (is_named name.now) (columns_of columns.now)) 0 }
 {
     match position_of(columns, name) {
         None => 0,

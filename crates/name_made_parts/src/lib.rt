@@ -12,15 +12,15 @@ mod stars;
 
 pub use asked::{
     Kept, alike_behind, alike_of_all, alike_of_arms, alike_of_case, alike_of_three, alike_of_two,
-    behind_aggregates, chain_kinds, condition_found, core_trace, groups_made, groups_of, item_kind,
-    kind_or_any, limit_keys, listed_with, scalar_kind, scope_or_none, shown_names, tested_kind,
-    trace_inside,
+    behind_aggregates, chain_kinds, clauses_of, core_trace, groups_of, item_kind, kept_of,
+    kind_or_any, limit_keys, listed_of, scalar_kind, scope_grouped, scope_or_none, shown_names,
+    tested_kind, trace_inside,
 };
 pub use keys::keys_of;
 pub use scoping::segment;
 pub use shown::{ShownNames, column_names};
 pub use sources::{
-    behind, beside_from, input_or_single, join_kind, joined, marked_query, named_item,
+    behind, input_or_single, join_kind, marked_of, named_item, with_next, with_right,
 };
 pub use standing::group_count;
 pub use stars::{add_star, add_table_star};

@@ -1,5 +1,5 @@
 //! The scope of some of the items of FROM.
-ghost use Rattle.std.specs.Prelude.{◌≡◌, ◌++◌, List as Items, length, take, drop, IfOk, OnOk};
+ghost use Rattle.std.specs.Prelude.{◌≡◌, ◌++◌, List, length, take, drop, IfOk, OnOk};
 ghost use Rattle.name_meaning.specs.Scopes.{ScopeItem, scope_of};
 ghost use Rattle.name_made_parts.specs.Segments.{back_in, column_in, columns_in, name_in};
 ghost use Rattle.name_made_parts.specs.Sources.{StandsIn};
@@ -10,7 +10,8 @@ use std::alloc::Global;
 
 /// The scope of as many items as `count` says, behind the first ones of a scope.
 pub fn segment(alloc: Global, scope: &Scope, first: usize, count: usize) -> Result<Scope, NoMemory>
-    ensures { IfOk result (λ part. (items : Items ScopeItem) → StandsIn (Some items) first scope.now → length items ≡ count → part ≡ scope_of items) }
+    ensures { IfOk result (λ part. (items : List ScopeItem) → StandsIn (Some items) first scope.now
+        → length items ≡ count → part ≡ scope_of items) }
 {
     let items = names_in(alloc, scope.items.as_slice(), first, count)?;
     let columns = columns_in(alloc, scope.columns.as_slice(), first, count)?;

@@ -1,20 +1,21 @@
 //! Items of FROM, and what joins them.
-ghost use Rattle.std.specs.Prelude.{◌≡◌, ◌≤◌, ℕ, ◌+◌, ◌^◌, suc, List as Items, [], length, IfOk, IfErr};
+ghost use Rattle.std.specs.Prelude.{◌≡◌, ◌≤◌, ℕ, ◌+◌, ◌^◌, suc, List, [], length, IfOk, IfErr, IsOkAnd};
 ghost use Rattle.std.specs.Option.{option_map_or};
 ghost use Rattle.bag_algebra.specs.Kinds.{width_of};
-ghost use Rattle.bag_algebra.specs.declared.query.Query.TheVariants.{Join as Paired, Single as Lone};
+ghost use Rattle.bag_algebra.specs.declared.query.Query.TheVariants.{Join, Single};
 ghost use Rattle.perm_catalog.specs.Sound.{IsSound};
-ghost use Rattle.name_meaning.specs.Froms.{external, join_kind, marked, names_of, read_named, read_names, read_query, read_table, read_view, table_columns};
+ghost use Rattle.name_meaning.specs.Froms.{external, join_kind, marked, read_named, read_names, read_query, read_table, read_view};
 ghost use Rattle.name_meaning.specs.Meanings.{QueryMeant};
 ghost use Rattle.name_made_parts.specs.Sources.{Shows, beside_left, join_count, read_viewed, text_of};
 
 use crate::shown::ShownNames;
 use bag_algebra::{Expr, JoinKind, Query};
 use name_made_nodes::{
-    attributes_of, external, join, table_plain, table_rows, truth_value, whole_source,
+    attributes_of, beside, column_names, external, table_plain, table_rows, truth_value,
+    whole_source,
 };
-use perm_catalog::{Catalog, Column, TableEntry, ViewEntry};
-use perm_values::{Boxed, Chars, Copyable, List, NoMemory, boxes};
+use perm_catalog::{Catalog, TableEntry, ViewEntry};
+use perm_values::{Chars, Copyable, List, NoMemory, both};
 use sql_tree::{FromTree, JoinWord, Name, ScopeMark};
 use std::alloc::Global;
 
@@ -27,7 +28,8 @@ pub fn named_item(
 ) -> Result<Query, NoMemory>
     requires { IsSound catalog.now }
     ensures { IfOk result (λ made. (read_named catalog.now name.now).breaks ≡ []
-        → made ≡ marked mark.now name.now.text (read_names (read_named catalog.now name.now)) (read_named catalog.now name.now)) }
+        → made ≡ marked mark.now name.now.text
+        (read_names (read_named catalog.now name.now)) (read_named catalog.now name.now)) }
 {
     match catalog.table(&name.text) {
         Some(table) => table_item(alloc, &name.text, table, mark),
@@ -44,7 +46,8 @@ fn viewed_item(
 ) -> Result<Query, NoMemory>
     requires { IsSound catalog.now }
     ensures { IfOk result (λ made. (read_viewed catalog.now name.now).breaks ≡ []
-        → made ≡ marked mark.now name.now.text (read_names (read_viewed catalog.now name.now)) (read_viewed catalog.now name.now)) }
+        → made ≡ marked mark.now name.now.text
+        (read_names (read_viewed catalog.now name.now)) (read_viewed catalog.now name.now)) }
 {
     match catalog.view(&name.text) {
         Some(view) => view_item(alloc, &name.text, view, mark),
@@ -58,31 +61,22 @@ fn table_item(
     table: &TableEntry,
     mark: &ScopeMark,
 ) -> Result<Query, NoMemory>
-    ensures { IfOk result (λ made. made ≡ marked mark.now name.now (read_names (read_table name.now table.now)) (read_table name.now table.now)) }
+    ensures { IfOk result (λ made. made ≡ marked mark.now name.now
+        (read_names (read_table name.now table.now)) (read_table name.now table.now)) }
 {
     match mark {
         ScopeMark::Plain => table_plain(alloc, name, table),
         ScopeMark::BaseRelation => {
-            let names = table_names(alloc, table.columns.as_slice())?;
+            let names = column_names(alloc, table.columns.as_slice())?;
             let rows = table_rows(alloc, table)?;
             whole_source(alloc, rows, name, names)
         }
         ScopeMark::External { attributes } => {
-            let names = table_names(alloc, table.columns.as_slice())?;
+            let names = column_names(alloc, table.columns.as_slice())?;
             let rows = table_rows(alloc, table)?;
             attributes_of(alloc, rows, names.as_slice(), attributes.as_slice())
         }
     }
-}
-
-fn table_names(alloc: Global, columns: &[Column]) -> Result<List<Chars>, NoMemory>
-    ensures { IfOk result (λ names. names ≡ names_of (table_columns columns.now)) }
-{
-    let mut names = List::new(alloc);
-    for column in columns {
-        names.push(column.name.copy(alloc)?)?;
-    }
-    Ok(names)
 }
 
 /// A view under the mark, its query copied.
@@ -93,7 +87,8 @@ fn view_item(
     mark: &ScopeMark,
 ) -> Result<Query, NoMemory>
     requires { length view.now.answer.names ≡ width_of view.now.answer.query }
-    ensures { IfOk result (λ made. made ≡ marked mark.now name.now (read_names (read_view name.now view.now)) (read_view name.now view.now)) }
+    ensures { IfOk result (λ made. made ≡ marked mark.now name.now
+        (read_names (read_view name.now view.now)) (read_view name.now view.now)) }
 {
     let query = view.answer.query.copy(alloc)?;
     match mark {
@@ -114,7 +109,8 @@ fn view_item(
 
 /// The view's query, a source of its provenance columns where it has any.
 fn view_plain(alloc: Global, query: Query, view: &ViewEntry) -> Result<Query, NoMemory>
-    ensures { query ≡ view.now.answer.query → IfOk result (λ made. (name : Items ℕ) → made ≡ (read_view name view.now).plain) }
+    ensures { query ≡ view.now.answer.query
+        → IfOk result (λ made. (name : List ℕ) → made ≡ (read_view name view.now).plain) }
 {
     match &view.places {
         None => Ok(query),
@@ -127,8 +123,25 @@ fn view_plain(alloc: Global, query: Query, view: &ViewEntry) -> Result<Query, No
     }
 }
 
+/// A subquery under the mark.
+pub fn marked_of(
+    alloc: Global,
+    query: Result<Query, NoMemory>,
+    shown: ShownNames,
+    alias: &Option<Name>,
+    mark: &ScopeMark,
+) -> Result<Query, NoMemory>
+    ensures { IfOk result (λ made. IsOkAnd query (λ query.
+        (m : QueryMeant) → m.breaks ≡ [] → Shows m shown → query ≡ m.make []
+        → made ≡ marked mark.now (option_map_or text_of alias.now [])
+        (read_names (read_query m)) (read_query m))) }
+{
+    let (shown, query) = beside(shown, query)?;
+    marked_query(alloc, query, shown, alias, mark)
+}
+
 /// A subquery under the mark, as it is made.
-pub fn marked_query(
+fn marked_query(
     alloc: Global,
     query: Query,
     shown: ShownNames,
@@ -136,7 +149,8 @@ pub fn marked_query(
     mark: &ScopeMark,
 ) -> Result<Query, NoMemory>
     ensures { IfOk result (λ made. (m : QueryMeant) → m.breaks ≡ [] → Shows m shown → query ≡ m.make []
-        → made ≡ marked mark.now (option_map_or text_of alias.now []) (read_names (read_query m)) (read_query m)) }
+        → made ≡ marked mark.now (option_map_or text_of alias.now [])
+        (read_names (read_query m)) (read_query m)) }
 {
     match mark {
         ScopeMark::Plain => shown_plain(alloc, query, shown),
@@ -186,36 +200,46 @@ pub fn join_kind(word: JoinWord) -> JoinKind
     }
 }
 
-/// A join of what is made, whose condition has no sublink.
-pub fn joined(
+/// A join with what stands before it, whose condition has no sublink.
+pub fn with_right(
     alloc: Global,
     kind: JoinKind,
-    left: Query,
-    right: Query,
-    condition: Expr,
+    whole: Query,
+    right: Result<Query, NoMemory>,
+    condition: Result<Expr, NoMemory>,
 ) -> Result<Query, NoMemory>
-    ensures { IfOk result (λ made. made ≡ Paired kind left right condition []) }
+    ensures { IfOk result (λ made. IsOkAnd right (λ right. IsOkAnd condition (λ condition.
+        made ≡ Join kind whole right condition []))) }
 {
-    let Ok((left, right)) = boxes(alloc, left, right) else {
-        drop(condition);
-        return Err(NoMemory);
-    };
-    Ok(join(alloc, kind, left, right, condition))
+    let both_made = both(right, condition);
+    let (whole, (right, condition)) = beside(whole, both_made)?;
+    Query::join(alloc, kind, whole, right, condition, List::new(alloc))
 }
 
 /// What is behind a comma, beside what is before it.
-pub fn beside_from(alloc: Global, left: Option<Query>, right: Query) -> Result<Query, NoMemory>
-    ensures { IfOk result (λ made. made ≡ beside_left left right) }
+pub fn with_next(
+    alloc: Global,
+    whole: Option<Query>,
+    next: Result<Query, NoMemory>,
+) -> Result<Query, NoMemory>
+    ensures { IfOk result (λ made. IsOkAnd next (λ next. made ≡ beside_left whole next)) }
 {
-    match left {
-        None => Ok(right),
-        Some(left) => joined(alloc, JoinKind::Inner, left, right, truth_value(true)),
+    let (whole, next) = beside(whole, next)?;
+    match whole {
+        None => Ok(next),
+        Some(whole) => with_right(
+            alloc,
+            JoinKind::Inner,
+            whole,
+            Ok(next),
+            Ok(truth_value(true)),
+        ),
     }
 }
 
 /// What is before the end of FROM; one row without columns, if nothing is.
 pub fn input_or_single(whole: Option<Query>) -> Query
-    ensures { result ≡ option_map_or (λ query. query) whole Lone }
+    ensures { result ≡ option_map_or (λ query. query) whole Single }
 {
     match whole {
         None => Query::Single,

@@ -1,8 +1,8 @@
 //! The columns for which a star of a SELECT list stands.
-ghost use Rattle.std.specs.Prelude.{◌≡◌, ℕ, Bool, List as Items, ◌∷◌, ◌++◌, [], cond, OnOk, map};
+ghost use Rattle.std.specs.Prelude.{◌≡◌, ℕ, Bool, List, ◌∷◌, ◌++◌, [], cond, OnOk, map};
 ghost use Rattle.std.specs.Option.{option_map_or};
 ghost use Rattle.bag_algebra.specs.declared.expr.Expr.TheVariants.{Col};
-ghost use Rattle.perm_values.specs.declared.kind.Kind.{Kind as Sort};
+ghost use Rattle.perm_values.specs.declared.kind.Kind.{Kind};
 ghost use Rattle.name_meaning.specs.Items.{column_item, star_meant, table_star_meant};
 ghost use Rattle.name_meaning.specs.Sublinks.{null_at};
 ghost use Rattle.name_made_nodes.specs.Listed.{MakesItems};
@@ -18,7 +18,7 @@ use sql_tree::Name;
 
 /// The columns of all items of FROM, behind the columns so far.
 pub fn add_star(scope: &Scope, items: &mut List<Item>) -> Result<(), NoMemory>
-    ensures { OnOk result ((may_link has_from : Bool) (at : ℕ) (wanted : Items Sort) (w : Within) →
+    ensures { OnOk result ((may_link has_from : Bool) (at : ℕ) (wanted : List Kind) (w : Within) →
         MakesItems may_link (star_meant has_from scope.now at ∷ []) wanted items.old items.new w w) }
 {
     add_columns(scope, None, items)
@@ -26,7 +26,7 @@ pub fn add_star(scope: &Scope, items: &mut List<Item>) -> Result<(), NoMemory>
 
 /// The columns of one item of FROM, behind the columns so far.
 pub fn add_table_star(scope: &Scope, table: &Name, items: &mut List<Item>) -> Result<(), NoMemory>
-    ensures { OnOk result ((may_link : Bool) (wanted : Items Sort) (w : Within) →
+    ensures { OnOk result ((may_link : Bool) (wanted : List Kind) (w : Within) →
         MakesItems may_link (table_star_meant scope.now table.now ∷ []) wanted items.old items.new w w) }
 {
     match item_number(scope, &table.text) {
@@ -54,8 +54,8 @@ fn add_column(
     place: usize,
     items: &mut List<Item>,
 ) -> Result<(), NoMemory>
-    ensures { OnOk result (items.new ≡ items.old
-        ++ map (column_item scope.now) (cond (is_in_item item (place, column.now)) ((place, column.now) ∷ []) [])) }
+    ensures { OnOk result (items.new ≡ items.old ++ map (column_item scope.now)
+        (cond (is_in_item item (place, column.now)) ((place, column.now) ∷ []) [])) }
 {
     if !is_in_item(item, column) {
         return Ok(());

@@ -315,7 +315,7 @@ expressions::made-returns-in_ok-tested-in-Quantified t c =
 pub queries::query_made-returns : goal.queries::query_made-returns
 queries::query_made-returns t c =
     of-one _ _ _ c.set_made-body.result c.finished_of.result (rw c.trace_inside.ensures at c.set_made-body.ensures) c.finished_of.ensures
-    (λ body q makes is. query-is c.args.around.now.catalog.now (standing_of c.args.around.now) c.args.tree.now c.args.wanted.now c.is_proving-proving.result c.in_ok-keys.keys body q (c.is_proving-proving.ensures c.args.around.now.catalog.now)
+    (λ body q makes is. query-is c.args.around.now.catalog.now (standing_of c.args.around.now) c.args.tree.now c.args.wanted.now c.is_proving-with_provenance.result c.in_ok-keys.keys body q (c.is_proving-with_provenance.ensures c.args.around.now.catalog.now)
     (rw c.trace_inside.ensures at c.in_ok-keys.ensures) makes is)
 
 pub queries::set_made-returns-in-Core : goal.queries::set_made-returns-in-Core

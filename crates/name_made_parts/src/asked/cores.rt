@@ -1,23 +1,23 @@
 //! What the clauses of a core rest on.
-ghost use Rattle.std.specs.Prelude.{◌≡◌, [], IfOk, map};
-ghost use Rattle.perm_catalog.specs.Contents.{Contents as Held};
+ghost use Rattle.std.specs.Prelude.{◌≡◌, ◌⊎◌, [], Err, IfOk, IfErr, IsOkAnd, map};
+ghost use Rattle.perm_catalog.specs.Contents.{Contents};
 ghost use Rattle.perm_catalog.specs.Sound.{IsSound};
 ghost use Rattle.name_meaning.specs.Cores.{core_trace, group_scope};
 ghost use Rattle.name_meaning.specs.Froms.{from_all};
-ghost use Rattle.name_meaning.specs.Meanings.{Around as Place};
+ghost use Rattle.name_meaning.specs.Meanings as meant;
 ghost use Rattle.name_meaning.specs.Trees.{from_of};
 ghost use Rattle.name_seen_parts.specs.Named.{scopes_of};
 ghost use Rattle.name_made_parts.specs.Cored.{core_groups, having_part, kept_of, select_parts};
 ghost use Rattle.name_made_parts.specs.Sources.{IsScopeOf};
 
 use bag_algebra::{Aggr, Expr, Item};
-use name_made_nodes::{Condition, Listed, Within};
+use name_made_nodes::{Clauses, Condition, Listed, Within, beside};
 use name_meaning::{Scope, Trace};
 use name_seen::from_scope;
 use name_seen_cores::is_grouped;
 use name_seen_from::Facts;
-use name_seen_parts::{Around, Refusal, group_places};
-use perm_values::{Copyable, List, NoMemory};
+use name_seen_parts::{Around, Refusal, group_places, grouped};
+use perm_values::{Copyable, List, NoMemory, both};
 use sql_tree::{Core, FromTree};
 use std::alloc::Global;
 
@@ -28,15 +28,17 @@ pub struct Kept {
     pub aggregates: List<Aggr>,
 }
 
-/// The condition, with what was found in it.
-pub fn condition_found(expr: Expr, found: Within) -> Kept
-    ensures { result ≡ kept_of expr found }
+/// A condition, with what was found in it.
+pub fn kept_of(expr: Result<Expr, NoMemory>, found: Within) -> Result<Kept, NoMemory>
+    ensures made { IfOk result (λ kept. IsOkAnd expr (λ expr. kept ≡ kept_of expr found)) }
+    ensures lacking { IfErr result (λ lack. expr ≡ Err lack) }
 {
+    let (found, expr) = beside(found, expr)?;
     let Within { subs, aggregates } = found;
-    Kept {
+    Ok(Kept {
         condition: Some(Condition { expr, subs }),
         aggregates,
-    }
+    })
 }
 
 /// What is found before the list: the aggregates of HAVING.
@@ -50,30 +52,72 @@ pub fn behind_aggregates(alloc: Global, aggregates: List<Aggr>) -> Within
 }
 
 /// The list of these columns, with what was found in it.
-pub fn listed_with(items: List<Item>, found: Within) -> Listed
-    ensures { result ≡ record { items = items; subs = found.subs; aggregates = found.aggregates } }
+pub fn listed_of(items: Result<List<Item>, NoMemory>, found: Within) -> Result<Listed, NoMemory>
+    ensures made { IfOk result (λ listed. IsOkAnd items (λ items.
+        listed ≡ record { items = items; subs = found.subs; aggregates = found.aggregates })) }
+    ensures lacking { IfErr result (λ lack. items ≡ Err lack) }
 {
+    let (found, items) = beside(found, items)?;
     let Within { subs, aggregates } = found;
-    Listed {
+    Ok(Listed {
         items,
         subs,
         aggregates,
-    }
+    })
+}
+
+/// What a core does with the rows of its FROM.
+pub fn clauses_of(
+    groups: Result<Option<List<usize>>, NoMemory>,
+    kept: Result<Kept, NoMemory>,
+    selected: Result<(Option<Condition>, Listed), NoMemory>,
+    distinct: bool,
+) -> Result<Clauses, NoMemory>
+    ensures made { IfOk result (λ made. IsOkAnd groups (λ groups. IsOkAnd kept (λ kept.
+        IsOkAnd selected (λ selected. made ≡ record {
+          condition = kept.condition;
+          groups = groups;
+          having = selected.0;
+          list = selected.1;
+          distinct = distinct;
+        })))) }
+    ensures lacking { IfErr result (λ lack.
+        ((groups ≡ Err lack) ⊎ (kept ≡ Err lack)) ⊎ (selected ≡ Err lack)) }
+{
+    let before = both(groups, kept);
+    let (before, selected) = both(before, selected)?;
+    let (groups, kept) = before;
+    let (having, list) = selected;
+    Ok(Clauses {
+        condition: condition_of(kept),
+        groups,
+        having,
+        list,
+        distinct,
+    })
+}
+
+fn condition_of(kept: Kept) -> Option<Condition>
+    ensures { result ≡ kept.condition }
+{
+    let Kept {
+        condition,
+        aggregates: _aggregates,
+    } = kept;
+    condition
 }
 
 /// The groups of a scope, copied.
 pub fn groups_of(alloc: Global, scope: &Scope) -> Result<Option<List<usize>>, NoMemory>
     ensures { IfOk result (λ groups. groups ≡ scope.now.groups) }
 {
-    match &scope.groups {
-        None => Ok(None),
-        Some(groups) => Ok(Some(groups.copy(alloc)?)),
-    }
+    scope.groups.copy(alloc)
 }
 
 /// Whether a core is traced; one where PROVENANCE stands wrongly isn't.
 pub fn core_trace(trace: Trace, provable: bool, word: Option<usize>) -> Trace
-    ensures { (around : Place) → around.trace ≡ trace → around.provable ≡ provable → result ≡ core_trace around word }
+    ensures { (around : meant.Around) → around.trace ≡ trace → around.provable ≡ provable
+        → result ≡ core_trace around word }
 {
     if !provable && word.is_some() {
         return Trace::Untraced;
@@ -84,7 +128,8 @@ pub fn core_trace(trace: Trace, provable: bool, word: Option<usize>) -> Trace
 /// The scope of all items of FROM; none, where it breaks.
 pub fn scope_or_none(sources: &[FromTree], around: &Around) -> Result<Option<Scope>, NoMemory>
     requires { IsSound around.now.catalog.now }
-    ensures { IfOk result (IsScopeOf (from_all (scopes_of around.now.outer.now) around.now.trace (map (from_of around.now.catalog.now) sources.now))) }
+    ensures { IfOk result (IsScopeOf (from_all (scopes_of around.now.outer.now) around.now.trace
+        (map (from_of around.now.catalog.now) sources.now))) }
 {
     let mut facts = Facts::none(around.alloc);
     match from_scope(sources, around, &mut facts) {
@@ -94,13 +139,22 @@ pub fn scope_or_none(sources: &[FromTree], around: &Around) -> Result<Option<Sco
     }
 }
 
+/// The core's scope, whose rows stand for groups where there are any.
+pub fn scope_grouped(alloc: Global, own: Scope, core: &Core) -> Result<Scope, NoMemory>
+    ensures { IfOk result (λ scope. (c : Contents) → scope ≡ record own {
+      groups =
+          (group_scope own (core_groups core.now) (having_part c core.now) (select_parts c core.now)).groups;
+    }) }
+{
+    let groups = groups_made(alloc, &own, core);
+    let (own, groups) = beside(own, groups)?;
+    Ok(grouped(own, groups))
+}
+
 /// The places of the GROUP BY columns, where the core's rows stand for groups.
-pub fn groups_made(
-    alloc: Global,
-    scope: &Scope,
-    core: &Core,
-) -> Result<Option<List<usize>>, NoMemory>
-    ensures { IfOk result (λ places. (c : Held) → places ≡ (group_scope scope.now (core_groups core.now) (having_part c core.now) (select_parts c core.now)).groups) }
+fn groups_made(alloc: Global, scope: &Scope, core: &Core) -> Result<Option<List<usize>>, NoMemory>
+    ensures { IfOk result (λ places. (c : Contents) → places ≡ (group_scope scope.now
+        (core_groups core.now) (having_part c core.now) (select_parts c core.now)).groups) }
 {
     if !is_grouped(core) {
         return Ok(None);

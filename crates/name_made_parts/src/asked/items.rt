@@ -21,7 +21,8 @@ pub fn item_kind(
     here: &Here,
 ) -> Result<Kind, NoMemory>
     requires { IsSound here.now.catalog.now }
-    ensures { IfOk result (λ kind. kind ≡ settled (seen_kind (means_at (part_of here.now.catalog.now tree.now) (surroundings here.now)))
+    ensures { IfOk result (λ kind. kind ≡ settled
+        (seen_kind (means_at (part_of here.now.catalog.now tree.now) (surroundings here.now)))
         (first_wanted (drop place wanted.now))) }
 {
     let kind = kind_or_any(tree, here)?;

@@ -1,13 +1,13 @@
 //! What stands around the parts of a query, and at which kinds they are made.
 ghost use Rattle.std.specs.Prelude.{◌≡◌, [], cond, slice_index_or, IfOk, Some};
-ghost use Rattle.perm_values.specs.declared.kind.Kind.TheVariants.{Text as Words};
-ghost use Rattle.bag_algebra.specs.declared.query.Query.{Query as Plan};
+ghost use Rattle.perm_values.specs.declared.kind.Kind.TheVariants.{Text};
+ghost use Rattle.bag_algebra.specs.declared.query.Query.{Query};
 ghost use Rattle.perm_catalog.specs.Sound.{IsSound};
 ghost use Rattle.name_meaning.specs.Cores.{settle};
 ghost use Rattle.name_meaning.specs.Meanings.{settled};
 ghost use Rattle.name_meaning.specs.Queries.{keys_of, limited};
 ghost use Rattle.name_meaning.specs.Trees.{set_of_tree};
-ghost use Rattle.name_meaning.specs.declared.trace.Trace.TheVariants.{InProvenance as Proving};
+ghost use Rattle.name_meaning.specs.declared.trace.Trace.TheVariants.{InProvenance};
 ghost use Rattle.name_seen_parts.specs.Standing.{around_of};
 ghost use Rattle.name_seen_parts.specs.Columns.{columns_of};
 ghost use Rattle.name_made_parts.specs.AskedColumns.{Settles};
@@ -22,17 +22,23 @@ use sql_tree::{QueryTree, SetTree};
 use std::alloc::Global;
 
 /// All of a query that asks for its provenance is traced.
-pub fn trace_inside(trace: Trace, proving: bool) -> Trace
-    ensures { result ≡ cond proving Proving trace }
+pub fn trace_inside(trace: Trace, with_provenance: bool) -> Trace
+    ensures { result ≡ cond with_provenance InProvenance trace }
 {
-    if proving { Trace::InProvenance } else { trace }
+    if with_provenance {
+        Trace::InProvenance
+    } else {
+        trace
+    }
 }
 
 /// The columns of a tree of set operations; none, where it breaks.
 fn columns_or_none(tree: &SetTree, around: &Around) -> Result<List<ShownColumn>, NoMemory>
     requires { IsSound around.now.catalog.now }
-    ensures { IfOk result (λ columns. ((set_of_tree around.now.catalog.now tree.now).means (around_of around.now)).breaks ≡ []
-        → ((set_of_tree around.now.catalog.now tree.now).means (around_of around.now)).columns ≡ Some (columns_of columns)) }
+    ensures { IfOk result (λ columns.
+        ((set_of_tree around.now.catalog.now tree.now).means (around_of around.now)).breaks ≡ []
+        → ((set_of_tree around.now.catalog.now tree.now).means (around_of around.now)).columns
+        ≡ Some (columns_of columns)) }
 {
     let mut facts = Facts::none(around.alloc);
     match set_seen(tree, around, &mut facts) {
@@ -45,10 +51,11 @@ fn columns_or_none(tree: &SetTree, around: &Around) -> Result<List<ShownColumn>,
 /// The keys by which the query is cut, if it has a limit.
 pub fn limit_keys(tree: &QueryTree, around: &Around) -> Result<List<Key>, NoMemory>
     requires { IsSound around.now.catalog.now }
-    ensures { IfOk result (λ keys. (query : Plan) →
+    ensures { IfOk result (λ keys. (query : Query) →
         ((set_of_tree around.now.catalog.now tree.now.body).means (around_of around.now)).breaks ≡ []
         → limited tree.now.limit keys query ≡ limited tree.now.limit
-        (keys_of ((set_of_tree around.now.catalog.now tree.now.body).means (around_of around.now)).columns tree.now.order) query) }
+        (keys_of ((set_of_tree around.now.catalog.now tree.now.body).means (around_of around.now)).columns
+        tree.now.order) query) }
 {
     if tree.limit.is_none() {
         return Ok(List::new(around.alloc));
@@ -60,8 +67,10 @@ pub fn limit_keys(tree: &QueryTree, around: &Around) -> Result<List<Key>, NoMemo
 /// The kinds at which the operands of a chain are made.
 pub fn chain_kinds(tree: &SetTree, wanted: &[Kind], around: &Around) -> Result<List<Kind>, NoMemory>
     requires { IsSound around.now.catalog.now }
-    ensures { IfOk result (λ kinds. ((set_of_tree around.now.catalog.now tree.now).means (around_of around.now)).breaks ≡ []
-        → Settles ((set_of_tree around.now.catalog.now tree.now).means (around_of around.now)) wanted.now kinds) }
+    ensures { IfOk result (λ kinds.
+        ((set_of_tree around.now.catalog.now tree.now).means (around_of around.now)).breaks ≡ []
+        → Settles ((set_of_tree around.now.catalog.now tree.now).means (around_of around.now))
+        wanted.now kinds) }
 {
     let columns = columns_or_none(tree, around)?;
     settled_kinds(around.alloc, columns.as_slice(), wanted)
@@ -83,7 +92,7 @@ fn settled_kinds(
 }
 
 fn settled_kind(column: &ShownColumn, wanted: &[Kind], place: usize) -> Kind
-    ensures { result ≡ settled column.now.kind (slice_index_or wanted.now place Words) }
+    ensures { result ≡ settled column.now.kind (slice_index_or wanted.now place Text) }
 {
     match column.kind {
         Some(kind) => kind,
@@ -93,7 +102,7 @@ fn settled_kind(column: &ShownColumn, wanted: &[Kind], place: usize) -> Kind
 
 /// The kind that is wanted of the column at a place; Text where none is.
 pub(crate) fn wanted_at(wanted: &[Kind], place: usize) -> Kind
-    ensures { result ≡ slice_index_or wanted.now place Words }
+    ensures { result ≡ slice_index_or wanted.now place Text }
 {
     if place < wanted.len() {
         return wanted[place];

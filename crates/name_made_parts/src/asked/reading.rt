@@ -19,7 +19,8 @@ use std::alloc::Global;
 /// The names that a query shows; none, where it breaks.
 pub fn shown_names(query: &QueryTree, around: &Around) -> Result<ShownNames, NoMemory>
     requires { IsSound around.now.catalog.now }
-    ensures { IfOk result (Shows (query_means_at (query_of around.now.catalog.now query.now) (around_of around.now))) }
+    ensures { IfOk result
+        (Shows (query_means_at (query_of around.now.catalog.now query.now) (around_of around.now))) }
 {
     match query_seen(query, around) {
         Ok(shown) => names_shown(around.alloc, shown),
@@ -32,7 +33,9 @@ pub fn shown_names(query: &QueryTree, around: &Around) -> Result<ShownNames, NoM
 }
 
 fn names_shown(alloc: Global, shown: QueryShown) -> Result<ShownNames, NoMemory>
-    ensures { IfOk result (λ found. (found.names ≡ names_of (settled_columns (columns_of shown.columns))) × (found.places ≡ shown.places)) }
+    ensures { IfOk result (λ found.
+        (found.names ≡ names_of (settled_columns (columns_of shown.columns)))
+        × (found.places ≡ shown.places)) }
 {
     let names = column_names(alloc, shown.columns.as_slice())?;
     let QueryShown { places, .. } = shown;

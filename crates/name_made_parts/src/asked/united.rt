@@ -1,12 +1,12 @@
 //! The kinds that operands take, as the first pass finds them.
 ghost use Rattle.std.specs.Prelude.{◌≡◌, ◌∷◌, ◌++◌, [], IfOk, map, flat_map};
-ghost use Rattle.perm_values.specs.declared.kind.Kind.TheVariants.{Text as Words};
+ghost use Rattle.perm_values.specs.declared.kind.Kind.TheVariants.{Text};
 ghost use Rattle.name_meaning.specs.Expressions.{arm_operands, else_operand};
 ghost use Rattle.name_meaning.specs.Meanings.{means_at, query_means_at, seen_kind, settled, united_kind};
 ghost use Rattle.name_meaning.specs.Operands.{alike_wanted, operand, united};
 ghost use Rattle.name_meaning.specs.Sublinks.{around_of, first_kind, in_tested, tested_kind};
 ghost use Rattle.name_meaning.specs.Trees.{arm_of, part_of, query_of};
-ghost use Rattle.name_meaning.specs.declared.need.Need.TheVariants.{Alike as Same};
+ghost use Rattle.name_meaning.specs.declared.need.Need.TheVariants.{Alike};
 ghost use Rattle.name_seen_parts.specs.Standing.{surroundings};
 ghost use Rattle.name_made_parts.specs.AskedColumns.{kind_of_first};
 ghost use Rattle.perm_catalog.specs.Sound.{IsSound};
@@ -22,7 +22,8 @@ use sql_tree::{ArmTree, ExprTree, QueryTree};
 /// The kind of an expression; what breaks is of any.
 pub fn kind_or_any(tree: &ExprTree, here: &Here) -> Result<Option<Kind>, NoMemory>
     requires { IsSound here.now.catalog.now }
-    ensures { IfOk result (λ kind. kind ≡ seen_kind (means_at (part_of here.now.catalog.now tree.now) (surroundings here.now))) }
+    ensures { IfOk result (λ kind. kind
+        ≡ seen_kind (means_at (part_of here.now.catalog.now tree.now) (surroundings here.now))) }
 {
     match kind_of(tree, here) {
         Ok(kind) => Ok(kind),
@@ -61,7 +62,8 @@ fn united_with_all(
 ) -> Result<Option<Kind>, NoMemory>
     requires { IsSound here.now.catalog.now }
     ensures { IfOk result (λ kind. kind ≡ united_kind so_far
-        (united (map (operand (surroundings here.now) need) (map (part_of here.now.catalog.now) trees.now)))) }
+        (united (map (operand (surroundings here.now) need)
+        (map (part_of here.now.catalog.now) trees.now)))) }
 {
     let mut kind = so_far;
     for tree in trees {
@@ -74,7 +76,8 @@ fn united_with_all(
 fn arms_united(arms: &[ArmTree], here: &Here) -> Result<Option<Kind>, NoMemory>
     requires { IsSound here.now.catalog.now }
     ensures { IfOk result (λ kind. kind ≡
-        united (flat_map (arm_operands (surroundings here.now)) (map (arm_of here.now.catalog.now) arms.now))) }
+        united (flat_map (arm_operands (surroundings here.now))
+        (map (arm_of here.now.catalog.now) arms.now))) }
 {
     let mut kind = None;
     for arm in arms {
@@ -93,7 +96,8 @@ pub fn alike_of_all(
 ) -> Result<Kind, NoMemory>
     requires { IsSound here.now.catalog.now }
     ensures { IfOk result (λ kind. kind ≡ settled
-        (united (map (operand (surroundings here.now) need) (map (part_of here.now.catalog.now) trees.now))) (alike_wanted gives wanted)) }
+        (united (map (operand (surroundings here.now) need) (map (part_of here.now.catalog.now) trees.now)))
+        (alike_wanted gives wanted)) }
 {
     let united = united_with_all(None, need, trees, here)?;
     Ok(settled(united, alike_wanted(gives, wanted)))
@@ -111,7 +115,8 @@ pub fn alike_of_two(
     requires { IsSound here.now.catalog.now }
     ensures { IfOk result (λ kind. kind ≡ settled
         (united (operand (surroundings here.now) need (part_of here.now.catalog.now first.now)
-        ∷ operand (surroundings here.now) need (part_of here.now.catalog.now second.now) ∷ [])) (alike_wanted gives wanted)) }
+        ∷ operand (surroundings here.now) need (part_of here.now.catalog.now second.now) ∷ []))
+        (alike_wanted gives wanted)) }
 {
     let united = united_with(None, need, first, here)?;
     let united = united_with(united, need, second, here)?;
@@ -127,9 +132,9 @@ pub fn alike_of_three(
 ) -> Result<Kind, NoMemory>
     requires { IsSound here.now.catalog.now }
     ensures { IfOk result (λ kind. kind ≡ settled
-        (united (operand (surroundings here.now) Same (part_of here.now.catalog.now first.now)
-        ∷ operand (surroundings here.now) Same (part_of here.now.catalog.now second.now)
-        ∷ operand (surroundings here.now) Same (part_of here.now.catalog.now third.now) ∷ [])) Words) }
+        (united (operand (surroundings here.now) Alike (part_of here.now.catalog.now first.now)
+        ∷ operand (surroundings here.now) Alike (part_of here.now.catalog.now second.now)
+        ∷ operand (surroundings here.now) Alike (part_of here.now.catalog.now third.now) ∷ [])) Text) }
 {
     let united = united_with(None, Need::Alike, first, here)?;
     let united = united_with(united, Need::Alike, second, here)?;
@@ -141,8 +146,8 @@ pub fn alike_of_three(
 pub fn alike_behind(first: &ExprTree, more: &[ExprTree], here: &Here) -> Result<Kind, NoMemory>
     requires { IsSound here.now.catalog.now }
     ensures { IfOk result (λ kind. kind ≡ settled
-        (united (operand (surroundings here.now) Same (part_of here.now.catalog.now first.now)
-        ∷ map (operand (surroundings here.now) Same) (map (part_of here.now.catalog.now) more.now))) Words) }
+        (united (operand (surroundings here.now) Alike (part_of here.now.catalog.now first.now)
+        ∷ map (operand (surroundings here.now) Alike) (map (part_of here.now.catalog.now) more.now))) Text) }
 {
     let united = united_with(None, Need::Alike, first, here)?;
     let united = united_with_all(united, Need::Alike, more, here)?;
@@ -170,7 +175,8 @@ pub fn alike_of_case(
     requires { IsSound here.now.catalog.now }
     ensures { IfOk result (λ kind. kind ≡ settled
         (united (flat_map (arm_operands (surroundings here.now)) (map (arm_of here.now.catalog.now) arms.now)
-        ++ else_operand (surroundings here.now) (Some (part_of here.now.catalog.now otherwise.now)) ∷ [])) wanted) }
+        ++ else_operand (surroundings here.now) (Some (part_of here.now.catalog.now otherwise.now)) ∷ []))
+        wanted) }
 {
     let united = arms_united(arms, here)?;
     let united = united_with(united, Need::Alike, otherwise, here)?;
@@ -180,8 +186,8 @@ pub fn alike_of_case(
 /// The kind of a query's first column as a sublink sees it; what breaks is of any.
 fn first_kind(query: &QueryTree, here: &Here) -> Result<Option<Kind>, NoMemory>
     requires { IsSound here.now.catalog.now }
-    ensures { IfOk result (λ kind. kind ≡
-        first_kind (query_means_at (query_of here.now.catalog.now query.now) (around_of (surroundings here.now)))) }
+    ensures { IfOk result (λ kind. kind ≡ first_kind
+        (query_means_at (query_of here.now.catalog.now query.now) (around_of (surroundings here.now)))) }
 {
     let around = Around {
         alloc: here.alloc,
@@ -209,8 +215,9 @@ fn kind_of_first(columns: &[ShownColumn]) -> Option<Kind>
 /// The kind at which the query of a scalar sublink is made.
 pub fn scalar_kind(query: &QueryTree, wanted: Kind, here: &Here) -> Result<Kind, NoMemory>
     requires { IsSound here.now.catalog.now }
-    ensures { IfOk result (λ kind. kind ≡ settled
-        (first_kind (query_means_at (query_of here.now.catalog.now query.now) (around_of (surroundings here.now)))) wanted) }
+    ensures { IfOk result (λ kind. kind ≡ settled (first_kind
+        (query_means_at (query_of here.now.catalog.now query.now) (around_of (surroundings here.now))))
+        wanted) }
 {
     let column = first_kind(query, here)?;
     Ok(settled(column, wanted))
@@ -219,7 +226,8 @@ pub fn scalar_kind(query: &QueryTree, wanted: Kind, here: &Here) -> Result<Kind,
 /// The kind of the left operand of a sublink; what breaks is of any.
 fn untested_kind(tree: &ExprTree, here: &Here) -> Result<Option<Kind>, NoMemory>
     requires { IsSound here.now.catalog.now }
-    ensures { IfOk result (λ kind. kind ≡ seen_kind (means_at (part_of here.now.catalog.now tree.now) (in_tested (surroundings here.now)))) }
+    ensures { IfOk result (λ kind. kind
+        ≡ seen_kind (means_at (part_of here.now.catalog.now tree.now) (in_tested (surroundings here.now)))) }
 {
     let inside = Here {
         alloc: here.alloc,

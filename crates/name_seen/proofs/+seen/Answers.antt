@@ -67,7 +67,7 @@ use Rattle.name_seen.proofs.Nodes.{aggregate-alone, aggregate-means, argument-to
 use Rattle.name_seen.proofs.ListItems.{list-refused, star-seen, table_star-seen, value-refused, value-seen}
 use Rattle.name_seen.proofs.QuerySteps.{body_meant, kinds-known, paren-refused, query-answered, query-refused}
 use Rattle.name_seen.proofs.Rows.{mapped-at, mapped-more as row-more, same-refused, twice-at, twice-more}
-use Rattle.query_seen.proofs.+seen.Goals as goal
+use Rattle.name_seen.proofs.+seen.Goals as goal
 
 pub expressions::expression_seen-returns-in-Null : goal.expressions::expression_seen-returns-in-Null
 expressions::expression_seen-returns-in-Null t c =

@@ -16,7 +16,7 @@ use Rattle.name_seen_parts.specs.Standing.{around_of}
 use Rattle.name_seen_from.specs.Queried.{ColumnsSeen, FromWhole}
 use Rattle.name_seen_from.specs.declared.facts.Facts.{Facts}
 use Rattle.name_seen_cores.specs.Listed.{ListWhole, seen_at}
-use Rattle.query_seen.proofs.+seen.Given as goal
+use Rattle.name_seen.proofs.+seen.Given as goal
 
 -- the operands so far
 abbrev pub invariant-expressions::operands-loop-tree : goal.invariant-expressions::operands-loop-tree

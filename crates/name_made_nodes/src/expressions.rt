@@ -1,26 +1,84 @@
 //! Expressions of parts as they were made. Each part comes as a result, so that what is there is let go here where another
 //! part is wanting, and not in the functions that go through a tree.
-ghost use Rattle.std.specs.Prelude.{◌≡◌, ◌⊎◌, ℕ, ◌<◌, ◌^◌, ◌∷◌, [], ◌++◌, cond, length, Some, Err, IfOk, IfErr, IsOkAnd, OnOk};
-ghost use Rattle.bag_algebra.specs.declared.expr.Expr.TheVariants.{Case as Chosen, Chain as Chained, IsNull as TestedNull, IsTruth as Tested, Op as Operated, Same as Compared, Sub as Numbered};
-ghost use Rattle.null_logic.specs.declared.operator.Operator.TheVariants.{Between as Ranged, InList as Listed, Like as Matched};
+ghost use Rattle.std.specs.Prelude.{◌≡◌, ◌⊎◌, ◌∷◌, [], ◌++◌, Err, IfOk, IfErr, IsOkAnd, OnOk};
+ghost use Rattle.bag_algebra.specs.declared.expr.Expr.TheVariants.{Case, Chain, IsNull, IsTruth, Lit, Op, Same};
+ghost use Rattle.null_logic.specs.declared.operator.Operator.TheVariants.{Between, InList, Like};
+ghost use Rattle.perm_values.specs.declared.kind.Kind.TheVariants as kind;
+ghost use Rattle.perm_values.specs.declared.value.Value.TheVariants as value;
 ghost use Rattle.name_meaning.specs.Expressions.{negated_if, times};
-ghost use Rattle.name_meaning.specs.Meanings.{Surroundings};
-ghost use Rattle.name_meaning.specs.Scopes.{group_count};
-ghost use Rattle.name_meaning.specs.Sublinks.{aggregate_made};
-ghost use Rattle.name_made_nodes.specs.Makes.{before_of, with_sub, IsBuilt};
+ghost use Rattle.name_meaning.specs.Sublinks.{null_at};
 
-use crate::aggregates::aggregate_made;
-use crate::exprs::{negated_if, null_test, same_test, times, truth_test};
-use crate::sublinks::sublink_made;
-use crate::together::{beside, headed, two, with_more};
-use crate::within::Within;
-use bag_algebra::{Arm, ChainStep, Expr, Item, Query, SubKind};
+use crate::together::{headed, two, with_more};
+use bag_algebra::{Arm, ChainStep, Expr, Item};
 use null_logic::{Arith, Operator, Truth};
-use perm_values::{Kind, List, NoMemory, both, in_box};
-use sql_tree::AggWord;
+use perm_values::{Chars, Copyable, Kind, List, NoMemory, Value, both, in_box};
 use std::alloc::Global;
 
-/// The operator as often before the part as changes its value.
+/// NULL of this kind.
+pub fn null_at(kind: Kind) -> Expr
+    ensures { result ≡ null_at kind }
+{
+    Expr::Lit {
+        value: Value::Null,
+        kind,
+    }
+}
+
+/// A number as written.
+pub fn integer_value(number: i64) -> Expr
+    ensures { result ≡ Lit (value.Integer number) kind.Integer }
+{
+    Expr::Lit {
+        value: Value::Integer(number),
+        kind: Kind::Integer,
+    }
+}
+
+/// A truth as written.
+pub fn truth_value(truth: bool) -> Expr
+    ensures { result ≡ Lit (value.Boolean truth) kind.Boolean }
+{
+    Expr::Lit {
+        value: Value::Boolean(truth),
+        kind: Kind::Boolean,
+    }
+}
+
+/// A text as written.
+pub fn text_value(alloc: Global, text: &Chars) -> Result<Expr, NoMemory>
+    ensures { IfOk result (λ made. made ≡ Lit (value.Text text.now) kind.Text) }
+{
+    let text = text.copy(alloc)?;
+    Ok(Expr::Lit {
+        value: Value::Text(text),
+        kind: Kind::Text,
+    })
+}
+
+/// The operator on one part.
+fn on_one(alloc: Global, op: Operator, part: Expr) -> Result<Expr, NoMemory>
+    ensures { IfOk result (λ made. made ≡ Op op (part ∷ [])) }
+{
+    let mut parts = List::new(alloc);
+    let Ok(_) = parts.push(part) else {
+        drop(parts);
+        return Err(NoMemory);
+    };
+    Ok(Expr::Op { op, parts })
+}
+
+/// The expression, or the opposite of it.
+fn negated_if(alloc: Global, negated: bool, part: Expr) -> Result<Expr, NoMemory>
+    ensures { IfOk result (λ made. made ≡ negated_if negated part) }
+{
+    if !negated {
+        return Ok(part);
+    }
+    on_one(alloc, Operator::Not, part)
+}
+
+/// The operator as often before the part as changes its value: once where the count is odd, twice where it is even, and
+/// not at all where it is 0.
 pub fn repeated(
     alloc: Global,
     op: Operator,
@@ -30,7 +88,14 @@ pub fn repeated(
     ensures { IfOk result (λ made. IsOkAnd part (λ part. made ≡ times op count part)) }
 {
     let part = part?;
-    times(alloc, op, count, part)
+    if count == 0 {
+        return Ok(part);
+    }
+    let once = on_one(alloc, op, part)?;
+    if count % 2 == 1 {
+        return Ok(once);
+    }
+    on_one(alloc, op, once)
 }
 
 /// Whether the part is NULL, or whether it isn't.
@@ -39,10 +104,10 @@ pub fn null_tested(
     negated: bool,
     part: Result<Expr, NoMemory>,
 ) -> Result<Expr, NoMemory>
-    ensures { IfOk result (λ made. IsOkAnd part (λ part. made ≡ negated_if negated (TestedNull part))) }
+    ensures { IfOk result (λ made. IsOkAnd part (λ part. made ≡ negated_if negated (IsNull part))) }
 {
-    let part = part?;
-    null_test(alloc, negated, part)
+    let part = in_box(alloc, part)?;
+    negated_if(alloc, negated, Expr::IsNull { part })
 }
 
 /// Whether the part has this truth, or whether it hasn't.
@@ -52,10 +117,10 @@ pub fn truth_tested(
     truth: Truth,
     part: Result<Expr, NoMemory>,
 ) -> Result<Expr, NoMemory>
-    ensures { IfOk result (λ made. IsOkAnd part (λ part. made ≡ negated_if negated (Tested truth part))) }
+    ensures { IfOk result (λ made. IsOkAnd part (λ part. made ≡ negated_if negated (IsTruth truth part))) }
 {
-    let part = part?;
-    truth_test(alloc, negated, truth, part)
+    let part = in_box(alloc, part)?;
+    negated_if(alloc, negated, Expr::IsTruth { truth, part })
 }
 
 /// Whether the parts are the same, or whether they are distinct.
@@ -65,17 +130,18 @@ pub fn same_tested(
     first: Result<Expr, NoMemory>,
     second: Result<Expr, NoMemory>,
 ) -> Result<Expr, NoMemory>
-    ensures { IfOk result (λ made. IsOkAnd first (λ first. IsOkAnd second (λ second. made ≡ negated_if distinct (Compared first second)))) }
+    ensures { IfOk result (λ made. IsOkAnd first (λ first. IsOkAnd second (λ second.
+        made ≡ negated_if distinct (Same first second)))) }
 {
     let first = in_box(alloc, first);
     let second = in_box(alloc, second);
     let (first, second) = both(first, second)?;
-    same_test(alloc, distinct, first, second)
+    negated_if(alloc, distinct, Expr::Same { first, second })
 }
 
 /// The operator on these parts.
 pub fn on_parts(op: Operator, parts: Result<List<Expr>, NoMemory>) -> Result<Expr, NoMemory>
-    ensures made { IfOk result (λ made. IsOkAnd parts (λ parts. made ≡ Operated op parts)) }
+    ensures made { IfOk result (λ made. IsOkAnd parts (λ parts. made ≡ Op op parts)) }
     ensures lacking { IfErr result (λ lack. parts ≡ Err lack) }
 {
     let parts = parts?;
@@ -89,7 +155,8 @@ pub fn on_two(
     first: Result<Expr, NoMemory>,
     second: Result<Expr, NoMemory>,
 ) -> Result<Expr, NoMemory>
-    ensures { IfOk result (λ made. IsOkAnd first (λ first. IsOkAnd second (λ second. made ≡ Operated op (first ∷ second ∷ [])))) }
+    ensures { IfOk result (λ made. IsOkAnd first (λ first. IsOkAnd second (λ second.
+        made ≡ Op op (first ∷ second ∷ [])))) }
 {
     let parts = two(alloc, first, second)?;
     Ok(Expr::Op { op, parts })
@@ -102,7 +169,8 @@ pub fn like(
     text: Result<Expr, NoMemory>,
     pattern: Result<Expr, NoMemory>,
 ) -> Result<Expr, NoMemory>
-    ensures { IfOk result (λ made. IsOkAnd text (λ text. IsOkAnd pattern (λ pattern. made ≡ negated_if negated (Operated Matched (text ∷ pattern ∷ []))))) }
+    ensures { IfOk result (λ made. IsOkAnd text (λ text. IsOkAnd pattern (λ pattern.
+        made ≡ negated_if negated (Op Like (text ∷ pattern ∷ []))))) }
 {
     let parts = two(alloc, text, pattern)?;
     let op = Operator::Like;
@@ -118,7 +186,7 @@ pub fn between(
     high: Result<Expr, NoMemory>,
 ) -> Result<Expr, NoMemory>
     ensures { IfOk result (λ made. IsOkAnd part (λ part. IsOkAnd low (λ low. IsOkAnd high (λ high.
-        made ≡ negated_if negated (Operated Ranged (part ∷ low ∷ high ∷ [])))))) }
+        made ≡ negated_if negated (Op Between (part ∷ low ∷ high ∷ [])))))) }
 {
     let parts = two(alloc, part, low)?;
     let parts = with_more(parts, high)?;
@@ -133,7 +201,8 @@ pub fn in_list(
     part: Result<Expr, NoMemory>,
     list: Result<List<Expr>, NoMemory>,
 ) -> Result<Expr, NoMemory>
-    ensures { IfOk result (λ made. IsOkAnd part (λ part. IsOkAnd list (λ list. made ≡ negated_if negated (Operated Listed (part ∷ list))))) }
+    ensures { IfOk result (λ made. IsOkAnd part (λ part. IsOkAnd list (λ list.
+        made ≡ negated_if negated (Op InList (part ∷ list))))) }
 {
     let parts = headed(alloc, part, list)?;
     let op = Operator::InList;
@@ -146,7 +215,8 @@ pub fn chained(
     first: Result<Expr, NoMemory>,
     steps: Result<List<ChainStep>, NoMemory>,
 ) -> Result<Expr, NoMemory>
-    ensures { IfOk result (λ made. IsOkAnd first (λ first. IsOkAnd steps (λ steps. made ≡ Chained first steps))) }
+    ensures { IfOk result (λ made. IsOkAnd first (λ first. IsOkAnd steps (λ steps.
+        made ≡ Chain first steps))) }
 {
     let first = in_box(alloc, first);
     let (first, steps) = both(first, steps)?;
@@ -168,7 +238,8 @@ pub fn case(
     arms: Result<List<Arm>, NoMemory>,
     otherwise: Result<Expr, NoMemory>,
 ) -> Result<Expr, NoMemory>
-    ensures { IfOk result (λ made. IsOkAnd arms (λ arms. IsOkAnd otherwise (λ otherwise. made ≡ Chosen arms otherwise))) }
+    ensures { IfOk result (λ made. IsOkAnd arms (λ arms. IsOkAnd otherwise (λ otherwise.
+        made ≡ Case arms otherwise))) }
 {
     let otherwise = in_box(alloc, otherwise);
     let (arms, otherwise) = both(arms, otherwise)?;
@@ -180,41 +251,12 @@ pub fn arm_of(
     condition: Result<Expr, NoMemory>,
     value: Result<Expr, NoMemory>,
 ) -> Result<Arm, NoMemory>
-    ensures made { IfOk result (λ arm. IsOkAnd condition (λ condition. IsOkAnd value (λ value. arm ≡ record { condition = condition; value = value }))) }
+    ensures made { IfOk result (λ arm. IsOkAnd condition (λ condition. IsOkAnd value (λ value.
+        arm ≡ record { condition = condition; value = value }))) }
     ensures lacking { IfErr result (λ lack. (condition ≡ Err lack) ⊎ (value ≡ Err lack)) }
 {
     let (condition, value) = both(condition, value)?;
     Ok(Arm { condition, value })
-}
-
-/// An aggregate of an argument, behind those found so far.
-pub fn aggregate_of(
-    groups: usize,
-    word: AggWord,
-    kind: Option<Kind>,
-    argument: Result<Expr, NoMemory>,
-    found: &mut Within,
-) -> Result<Expr, NoMemory>
-    requires { groups < 2 ^ 63 }
-    ensures { (here : Surroundings) → group_count here.scopes ≡ groups → IfOk result (λ made. IsOkAnd argument (λ argument.
-        IsBuilt (aggregate_made here word kind (Some argument) (before_of found.old)) made found.old found.new)) }
-{
-    let argument = argument?;
-    aggregate_made(groups, word, kind, Some(argument), found)
-}
-
-/// A sublink behind those found so far.
-pub fn sublink_of(
-    kind: SubKind,
-    tested: Option<Expr>,
-    query: Result<Query, NoMemory>,
-    found: &mut Within,
-) -> Result<Expr, NoMemory>
-    ensures { IfOk result (λ made. IsOkAnd query (λ query.
-        (made ≡ Numbered (length found.old.subs)) × (found.new ≡ with_sub found.old (record { kind = kind; tested = tested; query = query })))) }
-{
-    let (tested, query) = beside(tested, query)?;
-    sublink_made(kind, tested, query, found)
 }
 
 /// A column of the list, behind those so far.
@@ -223,7 +265,8 @@ pub fn add_value(
     kind: Kind,
     items: &mut List<Item>,
 ) -> Result<(), NoMemory>
-    ensures { OnOk result (IsOkAnd expr (λ expr. items.new ≡ items.old ++ record { expr = expr; kind = kind } ∷ [])) }
+    ensures { OnOk result (IsOkAnd expr (λ expr.
+        items.new ≡ items.old ++ record { expr = expr; kind = kind } ∷ [])) }
 {
     let expr = expr?;
     items.push(Item { expr, kind })?;
