@@ -1,5 +1,6 @@
 pub mod AggregateOrder
 pub mod BagLaws
+pub mod ByChildren
 pub mod Closing
 pub mod Columns
 mod FiniteMap
@@ -12,6 +13,7 @@ pub mod OneKind
 pub mod Outcomes
 pub mod Rest
 pub mod SetCounts
+pub mod Smaller
 pub mod SortedBags
 pub mod TablesRead
 pub mod Truths

@@ -11,7 +11,7 @@ use Rattle.bag_algebra.specs.declared.query.AggFn.{AggFn}
 use Rattle.bag_algebra.specs.declared.query.AggFn.TheVariants.{CountRows, Count, CountDistinct, Sum, Min, Max}
 use Rattle.bag_algebra.specs.declared.query.Aggr.{Aggr}
 use Rattle.bag_algebra.specs.declared.query.Query.{Query, Row_of-Sublink, more_of-Sublink, end_of-Sublink}
-use Rattle.bag_algebra.specs.declared.query.Query.TheVariants.{Table, Single}
+use Rattle.bag_algebra.specs.declared.query.Query.TheVariants.{Table, Single, Base', Filter', Project', Join', Union', Intersect', Except', Distinct', Aggregate', Limit', Prov'}
 use Rattle.bag_algebra.specs.declared.query.SubKind.{SubKind}
 use Rattle.bag_algebra.specs.declared.query.SubKind.TheVariants.{Exists, Any, All, Scalar}
 
@@ -74,6 +74,22 @@ is_scalar Exists = false
 is_scalar (Any c) = false
 is_scalar (All c) = false
 is_scalar Scalar = true
+
+-- what the topmost node itself evaluates, its sublinks aside
+abbrev pub own_faultless : Query → Bool
+own_faultless (Table id kinds) = true
+own_faultless Single = true
+own_faultless (Base' _ input places label) = true
+own_faultless (Filter' _ input condition _ subs) = faultless condition
+own_faultless (Project' _ input items _ subs) = items_faultless items
+own_faultless (Join' kind _ left _ right condition _ subs) = faultless condition
+own_faultless (Union' all _ left _ right) = true
+own_faultless (Intersect' all _ left _ right) = true
+own_faultless (Except' all _ left _ right) = true
+own_faultless (Distinct' _ input) = true
+own_faultless (Aggregate' _ input groups aggregates) = aggregates_faultless aggregates
+own_faultless (Limit' _ input keys count) = true
+own_faultless (Prov' _ input) = true
 
 -- no chain, no negation, no SUM and no scalar sublink anywhere in the query, sublinks included
 abbrev mutual

@@ -10,6 +10,7 @@ pub mod ColumnItems
 pub mod Expressions
 pub mod FaultFree
 pub mod Fits
+pub mod Inputs
 pub mod Kinds
 pub mod Meaning
 pub mod Means

@@ -1,6 +1,7 @@
 //! Queries over bags, their expressions, and what they mean.
 #![tactic(auto)]
 
+mod children;
 mod copies;
 mod env;
 mod expr;
@@ -11,6 +12,7 @@ mod place;
 mod query;
 mod tables;
 
+pub use children::Inputs;
 pub use env::Env;
 pub use expr::{Arm, ChainStep, Expr, Item};
 pub use laws::what_fits_a_query_fits_what_reads_its_tables;

@@ -1,8 +1,11 @@
 //! What in a query may fault.
 ghost use Rattle.std.specs.Prelude.{◌≡◌};
+ghost use Rattle.std.specs.List.{list_all};
 ghost use Rattle.bag_algebra.specs.BuiltFaultFree.{all_parts_faultless, all_arms_faultless, all_fault_free};
-ghost use Rattle.bag_algebra.specs.FaultFree.{faultless, items_faultless, aggregates_faultless, fault_free};
+ghost use Rattle.bag_algebra.specs.FaultFree.{faultless, items_faultless, aggregates_faultless, own_faultless, fault_free};
+ghost use Rattle.bag_algebra.specs.Inputs.{given};
 
+use crate::children::Inputs;
 use crate::expr::{Arm, Expr, Item};
 use crate::query::{AggFn, Aggr, Query, SubKind, Sublink};
 use null_logic::Operator;
@@ -13,43 +16,38 @@ use null_logic::Operator;
 pub fn fault_free(query: &Query) -> bool
     ensures { result ≡ fault_free query.now }
 {
+    inputs_fault_free(query.inputs()) && own_faultless(query) && all_fault_free(query.sublinks())
+}
+
+#[cycle(fault_free)]
+fn inputs_fault_free(inputs: Inputs<'_>) -> bool
+    ensures { result ≡ list_all fault_free (given inputs.entry) }
+{
+    match inputs {
+        Inputs::Zero => true,
+        Inputs::One(input) => fault_free(input),
+        Inputs::Two(left, right) => fault_free(left) && fault_free(right),
+    }
+}
+
+/// Whether what the topmost node itself evaluates, its sublinks aside, is free of faults.
+fn own_faultless(query: &Query) -> bool
+    ensures { result ≡ own_faultless query.now }
+{
     match query {
         Query::Table { .. } => true,
         Query::Single => true,
-        Query::Base { input, .. } => fault_free(input.get()),
-        Query::Filter {
-            input,
-            condition,
-            subs,
-        } => fault_free(input.get()) && faultless(condition) && all_fault_free(subs.as_slice()),
-        Query::Project { input, items, subs } => {
-            fault_free(input.get())
-                && items_faultless(items.as_slice())
-                && all_fault_free(subs.as_slice())
-        }
-        Query::Join {
-            left,
-            right,
-            condition,
-            subs,
-            ..
-        } => {
-            fault_free(left.get())
-                && fault_free(right.get())
-                && faultless(condition)
-                && all_fault_free(subs.as_slice())
-        }
-        Query::Union { left, right, .. } => fault_free(left.get()) && fault_free(right.get()),
-        Query::Intersect { left, right, .. } => fault_free(left.get()) && fault_free(right.get()),
-        Query::Except { left, right, .. } => fault_free(left.get()) && fault_free(right.get()),
-        Query::Distinct { input } => fault_free(input.get()),
-        Query::Aggregate {
-            input,
-            aggregates,
-            ..
-        } => fault_free(input.get()) && aggregates_faultless(aggregates.as_slice()),
-        Query::Limit { input, .. } => fault_free(input.get()),
-        Query::Prov { input } => fault_free(input.get()),
+        Query::Base { .. } => true,
+        Query::Filter { condition, .. } => faultless(condition),
+        Query::Project { items, .. } => items_faultless(items.as_slice()),
+        Query::Join { condition, .. } => faultless(condition),
+        Query::Union { .. } => true,
+        Query::Intersect { .. } => true,
+        Query::Except { .. } => true,
+        Query::Distinct { .. } => true,
+        Query::Aggregate { aggregates, .. } => aggregates_faultless(aggregates.as_slice()),
+        Query::Limit { .. } => true,
+        Query::Prov { .. } => true,
     }
 }
 

@@ -1,9 +1,12 @@
 //! Where PROVENANCE stands in a query, and what stands below it.
 ghost use Rattle.std.specs.Prelude.{◌≡◌};
+ghost use Rattle.std.specs.List.{list_all};
 ghost use Rattle.bag_algebra.specs.BuiltScopes.{all_plain, all_over_tables, all_traceable, all_scoped};
+ghost use Rattle.bag_algebra.specs.Inputs.{given};
 ghost use Rattle.bag_algebra.specs.Rewriting.{is_plain};
-ghost use Rattle.bag_algebra.specs.Scoped.{over_tables, traceable, is_scoped};
+ghost use Rattle.bag_algebra.specs.Scoped.{is_table, over_tables, traceable, is_scoped};
 
+use crate::children::Inputs;
 use crate::query::{Query, Sublink};
 
 /// Whether no PROVENANCE stands anywhere in the query, sublinks included. It takes no memory.
@@ -12,24 +15,19 @@ pub fn is_plain(query: &Query) -> bool
     ensures { result ≡ is_plain query.now }
 {
     match query {
-        Query::Table { .. } => true,
-        Query::Single => true,
-        Query::Base { input, .. } => is_plain(input.get()),
-        Query::Filter { input, subs, .. } => is_plain(input.get()) && all_plain(subs.as_slice()),
-        Query::Project { input, subs, .. } => is_plain(input.get()) && all_plain(subs.as_slice()),
-        Query::Join {
-            left,
-            right,
-            subs,
-            ..
-        } => is_plain(left.get()) && is_plain(right.get()) && all_plain(subs.as_slice()),
-        Query::Union { left, right, .. } => is_plain(left.get()) && is_plain(right.get()),
-        Query::Intersect { left, right, .. } => is_plain(left.get()) && is_plain(right.get()),
-        Query::Except { left, right, .. } => is_plain(left.get()) && is_plain(right.get()),
-        Query::Distinct { input } => is_plain(input.get()),
-        Query::Aggregate { input, .. } => is_plain(input.get()),
-        Query::Limit { input, .. } => is_plain(input.get()),
         Query::Prov { .. } => false,
+        _ => inputs_plain(query.inputs()) && all_plain(query.sublinks()),
+    }
+}
+
+#[cycle(is_plain)]
+fn inputs_plain(inputs: Inputs<'_>) -> bool
+    ensures { result ≡ list_all is_plain (given inputs.entry) }
+{
+    match inputs {
+        Inputs::Zero => true,
+        Inputs::One(input) => is_plain(input),
+        Inputs::Two(left, right) => is_plain(left) && is_plain(right),
     }
 }
 
@@ -53,24 +51,19 @@ pub fn is_scoped(query: &Query) -> bool
     ensures { result ≡ is_scoped query.now }
 {
     match query {
-        Query::Table { .. } => true,
-        Query::Single => true,
-        Query::Base { input, .. } => is_scoped(input.get()),
-        Query::Filter { input, subs, .. } => is_scoped(input.get()) && all_scoped(subs.as_slice()),
-        Query::Project { input, subs, .. } => is_scoped(input.get()) && all_scoped(subs.as_slice()),
-        Query::Join {
-            left,
-            right,
-            subs,
-            ..
-        } => is_scoped(left.get()) && is_scoped(right.get()) && all_scoped(subs.as_slice()),
-        Query::Union { left, right, .. } => is_scoped(left.get()) && is_scoped(right.get()),
-        Query::Intersect { left, right, .. } => is_scoped(left.get()) && is_scoped(right.get()),
-        Query::Except { left, right, .. } => is_scoped(left.get()) && is_scoped(right.get()),
-        Query::Distinct { input } => is_scoped(input.get()),
-        Query::Aggregate { input, .. } => is_scoped(input.get()),
-        Query::Limit { input, .. } => is_scoped(input.get()),
         Query::Prov { input } => traceable(input.get()) && is_scoped(input.get()),
+        _ => inputs_scoped(query.inputs()) && all_scoped(query.sublinks()),
+    }
+}
+
+#[cycle(is_scoped)]
+fn inputs_scoped(inputs: Inputs<'_>) -> bool
+    ensures { result ≡ list_all is_scoped (given inputs.entry) }
+{
+    match inputs {
+        Inputs::Zero => true,
+        Inputs::One(input) => is_scoped(input),
+        Inputs::Two(left, right) => is_scoped(left) && is_scoped(right),
     }
 }
 
@@ -94,26 +87,19 @@ pub fn traceable(query: &Query) -> bool
     ensures { result ≡ traceable query.now }
 {
     match query {
-        Query::Table { .. } => true,
-        Query::Single => true,
         Query::Base { .. } => true,
-        Query::Filter { input, subs, .. } => traceable(input.get())
-            && all_traceable(subs.as_slice()),
-        Query::Project { input, subs, .. } => traceable(input.get())
-            && all_traceable(subs.as_slice()),
-        Query::Join {
-            left,
-            right,
-            subs,
-            ..
-        } => traceable(left.get()) && traceable(right.get()) && all_traceable(subs.as_slice()),
-        Query::Union { left, right, .. } => traceable(left.get()) && traceable(right.get()),
-        Query::Intersect { left, right, .. } => traceable(left.get()) && traceable(right.get()),
-        Query::Except { left, right, .. } => traceable(left.get()) && traceable(right.get()),
-        Query::Distinct { input } => traceable(input.get()),
-        Query::Aggregate { input, .. } => traceable(input.get()),
-        Query::Limit { input, .. } => traceable(input.get()),
-        Query::Prov { input } => traceable(input.get()),
+        _ => inputs_traceable(query.inputs()) && all_traceable(query.sublinks()),
+    }
+}
+
+#[cycle(traceable)]
+fn inputs_traceable(inputs: Inputs<'_>) -> bool
+    ensures { result ≡ list_all traceable (given inputs.entry) }
+{
+    match inputs {
+        Inputs::Zero => true,
+        Inputs::One(input) => traceable(input),
+        Inputs::Two(left, right) => traceable(left) && traceable(right),
     }
 }
 
@@ -136,28 +122,20 @@ pub fn over_tables(query: &Query) -> bool
     ensures { result ≡ over_tables query.now }
 {
     match query {
-        Query::Table { .. } => true,
-        Query::Single => true,
-        Query::Base { input, .. } => matches!(input.get(), Query::Table { .. }),
-        Query::Filter { input, subs, .. } => over_tables(input.get())
-            && all_over_tables(subs.as_slice()),
-        Query::Project { input, subs, .. } => over_tables(input.get())
-            && all_over_tables(subs.as_slice()),
-        Query::Join {
-            left,
-            right,
-            subs,
-            ..
-        } => over_tables(left.get())
-            && over_tables(right.get())
-            && all_over_tables(subs.as_slice()),
-        Query::Union { left, right, .. } => over_tables(left.get()) && over_tables(right.get()),
-        Query::Intersect { left, right, .. } => over_tables(left.get()) && over_tables(right.get()),
-        Query::Except { left, right, .. } => over_tables(left.get()) && over_tables(right.get()),
-        Query::Distinct { input } => over_tables(input.get()),
-        Query::Aggregate { input, .. } => over_tables(input.get()),
-        Query::Limit { input, .. } => over_tables(input.get()),
+        Query::Base { input, .. } => is_table(input.get()),
         Query::Prov { .. } => true,
+        _ => inputs_over_tables(query.inputs()) && all_over_tables(query.sublinks()),
+    }
+}
+
+#[cycle(over_tables)]
+fn inputs_over_tables(inputs: Inputs<'_>) -> bool
+    ensures { result ≡ list_all over_tables (given inputs.entry) }
+{
+    match inputs {
+        Inputs::Zero => true,
+        Inputs::One(input) => over_tables(input),
+        Inputs::Two(left, right) => over_tables(left) && over_tables(right),
     }
 }
 
@@ -172,4 +150,10 @@ fn all_over_tables(subs: &[Sublink]) -> bool
         }
     }
     true
+}
+
+fn is_table(query: &Query) -> bool
+    ensures { result ≡ is_table query.now }
+{
+    matches!(query, Query::Table { .. })
 }
