@@ -3,7 +3,7 @@ use Rattle.std.specs.Prelude.{◌≡◌, ℕ, Bool, ◌&&◌, List, [], ◌∷�
 use Rattle.std.proofs.Common.{refl, ap, sym, ◌∙◌}
 use Rattle.std.specs.List.{list_all}
 use Rattle.perm_values.specs.declared.key.Key.{Key}
-use Rattle.bag_algebra.specs.Built.{row_of_subs, Base-is, Filter-is, Project_with-is, Join-is, Union-is, Intersect-is, Except-is, Distinct-is, Aggregate-is, Limit-is, Prov-is}
+use Rattle.bag_algebra.specs.Built.{row_of_subs, Base-is, Filter-is, Project_with-is, Join-is, Apply-is, Union-is, Intersect-is, Except-is, Distinct-is, Aggregate-is, Limit-is, Prov-is}
 use Rattle.bag_algebra.specs.Closed.{is_closed}
 use Rattle.bag_algebra.specs.EveryNode.{every_node, every_node_of_subs, subs_closed, sublinks_closed, no_open_sublink}
 use Rattle.bag_algebra.specs.declared.expr.Expr.{Expr}
@@ -13,7 +13,7 @@ use Rattle.bag_algebra.specs.declared.query.JoinKind.{JoinKind}
 use Rattle.bag_algebra.specs.declared.query.Label.{Label}
 use Rattle.bag_algebra.specs.declared.query.Query.{Query}
 use Rattle.bag_algebra.specs.declared.query.Query.TheBlock.{shape-the_row-Sublink-1, hidden-the_row-Sublink-1}
-use Rattle.bag_algebra.specs.declared.query.Query.TheVariants.{Base, Filter, Project, Join, Union, Intersect, Except, Distinct, Aggregate, Limit, Prov}
+use Rattle.bag_algebra.specs.declared.query.Query.TheVariants.{Base, Filter, Project, Join, Apply, Union, Intersect, Except, Distinct, Aggregate, Limit, Prov}
 use Rattle.bag_algebra.specs.declared.query.Sublink.{Sublink}
 
 -- the test holds of the query of each sublink
@@ -50,6 +50,11 @@ module _ (test : Query → Bool) where
       every_node test (Join kind left right condition subs) ≡ (test (Join kind left right condition subs) && every_node test left && every_node test right && each_query (every_node test) subs)
   every_node-Join kind left right condition subs =
       ap (every_node test) (Join-is kind left right condition subs) ∙ (λ i. test (sym (Join-is kind left right condition subs) i) && every_node test left && every_node test right && every_node_of_subs-row_of_subs test subs i)
+
+  pub every_node-Apply : (kind : JoinKind) (left right : Query) →
+      every_node test (Apply kind left right) ≡ (test (Apply kind left right) && every_node test left && every_node test right)
+  every_node-Apply kind left right =
+      ap (every_node test) (Apply-is kind left right) ∙ (λ i. test (sym (Apply-is kind left right) i) && every_node test left && every_node test right)
 
   pub every_node-Union : (all : Bool) (left right : Query) →
       every_node test (Union all left right) ≡ (test (Union all left right) && every_node test left && every_node test right)
@@ -107,6 +112,11 @@ pub no_open_sublink-Join : (kind : JoinKind) (left right : Query) (condition : E
     no_open_sublink (Join kind left right condition subs) ≡ (each_query is_closed subs && no_open_sublink left && no_open_sublink right && each_query no_open_sublink subs)
 no_open_sublink-Join kind left right condition subs =
     every_node-Join sublinks_closed kind left right condition subs ∙ ap (λ own. own && no_open_sublink left && no_open_sublink right && each_query no_open_sublink subs) (ap sublinks_closed (Join-is kind left right condition subs) ∙ subs_closed-row_of_subs subs)
+
+pub no_open_sublink-Apply : (kind : JoinKind) (left right : Query) →
+    no_open_sublink (Apply kind left right) ≡ (no_open_sublink left && no_open_sublink right)
+no_open_sublink-Apply kind left right =
+    every_node-Apply sublinks_closed kind left right ∙ ap (λ own. own && no_open_sublink left && no_open_sublink right) (ap sublinks_closed (Apply-is kind left right))
 
 pub no_open_sublink-Union : (all : Bool) (left right : Query) →
     no_open_sublink (Union all left right) ≡ (no_open_sublink left && no_open_sublink right)

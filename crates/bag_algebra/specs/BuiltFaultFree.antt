@@ -5,7 +5,7 @@ use Rattle.std.proofs.Common.{refl, ap, ◌∙◌}
 use Rattle.null_logic.specs.declared.operator.Operator.{Operator}
 use Rattle.null_logic.specs.declared.truth.Truth.{Truth}
 use Rattle.perm_values.specs.declared.key.Key.{Key}
-use Rattle.bag_algebra.specs.Built.{row_of_parts, row_of_arms, Chain-is, Case-is, IsNull-is, IsTruth-is, Same-is, row_of_subs, Base-is, Filter-is, Project_with-is, Join-is, Union-is, Intersect-is, Except-is, Distinct-is, Aggregate-is, Limit-is, Prov-is}
+use Rattle.bag_algebra.specs.Built.{row_of_parts, row_of_arms, Chain-is, Case-is, IsNull-is, IsTruth-is, Same-is, row_of_subs, Base-is, Filter-is, Project_with-is, Join-is, Apply-is, Union-is, Intersect-is, Except-is, Distinct-is, Aggregate-is, Limit-is, Prov-is}
 use Rattle.bag_algebra.specs.FaultFree.{may_fault, faultless, parts_faultless, arms_faultless, option_faultless, items_faultless, aggregates_faultless, is_scalar, fault_free, subs_fault_free}
 use Rattle.bag_algebra.specs.declared.expr.Arm.{Arm}
 use Rattle.bag_algebra.specs.declared.expr.ChainStep.{ChainStep}
@@ -18,7 +18,7 @@ use Rattle.bag_algebra.specs.declared.query.JoinKind.{JoinKind}
 use Rattle.bag_algebra.specs.declared.query.Label.{Label}
 use Rattle.bag_algebra.specs.declared.query.Query.{Query}
 use Rattle.bag_algebra.specs.declared.query.Query.TheBlock.{shape-the_row-Sublink-1, hidden-the_row-Sublink-1}
-use Rattle.bag_algebra.specs.declared.query.Query.TheVariants.{Base, Filter, Project, Join, Union, Intersect, Except, Distinct, Aggregate, Limit, Prov}
+use Rattle.bag_algebra.specs.declared.query.Query.TheVariants.{Base, Filter, Project, Join, Apply, Union, Intersect, Except, Distinct, Aggregate, Limit, Prov}
 use Rattle.bag_algebra.specs.declared.query.Sublink.{Sublink}
 
 -- ---- expressions
@@ -78,6 +78,9 @@ fault_free-Project input items subs = ap fault_free (Project_with-is input items
 
 pub fault_free-Join : (kind : JoinKind) (left right : Query) (condition : Expr) (subs : List Sublink) → fault_free (Join kind left right condition subs) ≡ (((fault_free left && fault_free right) && faultless condition) && all_fault_free subs)
 fault_free-Join kind left right condition subs = ap fault_free (Join-is kind left right condition subs) ∙ ap (λ b. ((fault_free left && fault_free right) && faultless condition) && b) (subs_fault_free-row_of_subs subs)
+
+pub fault_free-Apply : (kind : JoinKind) (left right : Query) → fault_free (Apply kind left right) ≡ (fault_free left && fault_free right)
+fault_free-Apply kind left right = ap fault_free (Apply-is kind left right)
 
 pub fault_free-Union : (all : Bool) (left right : Query) → fault_free (Union all left right) ≡ (fault_free left && fault_free right)
 fault_free-Union all left right = ap fault_free (Union-is all left right)

@@ -4,7 +4,7 @@ use Rattle.std.proofs.Common.{refl, ap, ◌∙◌}
 use Rattle.perm_values.specs.declared.key.Key.{Key}
 use Rattle.perm_values.specs.declared.kind.Kind.{Kind}
 use Rattle.perm_values.specs.declared.kind.Kind.TheVariants.{Integer, Boolean}
-use Rattle.bag_algebra.specs.Built.{row_of_parts, row_of_steps, row_of_arms, row_of_subs, Base-is, Filter-is, Project_with-is, Join-is, Union-is, Intersect-is, Except-is, Distinct-is, Aggregate-is, Limit-is, Prov-is}
+use Rattle.bag_algebra.specs.Built.{row_of_parts, row_of_steps, row_of_arms, row_of_subs, Base-is, Filter-is, Project_with-is, Join-is, Apply-is, Union-is, Intersect-is, Except-is, Distinct-is, Aggregate-is, Limit-is, Prov-is}
 use Rattle.bag_algebra.specs.TablesRead.{EachTable, EachSubTable}
 use Rattle.bag_algebra.specs.Kinds.{kinds_of, width_of}
 use Rattle.bag_algebra.specs.Patterns.{FilterOf, JoinOf}
@@ -19,7 +19,7 @@ use Rattle.bag_algebra.specs.declared.query.JoinKind.{JoinKind}
 use Rattle.bag_algebra.specs.declared.query.Label.{Label}
 use Rattle.bag_algebra.specs.declared.query.Query.{Query, end_of-Sublink}
 use Rattle.bag_algebra.specs.declared.query.Query.TheBlock.{shape-the_row-Query-0, hidden-the_row-Query-0, shape-the_row-Sublink-1, hidden-the_row-Sublink-1}
-use Rattle.bag_algebra.specs.declared.query.Query.TheVariants.{Base, Filter, Project, Join, Union, Intersect, Except, Distinct, Aggregate, Limit, Prov}
+use Rattle.bag_algebra.specs.declared.query.Query.TheVariants.{Base, Filter, Project, Join, Apply, Union, Intersect, Except, Distinct, Aggregate, Limit, Prov}
 use Rattle.bag_algebra.specs.declared.query.Sublink.{Sublink}
 
 -- ---- nodes without sublinks
@@ -169,6 +169,10 @@ module _ (outer : List (List Kind)) where
       ∙ (λ i. JoinForm (WellFormed outer left) (WellFormed outer right) (SubsForm-row_of_subs ((kinds_of left ++ kinds_of right) ∷ outer) subs i)
       (HasKind ((kinds_of left ++ kinds_of right) ∷ outer) (sub_kinds-row_of_subs subs i) condition Boolean) (no_sublinks-row_of_subs subs i))
 
+  pub WellFormed-Apply : (kind : JoinKind) (left right : Query) →
+      WellFormed outer (Apply kind left right) ≡ ApplyForm (WellFormed outer left) (WellFormed (kinds_of left ∷ outer) right) kind
+  WellFormed-Apply kind left right = ap (WellFormed outer) (Apply-is kind left right)
+
   pub WellFormed-Union : (all : Bool) (left right : Query) →
       WellFormed outer (Union all left right) ≡ SetForm (WellFormed outer left) (WellFormed outer right) (kinds_of left) (kinds_of right)
   WellFormed-Union all left right = ap (WellFormed outer) (Union-is all left right)
@@ -217,6 +221,9 @@ module _ (P : ℕ → List Kind → Type 0) where
   EachTable-Join kind left right condition subs =
       ap (EachTable P) (Join-is kind left right condition subs)
       ∙ (λ i. EachTable P left × EachTable P right × EachSubTable-row_of_subs P subs i)
+
+  pub EachTable-Apply : (kind : JoinKind) (left right : Query) → EachTable P (Apply kind left right) ≡ (EachTable P left × EachTable P right)
+  EachTable-Apply kind left right = ap (EachTable P) (Apply-is kind left right)
 
   pub EachTable-Union : (all : Bool) (left right : Query) → EachTable P (Union all left right) ≡ (EachTable P left × EachTable P right)
   EachTable-Union all left right = ap (EachTable P) (Union-is all left right)

@@ -2,7 +2,7 @@
 use Rattle.std.specs.Prelude.{◌≡◌, ℕ, suc, ◌+◌, max, Bool, List, [], ◌∷◌}
 use Rattle.std.proofs.Common.{refl, ap, ◌∙◌}
 use Rattle.perm_values.specs.declared.key.Key.{Key}
-use Rattle.bag_algebra.specs.Built.{row_of_subs, Base-is, Filter-is, Project_with-is, Join-is, Union-is, Intersect-is, Except-is, Distinct-is, Aggregate-is, Limit-is, Prov-is}
+use Rattle.bag_algebra.specs.Built.{row_of_subs, Base-is, Filter-is, Project_with-is, Join-is, Apply-is, Union-is, Intersect-is, Except-is, Distinct-is, Aggregate-is, Limit-is, Prov-is}
 use Rattle.bag_algebra.specs.Measures.{height_of, sub_height, size_of, sub_size}
 use Rattle.bag_algebra.specs.declared.expr.Expr.{Expr}
 use Rattle.bag_algebra.specs.declared.expr.Item.{Item}
@@ -11,7 +11,7 @@ use Rattle.bag_algebra.specs.declared.query.JoinKind.{JoinKind}
 use Rattle.bag_algebra.specs.declared.query.Label.{Label}
 use Rattle.bag_algebra.specs.declared.query.Query.{Query}
 use Rattle.bag_algebra.specs.declared.query.Query.TheBlock.{shape-the_row-Sublink-1, hidden-the_row-Sublink-1}
-use Rattle.bag_algebra.specs.declared.query.Query.TheVariants.{Base, Filter, Project, Join, Union, Intersect, Except, Distinct, Aggregate, Limit, Prov}
+use Rattle.bag_algebra.specs.declared.query.Query.TheVariants.{Base, Filter, Project, Join, Apply, Union, Intersect, Except, Distinct, Aggregate, Limit, Prov}
 use Rattle.bag_algebra.specs.declared.query.Sublink.{Sublink}
 
 -- the highest of the sublinks' queries
@@ -48,6 +48,9 @@ height_of-Project input items subs = ap height_of (Project_with-is input items s
 pub height_of-Join : (kind : JoinKind) (left right : Query) (condition : Expr) (subs : List Sublink) → height_of (Join kind left right condition subs) ≡ suc (max (max (height_of left) (height_of right)) (subs_height subs))
 height_of-Join kind left right condition subs = ap height_of (Join-is kind left right condition subs) ∙ ap (λ n. suc (max (max (height_of left) (height_of right)) (n))) (sub_height-row_of_subs subs)
 
+pub height_of-Apply : (kind : JoinKind) (left right : Query) → height_of (Apply kind left right) ≡ suc (max (height_of left) (height_of right))
+height_of-Apply kind left right = ap height_of (Apply-is kind left right)
+
 pub height_of-Union : (all : Bool) (left right : Query) → height_of (Union all left right) ≡ suc (max (height_of left) (height_of right))
 height_of-Union all left right = ap height_of (Union-is all left right)
 
@@ -82,6 +85,9 @@ size_of-Project input items subs = ap size_of (Project_with-is input items subs)
 
 pub size_of-Join : (kind : JoinKind) (left right : Query) (condition : Expr) (subs : List Sublink) → size_of (Join kind left right condition subs) ≡ suc (size_of left + size_of right + subs_size subs)
 size_of-Join kind left right condition subs = ap size_of (Join-is kind left right condition subs) ∙ ap (λ n. suc (size_of left + size_of right + n)) (sub_size-row_of_subs subs)
+
+pub size_of-Apply : (kind : JoinKind) (left right : Query) → size_of (Apply kind left right) ≡ suc (size_of left + size_of right)
+size_of-Apply kind left right = ap size_of (Apply-is kind left right)
 
 pub size_of-Union : (all : Bool) (left right : Query) → size_of (Union all left right) ≡ suc (size_of left + size_of right)
 size_of-Union all left right = ap size_of (Union-is all left right)

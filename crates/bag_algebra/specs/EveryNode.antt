@@ -1,7 +1,7 @@
 -- A test of every node of a query, those of its sublinks' queries included; and the sublinks that read outer rows.
 use Rattle.std.specs.Prelude.{Bool, true, ◌&&◌}
 use Rattle.bag_algebra.specs.Closed.{is_closed}
-use Rattle.bag_algebra.specs.Patterns.{BaseOf, FilterOf, ProjectOf, JoinOf, UnionOf, IntersectOf, ExceptOf, DistinctOf, AggregateOf, LimitOf, ProvOf}
+use Rattle.bag_algebra.specs.Patterns.{BaseOf, FilterOf, ProjectOf, JoinOf, ApplyOf, UnionOf, IntersectOf, ExceptOf, DistinctOf, AggregateOf, LimitOf, ProvOf}
 use Rattle.bag_algebra.specs.declared.query.Query.{Query, Row_of-Sublink, more_of-Sublink, end_of-Sublink}
 use Rattle.bag_algebra.specs.declared.query.Query.TheVariants.{Table, Single}
 
@@ -16,6 +16,7 @@ abbrev mutual
       test (ProjectOf input items shape subs) && every_node test input && every_node_of_subs test subs
   every_node test (JoinOf kind left right condition shape subs) =
       test (JoinOf kind left right condition shape subs) && every_node test left && every_node test right && every_node_of_subs test subs
+  every_node test (ApplyOf kind left right) = test (ApplyOf kind left right) && every_node test left && every_node test right
   every_node test (UnionOf all left right) = test (UnionOf all left right) && every_node test left && every_node test right
   every_node test (IntersectOf all left right) = test (IntersectOf all left right) && every_node test left && every_node test right
   every_node test (ExceptOf all left right) = test (ExceptOf all left right) && every_node test left && every_node test right
@@ -42,6 +43,7 @@ sublinks_closed (BaseOf input places label) = true
 sublinks_closed (FilterOf input condition _ subs) = subs_closed subs
 sublinks_closed (ProjectOf input items _ subs) = subs_closed subs
 sublinks_closed (JoinOf kind left right condition _ subs) = subs_closed subs
+sublinks_closed (ApplyOf kind left right) = true
 sublinks_closed (UnionOf all left right) = true
 sublinks_closed (IntersectOf all left right) = true
 sublinks_closed (ExceptOf all left right) = true
