@@ -14,6 +14,7 @@ pub mod Rest
 pub mod Seeking
 pub mod SetCounts
 pub mod SortedBags
+pub mod Subs
 pub mod TablesRead
 pub mod Truths
 pub mod Widths

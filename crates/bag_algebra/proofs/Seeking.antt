@@ -4,7 +4,7 @@ use Rattle.std.specs.Prelude.{slice_get}
 use Rattle.std.specs.Result.{result_unwrap_or}
 use Rattle.perm_values.specs.declared.kind.Kind.{Kind}
 use Rattle.perm_values.specs.declared.kind.Kind.TheVariants.{Text}
-use Rattle.bag_algebra.specs.Built.{shape-Base, shape-Filter, shape-Project, shape-Join, shape-Union, shape-Intersect, shape-Except}
+use Rattle.bag_algebra.specs.Built.{shape-Base, shape-Filter, shape-Project, shape-Join, shape-Apply, shape-Union, shape-Intersect, shape-Except}
 use Rattle.bag_algebra.specs.Children.{subs_shape}
 use Rattle.bag_algebra.specs.Kinds.{kinds_of, kind_in, kinds_in, shape, place_kinds}
 use Rattle.bag_algebra.specs.Sought.{sought}
@@ -13,7 +13,7 @@ use Rattle.bag_algebra.specs.declared.expr.Item.{Item}
 use Rattle.bag_algebra.specs.declared.query.JoinKind.{JoinKind}
 use Rattle.bag_algebra.specs.declared.query.Label.{Label}
 use Rattle.bag_algebra.specs.declared.query.Query.{Query}
-use Rattle.bag_algebra.specs.declared.query.Query.TheVariants.{Base, Filter, Project, Join, Union, Intersect, Except}
+use Rattle.bag_algebra.specs.declared.query.Query.TheVariants.{Base, Filter, Project, Join, Apply, Union, Intersect, Except}
 use Rattle.bag_algebra.specs.declared.query.Sublink.{Sublink}
 use Rattle.bag_algebra.proofs.Widths.{place_kinds-append}
 
@@ -93,6 +93,9 @@ source_kinds-Join kind left right condition subs =
     ap place_kinds (shape-Join kind left right condition subs)
     ∙ place_kinds-append (shape left ++ shape right) (subs_shape subs)
     ∙ ap (λ kinds. kinds ++ sub_source_kinds subs) (place_kinds-append (shape left) (shape right))
+
+pub source_kinds-Apply : (kind : JoinKind) (left right : Query) → source_kinds (Apply kind left right) ≡ source_kinds left ++ source_kinds right
+source_kinds-Apply kind left right = ap place_kinds (shape-Apply kind left right) ∙ place_kinds-append (shape left) (shape right)
 
 pub source_kinds-Union : (all : Bool) (left right : Query) → source_kinds (Union all left right) ≡ source_kinds left ++ source_kinds right
 source_kinds-Union all left right = ap place_kinds (shape-Union all left right) ∙ place_kinds-append (shape left) (shape right)

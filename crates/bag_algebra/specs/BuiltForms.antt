@@ -8,7 +8,7 @@ use Rattle.bag_algebra.specs.Built.{row_of_parts, row_of_steps, row_of_arms, row
 use Rattle.bag_algebra.specs.TablesRead.{EachTable, EachSubTable}
 use Rattle.bag_algebra.specs.Kinds.{kinds_of, width_of}
 use Rattle.bag_algebra.specs.Patterns.{FilterOf, JoinOf}
-use Rattle.bag_algebra.specs.WellFormed.{HasKind, PartsHave, StepsHave, ArmsHave, ArmForm, number_of_parts, number_of_steps, number_of_arms, PlacesIn, KeysIn, ItemsForm, AggregatesForm, sub_form, sub_kind, sub_kinds, no_sublinks, SubForm, BaseForm, FilterForm, ProjectForm, JoinForm, SetForm, AggregateForm, LimitForm, WellFormed, SubsForm}
+use Rattle.bag_algebra.specs.WellFormed.{HasKind, PartsHave, StepsHave, ArmsHave, ArmForm, number_of_parts, number_of_steps, number_of_arms, PlacesIn, KeysIn, ItemsForm, AggregatesForm, sub_form, sub_kind, sub_kinds, SubForm, BaseForm, FilterForm, ProjectForm, JoinForm, ApplyForm, SetForm, AggregateForm, LimitForm, WellFormed, SubsForm}
 use Rattle.bag_algebra.specs.declared.expr.Arm.{Arm}
 use Rattle.bag_algebra.specs.declared.expr.ChainStep.{ChainStep}
 use Rattle.bag_algebra.specs.declared.expr.Expr.{Expr}
@@ -116,16 +116,6 @@ SubsForm-row_of_subs scopes [] = refl
 SubsForm-row_of_subs scopes (sub ∷ subs) =
     ap (SubForm (WellFormed scopes sub.query) (sub_form sub.kind sub.tested scopes (kinds_of sub.query))) (SubsForm-row_of_subs scopes subs)
 
--- none of them
-abbrev pub NoneOf : List Sublink → Type 0
-NoneOf [] = ⊤
-NoneOf (sub ∷ subs) = ⊥
-
-pub no_sublinks-row_of_subs : (subs : List Sublink) → no_sublinks (row_of_subs subs) ≡ NoneOf subs
-unfolding shape-the_row-Sublink-1 hidden-the_row-Sublink-1 package.denote.Hole.Carrier.hidden
-no_sublinks-row_of_subs [] = refl
-no_sublinks-row_of_subs (sub ∷ subs) = refl
-
 abbrev pub EachTableOfSubs : (ℕ → List Kind → Type 0) → List Sublink → Type 0
 EachTableOfSubs P [] = ⊤
 EachTableOfSubs P (sub ∷ subs) = EachTable P sub.query × EachTableOfSubs P subs
@@ -163,11 +153,11 @@ module _ (outer : List (List Kind)) where
   pub WellFormed-Join : (kind : JoinKind) (left right : Query) (condition : Expr) (subs : List Sublink) →
       WellFormed outer (Join kind left right condition subs)
       ≡ JoinForm (WellFormed outer left) (WellFormed outer right) (AllSubsForm ((kinds_of left ++ kinds_of right) ∷ outer) subs)
-      (HasKind ((kinds_of left ++ kinds_of right) ∷ outer) (subs_kinds subs) condition Boolean) (NoneOf subs)
+      (HasKind ((kinds_of left ++ kinds_of right) ∷ outer) (subs_kinds subs) condition Boolean)
   WellFormed-Join kind left right condition subs =
       ap (WellFormed outer) (Join-is kind left right condition subs)
       ∙ (λ i. JoinForm (WellFormed outer left) (WellFormed outer right) (SubsForm-row_of_subs ((kinds_of left ++ kinds_of right) ∷ outer) subs i)
-      (HasKind ((kinds_of left ++ kinds_of right) ∷ outer) (sub_kinds-row_of_subs subs i) condition Boolean) (no_sublinks-row_of_subs subs i))
+      (HasKind ((kinds_of left ++ kinds_of right) ∷ outer) (sub_kinds-row_of_subs subs i) condition Boolean))
 
   pub WellFormed-Apply : (kind : JoinKind) (left right : Query) →
       WellFormed outer (Apply kind left right) ≡ ApplyForm (WellFormed outer left) (WellFormed (kinds_of left ∷ outer) right) kind

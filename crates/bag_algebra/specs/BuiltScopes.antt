@@ -4,7 +4,7 @@ use Rattle.std.proofs.Common.{refl, ap, ◌∙◌}
 use Rattle.perm_values.specs.declared.key.Key.{Key}
 use Rattle.bag_algebra.specs.Built.{row_of_subs, Base-is, Filter-is, Project_with-is, Join-is, Apply-is, Union-is, Intersect-is, Except-is, Distinct-is, Aggregate-is, Limit-is, Prov-is}
 use Rattle.bag_algebra.specs.Rewriting.{is_plain, subs_plain}
-use Rattle.bag_algebra.specs.Scoped.{is_table, over_tables, subs_over_tables, traceable, subs_traceable, is_scoped, subs_scoped}
+use Rattle.bag_algebra.specs.Scoped.{is_table, over_tables, subs_over_tables, no_subs, traceable, subs_traceable, is_scoped, subs_scoped}
 use Rattle.bag_algebra.specs.declared.expr.Expr.{Expr}
 use Rattle.bag_algebra.specs.declared.expr.Item.{Item}
 use Rattle.bag_algebra.specs.declared.query.Aggr.{Aggr}
@@ -44,6 +44,16 @@ pub subs_traceable-row_of_subs : (subs : List Sublink) → subs_traceable (row_o
 unfolding shape-the_row-Sublink-1 hidden-the_row-Sublink-1 package.denote.Hole.Carrier.hidden
 subs_traceable-row_of_subs [] = refl
 subs_traceable-row_of_subs (sub ∷ subs) = ap (λ b. (over_tables sub.query && traceable sub.query) && b) (subs_traceable-row_of_subs subs)
+
+-- there is none of them
+abbrev pub without_subs : List Sublink → Bool
+without_subs [] = true
+without_subs (sub ∷ subs) = false
+
+pub no_subs-row_of_subs : (subs : List Sublink) → no_subs (row_of_subs subs) ≡ without_subs subs
+unfolding shape-the_row-Sublink-1 hidden-the_row-Sublink-1 package.denote.Hole.Carrier.hidden
+no_subs-row_of_subs [] = refl
+no_subs-row_of_subs (sub ∷ subs) = refl
 
 -- the queries of all sublinks are scoped
 abbrev pub all_scoped : List Sublink → Bool
@@ -142,8 +152,8 @@ traceable-Filter input condition subs = ap traceable (Filter-is input condition 
 pub traceable-Project : (input : Query) (items : List Item) (subs : List Sublink) → traceable (Project input items subs) ≡ (traceable input && all_traceable subs)
 traceable-Project input items subs = ap traceable (Project_with-is input items subs) ∙ ap (λ b. traceable input && b) (subs_traceable-row_of_subs subs)
 
-pub traceable-Join : (kind : JoinKind) (left right : Query) (condition : Expr) (subs : List Sublink) → traceable (Join kind left right condition subs) ≡ ((traceable left && traceable right) && all_traceable subs)
-traceable-Join kind left right condition subs = ap traceable (Join-is kind left right condition subs) ∙ ap (λ b. (traceable left && traceable right) && b) (subs_traceable-row_of_subs subs)
+pub traceable-Join : (kind : JoinKind) (left right : Query) (condition : Expr) (subs : List Sublink) → traceable (Join kind left right condition subs) ≡ ((traceable left && traceable right) && without_subs subs)
+traceable-Join kind left right condition subs = ap traceable (Join-is kind left right condition subs) ∙ ap (λ b. (traceable left && traceable right) && b) (no_subs-row_of_subs subs)
 
 pub traceable-Apply : (kind : JoinKind) (left right : Query) → traceable (Apply kind left right) ≡ false
 traceable-Apply kind left right = ap traceable (Apply-is kind left right)

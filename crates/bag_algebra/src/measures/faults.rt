@@ -50,6 +50,7 @@ pub fn fault_free(query: &Query) -> bool
         } => fault_free(input.get()) && aggregates_faultless(aggregates.as_slice()),
         Query::Limit { input, .. } => fault_free(input.get()),
         Query::Prov { input } => fault_free(input.get()),
+        Query::Apply { left, right, .. } => fault_free(left.get()) && fault_free(right.get()),
     }
 }
 

@@ -29,6 +29,7 @@ pub fn width(query: &Query) -> usize
         } => groups.len() + aggregates.len(),
         Query::Limit { input, .. } => width(input.get()),
         Query::Prov { input } => width(input.get()).saturating_add(places_width(input.get())),
+        Query::Apply { left, right, .. } => width(left.get()).saturating_add(width(right.get())),
     }
 }
 
@@ -68,6 +69,9 @@ fn places_width(query: &Query) -> usize
         Query::Aggregate { input, .. } => places_width(input.get()),
         Query::Limit { input, .. } => places_width(input.get()),
         Query::Prov { .. } => 0,
+        Query::Apply { left, right, .. } => {
+            places_width(left.get()).saturating_add(places_width(right.get()))
+        }
     }
 }
 
@@ -132,6 +136,10 @@ fn seek(query: &Query, place: usize) -> Result<Kind, usize>
             Ok(kind) => Ok(kind),
             Err(rest) => seek_source(input.get(), rest),
         },
+        Query::Apply { left, right, .. } => match seek(left.get(), place) {
+            Ok(kind) => Ok(kind),
+            Err(rest) => seek(right.get(), rest),
+        },
     }
 }
 
@@ -184,6 +192,10 @@ fn seek_source(query: &Query, place: usize) -> Result<Kind, usize>
         Query::Aggregate { input, .. } => seek_source(input.get(), place),
         Query::Limit { input, .. } => seek_source(input.get(), place),
         Query::Prov { .. } => Err(place),
+        Query::Apply { left, right, .. } => match seek_source(left.get(), place) {
+            Ok(kind) => Ok(kind),
+            Err(rest) => seek_source(right.get(), rest),
+        },
     }
 }
 

@@ -30,6 +30,7 @@ pub fn is_plain(query: &Query) -> bool
         Query::Aggregate { input, .. } => is_plain(input.get()),
         Query::Limit { input, .. } => is_plain(input.get()),
         Query::Prov { .. } => false,
+        Query::Apply { left, right, .. } => is_plain(left.get()) && is_plain(right.get()),
     }
 }
 
@@ -71,6 +72,7 @@ pub fn is_scoped(query: &Query) -> bool
         Query::Aggregate { input, .. } => is_scoped(input.get()),
         Query::Limit { input, .. } => is_scoped(input.get()),
         Query::Prov { input } => traceable(input.get()) && is_scoped(input.get()),
+        Query::Apply { left, right, .. } => is_scoped(left.get()) && is_scoped(right.get()),
     }
 }
 
@@ -87,8 +89,8 @@ fn all_scoped(subs: &[Sublink]) -> bool
     true
 }
 
-/// Whether each sublink that is reached from here without passing a source has only sources whose input is a table.
-/// It takes no memory.
+/// Whether each sublink that is reached from here without passing a source has only sources whose input is a table, no
+/// join that is reached has sublinks, and none is dependent. It takes no memory.
 #[cycle(traceable)]
 pub fn traceable(query: &Query) -> bool
     ensures { result ≡ traceable query.now }
@@ -106,7 +108,7 @@ pub fn traceable(query: &Query) -> bool
             right,
             subs,
             ..
-        } => traceable(left.get()) && traceable(right.get()) && all_traceable(subs.as_slice()),
+        } => traceable(left.get()) && traceable(right.get()) && subs.is_empty(),
         Query::Union { left, right, .. } => traceable(left.get()) && traceable(right.get()),
         Query::Intersect { left, right, .. } => traceable(left.get()) && traceable(right.get()),
         Query::Except { left, right, .. } => traceable(left.get()) && traceable(right.get()),
@@ -114,6 +116,7 @@ pub fn traceable(query: &Query) -> bool
         Query::Aggregate { input, .. } => traceable(input.get()),
         Query::Limit { input, .. } => traceable(input.get()),
         Query::Prov { input } => traceable(input.get()),
+        Query::Apply { .. } => false,
     }
 }
 
@@ -158,6 +161,7 @@ pub fn over_tables(query: &Query) -> bool
         Query::Aggregate { input, .. } => over_tables(input.get()),
         Query::Limit { input, .. } => over_tables(input.get()),
         Query::Prov { .. } => true,
+        Query::Apply { left, right, .. } => over_tables(left.get()) && over_tables(right.get()),
     }
 }
 

@@ -45,6 +45,9 @@ pub fn height(query: &Query) -> u64
         Query::Aggregate { input, .. } => height(input.get()).saturating_add(1),
         Query::Limit { input, .. } => height(input.get()).saturating_add(1),
         Query::Prov { input } => height(input.get()).saturating_add(1),
+        Query::Apply { left, right, .. } => height(left.get())
+            .max(height(right.get()))
+            .saturating_add(1),
     }
 }
 
@@ -94,6 +97,9 @@ pub fn size(query: &Query) -> u64
         Query::Aggregate { input, .. } => size(input.get()).saturating_add(1),
         Query::Limit { input, .. } => size(input.get()).saturating_add(1),
         Query::Prov { input } => size(input.get()).saturating_add(1),
+        Query::Apply { left, right, .. } => size(left.get())
+            .saturating_add(size(right.get()))
+            .saturating_add(1),
     }
 }
 

@@ -1,5 +1,5 @@
 use Rattle.std.proofs.Common.{◌≡◌, ◌&&◌, refl, sym, ap, ◌∙◌}
-use Rattle.bag_algebra.specs.BuiltFaultFree.{all_fault_free, fault_free-Base, fault_free-Filter, fault_free-Project, fault_free-Join, fault_free-Union, fault_free-Intersect, fault_free-Except, fault_free-Distinct, fault_free-Aggregate, fault_free-Limit, fault_free-Prov}
+use Rattle.bag_algebra.specs.BuiltFaultFree.{all_fault_free, fault_free-Base, fault_free-Filter, fault_free-Project, fault_free-Join, fault_free-Apply, fault_free-Union, fault_free-Intersect, fault_free-Except, fault_free-Distinct, fault_free-Aggregate, fault_free-Limit, fault_free-Prov}
 use Rattle.bag_algebra.specs.FaultFree.{faultless, items_faultless, aggregates_faultless, fault_free}
 use Rattle.bag_algebra.proofs.Truths.{second-decides, first-decides}
 use Rattle.bag_algebra.proofs.measures.faults.+fault_free.Goals as goal
@@ -108,3 +108,11 @@ fault_free-returns-then-fault_free-8 t c =
 pub fault_free-returns-else-fault_free-8 : goal.fault_free-returns-else-fault_free-8
 fault_free-returns-else-fault_free-8 t c =
     first-decides _ _ _ _ (ap fault_free c.in-Aggregate.is ∙ fault_free-Aggregate c.in-Aggregate.input c.in-Aggregate.groups c.in-Aggregate.aggregates) (c.fault_free-in-Aggregate.ensures ∙ ap fault_free c.get-in-Aggregate.ensures) c.if-fault_free-8.false
+
+pub fault_free-returns-then-fault_free-9 : goal.fault_free-returns-then-fault_free-9
+fault_free-returns-then-fault_free-9 t c =
+    second-decides _ _ _ _ (ap fault_free c.in-Apply.is ∙ fault_free-Apply c.in-Apply.kind c.in-Apply.left c.in-Apply.right) (c.fault_free-in-Apply.ensures ∙ ap fault_free c.get-in-Apply.ensures) _ c.if-fault_free-9.true (c.fault_free-then-fault_free-9.ensures ∙ ap fault_free c.get-then-fault_free-9.ensures)
+
+pub fault_free-returns-else-fault_free-9 : goal.fault_free-returns-else-fault_free-9
+fault_free-returns-else-fault_free-9 t c =
+    first-decides _ _ _ _ (ap fault_free c.in-Apply.is ∙ fault_free-Apply c.in-Apply.kind c.in-Apply.left c.in-Apply.right) (c.fault_free-in-Apply.ensures ∙ ap fault_free c.get-in-Apply.ensures) c.if-fault_free-9.false

@@ -2,13 +2,13 @@ use Rattle.std.proofs.Common.{◌+◌, ◌++◌, drop, map, refl, sym, ap, ◌�
 use Rattle.std.proofs.lemmas.List.{at_drop_all}
 use Rattle.std.specs.Result.{result_unwrap_or}
 use Rattle.perm_values.specs.declared.kind.Kind.TheVariants.{Text}
-use Rattle.bag_algebra.specs.Built.{kinds_of-Base, kinds_of-Filter, kinds_of-Project, kinds_of-Join, kinds_of-Union, kinds_of-Intersect, kinds_of-Except, kinds_of-Distinct, kinds_of-Aggregate, kinds_of-Limit, kinds_of-Prov, shape-Distinct, shape-Aggregate, shape-Limit, shape-Prov}
+use Rattle.bag_algebra.specs.Built.{kinds_of-Base, kinds_of-Filter, kinds_of-Project, kinds_of-Join, kinds_of-Apply, kinds_of-Union, kinds_of-Intersect, kinds_of-Except, kinds_of-Distinct, kinds_of-Aggregate, kinds_of-Limit, kinds_of-Prov, shape-Distinct, shape-Aggregate, shape-Limit, shape-Prov}
 use Rattle.bag_algebra.specs.Kinds.{kinds_of, kinds_in, shape, place_kinds}
 use Rattle.bag_algebra.specs.Sought.{sought}
 use Rattle.bag_algebra.specs.declared.expr.Item.{Item}
 use Rattle.bag_algebra.specs.declared.query.Aggr.{Aggr}
 use Rattle.bag_algebra.proofs.Rest.{from_here}
-use Rattle.bag_algebra.proofs.Seeking.{found_as, sought-map, whole-found, whole-rest, picked-found, picked-rest, source_kinds, sub_source_kinds, source_kinds-Base, source_kinds-Filter, source_kinds-Project, source_kinds-Join, source_kinds-Union, source_kinds-Intersect, source_kinds-Except}
+use Rattle.bag_algebra.proofs.Seeking.{found_as, sought-map, whole-found, whole-rest, picked-found, picked-rest, source_kinds, sub_source_kinds, source_kinds-Base, source_kinds-Filter, source_kinds-Project, source_kinds-Join, source_kinds-Apply, source_kinds-Union, source_kinds-Intersect, source_kinds-Except}
 use Rattle.bag_algebra.proofs.Widths.{place_kinds-append}
 use Rattle.bag_algebra.proofs.measures.kinds.+seek.Goals as goal
 
@@ -95,6 +95,18 @@ seek-returns-in-Err-seek-2 t c =
     ∙ ap (λ q. sought (source_kinds q) c.in-Err-seek-2.rest) c.get-in-Err-seek-2.ensures
     ∙ whole-rest (kinds_of c.in-Prov.input) (source_kinds c.in-Prov.input) _ c.args.place (ap kinds_of c.in-Prov.is ∙ kinds_of-Prov c.in-Prov.input) c.in-Err-seek-2.rest
     (c.in-Err-seek-2.ensures ∙ ap (λ q. sought (kinds_of q) c.args.place) c.get-in-Prov.ensures)
+
+pub seek-returns-in-Ok-seek-3 : goal.seek-returns-in-Ok-seek-3
+seek-returns-in-Ok-seek-3 t c =
+    whole-found (kinds_of c.in-Apply.left) (kinds_of c.in-Apply.right) _ c.args.place (ap kinds_of c.in-Apply.is ∙ kinds_of-Apply c.in-Apply.kind c.in-Apply.left c.in-Apply.right) c.in-Ok-seek-3.kind
+    (c.in-Ok-seek-3.ensures ∙ ap (λ q. sought (kinds_of q) c.args.place) c.get-in-Apply.ensures)
+
+pub seek-returns-in-Err-seek-3 : goal.seek-returns-in-Err-seek-3
+seek-returns-in-Err-seek-3 t c =
+    c.seek-in-Err-seek-3.ensures
+    ∙ ap (λ q. sought (kinds_of q) c.in-Err-seek-3.rest) c.get-in-Err-seek-3.ensures
+    ∙ whole-rest (kinds_of c.in-Apply.left) (kinds_of c.in-Apply.right) _ c.args.place (ap kinds_of c.in-Apply.is ∙ kinds_of-Apply c.in-Apply.kind c.in-Apply.left c.in-Apply.right) c.in-Err-seek-3.rest
+    (c.in-Err-seek-3.ensures ∙ ap (λ q. sought (kinds_of q) c.args.place) c.get-in-Apply.ensures)
 
 pub seek_source-returns-in-Ok : goal.seek_source-returns-in-Ok
 seek_source-returns-in-Ok t c =
@@ -202,6 +214,18 @@ seek_source-returns-in-Limit t c =
 pub seek_source-returns-in-Prov : goal.seek_source-returns-in-Prov
 seek_source-returns-in-Prov t c =
     ap (λ kinds. sought kinds c.args.place) (sym (ap source_kinds c.in-Prov.is ∙ ap place_kinds (shape-Prov c.in-Prov.input)))
+
+pub seek_source-returns-in-Ok-seek_source-8 : goal.seek_source-returns-in-Ok-seek_source-8
+seek_source-returns-in-Ok-seek_source-8 t c =
+    whole-found (source_kinds c.in-Apply.left) (source_kinds c.in-Apply.right) _ c.args.place (ap source_kinds c.in-Apply.is ∙ source_kinds-Apply c.in-Apply.kind c.in-Apply.left c.in-Apply.right) c.in-Ok-seek_source-8.kind
+    (c.in-Ok-seek_source-8.ensures ∙ ap (λ q. sought (source_kinds q) c.args.place) c.get-in-Apply.ensures)
+
+pub seek_source-returns-in-Err-seek_source-8 : goal.seek_source-returns-in-Err-seek_source-8
+seek_source-returns-in-Err-seek_source-8 t c =
+    c.seek_source-in-Err-seek_source-8.ensures
+    ∙ ap (λ q. sought (source_kinds q) c.in-Err-seek_source-8.rest) c.get-in-Err-seek_source-8.ensures
+    ∙ whole-rest (source_kinds c.in-Apply.left) (source_kinds c.in-Apply.right) _ c.args.place (ap source_kinds c.in-Apply.is ∙ source_kinds-Apply c.in-Apply.kind c.in-Apply.left c.in-Apply.right) c.in-Err-seek_source-8.rest
+    (c.in-Err-seek_source-8.ensures ∙ ap (λ q. sought (source_kinds q) c.args.place) c.get-in-Apply.ensures)
 
 pub seek_in_subs-returns-in-Ok : goal.seek_in_subs-returns-in-Ok
 seek_in_subs-returns-in-Ok t c =

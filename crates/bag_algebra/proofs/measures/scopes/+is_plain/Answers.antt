@@ -1,5 +1,5 @@
 use Rattle.std.proofs.Common.{◌≡◌, ◌&&◌, refl, sym, ap, ◌∙◌}
-use Rattle.bag_algebra.specs.BuiltScopes.{all_plain, is_plain-Base, is_plain-Filter, is_plain-Project, is_plain-Join, is_plain-Union, is_plain-Intersect, is_plain-Except, is_plain-Distinct, is_plain-Aggregate, is_plain-Limit, is_plain-Prov}
+use Rattle.bag_algebra.specs.BuiltScopes.{all_plain, is_plain-Base, is_plain-Filter, is_plain-Project, is_plain-Join, is_plain-Apply, is_plain-Union, is_plain-Intersect, is_plain-Except, is_plain-Distinct, is_plain-Aggregate, is_plain-Limit, is_plain-Prov}
 use Rattle.bag_algebra.specs.Rewriting.{is_plain}
 use Rattle.bag_algebra.proofs.Truths.{second-decides, first-decides}
 use Rattle.bag_algebra.proofs.measures.scopes.+is_plain.Goals as goal
@@ -80,3 +80,11 @@ is_plain-returns-in-Limit t c =
 pub is_plain-returns-in-Prov : goal.is_plain-returns-in-Prov
 is_plain-returns-in-Prov t c =
     sym (ap is_plain c.in-Prov.is ∙ is_plain-Prov c.in-Prov.input)
+
+pub is_plain-returns-then-is_plain-8 : goal.is_plain-returns-then-is_plain-8
+is_plain-returns-then-is_plain-8 t c =
+    second-decides _ _ _ _ (ap is_plain c.in-Apply.is ∙ is_plain-Apply c.in-Apply.kind c.in-Apply.left c.in-Apply.right) (c.is_plain-in-Apply.ensures ∙ ap is_plain c.get-in-Apply.ensures) _ c.if-is_plain-8.true (c.is_plain-then-is_plain-8.ensures ∙ ap is_plain c.get-then-is_plain-8.ensures)
+
+pub is_plain-returns-else-is_plain-8 : goal.is_plain-returns-else-is_plain-8
+is_plain-returns-else-is_plain-8 t c =
+    first-decides _ _ _ _ (ap is_plain c.in-Apply.is ∙ is_plain-Apply c.in-Apply.kind c.in-Apply.left c.in-Apply.right) (c.is_plain-in-Apply.ensures ∙ ap is_plain c.get-in-Apply.ensures) c.if-is_plain-8.false

@@ -1,5 +1,5 @@
 use Rattle.std.proofs.Common.{◌≡◌, ◌&&◌, refl, sym, ap, ◌∙◌}
-use Rattle.bag_algebra.specs.BuiltScopes.{all_scoped, is_scoped-Base, is_scoped-Filter, is_scoped-Project, is_scoped-Join, is_scoped-Union, is_scoped-Intersect, is_scoped-Except, is_scoped-Distinct, is_scoped-Aggregate, is_scoped-Limit, is_scoped-Prov}
+use Rattle.bag_algebra.specs.BuiltScopes.{all_scoped, is_scoped-Base, is_scoped-Filter, is_scoped-Project, is_scoped-Join, is_scoped-Apply, is_scoped-Union, is_scoped-Intersect, is_scoped-Except, is_scoped-Distinct, is_scoped-Aggregate, is_scoped-Limit, is_scoped-Prov}
 use Rattle.bag_algebra.specs.Scoped.{traceable, is_scoped}
 use Rattle.bag_algebra.proofs.Truths.{second-decides, first-decides}
 use Rattle.bag_algebra.proofs.measures.scopes.+is_scoped.Goals as goal
@@ -84,3 +84,11 @@ is_scoped-returns-then-traceable t c =
 pub is_scoped-returns-else-traceable : goal.is_scoped-returns-else-traceable
 is_scoped-returns-else-traceable t c =
     first-decides _ _ _ _ (ap is_scoped c.in-Prov.is ∙ is_scoped-Prov c.in-Prov.input) (c.traceable.ensures ∙ ap traceable c.get-in-Prov.ensures) c.if-traceable.false
+
+pub is_scoped-returns-then-is_scoped-8 : goal.is_scoped-returns-then-is_scoped-8
+is_scoped-returns-then-is_scoped-8 t c =
+    second-decides _ _ _ _ (ap is_scoped c.in-Apply.is ∙ is_scoped-Apply c.in-Apply.kind c.in-Apply.left c.in-Apply.right) (c.is_scoped-in-Apply.ensures ∙ ap is_scoped c.get-in-Apply.ensures) _ c.if-is_scoped-8.true (c.is_scoped-then-is_scoped-8.ensures ∙ ap is_scoped c.get-then-is_scoped-8.ensures)
+
+pub is_scoped-returns-else-is_scoped-8 : goal.is_scoped-returns-else-is_scoped-8
+is_scoped-returns-else-is_scoped-8 t c =
+    first-decides _ _ _ _ (ap is_scoped c.in-Apply.is ∙ is_scoped-Apply c.in-Apply.kind c.in-Apply.left c.in-Apply.right) (c.is_scoped-in-Apply.ensures ∙ ap is_scoped c.get-in-Apply.ensures) c.if-is_scoped-8.false

@@ -1,8 +1,8 @@
 use Rattle.std.proofs.Common.{ℕ, List, false, ◌≡◌, ◌&&◌, refl, sym, ap, ◌∙◌}
 use Rattle.perm_values.specs.declared.kind.Kind.{Kind}
-use Rattle.bag_algebra.specs.BuiltScopes.{all_over_tables, over_tables-Base, over_tables-Filter, over_tables-Project, over_tables-Join, over_tables-Union, over_tables-Intersect, over_tables-Except, over_tables-Distinct, over_tables-Aggregate, over_tables-Limit, over_tables-Prov}
+use Rattle.bag_algebra.specs.BuiltScopes.{all_over_tables, over_tables-Base, over_tables-Filter, over_tables-Project, over_tables-Join, over_tables-Apply, over_tables-Union, over_tables-Intersect, over_tables-Except, over_tables-Distinct, over_tables-Aggregate, over_tables-Limit, over_tables-Prov}
 use Rattle.bag_algebra.specs.Scoped.{is_table, over_tables}
-use Rattle.bag_algebra.specs.Patterns.{BaseOf, FilterOf, ProjectOf, JoinOf, UnionOf, IntersectOf, ExceptOf, DistinctOf, AggregateOf, LimitOf, ProvOf}
+use Rattle.bag_algebra.specs.Patterns.{BaseOf, FilterOf, ProjectOf, JoinOf, ApplyOf, UnionOf, IntersectOf, ExceptOf, DistinctOf, AggregateOf, LimitOf, ProvOf}
 use Rattle.bag_algebra.specs.declared.query.Query.{Query}
 use Rattle.bag_algebra.specs.declared.query.Query.TheVariants.{Table, Single}
 use Rattle.bag_algebra.proofs.Truths.{second-decides, first-decides}
@@ -16,6 +16,7 @@ no_table (BaseOf input places label) other = refl
 no_table (FilterOf input condition _ subs) other = refl
 no_table (ProjectOf input items _ subs) other = refl
 no_table (JoinOf kind left right condition _ subs) other = refl
+no_table (ApplyOf kind left right) other = refl
 no_table (UnionOf all left right) other = refl
 no_table (IntersectOf all left right) other = refl
 no_table (ExceptOf all left right) other = refl
@@ -103,3 +104,11 @@ over_tables-returns-in-Limit t c =
 pub over_tables-returns-in-Prov : goal.over_tables-returns-in-Prov
 over_tables-returns-in-Prov t c =
     sym (ap over_tables c.in-Prov.is ∙ over_tables-Prov c.in-Prov.input)
+
+pub over_tables-returns-then-over_tables-8 : goal.over_tables-returns-then-over_tables-8
+over_tables-returns-then-over_tables-8 t c =
+    second-decides _ _ _ _ (ap over_tables c.in-Apply.is ∙ over_tables-Apply c.in-Apply.kind c.in-Apply.left c.in-Apply.right) (c.over_tables-in-Apply.ensures ∙ ap over_tables c.get-in-Apply.ensures) _ c.if-over_tables-8.true (c.over_tables-then-over_tables-8.ensures ∙ ap over_tables c.get-then-over_tables-8.ensures)
+
+pub over_tables-returns-else-over_tables-8 : goal.over_tables-returns-else-over_tables-8
+over_tables-returns-else-over_tables-8 t c =
+    first-decides _ _ _ _ (ap over_tables c.in-Apply.is ∙ over_tables-Apply c.in-Apply.kind c.in-Apply.left c.in-Apply.right) (c.over_tables-in-Apply.ensures ∙ ap over_tables c.get-in-Apply.ensures) c.if-over_tables-8.false

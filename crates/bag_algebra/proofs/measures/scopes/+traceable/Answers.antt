@@ -1,7 +1,8 @@
 use Rattle.std.proofs.Common.{◌≡◌, ◌&&◌, refl, sym, ap, ◌∙◌}
-use Rattle.bag_algebra.specs.BuiltScopes.{all_traceable, traceable-Base, traceable-Filter, traceable-Project, traceable-Join, traceable-Union, traceable-Intersect, traceable-Except, traceable-Distinct, traceable-Aggregate, traceable-Limit, traceable-Prov}
+use Rattle.bag_algebra.specs.BuiltScopes.{all_traceable, without_subs, traceable-Base, traceable-Filter, traceable-Project, traceable-Join, traceable-Apply, traceable-Union, traceable-Intersect, traceable-Except, traceable-Distinct, traceable-Aggregate, traceable-Limit, traceable-Prov}
 use Rattle.bag_algebra.specs.Scoped.{traceable}
 use Rattle.bag_algebra.proofs.Truths.{second-decides, first-decides}
+use Rattle.bag_algebra.proofs.Subs.{found_none}
 use Rattle.bag_algebra.proofs.measures.scopes.+traceable.Goals as goal
 use Rattle.bag_algebra.proofs.measures.scopes.+traceable.Goals.{traceable-then-traceable-3, traceable-else-traceable-3}
 
@@ -31,7 +32,7 @@ traceable-returns-then-traceable-4 t c =
       | traceable-then-traceable-3 w ↦ w.value-is ∙ second-decides _ _ _ _ refl (c.traceable-in-Join.ensures ∙ ap traceable c.get-in-Join.ensures) _ w.if-traceable-3.true (w.traceable-then-traceable-3.ensures ∙ ap traceable w.get-then-traceable-3.ensures)
       | traceable-else-traceable-3 w ↦ w.value-is ∙ first-decides _ _ _ _ refl (c.traceable-in-Join.ensures ∙ ap traceable c.get-in-Join.ensures) w.if-traceable-3.false
     ] in
-    second-decides _ _ _ _ (ap traceable c.in-Join.is ∙ traceable-Join c.in-Join.kind c.in-Join.left c.in-Join.right c.in-Join.condition c.in-Join.subs) inputs _ c.if-traceable-4.true (c.all_traceable-then-traceable-4.ensures ∙ ap all_traceable c.as_slice-then-traceable-4.ensures)
+    second-decides _ _ _ _ (ap traceable c.in-Join.is ∙ traceable-Join c.in-Join.kind c.in-Join.left c.in-Join.right c.in-Join.condition c.in-Join.subs) inputs _ c.if-traceable-4.true (found_none _ c.in-Join.subs c.is_empty.ensures)
 
 pub traceable-returns-else-traceable-4 : goal.traceable-returns-else-traceable-4
 traceable-returns-else-traceable-4 t c =
@@ -80,3 +81,7 @@ traceable-returns-in-Limit t c =
 pub traceable-returns-in-Prov : goal.traceable-returns-in-Prov
 traceable-returns-in-Prov t c =
     c.traceable-in-Prov.ensures ∙ ap traceable c.get-in-Prov.ensures ∙ sym (ap traceable c.in-Prov.is ∙ traceable-Prov c.in-Prov.input)
+
+pub traceable-returns-in-Apply : goal.traceable-returns-in-Apply
+traceable-returns-in-Apply t c =
+    sym (ap traceable c.in-Apply.is ∙ traceable-Apply c.in-Apply.kind c.in-Apply.left c.in-Apply.right)

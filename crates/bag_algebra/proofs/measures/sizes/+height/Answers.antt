@@ -1,6 +1,6 @@
 use Rattle.std.proofs.Common.{ap, ◌∙◌, arith}
 use Rattle.std.proofs.lemmas.List.{at_drop_all}
-use Rattle.bag_algebra.specs.BuiltMeasures.{subs_height, height_of-Base, height_of-Filter, height_of-Project, height_of-Join, height_of-Union, height_of-Intersect, height_of-Except, height_of-Distinct, height_of-Aggregate, height_of-Limit, height_of-Prov}
+use Rattle.bag_algebra.specs.BuiltMeasures.{subs_height, height_of-Base, height_of-Filter, height_of-Project, height_of-Join, height_of-Apply, height_of-Union, height_of-Intersect, height_of-Except, height_of-Distinct, height_of-Aggregate, height_of-Limit, height_of-Prov}
 use Rattle.bag_algebra.specs.Measures.{height_of}
 use Rattle.bag_algebra.proofs.Rest.{from_here}
 use Rattle.bag_algebra.proofs.measures.sizes.+height.Goals as goal
@@ -48,6 +48,10 @@ height-returns-in-Limit t c =
 pub height-returns-in-Prov : goal.height-returns-in-Prov
 height-returns-in-Prov t c =
     omega (arith, ap height_of c.in-Prov.is ∙ height_of-Prov c.in-Prov.input, ap height_of c.get-in-Prov.ensures)
+
+pub height-returns-in-Apply : goal.height-returns-in-Apply
+height-returns-in-Apply t c =
+    omega (arith, ap height_of c.in-Apply.is ∙ height_of-Apply c.in-Apply.kind c.in-Apply.left c.in-Apply.right, ap height_of c.get-in-Apply.ensures, ap height_of c.get-in-Apply-2.ensures)
 
 pub highest-loop-sub-preserved : goal.highest-loop-sub-preserved
 highest-loop-sub-preserved t c =

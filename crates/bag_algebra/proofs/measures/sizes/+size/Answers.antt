@@ -1,6 +1,6 @@
 use Rattle.std.proofs.Common.{ap, ◌∙◌, arith}
 use Rattle.std.proofs.lemmas.List.{at_drop_all}
-use Rattle.bag_algebra.specs.BuiltMeasures.{subs_size, size_of-Base, size_of-Filter, size_of-Project, size_of-Join, size_of-Union, size_of-Intersect, size_of-Except, size_of-Distinct, size_of-Aggregate, size_of-Limit, size_of-Prov}
+use Rattle.bag_algebra.specs.BuiltMeasures.{subs_size, size_of-Base, size_of-Filter, size_of-Project, size_of-Join, size_of-Apply, size_of-Union, size_of-Intersect, size_of-Except, size_of-Distinct, size_of-Aggregate, size_of-Limit, size_of-Prov}
 use Rattle.bag_algebra.specs.Measures.{size_of}
 use Rattle.bag_algebra.proofs.Rest.{from_here}
 use Rattle.bag_algebra.proofs.measures.sizes.+size.Goals as goal
@@ -48,6 +48,10 @@ size-returns-in-Limit t c =
 pub size-returns-in-Prov : goal.size-returns-in-Prov
 size-returns-in-Prov t c =
     omega (arith, ap size_of c.in-Prov.is ∙ size_of-Prov c.in-Prov.input, ap size_of c.get-in-Prov.ensures)
+
+pub size-returns-in-Apply : goal.size-returns-in-Apply
+size-returns-in-Apply t c =
+    omega (arith, ap size_of c.in-Apply.is ∙ size_of-Apply c.in-Apply.kind c.in-Apply.left c.in-Apply.right, ap size_of c.get-in-Apply.ensures, ap size_of c.get-in-Apply-2.ensures)
 
 pub with_subs-loop-sub-preserved : goal.with_subs-loop-sub-preserved
 with_subs-loop-sub-preserved t c =
