@@ -1,5 +1,5 @@
 -- The measures and the tests of a query by the children of its topmost node.
-use Rattle.std.proofs.Common.{◌≡◌, ℕ, suc, ◌+◌, max, not, ◌&&◌, List, refl, sym, ap, arith}
+use Rattle.std.proofs.Common.{◌≡◌, ℕ, suc, ◌+◌, max, Bool, true, false, not, ◌&&◌, List, refl, sym, ap, arith}
 use Rattle.std.specs.List.{list_all}
 use Rattle.bag_algebra.specs.Built.{Base-is, Prov-is}
 use Rattle.bag_algebra.specs.BuiltFaultFree.{all_fault_free}
@@ -8,13 +8,13 @@ use Rattle.bag_algebra.specs.BuiltScopes.{all_plain, all_over_tables, all_tracea
 use Rattle.bag_algebra.specs.FaultFree.{option_faultless, is_scalar, own_faultless, fault_free, subs_fault_free}
 use Rattle.bag_algebra.specs.Inputs.{inputs_of, sublinks_of}
 use Rattle.bag_algebra.specs.Measures.{height_of, sub_height, size_of, sub_size}
-use Rattle.bag_algebra.specs.Patterns.{BaseOf, FilterOf, ProjectOf, JoinOf, UnionOf, IntersectOf, ExceptOf, DistinctOf, AggregateOf, LimitOf, ProvOf}
+use Rattle.bag_algebra.specs.Patterns.{BaseOf, FilterOf, ProjectOf, JoinOf, ApplyOf, UnionOf, IntersectOf, ExceptOf, DistinctOf, AggregateOf, LimitOf, ProvOf}
 use Rattle.bag_algebra.specs.Rewriting.{is_plain, subs_plain}
-use Rattle.bag_algebra.specs.Scoped.{over_tables, subs_over_tables, traceable, subs_traceable, is_scoped, subs_scoped}
+use Rattle.bag_algebra.specs.Scoped.{over_tables, subs_over_tables, no_subs, has_rule, traceable, subs_traceable, is_scoped, subs_scoped}
 use Rattle.bag_algebra.specs.declared.query.Label.{Label}
 use Rattle.bag_algebra.specs.declared.query.Query.{Query, Row_of-Sublink, more_of-Sublink, end_of-Sublink, items-the_row-Sublink}
 use Rattle.bag_algebra.specs.declared.query.Query.TheVariants.{Table, Single, Base, Prov}
-use Rattle.bag_algebra.proofs.Truths.{and_true}
+use Rattle.bag_algebra.proofs.Truths.{and_true, and_associates}
 
 -- ---- sizes
 
@@ -30,6 +30,7 @@ height_of-node (BaseOf input places label) = omega arith
 height_of-node (FilterOf input condition _ subs) = omega (arith, sub_height-listed subs)
 height_of-node (ProjectOf input items _ subs) = omega (arith, sub_height-listed subs)
 height_of-node (JoinOf kind left right condition _ subs) = omega (arith, sub_height-listed subs)
+height_of-node (ApplyOf kind left right) = omega arith
 height_of-node (UnionOf all left right) = omega arith
 height_of-node (IntersectOf all left right) = omega arith
 height_of-node (ExceptOf all left right) = omega arith
@@ -50,6 +51,7 @@ size_of-node (BaseOf input places label) = omega arith
 size_of-node (FilterOf input condition _ subs) = omega (arith, sub_size-listed subs)
 size_of-node (ProjectOf input items _ subs) = omega (arith, sub_size-listed subs)
 size_of-node (JoinOf kind left right condition _ subs) = omega (arith, sub_size-listed subs)
+size_of-node (ApplyOf kind left right) = omega arith
 size_of-node (UnionOf all left right) = omega arith
 size_of-node (IntersectOf all left right) = omega arith
 size_of-node (ExceptOf all left right) = omega arith
@@ -72,6 +74,7 @@ is_plain-node (BaseOf input places label) prov = simp and_true
 is_plain-node (FilterOf input condition _ subs) prov = simp (and_true, subs_plain-listed subs)
 is_plain-node (ProjectOf input items _ subs) prov = simp (and_true, subs_plain-listed subs)
 is_plain-node (JoinOf kind left right condition _ subs) prov = simp (and_true, subs_plain-listed subs)
+is_plain-node (ApplyOf kind left right) prov = simp and_true
 is_plain-node (UnionOf all left right) prov = simp and_true
 is_plain-node (IntersectOf all left right) prov = simp and_true
 is_plain-node (ExceptOf all left right) prov = simp and_true
@@ -92,6 +95,7 @@ over_tables-node (BaseOf input places label) base prov = absurd (base input plac
 over_tables-node (FilterOf input condition _ subs) base prov = simp (and_true, subs_over_tables-listed subs)
 over_tables-node (ProjectOf input items _ subs) base prov = simp (and_true, subs_over_tables-listed subs)
 over_tables-node (JoinOf kind left right condition _ subs) base prov = simp (and_true, subs_over_tables-listed subs)
+over_tables-node (ApplyOf kind left right) base prov = simp and_true
 over_tables-node (UnionOf all left right) base prov = simp and_true
 over_tables-node (IntersectOf all left right) base prov = simp and_true
 over_tables-node (ExceptOf all left right) base prov = simp and_true
@@ -104,14 +108,24 @@ subs_traceable-listed : {m : _} (subs : Row_of-Sublink m) → subs_traceable sub
 subs_traceable-listed end_of-Sublink = refl
 subs_traceable-listed (more_of-Sublink kind tested query subs) = ap (λ b. (over_tables query && traceable query) && b) (subs_traceable-listed subs)
 
--- what is no source is traceable where its children are
-pub traceable-node : (query : Query) → ((input : Query) (places : List ℕ) (label : Label) → query ≡ Base input places label → ⊥) → traceable query ≡ (list_all traceable (inputs_of query) && all_traceable (sublinks_of query))
+bare-traceable : {m : _} (subs : Row_of-Sublink m) → (no_subs subs && all_traceable (items-the_row-Sublink _ subs)) ≡ no_subs subs
+bare-traceable end_of-Sublink = refl
+bare-traceable (more_of-Sublink kind tested query subs) = refl
+
+no-rule : (a b : Bool) → (a && false && b) ≡ false
+no-rule true b = refl
+no-rule false b = refl
+
+-- what is no source is traceable where its children are and it has a rule
+pub traceable-node : (query : Query) → ((input : Query) (places : List ℕ) (label : Label) → query ≡ Base input places label → ⊥)
+    → traceable query ≡ (list_all traceable (inputs_of query) && has_rule query && all_traceable (sublinks_of query))
 traceable-node (Table id kinds) base = refl
 traceable-node Single base = refl
 traceable-node (BaseOf input places label) base = absurd (base input places label (sym (Base-is input places label)))
 traceable-node (FilterOf input condition _ subs) base = simp (and_true, subs_traceable-listed subs)
 traceable-node (ProjectOf input items _ subs) base = simp (and_true, subs_traceable-listed subs)
-traceable-node (JoinOf kind left right condition _ subs) base = simp (and_true, subs_traceable-listed subs)
+traceable-node (JoinOf kind left right condition _ subs) base = simp (and_true, and_associates, bare-traceable subs)
+traceable-node (ApplyOf kind left right) base = sym (no-rule _ _)
 traceable-node (UnionOf all left right) base = simp and_true
 traceable-node (IntersectOf all left right) base = simp and_true
 traceable-node (ExceptOf all left right) base = simp and_true
@@ -132,6 +146,7 @@ is_scoped-node (BaseOf input places label) prov = simp and_true
 is_scoped-node (FilterOf input condition _ subs) prov = simp (and_true, subs_scoped-listed subs)
 is_scoped-node (ProjectOf input items _ subs) prov = simp (and_true, subs_scoped-listed subs)
 is_scoped-node (JoinOf kind left right condition _ subs) prov = simp (and_true, subs_scoped-listed subs)
+is_scoped-node (ApplyOf kind left right) prov = simp and_true
 is_scoped-node (UnionOf all left right) prov = simp and_true
 is_scoped-node (IntersectOf all left right) prov = simp and_true
 is_scoped-node (ExceptOf all left right) prov = simp and_true
@@ -152,6 +167,7 @@ fault_free-node (BaseOf input places label) = simp and_true
 fault_free-node (FilterOf input condition _ subs) = simp (and_true, subs_fault_free-listed subs)
 fault_free-node (ProjectOf input items _ subs) = simp (and_true, subs_fault_free-listed subs)
 fault_free-node (JoinOf kind left right condition _ subs) = simp (and_true, subs_fault_free-listed subs)
+fault_free-node (ApplyOf kind left right) = simp and_true
 fault_free-node (UnionOf all left right) = simp and_true
 fault_free-node (IntersectOf all left right) = simp and_true
 fault_free-node (ExceptOf all left right) = simp and_true

@@ -9,7 +9,7 @@ use Rattle.perm_values.specs.declared.kind.Kind.{Kind}
 use Rattle.perm_values.specs.declared.kind.Kind.TheVariants.{Integer, Boolean}
 use Rattle.bag_algebra.specs.Closed.{within_levels, parts_within, steps_within, arms_within, option_within, items_within, aggregates_within, reads_within, subs_read_within}
 use Rattle.bag_algebra.specs.Kinds.{kinds_of}
-use Rattle.bag_algebra.specs.Patterns.{OpOf, ChainOf, CaseOf, IsNullOf, IsTruthOf, SameOf, BaseOf, FilterOf, ProjectOf, JoinOf, UnionOf, IntersectOf, ExceptOf, DistinctOf, AggregateOf, LimitOf, ProvOf}
+use Rattle.bag_algebra.specs.Patterns.{OpOf, ChainOf, CaseOf, IsNullOf, IsTruthOf, SameOf, BaseOf, FilterOf, ProjectOf, JoinOf, ApplyOf, UnionOf, IntersectOf, ExceptOf, DistinctOf, AggregateOf, LimitOf, ProvOf}
 use Rattle.bag_algebra.specs.WellFormed.{kind_at_place, column_kind, HasKind, PartsHave, StepsHave, ArmsHave, ItemsForm, aggr_form, AggregatesForm, sub_form, WellFormed, SubsForm}
 use Rattle.bag_algebra.specs.declared.expr.Expr.{Expr, Row_of-Expr, Row_of-Arm, Row_of-ChainStep, more_of-Expr, end_of-Expr, more_of-Arm, end_of-Arm, more_of-ChainStep, end_of-ChainStep}
 use Rattle.bag_algebra.specs.declared.expr.Expr.TheVariants.{Col, Lit, Sub}
@@ -128,6 +128,8 @@ mutual
       (both-true _ _ (both-true _ _ (query_within outer left n l h.left) (query_within outer right n l h.right))
       (expr_within ((kinds_of left ++ kinds_of right) ∷ outer) _ condition Boolean n (ap suc l) h.condition))
       (all_subs_within ((kinds_of left ++ kinds_of right) ∷ outer) subs n (ap suc l) h.subs)
+  query_within outer (ApplyOf kind left right) n l h =
+      both-true _ _ (query_within outer left n l h.left) (query_within (kinds_of left ∷ outer) right (suc n) (ap suc l) h.right)
   query_within outer (UnionOf all left right) n l h = both-true _ _ (query_within outer left n l h.left_side) (query_within outer right n l h.right_side)
   query_within outer (IntersectOf all left right) n l h = both-true _ _ (query_within outer left n l h.left_side) (query_within outer right n l h.right_side)
   query_within outer (ExceptOf all left right) n l h = both-true _ _ (query_within outer left n l h.left_side) (query_within outer right n l h.right_side)
@@ -265,7 +267,12 @@ module _ (outer : List (List Kind)) where
           subs = all_subs_inside ((kinds_of first ++ kinds_of second) ∷ inner) subs n (ap suc l) (right-true _ _ w) h.subs;
           condition = expr_inside ((kinds_of first ++ kinds_of second) ∷ inner) _ condition Boolean n (ap suc l)
               (right-true (reads_within first n && reads_within second n) _ (left-true _ _ w)) h.condition;
-          without_subs = h.without_subs;
+        }
+    query_inside inner (ApplyOf kind first second) n l w h =
+        record {
+          left = query_inside inner first n l (left-true _ _ w) h.left;
+          right = query_inside (kinds_of first ∷ inner) second (suc n) (ap suc l) (right-true (reads_within first n) _ w) h.right;
+          dependent = h.dependent;
         }
     query_inside inner (UnionOf all first second) n l w h =
         record { left_side = query_inside inner first n l (left-true _ _ w) h.left_side; right_side = query_inside inner second n l (right-true _ _ w) h.right_side; same_kinds = h.same_kinds }

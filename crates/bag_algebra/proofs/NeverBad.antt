@@ -7,9 +7,10 @@ use Rattle.bag_algebra.specs.Bags.{Row, Bag}
 use Rattle.bag_algebra.specs.Expressions.{value, values, arm_value, operate, with_one, with_two, with_three}
 use Rattle.bag_algebra.specs.FaultFree.{may_fault, faultless, parts_faultless, arms_faultless, option_faultless, items_faultless, is_sum, aggregates_faultless, is_scalar, fault_free, subs_fault_free}
 use Rattle.bag_algebra.specs.Meaning.{Database, denote, sub_denote, optional_value, condition_on, items_on, arguments_on}
-use Rattle.bag_algebra.specs.Means.{Witness, with_lists, kept, met_pairs, joined_rows, aggregated, aggregates_of, sub_value}
+use Rattle.bag_algebra.specs.Kinds.{width_of}
+use Rattle.bag_algebra.specs.Means.{Witness, with_lists, kept, met_pairs, joined_rows, under, aggregated, aggregates_of, sub_value}
 use Rattle.bag_algebra.specs.Outcome.{Outcome, Good, Bad, is_good, and_then, mapped, both, both_then, gather, each}
-use Rattle.bag_algebra.specs.Patterns.{OpOf, ChainOf, CaseOf, IsNullOf, IsTruthOf, SameOf, BaseOf, FilterOf, ProjectOf, JoinOf, UnionOf, IntersectOf, ExceptOf, DistinctOf, AggregateOf, LimitOf, ProvOf}
+use Rattle.bag_algebra.specs.Patterns.{OpOf, ChainOf, CaseOf, IsNullOf, IsTruthOf, SameOf, BaseOf, FilterOf, ProjectOf, JoinOf, ApplyOf, UnionOf, IntersectOf, ExceptOf, DistinctOf, AggregateOf, LimitOf, ProvOf}
 use Rattle.bag_algebra.specs.declared.expr.Expr.{Expr, Row_of-Expr, Row_of-Arm, more_of-Expr, end_of-Expr, more_of-Arm, end_of-Arm}
 use Rattle.bag_algebra.specs.declared.expr.Expr.TheVariants.{Col, Lit, Sub}
 use Rattle.bag_algebra.specs.declared.expr.Item.{Item}
@@ -207,6 +208,10 @@ mutual
       (good-joined kind (condition_on condition env (sub_denote subs db env))
       (λ u. good-and_then ((sub_denote subs db env).answers u) (value condition u env) (good-subs subs (right-true ((fault_free left && fault_free right) && faultless condition) _ w) db env u)
       (good-value condition (right-true (fault_free left && fault_free right) _ own) u env)) _ _))
+  good-query (ApplyOf kind left right) w db env =
+      good-rows (and_then (denote left db env).rows _) _
+      (good-and_then (denote left db env).rows _ (good-query left (left-true _ _ w) db env)
+      (good-gather _ (λ u. good-mapped (under kind (width_of right) u) (denote right db (u ∷ env)).rows (good-query right (right-true (fault_free left) _ w) db (u ∷ env)))))
   good-query (UnionOf all left right) w db env =
       good-rows (both _ (denote left db env).rows (denote right db env).rows) _
       (good-both _ (denote left db env).rows (denote right db env).rows (good-query left (left-true _ _ w) db env) (good-query right (right-true (fault_free left) _ w) db env))

@@ -5,7 +5,7 @@ use Rattle.std.specs.List.{Contains}
 use Rattle.perm_values.specs.declared.kind.Kind.{Kind}
 use Rattle.bag_algebra.specs.Fits.{bag_fits, TablesFit}
 use Rattle.bag_algebra.specs.Meaning.{Database}
-use Rattle.bag_algebra.specs.Patterns.{BaseOf, FilterOf, ProjectOf, JoinOf, UnionOf, IntersectOf, ExceptOf, DistinctOf, AggregateOf, LimitOf, ProvOf}
+use Rattle.bag_algebra.specs.Patterns.{BaseOf, FilterOf, ProjectOf, JoinOf, ApplyOf, UnionOf, IntersectOf, ExceptOf, DistinctOf, AggregateOf, LimitOf, ProvOf}
 use Rattle.bag_algebra.specs.TablesRead.{TableRead, tables_read, sub_tables_read, EachTable, EachSubTable, ReadsAmong}
 use Rattle.bag_algebra.specs.declared.query.Query.{Query, Row_of-Sublink, more_of-Sublink, end_of-Sublink}
 use Rattle.bag_algebra.specs.declared.query.Query.TheVariants.{Table, Single}
@@ -20,6 +20,7 @@ module _ (P Q T : ℕ → List Kind → Type 0) (join : (id : ℕ) (kinds : List
     each_table-both (FilterOf input condition _ subs) g h = (each_table-both input g.0 h.0, each_sub_table-both subs g.1 h.1)
     each_table-both (ProjectOf input items _ subs) g h = (each_table-both input g.0 h.0, each_sub_table-both subs g.1 h.1)
     each_table-both (JoinOf kind left right condition _ subs) g h = (each_table-both left g.0 h.0, each_table-both right g.1 h.1, each_sub_table-both subs g.2 h.2)
+    each_table-both (ApplyOf kind left right) g h = (each_table-both left g.0 h.0, each_table-both right g.1 h.1)
     each_table-both (UnionOf all left right) g h = (each_table-both left g.0 h.0, each_table-both right g.1 h.1)
     each_table-both (IntersectOf all left right) g h = (each_table-both left g.0 h.0, each_table-both right g.1 h.1)
     each_table-both (ExceptOf all left right) g h = (each_table-both left g.0 h.0, each_table-both right g.1 h.1)
@@ -62,6 +63,7 @@ module _ (P : ℕ → List Kind → Type 0) where
     each_table-told (JoinOf kind left right condition _ subs) h =
         told-append (tables_read left ++ tables_read right) (sub_tables_read subs)
         (told-append (tables_read left) (tables_read right) (each_table-told left h.0) (each_table-told right h.1)) (each_sub_table-told subs h.2)
+    each_table-told (ApplyOf kind left right) h = told-append (tables_read left) (tables_read right) (each_table-told left h.0) (each_table-told right h.1)
     each_table-told (UnionOf all left right) h = told-append (tables_read left) (tables_read right) (each_table-told left h.0) (each_table-told right h.1)
     each_table-told (IntersectOf all left right) h = told-append (tables_read left) (tables_read right) (each_table-told left h.0) (each_table-told right h.1)
     each_table-told (ExceptOf all left right) h = told-append (tables_read left) (tables_read right) (each_table-told left h.0) (each_table-told right h.1)
@@ -96,6 +98,10 @@ module _ (P : ℕ → List Kind → Type 0) where
           each_table-from_told right (λ r i. of_inputs r (Contains-append_right (tables_read left) (tables_read right) r i)),
           each_sub_table-from_told subs (λ r i. h r (Contains-append_right inputs (sub_tables_read subs) r i)),
         )
+    each_table-from_told (ApplyOf kind left right) h = (
+      each_table-from_told left (λ r i. h r (Contains-append_left (tables_read left) (tables_read right) r i)),
+      each_table-from_told right (λ r i. h r (Contains-append_right (tables_read left) (tables_read right) r i)),
+    )
     each_table-from_told (UnionOf all left right) h = (
       each_table-from_told left (λ r i. h r (Contains-append_left (tables_read left) (tables_read right) r i)),
       each_table-from_told right (λ r i. h r (Contains-append_right (tables_read left) (tables_read right) r i)),

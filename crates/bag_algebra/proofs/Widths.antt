@@ -1,7 +1,7 @@
 -- How many columns a query and its places have, for what the constructors of code make.
 use Rattle.std.proofs.Common.{◌≡◌, ℕ, ◌+◌, Bool, List, [], ◌∷◌, ◌++◌, length, refl, sym, ap, ◌∙◌, arith, length-append, append_assoc}
 use Rattle.std.proofs.lemmas.List.{length-map}
-use Rattle.bag_algebra.specs.Built.{kinds_of-Project, kinds_of-Join, kinds_of-Aggregate, kinds_of-Prov, shape-Base, shape-Filter, shape-Project, shape-Join, shape-Union, shape-Intersect, shape-Except}
+use Rattle.bag_algebra.specs.Built.{kinds_of-Project, kinds_of-Join, kinds_of-Apply, kinds_of-Aggregate, kinds_of-Prov, shape-Base, shape-Filter, shape-Project, shape-Join, shape-Apply, shape-Union, shape-Intersect, shape-Except}
 use Rattle.bag_algebra.specs.Children.{subs_shape}
 use Rattle.bag_algebra.specs.Kinds.{kinds_of, kind_in, kinds_in, width_of, shape, place_kinds}
 use Rattle.bag_algebra.specs.declared.expr.Expr.{Expr}
@@ -11,7 +11,7 @@ use Rattle.bag_algebra.specs.declared.query.Aggr.{Aggr}
 use Rattle.bag_algebra.specs.declared.query.JoinKind.{JoinKind}
 use Rattle.bag_algebra.specs.declared.query.Label.{Label}
 use Rattle.bag_algebra.specs.declared.query.Query.{Query}
-use Rattle.bag_algebra.specs.declared.query.Query.TheVariants.{Base, Filter, Project, Join, Union, Intersect, Except, Aggregate, Prov}
+use Rattle.bag_algebra.specs.declared.query.Query.TheVariants.{Base, Filter, Project, Join, Apply, Union, Intersect, Except, Aggregate, Prov}
 use Rattle.bag_algebra.specs.declared.query.Sublink.{Sublink}
 
 -- the columns of all places together
@@ -36,6 +36,9 @@ width-Project input items subs = ap length (kinds_of-Project input items subs) �
 pub width-Join : (kind : JoinKind) (left right : Query) (condition : Expr) (subs : List Sublink) →
     width_of (Join kind left right condition subs) ≡ width_of left + width_of right
 width-Join kind left right condition subs = ap length (kinds_of-Join kind left right condition subs) ∙ length-append (kinds_of left) (kinds_of right)
+
+pub width-Apply : (kind : JoinKind) (left right : Query) → width_of (Apply kind left right) ≡ width_of left + width_of right
+width-Apply kind left right = ap length (kinds_of-Apply kind left right) ∙ length-append (kinds_of left) (kinds_of right)
 
 pub width-Aggregate : (input : Query) (groups : List ℕ) (aggregates : List Aggr) →
     width_of (Aggregate input groups aggregates) ≡ length groups + length aggregates
@@ -67,6 +70,9 @@ pub shape_width-Join : (kind : JoinKind) (left right : Query) (condition : Expr)
     shape_width (Join kind left right condition subs) ≡ shape_width left + shape_width right + places_width (subs_shape subs)
 shape_width-Join kind left right condition subs =
     omega (arith, ap places_width (shape-Join kind left right condition subs), places_width-append (shape left ++ shape right) (subs_shape subs), places_width-append (shape left) (shape right))
+
+pub shape_width-Apply : (kind : JoinKind) (left right : Query) → shape_width (Apply kind left right) ≡ shape_width left + shape_width right
+shape_width-Apply kind left right = ap places_width (shape-Apply kind left right) ∙ places_width-append (shape left) (shape right)
 
 pub shape_width-Union : (all : Bool) (left right : Query) → shape_width (Union all left right) ≡ shape_width left + shape_width right
 shape_width-Union all left right = ap places_width (shape-Union all left right) ∙ places_width-append (shape left) (shape right)

@@ -17,9 +17,9 @@ use Rattle.bag_algebra.specs.Children.{part_values, step_of, arms_value, subs_de
 use Rattle.bag_algebra.specs.Expressions.{value, values, step_values, arm_value, Step, operate, chain, has_truth, chosen_arm}
 use Rattle.bag_algebra.specs.Kinds.{kinds_of, shape, sub_shape, kinds_in, place_kinds, width_of}
 use Rattle.bag_algebra.specs.Meaning.{Database, meaning, witnesses, denote, sub_denote, optional_value, condition_on, items_on, arguments_on}
-use Rattle.bag_algebra.specs.Means.{Means, SubMeans, Witness, with_lists, kept, joined_rows, grouped, with_witnesses, with_sub, all_empty, unlisted_means, base_means, filter_means, project_means, join_means, union_means, intersect_means, except_means, distinct_means, limit_means, aggregate_means, provenance_means}
+use Rattle.bag_algebra.specs.Means.{Means, SubMeans, Witness, with_lists, kept, joined_rows, grouped, with_witnesses, with_sub, all_empty, unlisted_means, base_means, filter_means, project_means, join_means, under, apply_means, union_means, intersect_means, except_means, distinct_means, limit_means, aggregate_means, provenance_means}
 use Rattle.bag_algebra.specs.Outcome.{Outcome, Good, Bad, and_then, mapped, both, both_then, gather, each}
-use Rattle.bag_algebra.specs.Patterns.{Shape, many, OpOf, ChainOf, CaseOf, IsNullOf, IsTruthOf, SameOf, BaseOf, FilterOf, ProjectOf, JoinOf, UnionOf, IntersectOf, ExceptOf, DistinctOf, AggregateOf, LimitOf, ProvOf}
+use Rattle.bag_algebra.specs.Patterns.{Shape, many, OpOf, ChainOf, CaseOf, IsNullOf, IsTruthOf, SameOf, BaseOf, FilterOf, ProjectOf, JoinOf, ApplyOf, UnionOf, IntersectOf, ExceptOf, DistinctOf, AggregateOf, LimitOf, ProvOf}
 use Rattle.bag_algebra.specs.declared.expr.Arm.{Arm}
 use Rattle.bag_algebra.specs.declared.expr.ChainStep.{ChainStep}
 use Rattle.bag_algebra.specs.declared.expr.Expr.{Expr, Row_of-Expr, Row_of-Arm, Row_of-ChainStep}
@@ -31,7 +31,7 @@ use Rattle.bag_algebra.specs.declared.query.JoinKind.{JoinKind}
 use Rattle.bag_algebra.specs.declared.query.Label.{Label}
 use Rattle.bag_algebra.specs.declared.query.Query.{Query, Row_of-Sublink, end_of-Sublink}
 use Rattle.bag_algebra.specs.declared.query.Query.TheBlock.{shape-the_row-Query-0, hidden-the_row-Query-0, shape-the_row-Sublink-1, hidden-the_row-Sublink-1}
-use Rattle.bag_algebra.specs.declared.query.Query.TheVariants.{Table, Single, Base, Filter, Project, Join, Union, Intersect, Except, Distinct, Aggregate, Limit, Prov}
+use Rattle.bag_algebra.specs.declared.query.Query.TheVariants.{Table, Single, Base, Filter, Project, Join, Apply, Union, Intersect, Except, Distinct, Aggregate, Limit, Prov}
 use Rattle.bag_algebra.specs.declared.query.Sublink.{Sublink}
 
 -- the rows are what they are made of, whatever the lists
@@ -113,6 +113,10 @@ pub Join-is : (kind : JoinKind) (left right : Query) (condition : Expr) (subs : 
     Join kind left right condition subs ≡ JoinOf kind left right condition (shape_of_subs subs) (row_of_subs subs)
 unfolding shape-the_row-Query-0 hidden-the_row-Query-0 package.denote.Hole.Carrier.hidden
 Join-is kind left right condition subs = refl
+
+pub Apply-is : (kind : JoinKind) (left right : Query) → Apply kind left right ≡ ApplyOf kind left right
+unfolding shape-the_row-Query-0 hidden-the_row-Query-0 package.denote.Hole.Carrier.hidden
+Apply-is kind left right = refl
 
 pub Union-is : (all : Bool) (left right : Query) → Union all left right ≡ UnionOf all left right
 unfolding shape-the_row-Query-0 hidden-the_row-Query-0 package.denote.Hole.Carrier.hidden
@@ -234,6 +238,9 @@ pub kinds_of-Join : (kind : JoinKind) (left right : Query) (condition : Expr) (s
     kinds_of (Join kind left right condition subs) ≡ kinds_of left ++ kinds_of right
 kinds_of-Join kind left right condition subs = ap kinds_of (Join-is kind left right condition subs)
 
+pub kinds_of-Apply : (kind : JoinKind) (left right : Query) → kinds_of (Apply kind left right) ≡ kinds_of left ++ kinds_of right
+kinds_of-Apply kind left right = ap kinds_of (Apply-is kind left right)
+
 pub kinds_of-Union : (all : Bool) (left right : Query) → kinds_of (Union all left right) ≡ kinds_of left
 kinds_of-Union all left right = ap kinds_of (Union-is all left right)
 
@@ -276,6 +283,9 @@ pub shape-Join : (kind : JoinKind) (left right : Query) (condition : Expr) (subs
 shape-Join kind left right condition subs =
     ap shape (Join-is kind left right condition subs)
     ∙ ap (λ places. shape left ++ shape right ++ places) (sub_shape-row_of_subs subs)
+
+pub shape-Apply : (kind : JoinKind) (left right : Query) → shape (Apply kind left right) ≡ shape left ++ shape right
+shape-Apply kind left right = ap shape (Apply-is kind left right)
 
 pub shape-Union : (all : Bool) (left right : Query) → shape (Union all left right) ≡ shape left ++ shape right
 shape-Union all left right = ap shape (Union-is all left right)
@@ -337,6 +347,11 @@ module _ (db : Database) (env : List Row) where
       (record { left = all_empty (shape left); right = all_empty (shape right); subs = s.blank })
       (width_of left) (width_of right) (denote left db env) (denote right db env)) (sub_denote-row_of_subs subs db env)
 
+  pub denote-Apply : (kind : JoinKind) (left right : Query) →
+      denote (Apply kind left right) db env
+      ≡ apply_means kind (width_of right) (all_empty (shape right)) (denote left db env) (λ u. denote right db (u ∷ env))
+  denote-Apply kind left right = ap (λ q. denote q db env) (Apply-is kind left right)
+
   pub denote-Union : (all : Bool) (left right : Query) →
       denote (Union all left right) db env
       ≡ union_means all (all_empty (shape left)) (all_empty (shape right)) (denote left db env) (denote right db env)
@@ -385,6 +400,11 @@ module _ (db : Database) (env : List Row) where
       ≡ both_then (meaning left db env) (meaning right db env)
       (joined_rows kind (condition_on condition env (subs_denote subs db env)) (width_of left) (width_of right))
   meaning-Join kind left right condition subs = ap (λ (m : Means). m.rows) (denote-Join kind left right condition subs) ∙ rows-with_lists _ _
+
+  pub meaning-Apply : (kind : JoinKind) (left right : Query) →
+      meaning (Apply kind left right) db env
+      ≡ and_then (meaning left db env) (gather (λ u. mapped (under kind (width_of right) u) (meaning right db (u ∷ env))))
+  meaning-Apply kind left right = ap (λ (m : Means). m.rows) (denote-Apply kind left right) ∙ rows-with_lists _ _
 
   pub meaning-Union : (all : Bool) (left right : Query) →
       meaning (Union all left right) db env ≡ both (union_of all) (meaning left db env) (meaning right db env)

@@ -4,11 +4,11 @@ use Rattle.std.proofs.Common.{refl, ap, ◌∙◌}
 use Rattle.perm_values.specs.declared.key.Key.{Key}
 use Rattle.perm_values.specs.declared.kind.Kind.{Kind}
 use Rattle.perm_values.specs.declared.kind.Kind.TheVariants.{Integer, Boolean}
-use Rattle.bag_algebra.specs.Built.{row_of_parts, row_of_steps, row_of_arms, row_of_subs, Base-is, Filter-is, Project_with-is, Join-is, Union-is, Intersect-is, Except-is, Distinct-is, Aggregate-is, Limit-is, Prov-is}
+use Rattle.bag_algebra.specs.Built.{row_of_parts, row_of_steps, row_of_arms, row_of_subs, Base-is, Filter-is, Project_with-is, Join-is, Apply-is, Union-is, Intersect-is, Except-is, Distinct-is, Aggregate-is, Limit-is, Prov-is}
 use Rattle.bag_algebra.specs.TablesRead.{EachTable, EachSubTable}
 use Rattle.bag_algebra.specs.Kinds.{kinds_of, width_of}
 use Rattle.bag_algebra.specs.Patterns.{FilterOf, JoinOf}
-use Rattle.bag_algebra.specs.WellFormed.{HasKind, PartsHave, StepsHave, ArmsHave, ArmForm, number_of_parts, number_of_steps, number_of_arms, PlacesIn, KeysIn, ItemsForm, AggregatesForm, sub_form, sub_kind, sub_kinds, no_sublinks, SubForm, BaseForm, FilterForm, ProjectForm, JoinForm, SetForm, AggregateForm, LimitForm, WellFormed, SubsForm}
+use Rattle.bag_algebra.specs.WellFormed.{HasKind, PartsHave, StepsHave, ArmsHave, ArmForm, number_of_parts, number_of_steps, number_of_arms, PlacesIn, KeysIn, ItemsForm, AggregatesForm, sub_form, sub_kind, sub_kinds, SubForm, BaseForm, FilterForm, ProjectForm, JoinForm, ApplyForm, SetForm, AggregateForm, LimitForm, WellFormed, SubsForm}
 use Rattle.bag_algebra.specs.declared.expr.Arm.{Arm}
 use Rattle.bag_algebra.specs.declared.expr.ChainStep.{ChainStep}
 use Rattle.bag_algebra.specs.declared.expr.Expr.{Expr}
@@ -19,7 +19,7 @@ use Rattle.bag_algebra.specs.declared.query.JoinKind.{JoinKind}
 use Rattle.bag_algebra.specs.declared.query.Label.{Label}
 use Rattle.bag_algebra.specs.declared.query.Query.{Query, end_of-Sublink}
 use Rattle.bag_algebra.specs.declared.query.Query.TheBlock.{shape-the_row-Query-0, hidden-the_row-Query-0, shape-the_row-Sublink-1, hidden-the_row-Sublink-1}
-use Rattle.bag_algebra.specs.declared.query.Query.TheVariants.{Base, Filter, Project, Join, Union, Intersect, Except, Distinct, Aggregate, Limit, Prov}
+use Rattle.bag_algebra.specs.declared.query.Query.TheVariants.{Base, Filter, Project, Join, Apply, Union, Intersect, Except, Distinct, Aggregate, Limit, Prov}
 use Rattle.bag_algebra.specs.declared.query.Sublink.{Sublink}
 
 -- ---- nodes without sublinks
@@ -116,16 +116,6 @@ SubsForm-row_of_subs scopes [] = refl
 SubsForm-row_of_subs scopes (sub ∷ subs) =
     ap (SubForm (WellFormed scopes sub.query) (sub_form sub.kind sub.tested scopes (kinds_of sub.query))) (SubsForm-row_of_subs scopes subs)
 
--- none of them
-abbrev pub NoneOf : List Sublink → Type 0
-NoneOf [] = ⊤
-NoneOf (sub ∷ subs) = ⊥
-
-pub no_sublinks-row_of_subs : (subs : List Sublink) → no_sublinks (row_of_subs subs) ≡ NoneOf subs
-unfolding shape-the_row-Sublink-1 hidden-the_row-Sublink-1 package.denote.Hole.Carrier.hidden
-no_sublinks-row_of_subs [] = refl
-no_sublinks-row_of_subs (sub ∷ subs) = refl
-
 abbrev pub EachTableOfSubs : (ℕ → List Kind → Type 0) → List Sublink → Type 0
 EachTableOfSubs P [] = ⊤
 EachTableOfSubs P (sub ∷ subs) = EachTable P sub.query × EachTableOfSubs P subs
@@ -163,11 +153,15 @@ module _ (outer : List (List Kind)) where
   pub WellFormed-Join : (kind : JoinKind) (left right : Query) (condition : Expr) (subs : List Sublink) →
       WellFormed outer (Join kind left right condition subs)
       ≡ JoinForm (WellFormed outer left) (WellFormed outer right) (AllSubsForm ((kinds_of left ++ kinds_of right) ∷ outer) subs)
-      (HasKind ((kinds_of left ++ kinds_of right) ∷ outer) (subs_kinds subs) condition Boolean) (NoneOf subs)
+      (HasKind ((kinds_of left ++ kinds_of right) ∷ outer) (subs_kinds subs) condition Boolean)
   WellFormed-Join kind left right condition subs =
       ap (WellFormed outer) (Join-is kind left right condition subs)
       ∙ (λ i. JoinForm (WellFormed outer left) (WellFormed outer right) (SubsForm-row_of_subs ((kinds_of left ++ kinds_of right) ∷ outer) subs i)
-      (HasKind ((kinds_of left ++ kinds_of right) ∷ outer) (sub_kinds-row_of_subs subs i) condition Boolean) (no_sublinks-row_of_subs subs i))
+      (HasKind ((kinds_of left ++ kinds_of right) ∷ outer) (sub_kinds-row_of_subs subs i) condition Boolean))
+
+  pub WellFormed-Apply : (kind : JoinKind) (left right : Query) →
+      WellFormed outer (Apply kind left right) ≡ ApplyForm (WellFormed outer left) (WellFormed (kinds_of left ∷ outer) right) kind
+  WellFormed-Apply kind left right = ap (WellFormed outer) (Apply-is kind left right)
 
   pub WellFormed-Union : (all : Bool) (left right : Query) →
       WellFormed outer (Union all left right) ≡ SetForm (WellFormed outer left) (WellFormed outer right) (kinds_of left) (kinds_of right)
@@ -217,6 +211,9 @@ module _ (P : ℕ → List Kind → Type 0) where
   EachTable-Join kind left right condition subs =
       ap (EachTable P) (Join-is kind left right condition subs)
       ∙ (λ i. EachTable P left × EachTable P right × EachSubTable-row_of_subs P subs i)
+
+  pub EachTable-Apply : (kind : JoinKind) (left right : Query) → EachTable P (Apply kind left right) ≡ (EachTable P left × EachTable P right)
+  EachTable-Apply kind left right = ap (EachTable P) (Apply-is kind left right)
 
   pub EachTable-Union : (all : Bool) (left right : Query) → EachTable P (Union all left right) ≡ (EachTable P left × EachTable P right)
   EachTable-Union all left right = ap (EachTable P) (Union-is all left right)

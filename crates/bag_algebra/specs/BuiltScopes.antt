@@ -2,9 +2,9 @@
 use Rattle.std.specs.Prelude.{◌≡◌, ℕ, Bool, true, false, ◌&&◌, List, [], ◌∷◌}
 use Rattle.std.proofs.Common.{refl, ap, ◌∙◌}
 use Rattle.perm_values.specs.declared.key.Key.{Key}
-use Rattle.bag_algebra.specs.Built.{row_of_subs, Base-is, Filter-is, Project_with-is, Join-is, Union-is, Intersect-is, Except-is, Distinct-is, Aggregate-is, Limit-is, Prov-is}
+use Rattle.bag_algebra.specs.Built.{row_of_subs, Base-is, Filter-is, Project_with-is, Join-is, Apply-is, Union-is, Intersect-is, Except-is, Distinct-is, Aggregate-is, Limit-is, Prov-is}
 use Rattle.bag_algebra.specs.Rewriting.{is_plain, subs_plain}
-use Rattle.bag_algebra.specs.Scoped.{is_table, over_tables, subs_over_tables, traceable, subs_traceable, is_scoped, subs_scoped}
+use Rattle.bag_algebra.specs.Scoped.{is_table, over_tables, subs_over_tables, no_subs, has_rule, traceable, subs_traceable, is_scoped, subs_scoped}
 use Rattle.bag_algebra.specs.declared.expr.Expr.{Expr}
 use Rattle.bag_algebra.specs.declared.expr.Item.{Item}
 use Rattle.bag_algebra.specs.declared.query.Aggr.{Aggr}
@@ -12,7 +12,7 @@ use Rattle.bag_algebra.specs.declared.query.JoinKind.{JoinKind}
 use Rattle.bag_algebra.specs.declared.query.Label.{Label}
 use Rattle.bag_algebra.specs.declared.query.Query.{Query}
 use Rattle.bag_algebra.specs.declared.query.Query.TheBlock.{shape-the_row-Sublink-1, hidden-the_row-Sublink-1}
-use Rattle.bag_algebra.specs.declared.query.Query.TheVariants.{Base, Filter, Project, Join, Union, Intersect, Except, Distinct, Aggregate, Limit, Prov}
+use Rattle.bag_algebra.specs.declared.query.Query.TheVariants.{Base, Filter, Project, Join, Apply, Union, Intersect, Except, Distinct, Aggregate, Limit, Prov}
 use Rattle.bag_algebra.specs.declared.query.Sublink.{Sublink}
 
 -- the queries of all sublinks are plain
@@ -45,6 +45,16 @@ unfolding shape-the_row-Sublink-1 hidden-the_row-Sublink-1 package.denote.Hole.C
 subs_traceable-row_of_subs [] = refl
 subs_traceable-row_of_subs (sub ∷ subs) = ap (λ b. (over_tables sub.query && traceable sub.query) && b) (subs_traceable-row_of_subs subs)
 
+-- there is none of them
+abbrev pub without_subs : List Sublink → Bool
+without_subs [] = true
+without_subs (sub ∷ subs) = false
+
+pub no_subs-row_of_subs : (subs : List Sublink) → no_subs (row_of_subs subs) ≡ without_subs subs
+unfolding shape-the_row-Sublink-1 hidden-the_row-Sublink-1 package.denote.Hole.Carrier.hidden
+no_subs-row_of_subs [] = refl
+no_subs-row_of_subs (sub ∷ subs) = refl
+
 -- the queries of all sublinks are scoped
 abbrev pub all_scoped : List Sublink → Bool
 all_scoped [] = true
@@ -68,6 +78,9 @@ is_plain-Project input items subs = ap is_plain (Project_with-is input items sub
 
 pub is_plain-Join : (kind : JoinKind) (left right : Query) (condition : Expr) (subs : List Sublink) → is_plain (Join kind left right condition subs) ≡ (is_plain left && is_plain right && all_plain subs)
 is_plain-Join kind left right condition subs = ap is_plain (Join-is kind left right condition subs) ∙ ap (λ b. is_plain left && is_plain right && b) (subs_plain-row_of_subs subs)
+
+pub is_plain-Apply : (kind : JoinKind) (left right : Query) → is_plain (Apply kind left right) ≡ (is_plain left && is_plain right)
+is_plain-Apply kind left right = ap is_plain (Apply-is kind left right)
 
 pub is_plain-Union : (all : Bool) (left right : Query) → is_plain (Union all left right) ≡ (is_plain left && is_plain right)
 is_plain-Union all left right = ap is_plain (Union-is all left right)
@@ -104,6 +117,9 @@ over_tables-Project input items subs = ap over_tables (Project_with-is input ite
 pub over_tables-Join : (kind : JoinKind) (left right : Query) (condition : Expr) (subs : List Sublink) → over_tables (Join kind left right condition subs) ≡ ((over_tables left && over_tables right) && all_over_tables subs)
 over_tables-Join kind left right condition subs = ap over_tables (Join-is kind left right condition subs) ∙ ap (λ b. (over_tables left && over_tables right) && b) (subs_over_tables-row_of_subs subs)
 
+pub over_tables-Apply : (kind : JoinKind) (left right : Query) → over_tables (Apply kind left right) ≡ (over_tables left && over_tables right)
+over_tables-Apply kind left right = ap over_tables (Apply-is kind left right)
+
 pub over_tables-Union : (all : Bool) (left right : Query) → over_tables (Union all left right) ≡ (over_tables left && over_tables right)
 over_tables-Union all left right = ap over_tables (Union-is all left right)
 
@@ -136,8 +152,14 @@ traceable-Filter input condition subs = ap traceable (Filter-is input condition 
 pub traceable-Project : (input : Query) (items : List Item) (subs : List Sublink) → traceable (Project input items subs) ≡ (traceable input && all_traceable subs)
 traceable-Project input items subs = ap traceable (Project_with-is input items subs) ∙ ap (λ b. traceable input && b) (subs_traceable-row_of_subs subs)
 
-pub traceable-Join : (kind : JoinKind) (left right : Query) (condition : Expr) (subs : List Sublink) → traceable (Join kind left right condition subs) ≡ ((traceable left && traceable right) && all_traceable subs)
-traceable-Join kind left right condition subs = ap traceable (Join-is kind left right condition subs) ∙ ap (λ b. (traceable left && traceable right) && b) (subs_traceable-row_of_subs subs)
+pub traceable-Join : (kind : JoinKind) (left right : Query) (condition : Expr) (subs : List Sublink) → traceable (Join kind left right condition subs) ≡ ((traceable left && traceable right) && without_subs subs)
+traceable-Join kind left right condition subs = ap traceable (Join-is kind left right condition subs) ∙ ap (λ b. (traceable left && traceable right) && b) (no_subs-row_of_subs subs)
+
+pub has_rule-Join : (kind : JoinKind) (left right : Query) (condition : Expr) (subs : List Sublink) → has_rule (Join kind left right condition subs) ≡ without_subs subs
+has_rule-Join kind left right condition subs = ap has_rule (Join-is kind left right condition subs) ∙ no_subs-row_of_subs subs
+
+pub traceable-Apply : (kind : JoinKind) (left right : Query) → traceable (Apply kind left right) ≡ false
+traceable-Apply kind left right = ap traceable (Apply-is kind left right)
 
 pub traceable-Union : (all : Bool) (left right : Query) → traceable (Union all left right) ≡ (traceable left && traceable right)
 traceable-Union all left right = ap traceable (Union-is all left right)
@@ -173,6 +195,9 @@ is_scoped-Project input items subs = ap is_scoped (Project_with-is input items s
 
 pub is_scoped-Join : (kind : JoinKind) (left right : Query) (condition : Expr) (subs : List Sublink) → is_scoped (Join kind left right condition subs) ≡ ((is_scoped left && is_scoped right) && all_scoped subs)
 is_scoped-Join kind left right condition subs = ap is_scoped (Join-is kind left right condition subs) ∙ ap (λ b. (is_scoped left && is_scoped right) && b) (subs_scoped-row_of_subs subs)
+
+pub is_scoped-Apply : (kind : JoinKind) (left right : Query) → is_scoped (Apply kind left right) ≡ (is_scoped left && is_scoped right)
+is_scoped-Apply kind left right = ap is_scoped (Apply-is kind left right)
 
 pub is_scoped-Union : (all : Bool) (left right : Query) → is_scoped (Union all left right) ≡ (is_scoped left && is_scoped right)
 is_scoped-Union all left right = ap is_scoped (Union-is all left right)

@@ -1,8 +1,8 @@
 -- Which outer rows a query reads, and when it reads none. The queries of a node's sublinks see the node's row as their
--- nearest outer row.
+-- nearest outer row, and so does the right side of a dependent join a left row.
 use Rattle.std.specs.Prelude.{ℕ, suc, Bool, true, ◌&&◌, nat_le, List, Option, Some, None}
 use Rattle.std.specs.List.{list_all}
-use Rattle.bag_algebra.specs.Patterns.{OpOf, ChainOf, CaseOf, IsNullOf, IsTruthOf, SameOf, BaseOf, FilterOf, ProjectOf, JoinOf, UnionOf, IntersectOf, ExceptOf, DistinctOf, AggregateOf, LimitOf, ProvOf}
+use Rattle.bag_algebra.specs.Patterns.{OpOf, ChainOf, CaseOf, IsNullOf, IsTruthOf, SameOf, BaseOf, FilterOf, ProjectOf, JoinOf, ApplyOf, UnionOf, IntersectOf, ExceptOf, DistinctOf, AggregateOf, LimitOf, ProvOf}
 use Rattle.bag_algebra.specs.declared.expr.Expr.{Expr, Row_of-Expr, Row_of-Arm, Row_of-ChainStep, more_of-Expr, end_of-Expr, more_of-Arm, end_of-Arm, more_of-ChainStep, end_of-ChainStep}
 use Rattle.bag_algebra.specs.declared.expr.Expr.TheVariants.{Col, Lit, Sub}
 use Rattle.bag_algebra.specs.declared.expr.Item.{Item}
@@ -56,6 +56,7 @@ abbrev mutual
   reads_within (ProjectOf input items _ subs) n = (reads_within input n && items_within items n) && subs_read_within subs n
   reads_within (JoinOf kind left right condition _ subs) n =
       ((reads_within left n && reads_within right n) && within_levels condition n) && subs_read_within subs n
+  reads_within (ApplyOf kind left right) n = reads_within left n && reads_within right (suc n)
   reads_within (UnionOf all left right) n = reads_within left n && reads_within right n
   reads_within (IntersectOf all left right) n = reads_within left n && reads_within right n
   reads_within (ExceptOf all left right) n = reads_within left n && reads_within right n

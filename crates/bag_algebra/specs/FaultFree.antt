@@ -3,7 +3,7 @@ use Rattle.std.specs.Prelude.{Bool, true, false, not, ◌&&◌, List, Option, So
 use Rattle.std.specs.List.{list_all}
 use Rattle.null_logic.specs.declared.operator.Operator.{Operator}
 use Rattle.null_logic.specs.declared.operator.Operator.TheVariants as op
-use Rattle.bag_algebra.specs.Patterns.{OpOf, ChainOf, CaseOf, IsNullOf, IsTruthOf, SameOf, BaseOf, FilterOf, ProjectOf, JoinOf, UnionOf, IntersectOf, ExceptOf, DistinctOf, AggregateOf, LimitOf, ProvOf}
+use Rattle.bag_algebra.specs.Patterns.{OpOf, ChainOf, CaseOf, IsNullOf, IsTruthOf, SameOf, BaseOf, FilterOf, ProjectOf, JoinOf, ApplyOf, UnionOf, IntersectOf, ExceptOf, DistinctOf, AggregateOf, LimitOf, ProvOf}
 use Rattle.bag_algebra.specs.declared.expr.Expr.{Expr, Row_of-Expr, Row_of-Arm, more_of-Expr, end_of-Expr, more_of-Arm, end_of-Arm}
 use Rattle.bag_algebra.specs.declared.expr.Expr.TheVariants.{Col, Lit, Sub}
 use Rattle.bag_algebra.specs.declared.expr.Item.{Item}
@@ -11,7 +11,7 @@ use Rattle.bag_algebra.specs.declared.query.AggFn.{AggFn}
 use Rattle.bag_algebra.specs.declared.query.AggFn.TheVariants.{CountRows, Count, CountDistinct, Sum, Min, Max}
 use Rattle.bag_algebra.specs.declared.query.Aggr.{Aggr}
 use Rattle.bag_algebra.specs.declared.query.Query.{Query, Row_of-Sublink, more_of-Sublink, end_of-Sublink}
-use Rattle.bag_algebra.specs.declared.query.Query.TheVariants.{Table, Single, Base', Filter', Project', Join', Union', Intersect', Except', Distinct', Aggregate', Limit', Prov'}
+use Rattle.bag_algebra.specs.declared.query.Query.TheVariants.{Table, Single, Base', Filter', Project', Join', Apply', Union', Intersect', Except', Distinct', Aggregate', Limit', Prov'}
 use Rattle.bag_algebra.specs.declared.query.SubKind.{SubKind}
 use Rattle.bag_algebra.specs.declared.query.SubKind.TheVariants.{Exists, Any, All, Scalar}
 
@@ -83,6 +83,7 @@ own_faultless (Base' _ input places label) = true
 own_faultless (Filter' _ input condition _ subs) = faultless condition
 own_faultless (Project' _ input items _ subs) = items_faultless items
 own_faultless (Join' kind _ left _ right condition _ subs) = faultless condition
+own_faultless (Apply' kind _ left _ right) = true
 own_faultless (Union' all _ left _ right) = true
 own_faultless (Intersect' all _ left _ right) = true
 own_faultless (Except' all _ left _ right) = true
@@ -101,6 +102,7 @@ abbrev mutual
   fault_free (ProjectOf input items _ subs) = (fault_free input && items_faultless items) && subs_fault_free subs
   fault_free (JoinOf kind left right condition _ subs) =
       ((fault_free left && fault_free right) && faultless condition) && subs_fault_free subs
+  fault_free (ApplyOf kind left right) = fault_free left && fault_free right
   fault_free (UnionOf all left right) = fault_free left && fault_free right
   fault_free (IntersectOf all left right) = fault_free left && fault_free right
   fault_free (ExceptOf all left right) = fault_free left && fault_free right

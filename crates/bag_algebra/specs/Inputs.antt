@@ -1,12 +1,12 @@
 -- The children of the topmost node of a query: its inputs and its sublinks.
 use Rattle.std.specs.Prelude.{◌≡◌, List, [], ◌∷◌}
 use Rattle.bag_algebra.specs.Built.{row_of_subs}
-use Rattle.bag_algebra.specs.Patterns.{BaseOf, FilterOf, ProjectOf, JoinOf, UnionOf, IntersectOf, ExceptOf, DistinctOf, AggregateOf, LimitOf, ProvOf}
+use Rattle.bag_algebra.specs.Patterns.{BaseOf, FilterOf, ProjectOf, JoinOf, ApplyOf, UnionOf, IntersectOf, ExceptOf, DistinctOf, AggregateOf, LimitOf, ProvOf}
 use Rattle.bag_algebra.specs.declared.children.Inputs.{Inputs}
 use Rattle.bag_algebra.specs.declared.children.Inputs.TheVariants.{Zero, One, Two}
 use Rattle.bag_algebra.specs.declared.query.Query.{Query, items-the_row-Sublink}
 use Rattle.bag_algebra.specs.declared.query.Query.TheBlock.{items_hidden-the_row-Sublink-1}
-use Rattle.bag_algebra.specs.declared.query.Query.TheVariants.{Table, Single, Base', Filter', Project', Join', Union', Intersect', Except', Distinct', Aggregate', Limit', Prov'}
+use Rattle.bag_algebra.specs.declared.query.Query.TheVariants.{Table, Single, Base', Filter', Project', Join', Apply', Union', Intersect', Except', Distinct', Aggregate', Limit', Prov'}
 use Rattle.bag_algebra.specs.declared.query.Sublink.{Sublink}
 
 -- the queries that code has at hand, in order
@@ -22,6 +22,7 @@ inputs_of (BaseOf input places label) = input ∷ []
 inputs_of (FilterOf input condition _ subs) = input ∷ []
 inputs_of (ProjectOf input items _ subs) = input ∷ []
 inputs_of (JoinOf kind left right condition _ subs) = left ∷ right ∷ []
+inputs_of (ApplyOf kind left right) = left ∷ right ∷ []
 inputs_of (UnionOf all left right) = left ∷ right ∷ []
 inputs_of (IntersectOf all left right) = left ∷ right ∷ []
 inputs_of (ExceptOf all left right) = left ∷ right ∷ []
@@ -38,6 +39,7 @@ sublinks_of (Base' _ input places label) = []
 sublinks_of (Filter' _ input condition _ subs) = items-the_row-Sublink _ subs
 sublinks_of (Project' _ input items _ subs) = items-the_row-Sublink _ subs
 sublinks_of (Join' kind _ left _ right condition _ subs) = items-the_row-Sublink _ subs
+sublinks_of (Apply' kind _ left _ right) = []
 sublinks_of (Union' all _ left _ right) = []
 sublinks_of (Intersect' all _ left _ right) = []
 sublinks_of (Except' all _ left _ right) = []

@@ -2,7 +2,7 @@
 use Rattle.std.specs.Prelude.{ℕ, List, [], ◌∷◌, ◌++◌, map, length, slice_index_or}
 use Rattle.perm_values.specs.declared.kind.Kind.{Kind}
 use Rattle.perm_values.specs.declared.kind.Kind.TheVariants.{Text}
-use Rattle.bag_algebra.specs.Patterns.{BaseOf, FilterOf, ProjectOf, JoinOf, UnionOf, IntersectOf, ExceptOf, DistinctOf, AggregateOf, LimitOf, ProvOf}
+use Rattle.bag_algebra.specs.Patterns.{BaseOf, FilterOf, ProjectOf, JoinOf, ApplyOf, UnionOf, IntersectOf, ExceptOf, DistinctOf, AggregateOf, LimitOf, ProvOf}
 use Rattle.bag_algebra.specs.declared.expr.Item.{Item}
 use Rattle.bag_algebra.specs.declared.query.Aggr.{Aggr}
 use Rattle.bag_algebra.specs.declared.place.Place.{Place}
@@ -29,6 +29,7 @@ abbrev mutual
   kinds_of (FilterOf input condition _ subs) = kinds_of input
   kinds_of (ProjectOf input items _ subs) = map (λ (item : Item). item.kind) items
   kinds_of (JoinOf kind left right condition _ subs) = kinds_of left ++ kinds_of right
+  kinds_of (ApplyOf kind left right) = kinds_of left ++ kinds_of right
   kinds_of (UnionOf all left right) = kinds_of left
   kinds_of (IntersectOf all left right) = kinds_of left
   kinds_of (ExceptOf all left right) = kinds_of left
@@ -45,6 +46,7 @@ abbrev mutual
   shape (FilterOf input condition _ subs) = shape input ++ sub_shape subs
   shape (ProjectOf input items _ subs) = shape input ++ sub_shape subs
   shape (JoinOf kind left right condition _ subs) = shape left ++ shape right ++ sub_shape subs
+  shape (ApplyOf kind left right) = shape left ++ shape right
   shape (UnionOf all left right) = shape left ++ shape right
   shape (IntersectOf all left right) = shape left ++ shape right
   shape (ExceptOf all left right) = shape left ++ shape right

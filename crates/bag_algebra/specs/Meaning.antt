@@ -6,9 +6,9 @@ use Rattle.perm_values.specs.declared.value.Value.TheVariants.{Null}
 use Rattle.bag_algebra.specs.Bags.{Row, Bag}
 use Rattle.bag_algebra.specs.Expressions.{value}
 use Rattle.bag_algebra.specs.Kinds.{shape, width_of}
-use Rattle.bag_algebra.specs.Means.{Means, Witness, SubMeans, no_subs, with_sub, all_empty, unlisted_means, base_means, filter_means, project_means, join_means, union_means, intersect_means, except_means, distinct_means, limit_means, aggregate_means, provenance_means}
+use Rattle.bag_algebra.specs.Means.{Means, Witness, SubMeans, no_subs, with_sub, all_empty, unlisted_means, base_means, filter_means, project_means, join_means, apply_means, union_means, intersect_means, except_means, distinct_means, limit_means, aggregate_means, provenance_means}
 use Rattle.bag_algebra.specs.Outcome.{Outcome, Good, and_then, each}
-use Rattle.bag_algebra.specs.Patterns.{BaseOf, FilterOf, ProjectOf, JoinOf, UnionOf, IntersectOf, ExceptOf, DistinctOf, AggregateOf, LimitOf, ProvOf}
+use Rattle.bag_algebra.specs.Patterns.{BaseOf, FilterOf, ProjectOf, JoinOf, ApplyOf, UnionOf, IntersectOf, ExceptOf, DistinctOf, AggregateOf, LimitOf, ProvOf}
 use Rattle.bag_algebra.specs.declared.expr.Expr.{Expr}
 use Rattle.bag_algebra.specs.declared.expr.Item.{Item}
 use Rattle.bag_algebra.specs.declared.query.Aggr.{Aggr}
@@ -52,6 +52,8 @@ abbrev mutual
       join_means kind (condition_on condition env s) s.contributions
       (record { left = all_empty (shape left); right = all_empty (shape right); subs = s.blank })
       (width_of left) (width_of right) (denote left db env) (denote right db env)
+  denote (ApplyOf kind left right) db env =
+      apply_means kind (width_of right) (all_empty (shape right)) (denote left db env) (λ u. denote right db (u ∷ env))
   denote (UnionOf all left right) db env =
       union_means all (all_empty (shape left)) (all_empty (shape right)) (denote left db env) (denote right db env)
   denote (IntersectOf all left right) db env = intersect_means all (denote left db env) (denote right db env)

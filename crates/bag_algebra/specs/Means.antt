@@ -175,6 +175,26 @@ join_means kind condition contributions blanks left_width right_width l r =
     ++ cond (keeps_left kind) (left_lists condition l blanks right_width us vs t) []
     ++ cond (keeps_right kind) (right_lists condition r blanks left_width us vs t) [])
 
+-- ---- dependent joins
+
+-- what stands beside a left row: each right row; or NULLs where there is none and the kind keeps left rows
+abbrev pub under : JoinKind → ℕ → Row → Bag → Bag
+under kind width u [] = cond (keeps_left kind) ((u ++ nulls width) ∷ []) []
+under kind width u (v ∷ vs) = map (λ w. u ++ w) (v ∷ vs)
+
+-- the lists of t from a left row with these lists, over what the right side means under it and has for rows
+abbrev pub lists_under : JoinKind → ℕ → Witness → List Witness → (Row → List Witness) → Row → Row → Bag → List Witness
+lists_under kind width blank ws lists t u [] =
+    cond (keeps_left kind && same_row (u ++ nulls width) t) (map (λ w. w ++ blank) ws) []
+lists_under kind width blank ws lists t u (v ∷ vs) = flat_map (λ x. cond (same_row (u ++ x) t) (paired ws (lists x)) []) (v ∷ vs)
+
+-- each left row beside each row of the right side, which sees it as its nearest outer row; each list of the left row beside
+-- each of the right row, and beside NULLs the right side all empty
+abbrev pub apply_means : JoinKind → ℕ → Witness → Means → (Row → Means) → Means
+apply_means kind width blank l r =
+    with_lists (and_then l.rows (gather (λ u. mapped (under kind width u) (r u).rows)))
+    (λ t. flat_map (λ u. lists_under kind width blank (l.lists u) (r u).lists t u (good_rows (r u).rows)) (good_rows l.rows))
+
 -- ---- set operations
 
 -- left lists with the right all empty, and right lists with the left all empty

@@ -1,6 +1,6 @@
 -- How high and how large a query is.
 use Rattle.std.specs.Prelude.{ℕ, suc, ◌+◌, max}
-use Rattle.bag_algebra.specs.Patterns.{BaseOf, FilterOf, ProjectOf, JoinOf, UnionOf, IntersectOf, ExceptOf, DistinctOf, AggregateOf, LimitOf, ProvOf}
+use Rattle.bag_algebra.specs.Patterns.{BaseOf, FilterOf, ProjectOf, JoinOf, ApplyOf, UnionOf, IntersectOf, ExceptOf, DistinctOf, AggregateOf, LimitOf, ProvOf}
 use Rattle.bag_algebra.specs.declared.query.Query.{Query, Row_of-Sublink, more_of-Sublink, end_of-Sublink}
 use Rattle.bag_algebra.specs.declared.query.Query.TheVariants.{Table, Single}
 
@@ -13,6 +13,7 @@ abbrev mutual
   height_of (FilterOf input condition _ subs) = suc (max (height_of input) (sub_height subs))
   height_of (ProjectOf input items _ subs) = suc (max (height_of input) (sub_height subs))
   height_of (JoinOf kind left right condition _ subs) = suc (max (max (height_of left) (height_of right)) (sub_height subs))
+  height_of (ApplyOf kind left right) = suc (max (height_of left) (height_of right))
   height_of (UnionOf all left right) = suc (max (height_of left) (height_of right))
   height_of (IntersectOf all left right) = suc (max (height_of left) (height_of right))
   height_of (ExceptOf all left right) = suc (max (height_of left) (height_of right))
@@ -35,6 +36,7 @@ abbrev mutual
   size_of (FilterOf input condition _ subs) = suc (size_of input + sub_size subs)
   size_of (ProjectOf input items _ subs) = suc (size_of input + sub_size subs)
   size_of (JoinOf kind left right condition _ subs) = suc (size_of left + size_of right + sub_size subs)
+  size_of (ApplyOf kind left right) = suc (size_of left + size_of right)
   size_of (UnionOf all left right) = suc (size_of left + size_of right)
   size_of (IntersectOf all left right) = suc (size_of left + size_of right)
   size_of (ExceptOf all left right) = suc (size_of left + size_of right)

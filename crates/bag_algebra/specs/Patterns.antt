@@ -12,7 +12,7 @@ use Rattle.bag_algebra.specs.declared.query.Aggr.{Aggr}
 use Rattle.bag_algebra.specs.declared.query.JoinKind.{JoinKind}
 use Rattle.bag_algebra.specs.declared.query.Label.{Label}
 use Rattle.bag_algebra.specs.declared.query.Query.{Query, Row_of-Sublink, more_of-Query, end_of-Query}
-use Rattle.bag_algebra.specs.declared.query.Query.TheVariants.{Base', Filter', Project', Join', Union', Intersect', Except', Distinct', Aggregate', Limit', Prov'}
+use Rattle.bag_algebra.specs.declared.query.Query.TheVariants.{Base', Filter', Project', Join', Apply', Union', Intersect', Except', Distinct', Aggregate', Limit', Prov'}
 
 -- how many children a list has
 abbrev pub Shape : Type 0
@@ -51,6 +51,9 @@ ProjectOf input items shape subs = Project' tt (more_of-Query input end_of-Query
 pattern abbrev pub JoinOf : JoinKind → Query → Query → Expr → (shape : Shape) → Row_of-Sublink (many shape) → Query
 JoinOf kind left right condition shape subs =
     Join' kind tt (more_of-Query left end_of-Query) tt (more_of-Query right end_of-Query) condition shape subs
+
+pattern abbrev pub ApplyOf : JoinKind → Query → Query → Query
+ApplyOf kind left right = Apply' kind tt (more_of-Query left end_of-Query) tt (more_of-Query right end_of-Query)
 
 pattern abbrev pub UnionOf : Bool → Query → Query → Query
 UnionOf all left right = Union' all tt (more_of-Query left end_of-Query) tt (more_of-Query right end_of-Query)

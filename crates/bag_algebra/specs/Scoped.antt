@@ -1,9 +1,9 @@
 -- The scope of PROVENANCE: the sublinks of a query whose provenance is asked for have sources over tables alone. That is
 -- what the strategy Gen of Glavic and Alonso (EDBT 2009) needs, which looks up all rows that a sublink could contribute.
 use Rattle.std.specs.Prelude.{Bool, true, false, ◌&&◌}
-use Rattle.bag_algebra.specs.Patterns.{BaseOf, FilterOf, ProjectOf, JoinOf, UnionOf, IntersectOf, ExceptOf, DistinctOf, AggregateOf, LimitOf, ProvOf}
+use Rattle.bag_algebra.specs.Patterns.{BaseOf, FilterOf, ProjectOf, JoinOf, ApplyOf, UnionOf, IntersectOf, ExceptOf, DistinctOf, AggregateOf, LimitOf, ProvOf}
 use Rattle.bag_algebra.specs.declared.query.Query.{Query, Row_of-Sublink, more_of-Sublink, end_of-Sublink}
-use Rattle.bag_algebra.specs.declared.query.Query.TheVariants.{Table, Single}
+use Rattle.bag_algebra.specs.declared.query.Query.TheVariants.{Table, Single, Base', Filter', Project', Join', Apply', Union', Intersect', Except', Distinct', Aggregate', Limit', Prov'}
 
 abbrev pub is_table : Query → Bool
 is_table (Table id kinds) = true
@@ -12,6 +12,7 @@ is_table (BaseOf input places label) = false
 is_table (FilterOf input condition _ subs) = false
 is_table (ProjectOf input items _ subs) = false
 is_table (JoinOf kind left right condition _ subs) = false
+is_table (ApplyOf kind left right) = false
 is_table (UnionOf all left right) = false
 is_table (IntersectOf all left right) = false
 is_table (ExceptOf all left right) = false
@@ -29,6 +30,7 @@ abbrev mutual
   over_tables (FilterOf input condition _ subs) = over_tables input && subs_over_tables subs
   over_tables (ProjectOf input items _ subs) = over_tables input && subs_over_tables subs
   over_tables (JoinOf kind left right condition _ subs) = (over_tables left && over_tables right) && subs_over_tables subs
+  over_tables (ApplyOf kind left right) = over_tables left && over_tables right
   over_tables (UnionOf all left right) = over_tables left && over_tables right
   over_tables (IntersectOf all left right) = over_tables left && over_tables right
   over_tables (ExceptOf all left right) = over_tables left && over_tables right
@@ -41,7 +43,29 @@ abbrev mutual
   subs_over_tables end_of-Sublink = true
   subs_over_tables (more_of-Sublink kind tested query subs) = over_tables query && subs_over_tables subs
 
--- each sublink that is reached from here without passing a source has sources over tables alone
+abbrev pub no_subs : {m : _} → Row_of-Sublink m → Bool
+no_subs end_of-Sublink = true
+no_subs (more_of-Sublink kind tested query subs) = false
+
+-- whether a node in the scope of PROVENANCE has a rule: dependent joins have none yet, nor have joins with sublinks
+abbrev pub has_rule : Query → Bool
+has_rule (Table id kinds) = true
+has_rule Single = true
+has_rule (Base' _ input places label) = true
+has_rule (Filter' _ input condition _ subs) = true
+has_rule (Project' _ input items _ subs) = true
+has_rule (Join' kind _ left _ right condition _ subs) = no_subs subs
+has_rule (Apply' kind _ left _ right) = false
+has_rule (Union' all _ left _ right) = true
+has_rule (Intersect' all _ left _ right) = true
+has_rule (Except' all _ left _ right) = true
+has_rule (Distinct' _ input) = true
+has_rule (Aggregate' _ input groups aggregates) = true
+has_rule (Limit' _ input keys count) = true
+has_rule (Prov' _ input) = true
+
+-- each sublink that is reached from here without passing a source has sources over tables alone, and each node that is reached
+-- has a rule
 abbrev mutual
   pub traceable : Query → Bool
   traceable (Table id kinds) = true
@@ -49,7 +73,8 @@ abbrev mutual
   traceable (BaseOf input places label) = true
   traceable (FilterOf input condition _ subs) = traceable input && subs_traceable subs
   traceable (ProjectOf input items _ subs) = traceable input && subs_traceable subs
-  traceable (JoinOf kind left right condition _ subs) = (traceable left && traceable right) && subs_traceable subs
+  traceable (JoinOf kind left right condition _ subs) = (traceable left && traceable right) && no_subs subs
+  traceable (ApplyOf kind left right) = false
   traceable (UnionOf all left right) = traceable left && traceable right
   traceable (IntersectOf all left right) = traceable left && traceable right
   traceable (ExceptOf all left right) = traceable left && traceable right
@@ -71,6 +96,7 @@ abbrev mutual
   is_scoped (FilterOf input condition _ subs) = is_scoped input && subs_scoped subs
   is_scoped (ProjectOf input items _ subs) = is_scoped input && subs_scoped subs
   is_scoped (JoinOf kind left right condition _ subs) = (is_scoped left && is_scoped right) && subs_scoped subs
+  is_scoped (ApplyOf kind left right) = is_scoped left && is_scoped right
   is_scoped (UnionOf all left right) = is_scoped left && is_scoped right
   is_scoped (IntersectOf all left right) = is_scoped left && is_scoped right
   is_scoped (ExceptOf all left right) = is_scoped left && is_scoped right

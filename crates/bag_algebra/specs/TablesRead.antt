@@ -1,7 +1,7 @@
 -- The tables that a query reads, and what holds of each of them.
 use Rattle.std.specs.Prelude.{ℕ, ⊤, List, [], ◌∷◌, ◌++◌, Contains}
 use Rattle.perm_values.specs.declared.kind.Kind.{Kind}
-use Rattle.bag_algebra.specs.Patterns.{BaseOf, FilterOf, ProjectOf, JoinOf, UnionOf, IntersectOf, ExceptOf, DistinctOf, AggregateOf, LimitOf, ProvOf}
+use Rattle.bag_algebra.specs.Patterns.{BaseOf, FilterOf, ProjectOf, JoinOf, ApplyOf, UnionOf, IntersectOf, ExceptOf, DistinctOf, AggregateOf, LimitOf, ProvOf}
 use Rattle.bag_algebra.specs.declared.query.Query.{Query, Row_of-Sublink, more_of-Sublink, end_of-Sublink}
 use Rattle.bag_algebra.specs.declared.query.Query.TheVariants.{Table, Single}
 
@@ -19,6 +19,7 @@ abbrev mutual
   tables_read (FilterOf input condition _ subs) = tables_read input ++ sub_tables_read subs
   tables_read (ProjectOf input items _ subs) = tables_read input ++ sub_tables_read subs
   tables_read (JoinOf kind left right condition _ subs) = tables_read left ++ tables_read right ++ sub_tables_read subs
+  tables_read (ApplyOf kind left right) = tables_read left ++ tables_read right
   tables_read (UnionOf all left right) = tables_read left ++ tables_read right
   tables_read (IntersectOf all left right) = tables_read left ++ tables_read right
   tables_read (ExceptOf all left right) = tables_read left ++ tables_read right
@@ -40,6 +41,7 @@ abbrev mutual
   EachTable P (FilterOf input condition _ subs) = EachTable P input × EachSubTable P subs
   EachTable P (ProjectOf input items _ subs) = EachTable P input × EachSubTable P subs
   EachTable P (JoinOf kind left right condition _ subs) = EachTable P left × EachTable P right × EachSubTable P subs
+  EachTable P (ApplyOf kind left right) = EachTable P left × EachTable P right
   EachTable P (UnionOf all left right) = EachTable P left × EachTable P right
   EachTable P (IntersectOf all left right) = EachTable P left × EachTable P right
   EachTable P (ExceptOf all left right) = EachTable P left × EachTable P right

@@ -14,13 +14,15 @@ use Rattle.perm_values.specs.declared.kind.Kind.{Kind}
 use Rattle.perm_values.specs.declared.kind.Kind.TheVariants.{Integer, Text, Boolean}
 use Rattle.perm_values.specs.declared.value.Value.{Value}
 use Rattle.bag_algebra.specs.Kinds.{kinds_of, kind_in, width_of}
-use Rattle.bag_algebra.specs.Patterns.{OpOf, ChainOf, CaseOf, IsNullOf, IsTruthOf, SameOf, BaseOf, FilterOf, ProjectOf, JoinOf, UnionOf, IntersectOf, ExceptOf, DistinctOf, AggregateOf, LimitOf, ProvOf}
+use Rattle.bag_algebra.specs.Patterns.{OpOf, ChainOf, CaseOf, IsNullOf, IsTruthOf, SameOf, BaseOf, FilterOf, ProjectOf, JoinOf, ApplyOf, UnionOf, IntersectOf, ExceptOf, DistinctOf, AggregateOf, LimitOf, ProvOf}
 use Rattle.bag_algebra.specs.declared.expr.Expr.{Expr, Row_of-Expr, Row_of-Arm, Row_of-ChainStep, more_of-Expr, end_of-Expr, more_of-Arm, end_of-Arm, more_of-ChainStep, end_of-ChainStep}
 use Rattle.bag_algebra.specs.declared.expr.Expr.TheVariants.{Col, Lit, Sub}
 use Rattle.bag_algebra.specs.declared.expr.Item.{Item}
 use Rattle.bag_algebra.specs.declared.query.AggFn.{AggFn}
 use Rattle.bag_algebra.specs.declared.query.AggFn.TheVariants.{CountRows, Count, CountDistinct, Sum, Min, Max}
 use Rattle.bag_algebra.specs.declared.query.Aggr.{Aggr}
+use Rattle.bag_algebra.specs.declared.query.JoinKind.{JoinKind}
+use Rattle.bag_algebra.specs.declared.query.JoinKind.TheVariants.{Inner, Left, Right, Full}
 use Rattle.bag_algebra.specs.declared.query.Label.{Label}
 use Rattle.bag_algebra.specs.declared.query.Label.TheVariants.{Relation, External}
 use Rattle.bag_algebra.specs.declared.query.Query.{Query, Row_of-Sublink, more_of-Sublink, end_of-Sublink}
@@ -222,11 +224,6 @@ abbrev pub sub_kinds : {m : _} → Row_of-Sublink m → List Kind
 sub_kinds end_of-Sublink = []
 sub_kinds (more_of-Sublink kind tested query subs) = sub_kind kind (kinds_of query) ∷ sub_kinds subs
 
--- no sublinks
-abbrev pub no_sublinks : {m : _} → Row_of-Sublink m → Type 0
-no_sublinks end_of-Sublink = ⊤
-no_sublinks (more_of-Sublink kind tested query subs) = ⊥
-
 -- ---- queries
 
 pub record SubForm (QueryForm Rest Others : Type 0) : Type 0 where
@@ -249,13 +246,23 @@ pub record ProjectForm (Input Subs Items : Type 0) : Type 0 where
   pub subs : Subs
   pub items : Items
 
--- what any node asks of its sublinks, and besides that a join has none
-pub record JoinForm (LeftSide RightSide Subs Condition WithoutSubs : Type 0) : Type 0 where
+pub record JoinForm (LeftSide RightSide Subs Condition : Type 0) : Type 0 where
   pub left : LeftSide
   pub right : RightSide
   pub subs : Subs
   pub condition : Condition
-  pub without_subs : WithoutSubs
+
+-- a dependent join keeps no right rows
+abbrev pub is_dependent : JoinKind → Bool
+is_dependent Inner = true
+is_dependent Left = true
+is_dependent Right = Bool.false
+is_dependent Full = Bool.false
+
+pub record ApplyForm (LeftSide RightSide : Type 0) (kind : JoinKind) : Type 0 where
+  pub left : LeftSide
+  pub right : RightSide
+  pub dependent : is_dependent kind ≡ true
 
 pub record SetForm (LeftSide RightSide : Type 0) (left right : List Kind) : Type 0 where
   pub left_side : LeftSide
@@ -286,7 +293,8 @@ abbrev mutual
       (ItemsForm (kinds_of input ∷ outer) (sub_kinds subs) items)
   WellFormed outer (JoinOf kind left right condition _ subs) =
       JoinForm (WellFormed outer left) (WellFormed outer right) (SubsForm ((kinds_of left ++ kinds_of right) ∷ outer) subs)
-      (HasKind ((kinds_of left ++ kinds_of right) ∷ outer) (sub_kinds subs) condition Boolean) (no_sublinks subs)
+      (HasKind ((kinds_of left ++ kinds_of right) ∷ outer) (sub_kinds subs) condition Boolean)
+  WellFormed outer (ApplyOf kind left right) = ApplyForm (WellFormed outer left) (WellFormed (kinds_of left ∷ outer) right) kind
   WellFormed outer (UnionOf all left right) = SetForm (WellFormed outer left) (WellFormed outer right) (kinds_of left) (kinds_of right)
   WellFormed outer (IntersectOf all left right) = SetForm (WellFormed outer left) (WellFormed outer right) (kinds_of left) (kinds_of right)
   WellFormed outer (ExceptOf all left right) = SetForm (WellFormed outer left) (WellFormed outer right) (kinds_of left) (kinds_of right)

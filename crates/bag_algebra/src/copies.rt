@@ -191,6 +191,14 @@ fn copy_query(alloc: Global, query: &Query) -> Result<Query, NoMemory>
         Query::Prov { input } => Ok(Query::Prov {
             input: copy_boxed(alloc, input)?,
         }),
+        Query::Apply { kind, left, right } => {
+            let (left, right) = both(copy_boxed(alloc, left), copy_boxed(alloc, right))?;
+            Ok(Query::Apply {
+                kind: *kind,
+                left,
+                right,
+            })
+        }
     }
 }
 

@@ -1,6 +1,6 @@
 //! Nodes of queries over inputs that aren't boxed yet. Where one can't be made, what it was to be made of is let go.
 ghost use Rattle.std.specs.Prelude.{◌≡◌, IfOk};
-ghost use Rattle.bag_algebra.specs.declared.query.Query.TheVariants.{Base, Filter, Project, Join, Union, Intersect, Except, Distinct, Aggregate, Limit, Prov};
+ghost use Rattle.bag_algebra.specs.declared.query.Query.TheVariants.{Base, Filter, Project, Join, Apply, Union, Intersect, Except, Distinct, Aggregate, Limit, Prov};
 
 use crate::expr::{Expr, Item};
 use crate::query::{Aggr, JoinKind, Label, Query, Sublink};
@@ -90,6 +90,20 @@ impl Query {
             condition,
             subs,
         })
+    }
+
+    /// Each left row beside the rows of the right side, which sees it as its nearest outer row. It fails only for want
+    /// of memory.
+    pub fn apply(
+        alloc: Global,
+        kind: JoinKind,
+        left: Query,
+        right: Query,
+    ) -> Result<Query, NoMemory>
+        ensures { IfOk result (λ made. made ≡ Apply kind left right) }
+    {
+        let (left, right) = boxes(alloc, left, right)?;
+        Ok(Query::Apply { kind, left, right })
     }
 
     /// The rows of either input. It fails only for want of memory.

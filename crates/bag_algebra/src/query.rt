@@ -86,6 +86,11 @@ pub enum Query {
         condition: Expr,
         subs: List<Sublink>,
     },
+    Apply {
+        kind: JoinKind,
+        left: Boxed<Query>,
+        right: Boxed<Query>,
+    },
     Union {
         all: bool,
         left: Boxed<Query>,

@@ -1,7 +1,7 @@
 -- The sources over tables of what the constructors of code make.
 use Rattle.std.proofs.Common.{◌≡◌, ℕ, ◌+◌, ◌<◌, Bool, List, [], ◌∷◌, ◌++◌, length, get_or, take, refl, sym, ap, ◌∙◌, append_assoc, append-nil}
 use Rattle.perm_values.specs.declared.key.Key.{Key}
-use Rattle.bag_algebra.specs.Built.{row_of_subs, Base-is, Filter-is, Project_with-is, Join-is, Union-is, Intersect-is, Except-is, Distinct-is, Aggregate-is, Limit-is, Prov-is}
+use Rattle.bag_algebra.specs.Built.{row_of_subs, Base-is, Filter-is, Project_with-is, Join-is, Apply-is, Union-is, Intersect-is, Except-is, Distinct-is, Aggregate-is, Limit-is, Prov-is}
 use Rattle.bag_algebra.specs.declared.expr.Expr.{Expr}
 use Rattle.bag_algebra.specs.declared.expr.Item.{Item}
 use Rattle.bag_algebra.specs.declared.query.Aggr.{Aggr}
@@ -10,7 +10,7 @@ use Rattle.bag_algebra.specs.declared.query.JoinKind.TheVariants.{Inner}
 use Rattle.bag_algebra.specs.declared.query.Label.{Label}
 use Rattle.bag_algebra.specs.declared.query.Query.{Query, end_of-Sublink}
 use Rattle.bag_algebra.specs.declared.query.Query.TheBlock.{shape-the_row-Sublink-1, hidden-the_row-Sublink-1}
-use Rattle.bag_algebra.specs.declared.query.Query.TheVariants.{Base, Filter, Project, Join, Union, Intersect, Except, Distinct, Aggregate, Limit, Prov}
+use Rattle.bag_algebra.specs.declared.query.Query.TheVariants.{Base, Filter, Project, Join, Apply, Union, Intersect, Except, Distinct, Aggregate, Limit, Prov}
 use Rattle.bag_algebra.specs.declared.query.Sublink.{Sublink}
 use Rattle.bag_algebra.specs.Patterns.{JoinOf}
 use Rattle.contribution.proofs.Added.{one_more}
@@ -41,6 +41,9 @@ pub table_sources-Join : (kind : JoinKind) (left right : Query) (condition : Exp
 table_sources-Join kind left right condition subs =
     ap table_sources (Join-is kind left right condition subs)
     ∙ ap (λ sources. table_sources left ++ table_sources right ++ sources) (sub_table_sources-row_of_subs subs)
+
+pub table_sources-Apply : (kind : JoinKind) (left right : Query) → table_sources (Apply kind left right) ≡ table_sources left ++ table_sources right
+table_sources-Apply kind left right = ap table_sources (Apply-is kind left right)
 
 pub table_sources-Union : (all : Bool) (left right : Query) → table_sources (Union all left right) ≡ table_sources left ++ table_sources right
 table_sources-Union all left right = ap table_sources (Union-is all left right)

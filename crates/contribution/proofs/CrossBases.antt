@@ -8,7 +8,7 @@ use Rattle.bag_algebra.specs.Bags.{Row, Bag, member}
 use Rattle.bag_algebra.specs.Kinds.{kinds_of, kinds_in, shape, sub_shape, place_kinds}
 use Rattle.bag_algebra.specs.Meaning.{Database, meaning}
 use Rattle.bag_algebra.specs.Outcome.{Good}
-use Rattle.bag_algebra.specs.Patterns.{BaseOf, FilterOf, ProjectOf, JoinOf, UnionOf, IntersectOf, ExceptOf, DistinctOf, AggregateOf, LimitOf, ProvOf}
+use Rattle.bag_algebra.specs.Patterns.{BaseOf, FilterOf, ProjectOf, JoinOf, ApplyOf, UnionOf, IntersectOf, ExceptOf, DistinctOf, AggregateOf, LimitOf, ProvOf}
 use Rattle.bag_algebra.specs.Rewriting.{is_plain}
 use Rattle.bag_algebra.specs.Scoped.{is_table, over_tables, subs_over_tables}
 use Rattle.bag_algebra.specs.TablesRead.{tables_read, EachTable, EachSubTable, ReadsAmong}
@@ -40,6 +40,7 @@ sourced-base (BaseOf input inner own) places label db e = absurd (true≢false (
 sourced-base (FilterOf input condition _ subs) places label db e = absurd (true≢false (sym e))
 sourced-base (ProjectOf input items _ subs) places label db e = absurd (true≢false (sym e))
 sourced-base (JoinOf kind left right condition _ subs) places label db e = absurd (true≢false (sym e))
+sourced-base (ApplyOf kind left right) places label db e = absurd (true≢false (sym e))
 sourced-base (UnionOf all left right) places label db e = absurd (true≢false (sym e))
 sourced-base (IntersectOf all left right) places label db e = absurd (true≢false (sym e))
 sourced-base (ExceptOf all left right) places label db e = absurd (true≢false (sym e))
@@ -59,6 +60,7 @@ mutual
       let inputs = left-true (over_tables left && over_tables right) (subs_over_tables subs) e in
       sourced-append (sourced-append (sourced left db (left-true _ _ inputs)) (sourced right db (right-true _ _ inputs)))
       (sourced-subs subs db (right-true (over_tables left && over_tables right) (subs_over_tables subs) e))
+  sourced (ApplyOf kind left right) db e = sourced-append (sourced left db (left-true _ _ e)) (sourced right db (right-true _ _ e))
   sourced (UnionOf all left right) db e = sourced-append (sourced left db (left-true _ _ e)) (sourced right db (right-true _ _ e))
   sourced (IntersectOf all left right) db e = sourced-append (sourced left db (left-true _ _ e)) (sourced right db (right-true _ _ e))
   sourced (ExceptOf all left right) db e = sourced-append (sourced left db (left-true _ _ e)) (sourced right db (right-true _ _ e))
@@ -130,6 +132,7 @@ mutual
   ranged (ProjectOf input items _ subs) outer f = each_source-append InRange (ranged input outer f.input) (ranged-subs subs (kinds_of input ∷ outer) f.subs)
   ranged (JoinOf kind left right condition _ subs) outer f =
       each_source-append InRange (each_source-append InRange (ranged left outer f.left) (ranged right outer f.right)) (ranged-subs subs ((kinds_of left ++ kinds_of right) ∷ outer) f.subs)
+  ranged (ApplyOf kind left right) outer f = each_source-append InRange (ranged left outer f.left) (ranged right (kinds_of left ∷ outer) f.right)
   ranged (UnionOf all left right) outer f = each_source-append InRange (ranged left outer f.left_side) (ranged right outer f.right_side)
   ranged (IntersectOf all left right) outer f = each_source-append InRange (ranged left outer f.left_side) (ranged right outer f.right_side)
   ranged (ExceptOf all left right) outer f = each_source-append InRange (ranged left outer f.left_side) (ranged right outer f.right_side)
@@ -156,7 +159,6 @@ formed-crossed (source ∷ sources) outer (some _ within rest) = record {
   right = formed-crossed sources outer rest;
   subs = tt;
   condition = record { fitting = refl; gives = refl };
-  without_subs = tt;
 }
 
 pub formed-cross_base : (q : Query) (outer other : List (List Kind)) → WellFormed outer q → WellFormed other (cross_base_of q)
@@ -179,6 +181,7 @@ mutual
   had (ProjectOf input items _ subs) P f = each_source-append (SourceHas P) (had input P f.0) (had-subs subs P f.1)
   had (JoinOf kind left right condition _ subs) P f =
       each_source-append (SourceHas P) (each_source-append (SourceHas P) (had left P f.0) (had right P f.1)) (had-subs subs P f.2)
+  had (ApplyOf kind left right) P f = each_source-append (SourceHas P) (had left P f.0) (had right P f.1)
   had (UnionOf all left right) P f = each_source-append (SourceHas P) (had left P f.0) (had right P f.1)
   had (IntersectOf all left right) P f = each_source-append (SourceHas P) (had left P f.0) (had right P f.1)
   had (ExceptOf all left right) P f = each_source-append (SourceHas P) (had left P f.0) (had right P f.1)

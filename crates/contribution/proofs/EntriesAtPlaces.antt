@@ -11,9 +11,9 @@ use Rattle.bag_algebra.proofs.Members.{IsIn, in-map, from-map, from-append, from
 use Rattle.bag_algebra.specs.Bags.{Row, Bag, member, nulls}
 use Rattle.bag_algebra.specs.Kinds.{shape, sub_shape, kinds_in, kind_in, kinds_of, width_of}
 use Rattle.bag_algebra.specs.Meaning.{Database, denote, meaning, sub_denote, optional_value, condition_on, items_on, arguments_on}
-use Rattle.bag_algebra.specs.Means.{Means, Held, Empty, Witness, Blanks, with_lists, paired, beside, good_rows, all_empty, base_means, filter_means, project_means, join_means, keeps_left, keeps_right, is_met, unmatched_left, unmatched_right, pair_lists, left_lists, right_lists, union_means, intersect_means, except_means, differing_lists, distinct_means, limit_means, unlisted_means, aggregate_means, class_lists, contribution_of, chosen, is_some_row, good_value}
+use Rattle.bag_algebra.specs.Means.{Means, Held, Empty, Witness, Blanks, with_lists, paired, beside, good_rows, all_empty, base_means, filter_means, project_means, join_means, keeps_left, keeps_right, is_met, unmatched_left, unmatched_right, pair_lists, left_lists, right_lists, lists_under, apply_means, union_means, intersect_means, except_means, differing_lists, distinct_means, limit_means, unlisted_means, aggregate_means, class_lists, contribution_of, chosen, is_some_row, good_value}
 use Rattle.bag_algebra.specs.Outcome.{Outcome, Good, Bad}
-use Rattle.bag_algebra.specs.Patterns.{BaseOf, FilterOf, ProjectOf, JoinOf, UnionOf, IntersectOf, ExceptOf, DistinctOf, AggregateOf, LimitOf, ProvOf}
+use Rattle.bag_algebra.specs.Patterns.{BaseOf, FilterOf, ProjectOf, JoinOf, ApplyOf, UnionOf, IntersectOf, ExceptOf, DistinctOf, AggregateOf, LimitOf, ProvOf}
 use Rattle.bag_algebra.specs.declared.place.Place.{Place}
 use Rattle.bag_algebra.specs.declared.query.AggFn.{AggFn}
 use Rattle.bag_algebra.specs.declared.query.Aggr.{Aggr}
@@ -139,6 +139,21 @@ module _ (ps qs : List Place) (rs ss : Rows) where
       each-append (ps ++ qs) (rs ++ ss) _ _
       (each-map ps (ps ++ qs) rs (rs ++ ss) (λ w. w ++ all_empty qs) (l.lists t) (a.all t) (λ w at_left. at-append ps qs rs ss w (all_empty qs) at_left right_blank))
       (each-map qs (ps ++ qs) ss (rs ++ ss) (λ w. all_empty ps ++ w) (r.lists t) (b.all t) (λ w at_right. at-append ps qs rs ss (all_empty ps) w left_blank at_right)))
+
+  each-under : (kind : JoinKind) (width : ℕ) (ws : List Witness) (lists : Row → List Witness) (t u : Row) (vs : Bag) → Blank qs ss → EachAt ps rs ws →
+      ((v : Row) → EachAt qs ss (lists v)) → EachAt (ps ++ qs) (rs ++ ss) (lists_under kind width (all_empty qs) ws lists t u vs)
+  each-under kind width ws lists t u [] blank a b =
+      each-if (ps ++ qs) (rs ++ ss) (keeps_left kind && same_row (u ++ nulls width) t) (map (λ w. w ++ all_empty qs) ws)
+      (each-map ps (ps ++ qs) rs (rs ++ ss) (λ w. w ++ all_empty qs) ws a (λ w at_left. at-append ps qs rs ss w (all_empty qs) at_left blank))
+  each-under kind width ws lists t u (v ∷ vs) blank a b =
+      each-flat_map (ps ++ qs) (rs ++ ss) (λ x. cond (same_row (u ++ x) t) (paired ws (lists x)) []) (v ∷ vs) (λ x h.
+      each-if (ps ++ qs) (rs ++ ss) (same_row (u ++ x) t) (paired ws (lists x)) (each-paired ps qs rs ss ws (lists x) a (b x)))
+
+  pub all-apply : (kind : JoinKind) (width : ℕ) (l : Means) (r : Row → Means) → Blank qs ss → AllAt ps rs l → ((u : Row) → AllAt qs ss (r u)) →
+      AllAt (ps ++ qs) (rs ++ ss) (apply_means kind width (all_empty qs) l r)
+  all-apply kind width l r blank a b = all-with_lists (ps ++ qs) (rs ++ ss) _ _ (λ t h.
+      each-flat_map (ps ++ qs) (rs ++ ss) (λ u. lists_under kind width (all_empty qs) (l.lists u) (r u).lists t u (good_rows (r u).rows)) (good_rows l.rows) (λ u g.
+      each-under kind width (l.lists u) (r u).lists t u (good_rows (r u).rows) blank (a.all u) (b u).all))
 
   pub all-intersect : (all : Bool) (l r : Means) → AllAt ps rs l → AllAt qs ss r → AllAt (ps ++ qs) (rs ++ ss) (intersect_means all l r)
   all-intersect all l r a b = all-with_lists (ps ++ qs) (rs ++ ss) _ _ (λ t h. each-paired ps qs rs ss (l.lists t) (r.lists t) (a.all t) (b.all t))
@@ -275,6 +290,8 @@ mutual
   blank-at (JoinOf kind left right condition _ subs) db told =
       blank-append (shape left ++ shape right) (sub_shape subs) (held_rows left db told ++ held_rows right db told) (sub_held_rows subs db)
       (blank-append (shape left) (shape right) (held_rows left db told) (held_rows right db told) (blank-at left db told) (blank-at right db told)) (blank-subs subs db)
+  blank-at (ApplyOf kind left right) db told =
+      blank-append (shape left) (shape right) (held_rows left db told) (held_rows right db None) (blank-at left db told) (blank-at right db None)
   blank-at (UnionOf all left right) db told =
       blank-append (shape left) (shape right) (held_rows left db told) (held_rows right db told) (blank-at left db told) (blank-at right db told)
   blank-at (IntersectOf all left right) db told =
@@ -317,6 +334,9 @@ mutual
       kind (condition_on condition env s) s.contributions s.blank (width_of left) (width_of right) (denote left db env) (denote right db env)
       (blank-at left db told) (blank-at right db told) (subst (At (sub_shape subs) (sub_held_rows subs db)) (sym (blank-of_subs subs db env)) (blank-subs subs db))
       (all-at left db told env t) (all-at right db told env t) (contributions-at subs db env)
+  all-at (ApplyOf kind left right) db told env t =
+      all-apply (shape left) (shape right) (held_rows left db told) (held_rows right db None) kind (width_of right) (denote left db env) (λ u. denote right db (u ∷ env))
+      (blank-at right db None) (all-at left db told env t) (λ u. all-at right db None (u ∷ env) (record { same = tt }))
   all-at (UnionOf all left right) db told env t =
       all-union (shape left) (shape right) (held_rows left db told) (held_rows right db told) all (denote left db env) (denote right db env)
       (blank-at left db told) (blank-at right db told) (all-at left db told env t) (all-at right db told env t)

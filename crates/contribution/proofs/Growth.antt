@@ -14,9 +14,9 @@ use Rattle.bag_algebra.specs.Expressions.{row_at, operate, chain, has_truth, cho
 use Rattle.bag_algebra.specs.Fits.{row_begins, env_fits}
 use Rattle.bag_algebra.specs.Kinds.{kinds_of, shape, width_of}
 use Rattle.bag_algebra.specs.Meaning.{Database, denote, sub_denote, optional_value, condition_on, items_on, arguments_on}
-use Rattle.bag_algebra.specs.Means.{SubMeans, with_sub, all_empty, base_means, filter_means, project_means, join_means, union_means, intersect_means, except_means, distinct_means, aggregate_means, limit_means, provenance_means}
+use Rattle.bag_algebra.specs.Means.{SubMeans, with_sub, all_empty, base_means, filter_means, project_means, join_means, apply_means, union_means, intersect_means, except_means, distinct_means, aggregate_means, limit_means, provenance_means}
 use Rattle.bag_algebra.specs.Outcome.{Outcome, Good, and_then, mapped, both, both_then, each}
-use Rattle.bag_algebra.specs.Patterns.{OpOf, ChainOf, CaseOf, IsNullOf, IsTruthOf, SameOf, BaseOf, FilterOf, ProjectOf, JoinOf, UnionOf, IntersectOf, ExceptOf, DistinctOf, AggregateOf, LimitOf, ProvOf}
+use Rattle.bag_algebra.specs.Patterns.{OpOf, ChainOf, CaseOf, IsNullOf, IsTruthOf, SameOf, BaseOf, FilterOf, ProjectOf, JoinOf, ApplyOf, UnionOf, IntersectOf, ExceptOf, DistinctOf, AggregateOf, LimitOf, ProvOf}
 use Rattle.bag_algebra.specs.WellFormed.{column_kind, op_form, HasKind, PartsHave, StepsHave, ArmsHave, number_of_parts, ItemsForm, aggr_form, AggregatesForm, sub_form, sub_kinds, WellFormed, SubsForm}
 use Rattle.bag_algebra.specs.declared.expr.Expr.{Expr, Row_of-Expr, Row_of-Arm, Row_of-ChainStep, more_of-Expr, end_of-Expr, more_of-Arm, end_of-Arm, more_of-ChainStep, end_of-ChainStep}
 use Rattle.bag_algebra.specs.declared.expr.Expr.TheVariants.{Col, Lit, Sub}
@@ -157,6 +157,9 @@ mutual
       let c = condition_on-same (kinds_of left ++ kinds_of right) outer env other s (sub_kinds subs) condition (sub_denote subs db env) (sub_denote subs db other) e f.condition in
       λ i. join_means kind (c i) (e i).contributions (record { left = all_empty (shape left); right = all_empty (shape right); subs = (e i).blank })
       (width_of left) (width_of right) (denote-same left outer db env other f.left s i) (denote-same right outer db env other f.right s i)
+  denote-same (ApplyOf kind left right) outer db env other f s =
+      λ i. apply_means kind (width_of right) (all_empty (shape right)) (denote-same left outer db env other f.left s i)
+      (λ u. denote-same right (kinds_of left ∷ outer) db (u ∷ env) (u ∷ other) f.right (columns-own (kinds_of left) u s) i)
   denote-same (UnionOf all left right) outer db env other f s =
       λ i. union_means all (all_empty (shape left)) (all_empty (shape right)) (denote-same left outer db env other f.left_side s i) (denote-same right outer db env other f.right_side s i)
   denote-same (IntersectOf all left right) outer db env other f s =

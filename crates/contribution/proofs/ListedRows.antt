@@ -9,7 +9,7 @@ use Rattle.bag_algebra.specs.Children.{subs_denote, sublink_value}
 use Rattle.bag_algebra.specs.Meaning.{Database, denote, meaning, witnesses, optional_value}
 use Rattle.bag_algebra.specs.Means.{Means, Witness, with_lists, good_rows, flat, with_witnesses}
 use Rattle.bag_algebra.specs.Outcome.{Outcome, Good, Bad, Faults, mapped, both_then, both, each}
-use Rattle.bag_algebra.specs.Patterns.{BaseOf, FilterOf, ProjectOf, JoinOf, UnionOf, IntersectOf, ExceptOf, DistinctOf, AggregateOf, LimitOf, ProvOf}
+use Rattle.bag_algebra.specs.Patterns.{BaseOf, FilterOf, ProjectOf, JoinOf, ApplyOf, UnionOf, IntersectOf, ExceptOf, DistinctOf, AggregateOf, LimitOf, ProvOf}
 use Rattle.bag_algebra.specs.declared.query.Query.{Query}
 use Rattle.bag_algebra.specs.declared.query.Query.TheVariants.{Table, Single}
 use Rattle.bag_algebra.specs.declared.query.Sublink.{Sublink}
@@ -37,6 +37,7 @@ only_rows (BaseOf input places label) db env = only_rows-with_lists _ _
 only_rows (FilterOf input condition _ subs) db env = only_rows-with_lists _ _
 only_rows (ProjectOf input items _ subs) db env = only_rows-with_lists _ _
 only_rows (JoinOf kind left right condition _ subs) db env = only_rows-with_lists _ _
+only_rows (ApplyOf kind left right) db env = only_rows-with_lists _ _
 only_rows (UnionOf all left right) db env = only_rows-with_lists _ _
 only_rows (IntersectOf all left right) db env = only_rows-with_lists _ _
 only_rows (ExceptOf all left right) db env = only_rows-with_lists _ _

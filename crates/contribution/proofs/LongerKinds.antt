@@ -3,7 +3,7 @@ use Rattle.std.proofs.Common.{◌≡◌, ℕ, zero, suc, List, [], ◌∷◌, �
 use Rattle.perm_values.specs.declared.kind.Kind.{Kind}
 use Rattle.perm_values.specs.declared.kind.Kind.TheVariants.{Integer, Boolean}
 use Rattle.bag_algebra.specs.Kinds.{kinds_of}
-use Rattle.bag_algebra.specs.Patterns.{OpOf, ChainOf, CaseOf, IsNullOf, IsTruthOf, SameOf, BaseOf, FilterOf, ProjectOf, JoinOf, UnionOf, IntersectOf, ExceptOf, DistinctOf, AggregateOf, LimitOf, ProvOf}
+use Rattle.bag_algebra.specs.Patterns.{OpOf, ChainOf, CaseOf, IsNullOf, IsTruthOf, SameOf, BaseOf, FilterOf, ProjectOf, JoinOf, ApplyOf, UnionOf, IntersectOf, ExceptOf, DistinctOf, AggregateOf, LimitOf, ProvOf}
 use Rattle.bag_algebra.specs.WellFormed.{column_kind, HasKind, PartsHave, StepsHave, ArmsHave, number_of_parts, aggr_form, sub_form, sub_kinds, WellFormed, SubsForm}
 use Rattle.bag_algebra.specs.declared.expr.Expr.{Expr, Row_of-Expr, Row_of-Arm, Row_of-ChainStep, more_of-Expr, end_of-Expr, more_of-Arm, end_of-Arm, more_of-ChainStep, end_of-ChainStep}
 use Rattle.bag_algebra.specs.declared.expr.Expr.TheVariants.{Col, Lit, Sub}
@@ -136,7 +136,11 @@ mutual
     subs = subs_form-longer subs ((kinds_of left ++ kinds_of right) ∷ outer) ((kinds_of left ++ kinds_of right) ∷ longer)
         (names-own (kinds_of left ++ kinds_of right) n) f.subs;
     condition = has_kind-longer (names-own (kinds_of left ++ kinds_of right) n) (sub_kinds subs) condition Boolean f.condition;
-    without_subs = f.without_subs;
+  }
+  well_formed-longer (ApplyOf kind left right) outer longer n f = record {
+    left = well_formed-longer left outer longer n f.left;
+    right = well_formed-longer right (kinds_of left ∷ outer) (kinds_of left ∷ longer) (names-own (kinds_of left) n) f.right;
+    dependent = f.dependent;
   }
   well_formed-longer (UnionOf all left right) outer longer n f =
       record { left_side = well_formed-longer left outer longer n f.left_side; right_side = well_formed-longer right outer longer n f.right_side; same_kinds = f.same_kinds }

@@ -9,11 +9,11 @@ use Rattle.perm_values.specs.declared.value.Value.{Value}
 use Rattle.bag_algebra.proofs.Columns.{in-with_lists}
 use Rattle.bag_algebra.proofs.Members.{IsIn, in-map, from-map, in-append_left, in-append_right, from-append, in-flat_map, in-filter, from-filter}
 use Rattle.bag_algebra.specs.Bags.{Row, Bag, once, nulls, sorted, union_of, intersect_of, except_of}
-use Rattle.bag_algebra.specs.Means.{Means, Witness, Held, Blanks, with_lists, paired, beside, good_rows, base_means, filter_means, project_means, join_means, joined_rows, keeps_left, keeps_right, met_pairs, unmatched_left, unmatched_right, pair_lists, left_lists, right_lists, is_met, kept, gives, union_means, intersect_means, except_means, differing_lists, distinct_means, limit_means, unlisted_means, aggregate_means, class_lists, grouped, contribution_of, chosen, is_some_row, good_value, all_empty}
-use Rattle.bag_algebra.specs.Outcome.{Outcome, Good, Bad, gather, each}
+use Rattle.bag_algebra.specs.Means.{Means, Witness, Held, Blanks, with_lists, paired, beside, good_rows, base_means, filter_means, project_means, join_means, joined_rows, keeps_left, keeps_right, met_pairs, unmatched_left, unmatched_right, pair_lists, left_lists, right_lists, is_met, under, lists_under, apply_means, kept, gives, union_means, intersect_means, except_means, differing_lists, distinct_means, limit_means, unlisted_means, aggregate_means, class_lists, grouped, contribution_of, chosen, is_some_row, good_value, all_empty}
+use Rattle.bag_algebra.specs.Outcome.{Outcome, Good, Bad, mapped, gather, each}
 use Rattle.bag_algebra.specs.Kinds.{shape, width_of}
 use Rattle.bag_algebra.specs.Meaning.{Database, denote, sub_denote, optional_value, condition_on, arguments_on}
-use Rattle.bag_algebra.specs.Patterns.{BaseOf, FilterOf, ProjectOf, JoinOf, UnionOf, IntersectOf, ExceptOf, DistinctOf, AggregateOf, LimitOf, ProvOf}
+use Rattle.bag_algebra.specs.Patterns.{BaseOf, FilterOf, ProjectOf, JoinOf, ApplyOf, UnionOf, IntersectOf, ExceptOf, DistinctOf, AggregateOf, LimitOf, ProvOf}
 use Rattle.bag_algebra.specs.declared.query.AggFn.{AggFn}
 use Rattle.bag_algebra.specs.declared.query.Aggr.{Aggr}
 use Rattle.bag_algebra.specs.declared.query.JoinKind.{JoinKind}
@@ -184,6 +184,58 @@ none_lost-join kind condition contributions blanks left_width right_width l r al
           (listed-map (λ w. blanks.left ++ w ++ blanks.subs) (r.lists v) (q.listed v (from-filter _ v vs here).0))))
     ])
 
+-- ---- dependent joins
+
+-- a row that stands beside a left row is made by a right row, or by NULLs where there is none
+pub data Under (kind : JoinKind) (width : ℕ) (u : Row) (t : Row) : Bag → Type 0 where
+  beside_right : {vs : Bag} (v : Row) → IsIn v vs → u ++ v ≡ t → Under kind width u t vs
+  beside_nulls : keeps_left kind ≡ true → u ++ nulls width ≡ t → Under kind width u t []
+
+module _ (kind : JoinKind) (width : ℕ) (u t : Row) where
+  from-nulls : (keeps : Bool) → keeps_left kind ≡ keeps → IsIn t (cond keeps ((u ++ nulls width) ∷ []) []) → Under kind width u t []
+  from-nulls true e (inl makes) = beside_nulls e makes
+  from-nulls true e (inr h) = absurd h
+  from-nulls false e h = absurd h
+
+  pub from-under : (vs : Bag) → IsIn t (under kind width u vs) → Under kind width u t vs
+  from-under [] h = from-nulls (keeps_left kind) refl h
+  from-under (v ∷ vs) h = let found = from-map (λ w. u ++ w) t (v ∷ vs) h in beside_right found.0 found.1 found.2
+
+  in-nulls : (keeps : Bool) → keeps ≡ true → u ++ nulls width ≡ t → IsIn t (cond keeps ((u ++ nulls width) ∷ []) [])
+  in-nulls true e makes = inl makes
+  in-nulls false e makes = absurd (true≢false (sym e))
+
+  in-right : (vs : Bag) (v : Row) → IsIn v vs → u ++ v ≡ t → IsIn t (under kind width u vs)
+  in-right [] v h makes = absurd h
+  in-right (x ∷ vs) v h makes = subst (λ w. IsIn w (map (λ w. u ++ w) (x ∷ vs))) makes (in-map (λ w. u ++ w) v (x ∷ vs) h)
+
+  pub in-under : {vs : Bag} → Under kind width u t vs → IsIn t (under kind width u vs)
+  in-under (beside_right {vs} v h makes) = in-right vs v h makes
+  in-under (beside_nulls keeps makes) = in-nulls (keeps_left kind) keeps makes
+
+  module _ (blank : Witness) (ws : List Witness) (lists : Row → List Witness) (listed : Listed ws) where
+    listed-right_row : (vs : Bag) (v : Row) → IsIn v vs → u ++ v ≡ t → Listed (lists v) → Listed (lists_under kind width blank ws lists t u vs)
+    listed-right_row [] v h makes l = absurd h
+    listed-right_row (x ∷ vs) v h makes l =
+        listed-flat_map (λ y. cond (same_row (u ++ y) t) (paired ws (lists y)) []) v (x ∷ vs) h
+        (kept_side (same_row (u ++ v) t) (paired ws (lists v)) ((row_decides (u ++ v) t).1 makes) (listed-paired ws (lists v) listed l))
+
+    listed-under : {vs : Bag} → Under kind width u t vs → ((v : Row) → IsIn v vs → Listed (lists v)) → Listed (lists_under kind width blank ws lists t u vs)
+    listed-under (beside_right {vs} v h makes) l = listed-right_row vs v h makes (l v h)
+    listed-under (beside_nulls keeps makes) l =
+        listed-if (keeps_left kind) (same_row (u ++ nulls width) t) (map (λ w. w ++ blank) ws) keeps ((row_decides (u ++ nulls width) t).1 makes)
+        (listed-map (λ w. w ++ blank) ws listed)
+
+pub none_lost-apply : (kind : JoinKind) (width : ℕ) (blank : Witness) (l : Means) (r : Row → Means) → NoneLost l → ((u : Row) → NoneLost (r u)) →
+    NoneLost (apply_means kind width blank l r)
+none_lost-apply kind width blank l r p q = none_lost-with_lists _ _ (λ t h.
+    let beside_left : Row → Outcome Bag = λ u. mapped (under kind width u) (r u).rows in
+    let from = from-gather beside_left t (good_rows l.rows) (from-and_then l.rows (gather beside_left) t h) in
+    let u = from.0 in
+    listed-flat_map (λ u. lists_under kind width blank (l.lists u) (r u).lists t u (good_rows (r u).rows)) u (good_rows l.rows) from.1
+    (listed-under kind width u t blank (l.lists u) (r u).lists (p.listed u from.1)
+    (from-under kind width u t (good_rows (r u).rows) (from-mapped (under kind width u) (r u).rows t from.2)) (q u).listed))
+
 -- ---- set operations
 
 pub none_lost-union : (all : Bool) (left_blank right_blank : Witness) (l r : Means) → NoneLost l → NoneLost r → NoneLost (union_means all left_blank right_blank l r)
@@ -268,6 +320,9 @@ mutual
       let s = sub_denote subs db env in
       none_lost-join kind (condition_on condition env s) s.contributions
       (record { left = all_empty (shape left); right = all_empty (shape right); subs = s.blank }) (width_of left) (width_of right) (denote left db env) (denote right db env) (none_lost-subs subs db env) (none_lost left db env) (none_lost right db env)
+  none_lost (ApplyOf kind left right) db env =
+      none_lost-apply kind (width_of right) (all_empty (shape right)) (denote left db env) (λ u. denote right db (u ∷ env)) (none_lost left db env)
+      (λ u. none_lost right db (u ∷ env))
   none_lost (UnionOf all left right) db env =
       none_lost-union all _ _ (denote left db env) (denote right db env) (none_lost left db env) (none_lost right db env)
   none_lost (IntersectOf all left right) db env =

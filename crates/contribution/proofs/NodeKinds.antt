@@ -9,8 +9,8 @@ use Rattle.perm_values.specs.declared.value.Value.{Value}
 use Rattle.bag_algebra.proofs.Members.{IsIn, from-map, from-filter, member-in}
 use Rattle.bag_algebra.specs.Bags.{Row, Bag, member, once, union_of, intersect_of, except_of, sorted, nulls}
 use Rattle.bag_algebra.specs.Kinds.{kinds_in, place_kinds}
-use Rattle.bag_algebra.specs.Means.{Held, Witness, Means, flat, with_lists, beside, unlisted_means, base_means, holds_of, kept, filter_means, gives, good_rows, project_means, keeps_left, keeps_right, is_met, unmatched_left, unmatched_right, met_pairs, joined_rows, Blanks, pair_lists, left_lists, right_lists, join_means, union_means, intersect_means, differing_lists, except_means, distinct_means, limit_means, with_witnesses, provenance_means}
-use Rattle.bag_algebra.specs.Outcome.{Outcome, Good, Bad, gather, each}
+use Rattle.bag_algebra.specs.Means.{Held, Witness, Means, flat, with_lists, beside, unlisted_means, base_means, holds_of, kept, filter_means, gives, good_rows, project_means, keeps_left, keeps_right, is_met, unmatched_left, unmatched_right, met_pairs, joined_rows, Blanks, pair_lists, left_lists, right_lists, join_means, under, lists_under, apply_means, paired, union_means, intersect_means, differing_lists, except_means, distinct_means, limit_means, with_witnesses, provenance_means}
+use Rattle.bag_algebra.specs.Outcome.{Outcome, Good, Bad, mapped, gather, each}
 use Rattle.bag_algebra.specs.declared.place.Place.{Place}
 use Rattle.bag_algebra.specs.declared.query.JoinKind.{JoinKind}
 use Rattle.bag_algebra.specs.declared.query.Label.{Label}
@@ -132,6 +132,43 @@ module _ (left_kinds right_kinds : List Kind) (condition : Row → Outcome Value
       right_sides t =
           lists_fit-flat_map _ _ (λ v i. lists_fit-map (λ w. blanks.left ++ w ++ blanks.subs) (r.lists v)
           (λ w h. fits_places-append (fits_places-append left_blank h) sub_blank) (g.lists v))
+
+-- ---- dependent joins
+
+module _ (left_kinds right_kinds : List Kind) where
+  under-fits : (kind : JoinKind) (u : Row) (vs : Bag) → RowFits left_kinds u → BagFits right_kinds vs →
+      BagFits (left_kinds ++ right_kinds) (under kind (length right_kinds) u vs)
+  under-fits kind u [] f g =
+      each-where (RowFits (left_kinds ++ right_kinds)) (keeps_left kind) ((u ++ nulls (length right_kinds)) ∷ []) []
+      (row_fits-append u (nulls (length right_kinds)) left_kinds right_kinds f (nulls-fit right_kinds), tt) tt
+  under-fits kind u (v ∷ vs) f g =
+      each-map (RowFits right_kinds) (RowFits (left_kinds ++ right_kinds)) (λ w. u ++ w) (v ∷ vs) g
+      (λ w h. row_fits-append u w left_kinds right_kinds f h)
+
+  module _ {left_places right_places : List Place} (kind : JoinKind) (blank : Witness) (blank_fits : FitsPlaces right_places blank) where
+    lists_under-fit : (ws : List Witness) (lists : Row → List Witness) (t u : Row) (vs : Bag) → ListsFit left_places ws →
+        ((x : Row) → ListsFit right_places (lists x)) →
+        ListsFit (left_places ++ right_places) (lists_under kind (length right_kinds) blank ws lists t u vs)
+    lists_under-fit ws lists t u [] f g =
+        lists_fit-where (keeps_left kind && same_row (u ++ nulls (length right_kinds)) t) (map (λ w. w ++ blank) ws) []
+        (lists_fit-map (λ w. w ++ blank) ws (λ w h. fits_places-append h blank_fits) f) (none-fit _)
+    lists_under-fit ws lists t u (v ∷ vs) f g =
+        lists_fit-flat_map (λ x. cond (same_row (u ++ x) t) (paired ws (lists x)) []) (v ∷ vs) (λ x i.
+        lists_fit-where (same_row (u ++ x) t) (paired ws (lists x)) [] (lists_fit-paired ws (lists x) f (g x)) (none-fit _))
+
+    pub apply_means-fit : (l : Means) (r : Row → Means) → MeansFit left_kinds left_places l →
+        ((u : Row) → RowFits left_kinds u → MeansFit right_kinds right_places (r u)) →
+        MeansFit (left_kinds ++ right_kinds) (left_places ++ right_places) (apply_means kind (length right_kinds) blank l r)
+    apply_means-fit l r f g =
+        let Whole : Row → Type 0 = RowFits (left_kinds ++ right_kinds) in
+        let beside_left : Row → Outcome Bag = λ u. mapped (under kind (length right_kinds) u) (r u).rows in
+        with_lists-fit _ _
+        (good-and_then (BagFits left_kinds) (Each Whole) l.rows (gather beside_left) f.rows (λ us h.
+        good-gather (RowFits left_kinds) Whole beside_left us h (λ u i.
+        good-mapped (BagFits right_kinds) (Each Whole) (under kind (length right_kinds) u) (r u).rows (g u i).rows (λ vs j. under-fits kind u vs i j))))
+        (λ t h. lists_fit-flat_map _ (good_rows l.rows) (λ u i.
+        lists_under-fit (l.lists u) (r u).lists t u (good_rows (r u).rows) (f.lists u)
+        (g u (each-in (RowFits left_kinds) u (good_rows l.rows) (good_rows-each (RowFits left_kinds) l.rows f.rows) i)).lists))
 
 -- ---- set operations, of equal kinds on both sides
 

@@ -69,7 +69,7 @@ module _ (kind : JoinKind) (left right : Query) (condition : Expr) where
 
   pub formed-pairs : (outer : List (List Kind)) → WellFormed outer left → WellFormed outer right →
       HasKind ((kinds_of left ++ kinds_of right) ∷ outer) [] condition Boolean → WellFormed outer pairs
-  formed-pairs outer l r test = record { left = l; right = r; subs = tt; condition = test; without_subs = tt }
+  formed-pairs outer l r test = record { left = l; right = r; subs = tt; condition = test }
 
   pub plain-pairs : is_plain pairs ≡ (is_plain left && is_plain right)
   plain-pairs = and_true (is_plain left && is_plain right)

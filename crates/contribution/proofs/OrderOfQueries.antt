@@ -14,7 +14,7 @@ use Rattle.bag_algebra.specs.Kinds.{shape, width_of}
 use Rattle.bag_algebra.specs.Meaning.{Database, denote, sub_denote, optional_value, condition_on, items_on, arguments_on}
 use Rattle.bag_algebra.specs.Means.{Means, Witness, SubMeans, no_subs, with_sub, some_of, all_of, cell, comparisons, is_some_row, scalar, sub_value, chosen, contribution_of, good_value, all_empty, filter_means, project_means, join_means}
 use Rattle.bag_algebra.specs.Outcome.{Outcome, Good, Bad, and_then, both, both_then, each}
-use Rattle.bag_algebra.specs.Patterns.{BaseOf, FilterOf, ProjectOf, JoinOf, UnionOf, IntersectOf, ExceptOf, DistinctOf, AggregateOf, LimitOf, ProvOf}
+use Rattle.bag_algebra.specs.Patterns.{BaseOf, FilterOf, ProjectOf, JoinOf, ApplyOf, UnionOf, IntersectOf, ExceptOf, DistinctOf, AggregateOf, LimitOf, ProvOf}
 use Rattle.bag_algebra.specs.declared.expr.Expr.{Expr}
 use Rattle.bag_algebra.specs.declared.expr.Item.{Item}
 use Rattle.bag_algebra.specs.declared.query.Aggr.{Aggr}
@@ -26,7 +26,7 @@ use Rattle.bag_algebra.specs.declared.query.SubKind.TheVariants.{Exists, Any, Al
 use Rattle.contribution.proofs.Agreement.{Agree, agree_good, agree_bad, agree-refl}
 use Rattle.bag_algebra.proofs.MembersByIndex.{in-from_contains, contains-from_in}
 use Rattle.contribution.proofs.OrderOfGroups.{aggregate_means-alike}
-use Rattle.contribution.proofs.OrderOfRows.{Alike, any-permuted, permuted-good_rows, unlisted_means-alike, base_means-alike, SameContributions, filter_means-alike, project_means-alike, join_means-alike}
+use Rattle.contribution.proofs.OrderOfRows.{Alike, any-permuted, permuted-good_rows, unlisted_means-alike, base_means-alike, SameContributions, filter_means-alike, project_means-alike, join_means-alike, apply_means-alike}
 use Rattle.contribution.proofs.OrderOfSets.{shared-either, union_means-alike, intersect_means-alike, except_means-alike, distinct_means-alike, limit_means-alike, provenance_means-alike}
 use Rattle.contribution.proofs.SharedMembers.{Shared, shared-refl, shared-permuted, shared-flat_map, none_each, next_each}
 use Rattle.bag_algebra.specs.TablesRead.{EachSubTable}
@@ -121,19 +121,19 @@ condition_on-alike condition env a = λ i u. and_then (a.answers u i) (value con
 items_on-alike : (items : List Item) (env : List Row) {s r : SubMeans} → AlikeSubs s r → items_on items env s ≡ items_on items env r
 items_on-alike items env a = λ i u. and_then (a.answers u i) (λ answers. each (λ (item : Item). value item.expr u env answers) items)
 
-filter_node : (condition : Expr) (env : List Row) {s r : SubMeans} {m n : Means} → AlikeSubs s r → Alike m n →
+pub filter_node : (condition : Expr) (env : List Row) {s r : SubMeans} {m n : Means} → AlikeSubs s r → Alike m n →
     Alike (filter_means (condition_on condition env s) s.contributions m) (filter_means (condition_on condition env r) r.contributions n)
 filter_node condition env {s} {r} {m} {n} a b =
     subst (λ f. Alike (filter_means (condition_on condition env s) s.contributions m) (filter_means f r.contributions n)) (condition_on-alike condition env a)
     (filter_means-alike (condition_on condition env s) a.contributions b)
 
-project_node : (items : List Item) (env : List Row) {s r : SubMeans} {m n : Means} → AlikeSubs s r → Alike m n →
+pub project_node : (items : List Item) (env : List Row) {s r : SubMeans} {m n : Means} → AlikeSubs s r → Alike m n →
     Alike (project_means (items_on items env s) s.contributions m) (project_means (items_on items env r) r.contributions n)
 project_node items env {s} {r} {m} {n} a b =
     subst (λ f. Alike (project_means (items_on items env s) s.contributions m) (project_means f r.contributions n)) (items_on-alike items env a)
     (project_means-alike (items_on items env s) a.contributions b)
 
-join_node : (kind : JoinKind) (condition : Expr) (env : List Row) (left_blank right_blank : Witness) (left_width right_width : ℕ) {s r : SubMeans} {k l m n : Means} →
+pub join_node : (kind : JoinKind) (condition : Expr) (env : List Row) (left_blank right_blank : Witness) (left_width right_width : ℕ) {s r : SubMeans} {k l m n : Means} →
     AlikeSubs s r → Alike k l → Alike m n →
     Alike (join_means kind (condition_on condition env s) s.contributions (record { left = left_blank; right = right_blank; subs = s.blank }) left_width right_width k m)
     (join_means kind (condition_on condition env r) r.contributions (record { left = left_blank; right = right_blank; subs = r.blank }) left_width right_width l n)
@@ -163,6 +163,8 @@ mutual
   denote-alike (JoinOf kind left right condition _ subs) db other same env =
       join_node kind condition env (all_empty (shape left)) (all_empty (shape right)) (width_of left) (width_of right)
       (sub_denote-alike subs db other same.2 env) (denote-alike left db other same.0 env) (denote-alike right db other same.1 env)
+  denote-alike (ApplyOf kind left right) db other same env =
+      apply_means-alike kind (width_of right) (all_empty (shape right)) (denote-alike left db other same.0 env) (λ u. denote-alike right db other same.1 (u ∷ env))
   denote-alike (UnionOf all left right) db other same env =
       union_means-alike all (all_empty (shape left)) (all_empty (shape right)) (denote-alike left db other same.0 env) (denote-alike right db other same.1 env)
   denote-alike (IntersectOf all left right) db other same env =

@@ -1,15 +1,15 @@
 -- Each node of a query keeps what its inputs mean the same, up to the order of rows and of witness lists.
-use Rattle.std.proofs.Common.{◌≡◌, ℕ, Bool, true, false, cond, not, ◌&&◌, ◌||◌, List, [], ◌∷◌, ◌++◌, filter, refl, ap, ◌∙◌, subst}
+use Rattle.std.proofs.Common.{◌≡◌, ℕ, Bool, true, false, cond, not, ◌&&◌, ◌||◌, List, [], ◌∷◌, ◌++◌, map, filter, refl, ap, ◌∙◌, subst}
 use Rattle.std.specs.List.{list_any}
 use Rattle.perm_values.specs.Rows.{same_row, picked}
 use Rattle.perm_values.specs.declared.value.Value.{Value}
-use Rattle.bag_algebra.proofs.BagLaws.{Permuted, nothing, onward, turn, joined, permuted-map, permuted-filter, same_bag-from_permuted, member-same_bag}
+use Rattle.bag_algebra.proofs.BagLaws.{Permuted, nothing, onward, turn, joined, permuted-refl, permuted-map, permuted-filter, same_bag-from_permuted, member-same_bag}
 use Rattle.bag_algebra.specs.Bags.{Row, Bag, member, nulls}
-use Rattle.bag_algebra.specs.Means.{Means, Witness, Held, with_lists, beside, unlisted_means, base_means, kept, filter_means, gives, good_rows, project_means, keeps_left, keeps_right, is_met, unmatched_left, unmatched_right, met_pairs, joined_rows, Blanks, pair_lists, left_lists, right_lists, join_means}
-use Rattle.bag_algebra.specs.Outcome.{Outcome, gather, each}
+use Rattle.bag_algebra.specs.Means.{Means, Witness, Held, with_lists, beside, unlisted_means, base_means, kept, filter_means, gives, good_rows, project_means, keeps_left, keeps_right, is_met, unmatched_left, unmatched_right, met_pairs, joined_rows, Blanks, pair_lists, left_lists, right_lists, join_means, under, lists_under, apply_means, paired}
+use Rattle.bag_algebra.specs.Outcome.{Outcome, mapped, gather, each}
 use Rattle.bag_algebra.specs.declared.query.JoinKind.{JoinKind}
 use Rattle.contribution.proofs.Agreement.{Agree, agree_good, agree_bad, agree-trans, permuted-append, gather-permuted, gather-agree, each-permuted, and_then-agree, mapped-agree, both_then-agree}
-use Rattle.contribution.proofs.SharedMembers.{Shared, shared-refl, shared-permuted, shared-map, shared-flat_map, shared-append, shared-where, shared-paired, SharedEach, shared-beside}
+use Rattle.contribution.proofs.SharedMembers.{Shared, shared-refl, shared-trans, shared-permuted, shared-map, shared-flat_map, shared-append, shared-where, shared-paired, SharedEach, shared-beside}
 use Rattle.bag_algebra.proofs.Truths.{or_turn}
 
 -- the same rows in some order, and the same lists of each row
@@ -134,3 +134,39 @@ module _ (condition : Row → Outcome Value) where
       (λ t. shared-append (shared-append (shared-pair_lists s a b p q t)
       (shared-where (keeps_left kind) (keeps_left kind) refl (shared-left_lists s a b p q t blanks right_width)))
       (shared-where (keeps_right kind) (keeps_right kind) refl (shared-right_lists s a b p q t blanks left_width)))
+
+-- ---- dependent joins
+
+module _ (kind : JoinKind) (width : ℕ) (u : Row) where
+  pub permuted-under : {vs xs : Bag} → Permuted vs xs → Permuted (under kind width u vs) (under kind width u xs)
+  permuted-under nothing = permuted-refl (under kind width u [])
+  permuted-under (onward v p) = permuted-map (λ w. u ++ w) (onward v p)
+  permuted-under (turn v w us) = permuted-map (λ w. u ++ w) (turn v w us)
+  permuted-under (joined p q) = joined (permuted-under p) (permuted-under q)
+
+  module _ (blank : Witness) (t : Row) where
+    shared-under_permuted : (ws : List Witness) (lists : Row → List Witness) {vs xs : Bag} → Permuted vs xs →
+        Shared (lists_under kind width blank ws lists t u vs) (lists_under kind width blank ws lists t u xs)
+    shared-under_permuted ws lists nothing = shared-refl (lists_under kind width blank ws lists t u [])
+    shared-under_permuted ws lists (onward v p) = shared-flat_map _ _ (shared-permuted (onward v p)) (λ x. shared-refl (cond (same_row (u ++ x) t) (paired ws (lists x)) []))
+    shared-under_permuted ws lists (turn v w us) = shared-flat_map _ _ (shared-permuted (turn v w us)) (λ x. shared-refl (cond (same_row (u ++ x) t) (paired ws (lists x)) []))
+    shared-under_permuted ws lists (joined p q) = shared-trans (shared-under_permuted ws lists p) (shared-under_permuted ws lists q)
+
+    shared-under_lists : {vs ws : List Witness} {lists others : Row → List Witness} → Shared vs ws → ((x : Row) → Shared (lists x) (others x)) → (xs : Bag) →
+        Shared (lists_under kind width blank vs lists t u xs) (lists_under kind width blank ws others t u xs)
+    shared-under_lists s e [] =
+        let stays = keeps_left kind && same_row (u ++ nulls width) t in shared-where stays stays refl (shared-map (λ w. w ++ blank) s)
+    shared-under_lists s e (x ∷ xs) =
+        shared-flat_map _ _ (shared-refl (x ∷ xs)) (λ y. shared-where (same_row (u ++ y) t) (same_row (u ++ y) t) refl (shared-paired s (e y)))
+
+pub apply_means-alike : (kind : JoinKind) (width : ℕ) (blank : Witness) {l m : Means} {r n : Row → Means} → Alike l m → ((u : Row) → Alike (r u) (n u)) →
+    Alike (apply_means kind width blank l r) (apply_means kind width blank m n)
+apply_means-alike kind width blank {l} {m} {r} {n} a b =
+    let f : Row → Outcome Bag = λ u. mapped (under kind width u) (r u).rows in
+    let g : Row → Outcome Bag = λ u. mapped (under kind width u) (n u).rows in
+    with_lists-alike _ _
+    (and_then-agree (gather f) (gather g) a.rows (λ us vs p. agree-trans (gather-permuted f p)
+    (gather-agree f g (λ u. mapped-agree (under kind width u) (under kind width u) (b u).rows (λ xs ys q. permuted-under kind width u q)) vs)))
+    (λ t. shared-flat_map _ _ (shared-permuted (permuted-good_rows a.rows)) (λ u. shared-trans
+    (shared-under_lists kind width u blank t (a.lists u) (b u).lists (good_rows (r u).rows))
+    (shared-under_permuted kind width u blank t (m.lists u) (n u).lists (permuted-good_rows (b u).rows))))

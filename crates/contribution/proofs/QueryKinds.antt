@@ -13,7 +13,7 @@ use Rattle.bag_algebra.specs.Kinds.{kind_in, kinds_of, shape, sub_shape, width_o
 use Rattle.bag_algebra.specs.Meaning.{Database, denote, sub_denote, meaning, witnesses, optional_value, condition_on, items_on, arguments_on}
 use Rattle.bag_algebra.specs.Means.{Witness, Means, SubMeans, no_subs, with_sub, all_empty, good_rows, good_value, scalar, sub_value, chosen, contribution_of, is_some_row, some_of, all_of, comparisons, filter_means, join_means}
 use Rattle.bag_algebra.specs.Outcome.{Outcome, Good, both_then, each}
-use Rattle.bag_algebra.specs.Patterns.{BaseOf, FilterOf, ProjectOf, JoinOf, UnionOf, IntersectOf, ExceptOf, DistinctOf, AggregateOf, LimitOf, ProvOf}
+use Rattle.bag_algebra.specs.Patterns.{BaseOf, FilterOf, ProjectOf, JoinOf, ApplyOf, UnionOf, IntersectOf, ExceptOf, DistinctOf, AggregateOf, LimitOf, ProvOf}
 use Rattle.bag_algebra.specs.WellFormed.{HasKind, ItemsForm, aggr_form, AggregatesForm, sub_kind, sub_kinds, WellFormed, SubsForm}
 use Rattle.bag_algebra.specs.declared.expr.Expr.{Expr}
 use Rattle.bag_algebra.specs.declared.expr.Item.{Item}
@@ -27,7 +27,7 @@ use Rattle.bag_algebra.specs.declared.query.Query.TheVariants.{Table, Single}
 use Rattle.bag_algebra.specs.declared.query.SubKind.{SubKind}
 use Rattle.bag_algebra.specs.declared.query.SubKind.TheVariants as sub
 use Rattle.contribution.proofs.GroupKinds.{GivesNumber, ArgumentFits, ArgumentsFrom, arguments-behind, NumbersGiven, aggregate_means-fit}
-use Rattle.contribution.proofs.NodeKinds.{ContributionsOn, unlisted_means-fit, base_means-fit, filter_means-fit, project_means-fit, join_means-fit, union_means-fit, intersect_means-fit, except_means-fit, distinct_means-fit, limit_means-fit, provenance_means-fit}
+use Rattle.contribution.proofs.NodeKinds.{ContributionsOn, unlisted_means-fit, base_means-fit, filter_means-fit, project_means-fit, join_means-fit, apply_means-fit, union_means-fit, intersect_means-fit, except_means-fit, distinct_means-fit, limit_means-fit, provenance_means-fit}
 use Rattle.contribution.proofs.RowKinds.{RowFits, BagFits, ListsFit, MeansFit, row_fits-length, value_at-fits, all_empty-fits, fits_places-append, one-fits, lists_fit-flat_map, lists_fit-where, no_sublink, next_sublink}
 use Rattle.bag_algebra.proofs.MembersByIndex.{in-from_contains, all-from_in}
 use Rattle.contribution.proofs.ValueKinds.{Fits, GoodFits, null-fits, truth-fits, boolean-fits, fits-begins, value-fits}
@@ -214,6 +214,10 @@ mutual
       join_node (kinds_of left) (kinds_of right) (sub_kinds subs) kind condition env (sub_denote subs db env) (all_empty (shape left)) (all_empty (shape right)) (denote left db env) (denote right db env)
       (sub_denote-fits subs (kinds_of left ++ kinds_of right) outer db env form.subs tables.2 e) (all_empty-fits (shape left)) (all_empty-fits (shape right))
       (denote-fits left outer db env form.left tables.0 e) (denote-fits right outer db env form.right tables.1 e)
+  denote-fits (ApplyOf kind left right) outer db env form tables e =
+      apply_means-fit (kinds_of left) (kinds_of right) kind (all_empty (shape right)) (all_empty-fits (shape right)) (denote left db env) (λ u. denote right db (u ∷ env))
+      (denote-fits left outer db env form.left tables.0 e)
+      (λ u f. denote-fits right (kinds_of left ∷ outer) db (u ∷ env) form.right tables.1 (seen-row (kinds_of left) outer env u e f).fitting)
   denote-fits (UnionOf all left right) outer db env form tables e =
       union_means-fit all (denote left db env) (denote right db env) (denote-fits left outer db env form.left_side tables.0 e)
       (same_kinds right db env (sym form.same_kinds) (denote-fits right outer db env form.right_side tables.1 e))

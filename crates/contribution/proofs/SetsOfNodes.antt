@@ -1,27 +1,27 @@
 -- Nodes whose rows and faults rest on the sets of their inputs' rows alone: how often a row stands there doesn't count.
-use Rattle.std.proofs.Common.{◌≡◌, ℕ, inl, inr, Bool, true, false, cond, not, List, [], ◌∷◌, ◌++◌, filter, refl, sym, ap, ◌∙◌, subst, subst₂}
+use Rattle.std.proofs.Common.{◌≡◌, ℕ, inl, inr, Bool, true, false, cond, not, List, [], ◌∷◌, ◌++◌, filter, IsTrue, refl, sym, ap, ◌∙◌, subst, subst₂}
 use Rattle.std.specs.List.{list_any}
 use Rattle.std.specs.Cmp.{both_ways}
 use Rattle.perm_values.specs.declared.value.Value.{Value}
 use Rattle.bag_algebra.proofs.Members.{IsIn, in-filter, from-filter, one_of, or-first, in-member, member-in}
 use Rattle.bag_algebra.specs.Bags.{Row, Bag, member, once, union_of, intersect_of, except_of, nulls}
-use Rattle.bag_algebra.specs.Built.{meaning-Filter, meaning-Project, meaning-Join, meaning-Union, meaning-Intersect, meaning-Except, meaning-Distinct}
+use Rattle.bag_algebra.specs.Built.{meaning-Filter, meaning-Project, meaning-Join, meaning-Apply, meaning-Union, meaning-Intersect, meaning-Except, meaning-Distinct}
 use Rattle.bag_algebra.specs.Children.{subs_denote}
 use Rattle.bag_algebra.specs.Kinds.{width_of}
 use Rattle.bag_algebra.specs.Meaning.{Database, meaning, condition_on, items_on}
-use Rattle.bag_algebra.specs.Means.{kept, keeps_left, keeps_right, is_met, unmatched_left, unmatched_right, joined_rows}
-use Rattle.bag_algebra.specs.Outcome.{Outcome, Good, Bad, mapped, both_then, gather, each}
+use Rattle.bag_algebra.specs.Means.{kept, keeps_left, keeps_right, is_met, unmatched_left, unmatched_right, joined_rows, under}
+use Rattle.bag_algebra.specs.Outcome.{Outcome, Good, Bad, and_then, mapped, both_then, gather, each}
 use Rattle.bag_algebra.specs.Rewriting.{SameSet}
 use Rattle.bag_algebra.specs.declared.expr.Expr.{Expr}
 use Rattle.bag_algebra.specs.declared.expr.Item.{Item}
 use Rattle.bag_algebra.specs.declared.query.JoinKind.{JoinKind}
 use Rattle.bag_algebra.specs.declared.query.Query.{Query}
-use Rattle.bag_algebra.specs.declared.query.Query.TheVariants.{Filter, Project, Join, Union, Intersect, Except, Distinct}
+use Rattle.bag_algebra.specs.declared.query.Query.TheVariants.{Filter, Project, Join, Apply, Union, Intersect, Except, Distinct}
 use Rattle.bag_algebra.specs.declared.query.Sublink.{Sublink}
 use Rattle.contribution.proofs.BagMembers.{from-once, in-once, from-intersect}
 use Rattle.contribution.proofs.SetMembers.{in-intersect}
-use Rattle.contribution.proofs.SetsOfRows.{SetAgree, set_good, set_bad, set_agree-refl, same_set-agrees, set_agree-same_set, gather-set, each-set, and_then-set, mapped-set, both_then-set, both-set}
-use Rattle.contribution.proofs.SharedMembers.{Within, Shared, shared-map, shared-append, shared-where}
+use Rattle.contribution.proofs.SetsOfRows.{SetAgree, set_good, set_bad, set_agree-refl, same_set-agrees, set_agree-same_set, gather-matched, gather-set, each-set, and_then-set, mapped-set, both_then-set, both-set}
+use Rattle.contribution.proofs.SharedMembers.{Within, Shared, shared-refl, shared-map, shared-append, shared-where}
 use Rattle.std.proofs.lemmas.Bool.{or_right}
 
 -- ---- lists with the same members
@@ -106,6 +106,24 @@ module _ (condition : Row → Outcome Value) {us vs xs ys : Bag} (s : Shared us 
       shared-append (shared-append p (shared-where (keeps_left kind) (keeps_left kind) refl (shared-map (λ u. u ++ nulls right_width) unmatched_left-shared)))
       (shared-where (keeps_right kind) (keeps_right kind) refl (shared-map (λ v. nulls left_width ++ v) unmatched_right-shared)))
 
+-- ---- dependent joins
+
+under_shared : (kind : JoinKind) (width : ℕ) (u : Row) (vs ws : Bag) → Shared vs ws → Shared (under kind width u vs) (under kind width u ws)
+under_shared kind width u [] [] s = shared-refl (under kind width u [])
+under_shared kind width u [] (w ∷ ws) s = absurd (s.back.within w (inl refl))
+under_shared kind width u (v ∷ vs) [] s = absurd (s.there.within v (inl refl))
+under_shared kind width u (v ∷ vs) (w ∷ ws) s = shared-map (λ x. u ++ x) s
+
+-- right sides that are one set under each left row that is there
+applied-set : (f g : Row → Outcome Bag) {o p : Outcome Bag} → SetAgree o p → ((us : Bag) (u : Row) → o ≡ Good us → IsIn u us → SetAgree (f u) (g u)) →
+    SetAgree (and_then o (gather f)) (and_then p (gather g))
+applied-set f g (set_good {us} {vs} s) h =
+    gather-matched f g us vs (record {
+      there = λ u i. (u, s.there.within u i, h us u refl i);
+      back = λ u i. let here = s.back.within u i in (u, here, h us u refl here);
+    })
+applied-set f g (set_bad faults) h = set_bad faults
+
 -- ---- queries
 
 module _ (db : Database) (env : List Row) where
@@ -169,3 +187,16 @@ module _ (db : Database) (env : List Row) where
     except-same_set =
         subst₂ SameSet (sym (meaning-Except db env false left right)) (sym (meaning-Except db env false other_left other_right))
         (set_agree-same_set (both-set (except_of false) (except_of false) left_agrees right_agrees (λ us vs xs ys s t. once_shared (shared-members not s t))))
+
+  pub apply-same_set : (left right other_left other_right : Query) → SameSet (meaning left db env) (meaning other_left db env) →
+      ((us : Bag) (u : Row) → meaning left db env ≡ Good us → IsTrue (member u us) → SameSet (meaning right db (u ∷ env)) (meaning other_right db (u ∷ env))) →
+      (kind : JoinKind) → width_of right ≡ width_of other_right →
+      SameSet (meaning (Apply kind left right) db env) (meaning (Apply kind other_left other_right) db env)
+  apply-same_set left right other_left other_right e f kind w =
+      let made : ℕ → Query → Row → Outcome Bag = λ width q u. mapped (under kind width u) (meaning q db (u ∷ env)) in
+      subst₂ SameSet (sym (meaning-Apply db env kind left right))
+      ((λ i. and_then (meaning other_left db env) (gather (made (w i) other_right))) ∙ sym (meaning-Apply db env kind other_left other_right))
+      (set_agree-same_set (applied-set (made (width_of right) right) (made (width_of right) other_right) (same_set-agrees (meaning left db env) (meaning other_left db env) e)
+      (λ us u good here. mapped-set (under kind (width_of right) u) (under kind (width_of right) u)
+      (same_set-agrees (meaning right db (u ∷ env)) (meaning other_right db (u ∷ env)) (f us u good (in-member u us here)))
+      (λ xs ys s. under_shared kind (width_of right) u xs ys s))))

@@ -9,9 +9,9 @@ use Rattle.bag_algebra.specs.Bags.{Row, Bag, SameBag}
 use Rattle.bag_algebra.specs.Fits.{bag_fits, TablesFit}
 use Rattle.bag_algebra.specs.Kinds.{shape, width_of}
 use Rattle.bag_algebra.specs.Meaning.{Database, denote, sub_denote, optional_value, condition_on, items_on, arguments_on}
-use Rattle.bag_algebra.specs.Means.{with_sub, all_empty, unlisted_means, base_means, filter_means, project_means, join_means, union_means, intersect_means, except_means, distinct_means, aggregate_means, limit_means, provenance_means}
+use Rattle.bag_algebra.specs.Means.{with_sub, all_empty, unlisted_means, base_means, filter_means, project_means, join_means, apply_means, union_means, intersect_means, except_means, distinct_means, aggregate_means, limit_means, provenance_means}
 use Rattle.bag_algebra.specs.Outcome.{Good}
-use Rattle.bag_algebra.specs.Patterns.{BaseOf, FilterOf, ProjectOf, JoinOf, UnionOf, IntersectOf, ExceptOf, DistinctOf, AggregateOf, LimitOf, ProvOf}
+use Rattle.bag_algebra.specs.Patterns.{BaseOf, FilterOf, ProjectOf, JoinOf, ApplyOf, UnionOf, IntersectOf, ExceptOf, DistinctOf, AggregateOf, LimitOf, ProvOf}
 use Rattle.bag_algebra.specs.declared.query.Aggr.{Aggr}
 use Rattle.bag_algebra.specs.declared.query.Query.{Query, Row_of-Sublink, more_of-Sublink, end_of-Sublink}
 use Rattle.bag_algebra.specs.declared.query.Query.TheVariants.{Table, Single}
@@ -35,6 +35,9 @@ mutual
       let s = sub_denote-equal_tables subs db other env e.2 in
       λ i. join_means kind (condition_on condition env (s i)) (s i).contributions (record { left = all_empty (shape left); right = all_empty (shape right); subs = (s i).blank })
       (width_of left) (width_of right) (denote-equal_tables left db other env e.0 i) (denote-equal_tables right db other env e.1 i)
+  denote-equal_tables (ApplyOf kind left right) db other env e =
+      λ i. apply_means kind (width_of right) (all_empty (shape right)) (denote-equal_tables left db other env e.0 i)
+      (λ u. denote-equal_tables right db other (u ∷ env) e.1 i)
   denote-equal_tables (UnionOf all left right) db other env e =
       λ i. union_means all (all_empty (shape left)) (all_empty (shape right)) (denote-equal_tables left db other env e.0 i) (denote-equal_tables right db other env e.1 i)
   denote-equal_tables (IntersectOf all left right) db other env e =

@@ -3,7 +3,7 @@
 use Rattle.std.specs.Prelude.{ℕ, true, List, [], ◌∷◌, ◌++◌}
 use Rattle.bag_algebra.specs.ColumnItems.{column_items}
 use Rattle.bag_algebra.specs.Kinds.{kinds_in}
-use Rattle.bag_algebra.specs.Patterns.{BaseOf, FilterOf, ProjectOf, JoinOf, UnionOf, IntersectOf, ExceptOf, DistinctOf, AggregateOf, LimitOf, ProvOf}
+use Rattle.bag_algebra.specs.Patterns.{BaseOf, FilterOf, ProjectOf, JoinOf, ApplyOf, UnionOf, IntersectOf, ExceptOf, DistinctOf, AggregateOf, LimitOf, ProvOf}
 use Rattle.bag_algebra.specs.declared.query.JoinKind.TheVariants.{Inner}
 use Rattle.bag_algebra.specs.declared.query.Query.{Query, Row_of-Sublink, more_of-Sublink, end_of-Sublink}
 use Rattle.bag_algebra.specs.declared.query.Query.TheVariants.{Table, Single}
@@ -26,6 +26,7 @@ abbrev mutual
   table_sources (FilterOf input condition _ subs) = table_sources input ++ sub_table_sources subs
   table_sources (ProjectOf input items _ subs) = table_sources input ++ sub_table_sources subs
   table_sources (JoinOf kind left right condition _ subs) = table_sources left ++ table_sources right ++ sub_table_sources subs
+  table_sources (ApplyOf kind left right) = table_sources left ++ table_sources right
   table_sources (UnionOf all left right) = table_sources left ++ table_sources right
   table_sources (IntersectOf all left right) = table_sources left ++ table_sources right
   table_sources (ExceptOf all left right) = table_sources left ++ table_sources right

@@ -4,7 +4,7 @@ use Rattle.perm_values.specs.Rows.{picked}
 use Rattle.bag_algebra.specs.Bags.{Row, Bag, member}
 use Rattle.bag_algebra.specs.Meaning.{Database, meaning}
 use Rattle.bag_algebra.specs.Means.{Entry, Held, Empty, Witness, good_rows}
-use Rattle.bag_algebra.specs.Patterns.{BaseOf, FilterOf, ProjectOf, JoinOf, UnionOf, IntersectOf, ExceptOf, DistinctOf, AggregateOf, LimitOf, ProvOf}
+use Rattle.bag_algebra.specs.Patterns.{BaseOf, FilterOf, ProjectOf, JoinOf, ApplyOf, UnionOf, IntersectOf, ExceptOf, DistinctOf, AggregateOf, LimitOf, ProvOf}
 use Rattle.bag_algebra.specs.declared.place.Place.{Place}
 use Rattle.bag_algebra.specs.declared.query.Query.{Query, Row_of-Sublink, more_of-Sublink, end_of-Sublink}
 use Rattle.bag_algebra.specs.declared.query.Query.TheVariants.{Table, Single}
@@ -14,9 +14,9 @@ abbrev pub table_rows : Query → Database → Option Bag
 table_rows (Table id kinds) db = Some (db id)
 table_rows other db = None
 
--- the rows of a source's input: outside all sublinks, where the outer rows are told, those that it means under them;
--- inside a sublink those of a table, while nothing is said of another input there, which means something else on each
--- row of the sublink's node
+-- the rows of a source's input: outside all sublinks and the right sides of dependent joins, where the outer rows are
+-- told, those that it means under them; inside one those of a table, while nothing is said of another input there, which
+-- means something else on each row of the node
 abbrev pub input_rows : Query → Database → Option (List Row) → Option Bag
 input_rows input db (Some env) = Some (good_rows (meaning input db env))
 input_rows input db None = table_rows input db
@@ -35,6 +35,7 @@ abbrev mutual
   held_rows (FilterOf input condition _ subs) db env = held_rows input db env ++ sub_held_rows subs db
   held_rows (ProjectOf input items _ subs) db env = held_rows input db env ++ sub_held_rows subs db
   held_rows (JoinOf kind left right condition _ subs) db env = held_rows left db env ++ held_rows right db env ++ sub_held_rows subs db
+  held_rows (ApplyOf kind left right) db env = held_rows left db env ++ held_rows right db None
   held_rows (UnionOf all left right) db env = held_rows left db env ++ held_rows right db env
   held_rows (IntersectOf all left right) db env = held_rows left db env ++ held_rows right db env
   held_rows (ExceptOf all left right) db env = held_rows left db env ++ held_rows right db env

@@ -101,6 +101,10 @@ fn add_sources(alloc: Global, query: &Query, found: &mut List<TableSource>) -> R
         Query::Aggregate { input, .. } => add_sources(alloc, input.get(), found),
         Query::Limit { input, .. } => add_sources(alloc, input.get(), found),
         Query::Prov { .. } => Ok(()),
+        Query::Apply { left, right, .. } => {
+            add_sources(alloc, left.get(), found)?;
+            add_sources(alloc, right.get(), found)
+        }
     }
 }
 
@@ -150,6 +154,7 @@ fn add_source(
         Query::Aggregate { .. } => Ok(()),
         Query::Limit { .. } => Ok(()),
         Query::Prov { .. } => Ok(()),
+        Query::Apply { .. } => Ok(()),
     }
 }
 

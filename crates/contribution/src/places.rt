@@ -114,6 +114,10 @@ fn add_kinds(alloc: Global, query: &Query, found: &mut List<Kind>) -> Result<(),
             add_places(alloc, input.get(), &mut places)?;
             add_place_kinds(found, places.as_slice())
         }
+        Query::Apply { left, right, .. } => {
+            add_kinds(alloc, left.get(), found)?;
+            add_kinds(alloc, right.get(), found)
+        }
     }
 }
 
@@ -167,6 +171,10 @@ fn add_places(alloc: Global, query: &Query, found: &mut List<Place>) -> Result<(
         Query::Aggregate { input, .. } => add_places(alloc, input.get(), found),
         Query::Limit { input, .. } => add_places(alloc, input.get(), found),
         Query::Prov { .. } => Ok(()),
+        Query::Apply { left, right, .. } => {
+            add_places(alloc, left.get(), found)?;
+            add_places(alloc, right.get(), found)
+        }
     }
 }
 

@@ -41,6 +41,7 @@ fn own_faultless(query: &Query) -> bool
         Query::Filter { condition, .. } => faultless(condition),
         Query::Project { items, .. } => items_faultless(items.as_slice()),
         Query::Join { condition, .. } => faultless(condition),
+        Query::Apply { .. } => true,
         Query::Union { .. } => true,
         Query::Intersect { .. } => true,
         Query::Except { .. } => true,

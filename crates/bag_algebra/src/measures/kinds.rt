@@ -16,6 +16,7 @@ pub fn width(query: &Query) -> usize
         Query::Filter { input, .. } => width(input.get()),
         Query::Project { items, .. } => items.len(),
         Query::Join { left, right, .. } => width(left.get()).saturating_add(width(right.get())),
+        Query::Apply { left, right, .. } => width(left.get()).saturating_add(width(right.get())),
         Query::Union { left, .. } => width(left.get()),
         Query::Intersect { left, .. } => width(left.get()),
         Query::Except { left, .. } => width(left.get()),
@@ -53,6 +54,9 @@ fn places_width(query: &Query) -> usize
         } => places_width(left.get())
             .saturating_add(places_width(right.get()))
             .saturating_add(sub_places_width(subs.as_slice())),
+        Query::Apply { left, right, .. } => {
+            places_width(left.get()).saturating_add(places_width(right.get()))
+        }
         Query::Union { left, right, .. } => {
             places_width(left.get()).saturating_add(places_width(right.get()))
         }

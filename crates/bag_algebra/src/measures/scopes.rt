@@ -4,7 +4,7 @@ ghost use Rattle.std.specs.List.{list_all};
 ghost use Rattle.bag_algebra.specs.BuiltScopes.{all_plain, all_over_tables, all_traceable, all_scoped};
 ghost use Rattle.bag_algebra.specs.Inputs.{given};
 ghost use Rattle.bag_algebra.specs.Rewriting.{is_plain};
-ghost use Rattle.bag_algebra.specs.Scoped.{is_table, over_tables, traceable, is_scoped};
+ghost use Rattle.bag_algebra.specs.Scoped.{has_rule, is_table, over_tables, traceable, is_scoped};
 
 use crate::children::Inputs;
 use crate::query::{Query, Sublink};
@@ -80,15 +80,39 @@ fn all_scoped(subs: &[Sublink]) -> bool
     true
 }
 
-/// Whether each sublink that is reached from here without passing a source has only sources whose input is a table.
-/// It takes no memory.
+/// Whether each sublink that is reached from here without passing a source has only sources whose input is a table, and
+/// each node that is reached has a rule. It takes no memory.
 #[cycle(traceable)]
 pub fn traceable(query: &Query) -> bool
     ensures { result ≡ traceable query.now }
 {
     match query {
         Query::Base { .. } => true,
-        _ => inputs_traceable(query.inputs()) && all_traceable(query.sublinks()),
+        _ => {
+            inputs_traceable(query.inputs()) && has_rule(query) && all_traceable(query.sublinks())
+        }
+    }
+}
+
+/// Whether the topmost node has a rule in the scope of PROVENANCE: it is no dependent join, and no join with sublinks.
+fn has_rule(query: &Query) -> bool
+    ensures { result ≡ has_rule query.now }
+{
+    match query {
+        Query::Table { .. } => true,
+        Query::Single => true,
+        Query::Base { .. } => true,
+        Query::Filter { .. } => true,
+        Query::Project { .. } => true,
+        Query::Join { subs, .. } => subs.is_empty(),
+        Query::Apply { .. } => false,
+        Query::Union { .. } => true,
+        Query::Intersect { .. } => true,
+        Query::Except { .. } => true,
+        Query::Distinct { .. } => true,
+        Query::Aggregate { .. } => true,
+        Query::Limit { .. } => true,
+        Query::Prov { .. } => true,
     }
 }
 

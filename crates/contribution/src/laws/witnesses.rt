@@ -33,8 +33,8 @@ pub fn contributing_rows_keep_the_value()
 {}
 
 /// Each entry of a witness list stands at the place of a source: it is empty, or a row of the source's table restricted
-/// to the source's places. Where the source is outside all sublinks it may be over any input, and the row is one of that
-/// input's under the same outer rows.
+/// to the source's places. Where the source is outside all sublinks and outside the right sides of dependent joins it may be
+/// over any input, and the row is one of that input's under the same outer rows.
 pub fn entries_stand_at_their_places()
     ensures { (q : Query) (db : Database) (env : List Row) (t : Row) →
         All (StandAt (shape q) (held_rows q db (Some env))) (witnesses q db env t) }

@@ -1,6 +1,6 @@
 use Rattle.std.proofs.Common.{◌++◌, take, sym, ap, ◌∙◌, append-nil}
 use Rattle.contribution.proofs.Added.{added, added-behind, added-joined}
-use Rattle.contribution.proofs.BuiltSources.{table_sources-Base, table_sources-Filter, table_sources-Project, table_sources-Join, table_sources-Union, table_sources-Intersect, table_sources-Except, table_sources-Distinct, table_sources-Aggregate, table_sources-Limit, table_sources-Prov, subs_table_sources-more}
+use Rattle.contribution.proofs.BuiltSources.{table_sources-Base, table_sources-Filter, table_sources-Project, table_sources-Join, table_sources-Apply, table_sources-Union, table_sources-Intersect, table_sources-Except, table_sources-Distinct, table_sources-Aggregate, table_sources-Limit, table_sources-Prov, subs_table_sources-more}
 use Rattle.contribution.proofs.cross.+add_sources.Goals as goal
 use Rattle.contribution.specs.CrossBase.{base_source, table_sources, subs_table_sources}
 
@@ -55,6 +55,11 @@ add_sources-returns-in-Limit t c =
 pub add_sources-returns-in-Prov : goal.add_sources-returns-in-Prov
 add_sources-returns-in-Prov t c =
     sym (ap (λ sources. c.args.found.now ++ sources) (ap table_sources c.in-Prov.is ∙ table_sources-Prov c.in-Prov.input) ∙ append-nil c.args.found.now)
+
+pub add_sources-returns-in_ok-add_sources-in-Apply : goal.add_sources-returns-in_ok-add_sources-in-Apply
+add_sources-returns-in_ok-add_sources-in-Apply t c =
+    added-behind c.add_sources-in-Apply-2.result _ _ c.args.found.now _ _ _ c.in_ok-add_sources-in-Apply.ensures
+    ((λ i. table_sources (c.get-in-Apply.ensures i) ++ table_sources (c.get-in-Apply-2.ensures i)) ∙ sym (ap table_sources c.in-Apply.is ∙ table_sources-Apply c.in-Apply.kind c.in-Apply.left c.in-Apply.right)) c.add_sources-in-Apply-2.ensures
 
 pub add_sub_sources-loop-sub-preserved : goal.add_sub_sources-loop-sub-preserved
 add_sub_sources-loop-sub-preserved t c =

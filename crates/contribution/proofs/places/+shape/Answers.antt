@@ -1,5 +1,5 @@
 use Rattle.std.proofs.Common.{[], ◌∷◌, ◌++◌, map, take, sym, ap, ◌∙◌, append-nil}
-use Rattle.bag_algebra.specs.Built.{kinds_of-Base, kinds_of-Filter, kinds_of-Project, kinds_of-Join, kinds_of-Union, kinds_of-Intersect, kinds_of-Except, kinds_of-Distinct, kinds_of-Aggregate, kinds_of-Limit, kinds_of-Prov, shape-Base, shape-Filter, shape-Project, shape-Join, shape-Union, shape-Intersect, shape-Except, shape-Distinct, shape-Aggregate, shape-Limit, shape-Prov}
+use Rattle.bag_algebra.specs.Built.{kinds_of-Base, kinds_of-Filter, kinds_of-Project, kinds_of-Join, kinds_of-Apply, kinds_of-Union, kinds_of-Intersect, kinds_of-Except, kinds_of-Distinct, kinds_of-Aggregate, kinds_of-Limit, kinds_of-Prov, shape-Base, shape-Filter, shape-Project, shape-Join, shape-Apply, shape-Union, shape-Intersect, shape-Except, shape-Distinct, shape-Aggregate, shape-Limit, shape-Prov}
 use Rattle.bag_algebra.specs.Children.{subs_shape}
 use Rattle.bag_algebra.specs.Kinds.{kinds_of, kinds_in, shape, place_kinds}
 use Rattle.bag_algebra.specs.declared.expr.Item.{Item}
@@ -51,6 +51,11 @@ add_kinds-returns-in_ok-add_places-in-Prov t c =
     added-behind c.add_place_kinds.result _ _ c.args.found.now _ _ _ c.in_ok-add_kinds-in-Prov.ensures
     ((λ i. kinds_of (c.get-in-Prov.ensures i) ++ place_kinds (places i)) ∙ sym (ap kinds_of c.in-Prov.is ∙ kinds_of-Prov c.in-Prov.input)) c.add_place_kinds.ensures
 
+pub add_kinds-returns-in_ok-add_kinds-in-Apply : goal.add_kinds-returns-in_ok-add_kinds-in-Apply
+add_kinds-returns-in_ok-add_kinds-in-Apply t c =
+    added-behind c.add_kinds-in-Apply-2.result _ _ c.args.found.now _ _ _ c.in_ok-add_kinds-in-Apply.ensures
+    ((λ i. kinds_of (c.get-in-Apply.ensures i) ++ kinds_of (c.get-in-Apply-2.ensures i)) ∙ sym (ap kinds_of c.in-Apply.is ∙ kinds_of-Apply c.in-Apply.kind c.in-Apply.left c.in-Apply.right)) c.add_kinds-in-Apply-2.ensures
+
 pub add_places-returns-in_ok-add_kinds-in-Base : goal.add_places-returns-in_ok-add_kinds-in-Base
 add_places-returns-in_ok-add_kinds-in-Base t c =
     let below = c.as_slice.ensures ∙ c.in_ok-add_kinds-in-Base.ensures ∙ ap (λ before. before ++ kinds_of c.get.result.now) c.new-below.ensures ∙ ap kinds_of c.get.ensures in
@@ -99,6 +104,11 @@ add_places-returns-in-Limit t c = added c.add_places-in-Limit.result _ c.args.fo
 
 pub add_places-returns-in-Prov : goal.add_places-returns-in-Prov
 add_places-returns-in-Prov t c = sym (ap (λ places. c.args.found.now ++ places) (ap shape c.in-Prov.is ∙ shape-Prov c.in-Prov.input) ∙ append-nil c.args.found.now)
+
+pub add_places-returns-in_ok-add_places-in-Apply : goal.add_places-returns-in_ok-add_places-in-Apply
+add_places-returns-in_ok-add_places-in-Apply t c =
+    added-behind c.add_places-in-Apply-2.result _ _ c.args.found.now _ _ _ c.in_ok-add_places-in-Apply.ensures
+    ((λ i. shape (c.get-in-Apply.ensures i) ++ shape (c.get-in-Apply-2.ensures i)) ∙ sym (ap shape c.in-Apply.is ∙ shape-Apply c.in-Apply.kind c.in-Apply.left c.in-Apply.right)) c.add_places-in-Apply-2.ensures
 
 pub add_sub_places-loop-sub-preserved : goal.add_sub_places-loop-sub-preserved
 add_sub_places-loop-sub-preserved t c =

@@ -4,7 +4,7 @@ use Rattle.bag_algebra.specs.Built.{shape-Distinct, shape-Aggregate, shape-Limit
 use Rattle.bag_algebra.specs.Children.{subs_shape}
 use Rattle.bag_algebra.specs.Kinds.{shape}
 use Rattle.bag_algebra.proofs.Rest.{from_here}
-use Rattle.bag_algebra.proofs.Widths.{places_width, shape_width, places_width-append, shape_width-Base, shape_width-Filter, shape_width-Project, shape_width-Join, shape_width-Union, shape_width-Intersect, shape_width-Except}
+use Rattle.bag_algebra.proofs.Widths.{places_width, shape_width, places_width-append, shape_width-Base, shape_width-Filter, shape_width-Project, shape_width-Join, shape_width-Apply, shape_width-Union, shape_width-Intersect, shape_width-Except}
 use Rattle.bag_algebra.proofs.measures.kinds.+places_width.Goals as goal
 
 pub places_width-returns-in-Base : goal.places_width-returns-in-Base
@@ -50,6 +50,10 @@ places_width-returns-in-Limit t c =
 pub places_width-returns-in-Prov : goal.places_width-returns-in-Prov
 places_width-returns-in-Prov t c =
     omega (arith, ap shape_width c.in-Prov.is ∙ ap places_width (shape-Prov c.in-Prov.input))
+
+pub places_width-returns-in-Apply : goal.places_width-returns-in-Apply
+places_width-returns-in-Apply t c =
+    omega (arith, ap shape_width c.in-Apply.is ∙ shape_width-Apply c.in-Apply.kind c.in-Apply.left c.in-Apply.right, ap shape_width c.get-in-Apply.ensures, ap shape_width c.get-in-Apply-2.ensures)
 
 pub sub_places_width-loop-sub-preserved : goal.sub_places_width-loop-sub-preserved
 sub_places_width-loop-sub-preserved t c =

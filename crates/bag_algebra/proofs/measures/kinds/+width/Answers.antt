@@ -1,7 +1,7 @@
 use Rattle.std.proofs.Common.{length, ap, ◌∙◌, arith}
 use Rattle.bag_algebra.specs.Built.{kinds_of-Base, kinds_of-Filter, kinds_of-Union, kinds_of-Intersect, kinds_of-Except, kinds_of-Distinct, kinds_of-Limit}
 use Rattle.bag_algebra.specs.Kinds.{width_of}
-use Rattle.bag_algebra.proofs.Widths.{shape_width, width-Project, width-Join, width-Aggregate, width-Prov}
+use Rattle.bag_algebra.proofs.Widths.{shape_width, width-Project, width-Join, width-Apply, width-Aggregate, width-Prov}
 use Rattle.bag_algebra.proofs.measures.kinds.+width.Goals as goal
 
 pub returns-in-Base : goal.returns-in-Base
@@ -47,3 +47,7 @@ returns-in-Limit t c =
 pub returns-in-Prov : goal.returns-in-Prov
 returns-in-Prov t c =
     omega (arith, ap width_of c.in-Prov.is ∙ width-Prov c.in-Prov.input, ap width_of c.get-in-Prov.ensures, ap shape_width c.get-in-Prov-2.ensures)
+
+pub returns-in-Apply : goal.returns-in-Apply
+returns-in-Apply t c =
+    omega (arith, ap width_of c.in-Apply.is ∙ width-Apply c.in-Apply.kind c.in-Apply.left c.in-Apply.right, ap width_of c.get-in-Apply.ensures, ap width_of c.get-in-Apply-2.ensures)

@@ -1,6 +1,6 @@
 use Rattle.std.proofs.Common.{◌≡◌, ℕ, List, false, refl, sym}
 use Rattle.perm_values.specs.declared.kind.Kind.{Kind}
-use Rattle.bag_algebra.specs.Patterns.{BaseOf, FilterOf, ProjectOf, JoinOf, UnionOf, IntersectOf, ExceptOf, DistinctOf, AggregateOf, LimitOf, ProvOf}
+use Rattle.bag_algebra.specs.Patterns.{BaseOf, FilterOf, ProjectOf, JoinOf, ApplyOf, UnionOf, IntersectOf, ExceptOf, DistinctOf, AggregateOf, LimitOf, ProvOf}
 use Rattle.bag_algebra.specs.Scoped.{is_table}
 use Rattle.bag_algebra.specs.declared.query.Query.{Query}
 use Rattle.bag_algebra.specs.declared.query.Query.TheVariants.{Table, Single}
@@ -13,6 +13,7 @@ no_table (BaseOf input places label) other = refl
 no_table (FilterOf input condition _ subs) other = refl
 no_table (ProjectOf input items _ subs) other = refl
 no_table (JoinOf kind left right condition _ subs) other = refl
+no_table (ApplyOf kind left right) other = refl
 no_table (UnionOf all left right) other = refl
 no_table (IntersectOf all left right) other = refl
 no_table (ExceptOf all left right) other = refl

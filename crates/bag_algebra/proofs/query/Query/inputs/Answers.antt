@@ -20,6 +20,10 @@ pub returns-in-Join : goal.returns-in-Join
 unfolding shape-the_row-Query-0 hidden-the_row-Query-0 package.denote.Hole.Carrier.hidden
 returns-in-Join c = ap (λ (q : Query). q ∷ c.get-in-Join-2.result.now ∷ []) c.get-in-Join.ensures ∙ ap (λ (q : Query). c.in-Join.left ∷ q ∷ []) c.get-in-Join-2.ensures ∙ sym (ap inputs_of c.in-Join.is)
 
+pub returns-in-Apply : goal.returns-in-Apply
+unfolding shape-the_row-Query-0 hidden-the_row-Query-0 package.denote.Hole.Carrier.hidden
+returns-in-Apply c = ap (λ (q : Query). q ∷ c.get-in-Apply-2.result.now ∷ []) c.get-in-Apply.ensures ∙ ap (λ (q : Query). c.in-Apply.left ∷ q ∷ []) c.get-in-Apply-2.ensures ∙ sym (ap inputs_of c.in-Apply.is)
+
 pub returns-in-Union : goal.returns-in-Union
 unfolding shape-the_row-Query-0 hidden-the_row-Query-0 package.denote.Hole.Carrier.hidden
 returns-in-Union c = ap (λ (q : Query). q ∷ c.get-in-Union-2.result.now ∷ []) c.get-in-Union.ensures ∙ ap (λ (q : Query). c.in-Union.left ∷ q ∷ []) c.get-in-Union-2.ensures ∙ sym (ap inputs_of c.in-Union.is)
