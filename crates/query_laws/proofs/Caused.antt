@@ -12,10 +12,11 @@ use Rattle.perm_values.specs.declared.value.Value.{Value}
 use Rattle.perm_values.specs.declared.value.Value.TheVariants.{Null, Integer, Text, Boolean}
 use Rattle.bag_algebra.specs.Bags.{Row, Bag}
 use Rattle.bag_algebra.specs.Expressions.{value, values, step_values, arm_value, Step, operate, with_one, with_two, with_three, arith_values, negate_value, chain, chosen_arm}
+use Rattle.bag_algebra.specs.Kinds.{width_of}
 use Rattle.bag_algebra.specs.Meaning.{Database, denote, sub_denote, meaning, optional_value, condition_on, items_on, arguments_on}
-use Rattle.bag_algebra.specs.Means.{SubMeans, Witness, with_lists, kept, met_pairs, joined_rows, present, total, sum_of, aggregated, aggregates_of, class_row, class_keys, class_of, good_row, grouped, sub_value}
+use Rattle.bag_algebra.specs.Means.{SubMeans, Witness, with_lists, kept, met_pairs, joined_rows, under, present, total, sum_of, aggregated, aggregates_of, class_row, class_keys, class_of, good_row, grouped, sub_value}
 use Rattle.bag_algebra.specs.Outcome.{Outcome, Good, Bad, Faults, only, has, and_then, mapped, both, both_then, gather, each, of_result}
-use Rattle.bag_algebra.specs.Patterns.{OpOf, ChainOf, CaseOf, IsNullOf, IsTruthOf, SameOf, BaseOf, FilterOf, ProjectOf, JoinOf, UnionOf, IntersectOf, ExceptOf, DistinctOf, AggregateOf, LimitOf, ProvOf}
+use Rattle.bag_algebra.specs.Patterns.{OpOf, ChainOf, CaseOf, IsNullOf, IsTruthOf, SameOf, BaseOf, FilterOf, ProjectOf, JoinOf, ApplyOf, UnionOf, IntersectOf, ExceptOf, DistinctOf, AggregateOf, LimitOf, ProvOf}
 use Rattle.bag_algebra.specs.declared.expr.Expr.{Expr, Row_of-Expr, Row_of-Arm, Row_of-ChainStep, more_of-Expr, end_of-Expr, more_of-Arm, end_of-Arm, more_of-ChainStep, end_of-ChainStep}
 use Rattle.bag_algebra.specs.declared.expr.Expr.TheVariants.{Col, Lit, Sub}
 use Rattle.bag_algebra.specs.declared.expr.Item.{Item}
@@ -247,6 +248,11 @@ mutual
       caused-rows (both_then (denote left db env).rows (denote right db env).rows _) _
       (caused-both_then (denote left db env).rows (denote right db env).rows _ (caused-denote left db env) (caused-denote right db env)
       (caused-joined kind (condition_on condition env (sub_denote subs db env)) _ _ (caused-condition condition env (sub_denote subs db env) (caused-subs subs db env))))
+  caused-denote (ApplyOf kind left right) db env =
+      let beside_left : Row → Outcome Bag = λ u. mapped (under kind (width_of right) u) (denote right db (u ∷ env)).rows in
+      caused-rows (and_then (denote left db env).rows (gather beside_left)) _
+      (caused-and_then (denote left db env).rows (gather beside_left) (caused-denote left db env)
+      (λ us. caused-gather beside_left us (λ u. caused-mapped (under kind (width_of right) u) (denote right db (u ∷ env)).rows (caused-denote right db (u ∷ env)))))
   caused-denote (UnionOf all left right) db env =
       caused-rows (both _ (denote left db env).rows (denote right db env).rows) _
       (caused-both _ (denote left db env).rows (denote right db env).rows (caused-denote left db env) (caused-denote right db env))

@@ -15,7 +15,7 @@ use Rattle.bag_algebra.specs.declared.query.JoinKind.{JoinKind}
 use Rattle.bag_algebra.specs.Rewriting.{SameRows}
 use Rattle.query_laws.specs.Faults.{IsGood, Meets, PassesFaults, UnitesFaults}
 use Rattle.query_laws.specs.Holding.{InBag}
-use Rattle.query_laws.specs.Nodes.{IsFiltered, IsProjected, IsJoined, IsCombined, IsDistinct, IsGrouped, IsLimited, IsProvenance}
+use Rattle.query_laws.specs.Nodes.{IsFiltered, IsProjected, IsJoined, IsApplied, IsCombined, IsDistinct, IsGrouped, IsLimited, IsProvenance}
 use Rattle.query_laws.proofs.Limited.{ordered_once}
 use Rattle.query_laws.proofs.Once.{listed, holds_once-same}
 use Rattle.query_laws.proofs.Outcomes.{in_bag-in, in-in_bag}
@@ -94,6 +94,15 @@ join_once kind condition left_width right_width left right a b p q =
     (λ ts ss x y. record {
       counts = λ t. p.counts us vs ts e f x (once us) (once vs) (listed us) (listed vs) t ∙ sym (q.counts us vs ss e f y (once us) (once vs) (listed us) (listed vs) t);
     }))
+
+pub apply_once : (kind : JoinKind) (left_width right_width : ℕ) (left a b : Outcome Bag) (right : Row → Outcome Bag) →
+    IsApplied kind left_width right_width left right a → IsApplied kind left_width right_width left right b → SameRows a b
+apply_once kind left_width right_width left a b right p q =
+    by_input a b left p.bad q.bad
+    (λ us e. let k = p.evaluated us e in
+    let l = q.evaluated us e in
+    agree _ _ a b k.good l.good k.faults l.faults
+    (λ ts ss x y. record { counts = λ t. p.counts us ts e x (once us) (listed us) t ∙ sym (q.counts us ss e y (once us) (listed us) t) }))
 
 combined-same : (many : ℕ → ℕ → ℕ) (some : ℕ → ℕ → Type 0) (all : Bool) (left right a b : Outcome Bag) → IsCombined many some all left right a →
     IsCombined many some all left right b → (us vs ts ss : Bag) → left ≡ Good us → right ≡ Good vs → a ≡ Good ts → b ≡ Good ss → SameBag ts ss

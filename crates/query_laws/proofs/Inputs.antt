@@ -4,20 +4,22 @@ use Rattle.perm_values.specs.Rows.{printed_cmp}
 use Rattle.perm_values.specs.declared.key.Key.{Key}
 use Rattle.perm_values.specs.declared.value.Value.{Value}
 use Rattle.bag_algebra.specs.Bags.{Row, Bag, once, sorted, union_of, intersect_of, except_of}
-use Rattle.bag_algebra.specs.Means.{kept, joined_rows, grouped}
-use Rattle.bag_algebra.specs.Outcome.{Outcome, and_then, mapped, both, both_then, gather, each}
+use Rattle.bag_algebra.specs.Means.{kept, joined_rows, under, grouped}
+use Rattle.bag_algebra.specs.Outcome.{Outcome, Good, and_then, mapped, both, both_then, gather, each}
 use Rattle.bag_algebra.specs.Rewriting.{SameRows}
 use Rattle.bag_algebra.specs.declared.query.AggFn.{AggFn}
 use Rattle.bag_algebra.specs.declared.query.JoinKind.{JoinKind}
+use Rattle.query_laws.specs.Holding.{InBag}
 use Rattle.query_laws.specs.Nodes.{in_either, in_both, in_left_alone}
-use Rattle.query_laws.proofs.Choice.{filter_once, project_once, join_once, combined_once, distinct_once, group_once, limit_once}
+use Rattle.query_laws.proofs.Choice.{filter_once, project_once, join_once, apply_once, combined_once, distinct_once, group_once, limit_once}
+use Rattle.query_laws.proofs.Applied.{applied}
 use Rattle.query_laws.proofs.Combined.{united, intersected, excepted, distinct}
 use Rattle.query_laws.proofs.Filtered.{filtered}
 use Rattle.query_laws.proofs.Grouped.{grouped-law}
 use Rattle.query_laws.proofs.Joined.{joined}
 use Rattle.query_laws.proofs.Limited.{limited}
 use Rattle.query_laws.proofs.Projected.{projected}
-use Rattle.query_laws.proofs.SameInputs.{filter_along, project_along, join_along, combined_along, distinct_along, group_along, limit_along}
+use Rattle.query_laws.proofs.SameInputs.{filter_along, project_along, join_along, apply_along, combined_along, distinct_along, group_along, limit_along}
 
 -- what equals them has the same rows too
 pub across : {a b c d : Outcome Bag} → a ≡ b → d ≡ c → SameRows b c → SameRows a d
@@ -30,6 +32,12 @@ module _ (o p : Outcome Bag) (s : SameRows o p) where
 
   pub project-input : (items : Row → Outcome Row) → SameRows (and_then o (each items)) (and_then p (each items))
   project-input items = project_once items p _ _ (project_along items o p _ s (projected items o)) (projected items p)
+
+  pub apply-input : (kind : JoinKind) (width : ℕ) (right another : Row → Outcome Bag) →
+      ((us : Bag) (u : Row) → o ≡ Good us → InBag u us → SameRows (right u) (another u)) →
+      SameRows (and_then o (gather (λ u. mapped (under kind width u) (right u)))) (and_then p (gather (λ u. mapped (under kind width u) (another u))))
+  apply-input kind width right another under_each =
+      apply_once kind 0 width p _ _ another (apply_along o p s right another under_each kind 0 width _ (applied kind width 0 o right)) (applied kind width 0 p another)
 
   pub distinct-input : SameRows (mapped once o) (mapped once p)
   distinct-input = distinct_once p _ _ (distinct_along o p _ s (distinct o)) (distinct p)

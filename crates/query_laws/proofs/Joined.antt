@@ -127,7 +127,7 @@ module _ (kind : JoinKind) (condition : Row → Outcome Value) (left_width right
 
 -- ---- where the left rows have one width
 
-same_parts : (u w v x : Row) → length u ≡ length w → same_row (u ++ v) (w ++ x) ≡ (same_row u w && same_row v x)
+pub same_parts : (u w v x : Row) → length u ≡ length w → same_row (u ++ v) (w ++ x) ≡ (same_row u w && same_row v x)
 same_parts [] [] v x e = refl
 same_parts [] (b ∷ w) v x e = absurd (omega arith)
 same_parts (a ∷ u) [] v x e = absurd (omega arith)
@@ -140,7 +140,7 @@ by_row true u w g k n s e f = rw s (omega (arith, e refl, suc-mul n k))
 by_row false u w g k n s e f = rw s (omega (arith, f refl))
 
 -- a sum whose terms are k at the row u, and otherwise 0
-sum_by-at : (u : Row) (g : Row → ℕ) (k : ℕ) (us : Bag) → ((w : Row) → InBag w us → same_row w u ≡ true → g w ≡ k) →
+pub sum_by-at : (u : Row) (g : Row → ℕ) (k : ℕ) (us : Bag) → ((w : Row) → InBag w us → same_row w u ≡ true → g w ≡ k) →
     ((w : Row) → InBag w us → same_row w u ≡ false → g w ≡ 0) → sum_by g us ≡ count u us * k
 sum_by-at u g k [] here elsewhere = sym (zero-mul k)
 sum_by-at u g k (w ∷ us) here elsewhere =

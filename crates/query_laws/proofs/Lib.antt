@@ -2,6 +2,8 @@ pub mod AggregateOrder
 pub mod AggregateValues
 pub mod Aggregates
 pub mod AnswerRows
+pub mod Applied
+pub mod ApplyLists
 pub mod Caused
 pub mod Choice
 pub mod Combined

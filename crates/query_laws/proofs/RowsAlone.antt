@@ -1,14 +1,14 @@
 -- Of its inputs a node sees the rows, each as often as it stands there, or the faults; of its sublinks the same, on each row.
-use Rattle.std.proofs.Common.{◌≡◌, ℕ, Bool, List, map, ◌∙◌, refl}
+use Rattle.std.proofs.Common.{◌≡◌, ℕ, Bool, List, ◌∷◌, ◌++◌, map, ◌∙◌, refl}
 use Rattle.std.specs.Prelude.{IsTrue}
 use Rattle.perm_values.specs.declared.key.Key.{Key}
 use Rattle.bag_algebra.specs.Bags.{Row, Bag, member}
-use Rattle.bag_algebra.specs.Built.{meaning-Base, meaning-Filter, meaning-Project, meaning-Join, meaning-Union, meaning-Intersect, meaning-Except, meaning-Distinct, meaning-Aggregate, meaning-Limit}
+use Rattle.bag_algebra.specs.Built.{meaning-Base, meaning-Filter, meaning-Project, meaning-Join, meaning-Apply, meaning-Union, meaning-Intersect, meaning-Except, meaning-Distinct, meaning-Aggregate, meaning-Limit}
 use Rattle.bag_algebra.specs.Children.{subs_denote}
 use Rattle.bag_algebra.specs.Kinds.{width_of}
 use Rattle.bag_algebra.specs.Meaning.{Database, meaning, condition_on, items_on, arguments_on}
-use Rattle.bag_algebra.specs.Means.{joined_rows}
-use Rattle.bag_algebra.specs.Outcome.{Good, both_then}
+use Rattle.bag_algebra.specs.Means.{joined_rows, under}
+use Rattle.bag_algebra.specs.Outcome.{Good, and_then, mapped, both_then, gather}
 use Rattle.bag_algebra.specs.Rewriting.{SameRows}
 use Rattle.bag_algebra.specs.declared.expr.Expr.{Expr}
 use Rattle.bag_algebra.specs.declared.expr.Item.{Item}
@@ -16,9 +16,11 @@ use Rattle.bag_algebra.specs.declared.query.Aggr.{Aggr}
 use Rattle.bag_algebra.specs.declared.query.JoinKind.{JoinKind}
 use Rattle.bag_algebra.specs.declared.query.Label.{Label}
 use Rattle.bag_algebra.specs.declared.query.Query.{Query}
-use Rattle.bag_algebra.specs.declared.query.Query.TheVariants.{Base, Filter, Project, Join, Union, Intersect, Except, Distinct, Aggregate, Limit}
+use Rattle.bag_algebra.specs.declared.query.Query.TheVariants.{Base, Filter, Project, Join, Apply, Union, Intersect, Except, Distinct, Aggregate, Limit}
 use Rattle.bag_algebra.specs.declared.query.Sublink.{Sublink}
-use Rattle.query_laws.proofs.Inputs.{across, filter-input, project-input, distinct-input, limit-input, aggregate-input, join-inputs, union-inputs, intersect-inputs, except-inputs}
+use Rattle.query_laws.proofs.Inputs.{across, filter-input, project-input, apply-input, distinct-input, limit-input, aggregate-input, join-inputs, union-inputs, intersect-inputs, except-inputs}
+use Rattle.bag_algebra.proofs.Members.{in-member}
+use Rattle.query_laws.proofs.Outcomes.{in_bag-in}
 use Rattle.query_laws.specs.Agreeing.{SubsAgree}
 use Rattle.query_laws.proofs.StandingSublinks.{filter-subs, project-subs, join-subs}
 
@@ -45,7 +47,9 @@ project-rows input other items subs others db env s agree =
 
 pub join-rows : (kind : JoinKind) (left right other another : Query) (condition : Expr) (subs others : List Sublink) (db : Database) (env : List Row) →
     SameRows (meaning left db env) (meaning other db env) → SameRows (meaning right db env) (meaning another db env) →
-    width_of left ≡ width_of other → width_of right ≡ width_of another → ((u : Row) → SubsAgree db env u subs others) →
+    width_of left ≡ width_of other → width_of right ≡ width_of another →
+    ((us vs : Bag) (u v : Row) → meaning left db env ≡ Good us → meaning right db env ≡ Good vs → IsTrue (member u us) → IsTrue (member v vs) →
+    SubsAgree db env (u ++ v) subs others) →
     SameRows (meaning (Join kind left right condition subs) db env) (meaning (Join kind other another condition others) db env)
 join-rows kind left right other another condition subs others db env s r wide width agree =
     let on_row = condition_on condition env (subs_denote others db env) in
@@ -53,6 +57,17 @@ join-rows kind left right other another condition subs others db env s r wide wi
     ∙ (λ i. both_then (meaning left db env) (meaning right db env) (joined_rows kind on_row (wide i) (width i))))
     (meaning-Join db env kind other another condition others)
     (join-inputs (meaning left db env) (meaning other db env) s (meaning right db env) (meaning another db env) r kind on_row (width_of other) (width_of another))
+
+pub apply-rows : (kind : JoinKind) (left right other another : Query) (db : Database) (env : List Row) →
+    SameRows (meaning left db env) (meaning other db env) → width_of right ≡ width_of another →
+    ((us : Bag) (u : Row) → meaning left db env ≡ Good us → IsTrue (member u us) → SameRows (meaning right db (u ∷ env)) (meaning another db (u ∷ env))) →
+    SameRows (meaning (Apply kind left right) db env) (meaning (Apply kind other another) db env)
+apply-rows kind left right other another db env s width under_each =
+    across (meaning-Apply db env kind left right
+    ∙ (λ i. and_then (meaning left db env) (gather (λ u. mapped (under kind (width i) u) (meaning right db (u ∷ env))))))
+    (meaning-Apply db env kind other another)
+    (apply-input (meaning left db env) (meaning other db env) s kind (width_of another) (λ u. meaning right db (u ∷ env)) (λ u. meaning another db (u ∷ env))
+    (λ us u good here. under_each us u good (in-member u us (in_bag-in u us here))))
 
 pub union-rows : (all : Bool) (left right other another : Query) (db : Database) (env : List Row) →
     SameRows (meaning left db env) (meaning other db env) → SameRows (meaning right db env) (meaning another db env) →

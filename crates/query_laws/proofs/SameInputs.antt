@@ -1,5 +1,5 @@
 -- The laws see bags: what a node's law says of an answer stays true where the input's rows come in another order.
-use Rattle.std.proofs.Common.{◌≡◌, ◌↔◌, inl, inr, ℕ, ◌+◌, ◌*◌, ◌<◌, Bool, cond, not, ◌&&◌, ◌||◌, List, ◌++◌, filter, sum_by, refl, sym, ap, subst, ◌∙◌}
+use Rattle.std.proofs.Common.{◌≡◌, ◌↔◌, inl, inr, ℕ, ◌+◌, ◌*◌, ◌<◌, Bool, cond, not, ◌&&◌, ◌||◌, true, List, ◌++◌, filter, sum_by, refl, sym, ap, subst, ◌∙◌}
 use Rattle.std.specs.List.{list_any}
 use Rattle.null_logic.specs.Arithmetic.{fits_64}
 use Rattle.perm_values.specs.Rows.{same_row, value_at, picked}
@@ -7,14 +7,16 @@ use Rattle.perm_values.specs.declared.key.Key.{Key}
 use Rattle.perm_values.specs.declared.value.Value.{Value}
 use Rattle.bag_algebra.proofs.BagLaws.{Permuted, nothing, onward, turn, joined, permuted-map, permuted-filter, permuted-from_same_bag, same_bag-sym, same_bag-trans}
 use Rattle.bag_algebra.specs.Bags.{Row, Bag, SameBag, count, nulls}
-use Rattle.bag_algebra.specs.Means.{Witness, is_met, gives, keeps_left, keeps_right, good_row}
-use Rattle.bag_algebra.specs.Outcome.{Outcome, Good, Bad, Faults}
+use Rattle.bag_algebra.specs.Means.{Witness, is_met, gives, keeps_left, keeps_right, good_row, good_rows}
+use Rattle.bag_algebra.specs.Outcome.{Outcome, Good, Bad, Faults, has}
 use Rattle.bag_algebra.specs.declared.query.AggFn.{AggFn}
 use Rattle.bag_algebra.specs.declared.query.JoinKind.{JoinKind}
 use Rattle.bag_algebra.specs.Rewriting.{SameRows}
-use Rattle.query_laws.specs.Faults.{PassesFaults, UnitesFaults, OverRows, OverPairs}
+use Rattle.null_logic.specs.declared.run_fault.RunFault.{RunFault}
+use Rattle.query_laws.specs.Faults.{IsGood, Meets, PassesFaults, UnitesFaults, OverRows, OverPairs}
 use Rattle.query_laws.specs.Holding.{InBag, HoldsOnce, Lists, counted_where}
-use Rattle.query_laws.specs.Nodes.{IsFiltered, IsProjected, makes, pairs_count, is_unmatched_left, is_unmatched_right, left_count, right_count, IsJoined, IsCombined, IsDistinct, IsKey, class_values, IsClassRow, SumOverflows, IsGrouped, IsLimited, IsProvenance}
+use Rattle.query_laws.specs.Nodes.{IsFiltered, IsProjected, makes, pairs_count, is_unmatched_left, is_unmatched_right, left_count, right_count, IsJoined, is_alone, beside_count, IsApplied, IsCombined, IsDistinct, IsKey, class_values, IsClassRow, SumOverflows, IsGrouped, IsLimited, IsProvenance}
+use Rattle.query_laws.proofs.Applied.{times-where, beside-same, own-same}
 use Rattle.query_laws.proofs.Sums.{sum_by-same}
 use Rattle.bag_algebra.proofs.Truths.{or_turn}
 use Rattle.bag_algebra.proofs.AggregateOrder.{total-permuted, aggregated-permuted}
@@ -179,6 +181,64 @@ join_along kind condition left_width right_width i j k l a s r p = record {
       p.product m.0 n.0 ts m.1 n.1 w (λ x h. wide x (in_bag_along m.0 ws m.2 x h)) u v long
       ∙ product-same kind condition m.0 n.0 ws xs m.2 n.2 left_width right_width u v;
 }
+
+-- ---- Apply
+
+same_rows-sym : (o p : Outcome Bag) → SameRows o p → SameRows p o
+same_rows-sym (Good us) (Good vs) s = same_bag-sym us vs s
+same_rows-sym (Good us) (Bad g) s = absurd s
+same_rows-sym (Bad f) (Good vs) s = absurd s
+same_rows-sym (Bad f) (Bad g) s = sym s
+
+good_along : (o p : Outcome Bag) → SameRows o p → IsGood o → IsGood p
+good_along (Good us) (Good vs) s g = tt
+good_along (Good us) (Bad g) s h = absurd s
+good_along (Bad f) p s g = absurd g
+
+meets_along : (fault : RunFault) (o p : Outcome Bag) → SameRows o p → Meets o fault → Meets p fault
+meets_along fault (Good us) p s m = absurd m
+meets_along fault (Bad f) (Good vs) s m = absurd s
+meets_along fault (Bad f) (Bad g) s m = subst (λ h. has h fault ≡ true) s m
+
+-- right sides that have the same rows or faults under each left row that is there
+module _ (i j : Outcome Bag) (s : SameRows i j) (right another : Row → Outcome Bag)
+    (under_each : (us : Bag) (u : Row) → i ≡ Good us → InBag u us → SameRows (right u) (another u)) where
+  over_rights_along : (us vs : Bag) (a : Outcome Bag) → i ≡ Good us → SameBag us vs → OverRows right us a → OverRows another vs a
+  over_rights_along us vs a e b o =
+      let back = same_bag-sym us vs b in
+      record {
+        good = (
+          λ g u h. let here = in_bag_along vs us back u h in good_along (right u) (another u) (under_each us u e here) (o.good.0 g u here),
+          λ g. o.good.1 (λ u h. good_along (another u) (right u) (same_rows-sym (right u) (another u) (under_each us u e h)) (g u (in_bag_along us vs b u h))),
+        );
+        faults = λ fault. (
+          λ m. let found = (o.faults fault).0 m in
+              (found.0, in_bag_along us vs b found.0 found.1, meets_along fault (right found.0) (another found.0) (under_each us found.0 e found.1) found.2),
+          λ m. let here = in_bag_along vs us back m.0 m.1 in
+              (o.faults fault).1 (m.0, here, meets_along fault (another m.0) (right m.0) (same_rows-sym (right m.0) (another m.0) (under_each us m.0 e here)) m.2),
+        );
+      }
+
+  pub apply_along : (kind : JoinKind) (left_width right_width : ℕ) (a : Outcome Bag) → IsApplied kind left_width right_width i right a →
+      IsApplied kind left_width right_width j another a
+  apply_along kind left_width right_width a p = record {
+    bad = passes_along i j a s p.bad;
+    evaluated = λ vs e. let k = good_other i j s vs e in over_rights_along k.0 vs a k.1 k.2 (p.evaluated k.0 k.1);
+    counts = λ vs ts e w lefts l t. let k = good_other i j s vs e in
+        let same : SameBag k.0 vs = k.2 in
+        p.counts k.0 ts k.1 w lefts (lists_along lefts k.0 vs k.2 l) t
+        ∙ sum_by-same (λ u. count u k.0 * beside_count kind right_width t u (good_rows (right u)))
+        (λ u. count u vs * beside_count kind right_width t u (good_rows (another u))) lefts
+        (λ u. ap (λ n. n * beside_count kind right_width t u (good_rows (right u))) (same.counts u)
+        ∙ times-where (count u vs) _ _
+        (λ h. beside-same kind right_width t u (right u) (another u) (under_each k.0 u k.1 (in_bag_along vs k.0 (same_bag-sym k.0 vs k.2) u h))));
+    product = λ vs ts e w wide u v long. let k = good_other i j s vs e in
+        let same : SameBag k.0 vs = k.2 in
+        p.product k.0 ts k.1 w (λ x h. wide x (in_bag_along k.0 vs k.2 x h)) u v long
+        ∙ ap (λ n. n * (count v (good_rows (right u)) + cond (is_alone kind (good_rows (right u)) && same_row (nulls right_width) v) 1 0)) (same.counts u)
+        ∙ times-where (count u vs) _ _
+        (λ h. own-same kind right_width v (right u) (another u) (under_each k.0 u k.1 (in_bag_along vs k.0 (same_bag-sym k.0 vs k.2) u h)));
+  }
 
 -- ---- set operations, Distinct, Limit, PROVENANCE
 

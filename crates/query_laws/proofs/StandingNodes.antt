@@ -7,8 +7,8 @@ use Rattle.perm_values.specs.declared.kind.Kind.{Kind}
 use Rattle.perm_values.specs.declared.kind.Kind.TheVariants.{Boolean}
 use Rattle.bag_algebra.proofs.TablesRead.{reads_among-each, reads_among-itself}
 use Rattle.bag_algebra.specs.Bags.{Row, Bag, member}
-use Rattle.bag_algebra.specs.Built.{Base-is, Filter-is, Project_with-is, Join-is, Union-is, Intersect-is, Except-is, Distinct-is, Aggregate-is, Limit-is}
-use Rattle.bag_algebra.specs.BuiltForms.{AllSubsForm, subs_kinds, NoneOf, EachTableOfSubs, WellFormed-Base, WellFormed-Filter, WellFormed-Project, WellFormed-Join, WellFormed-Union, WellFormed-Intersect, WellFormed-Except, WellFormed-Distinct, WellFormed-Aggregate, WellFormed-Limit, EachTable-Base, EachTable-Filter, EachTable-Project, EachTable-Join, EachTable-Union, EachTable-Intersect, EachTable-Except, EachTable-Distinct, EachTable-Aggregate, EachTable-Limit}
+use Rattle.bag_algebra.specs.Built.{Base-is, Filter-is, Project_with-is, Join-is, Apply-is, Union-is, Intersect-is, Except-is, Distinct-is, Aggregate-is, Limit-is}
+use Rattle.bag_algebra.specs.BuiltForms.{AllSubsForm, subs_kinds, EachTableOfSubs, WellFormed-Base, WellFormed-Filter, WellFormed-Project, WellFormed-Join, WellFormed-Apply, WellFormed-Union, WellFormed-Intersect, WellFormed-Except, WellFormed-Distinct, WellFormed-Aggregate, WellFormed-Limit, EachTable-Base, EachTable-Filter, EachTable-Project, EachTable-Join, EachTable-Apply, EachTable-Union, EachTable-Intersect, EachTable-Except, EachTable-Distinct, EachTable-Aggregate, EachTable-Limit}
 use Rattle.bag_algebra.specs.Fits.{bag_fits, env_fits, TablesFit}
 use Rattle.bag_algebra.specs.Kinds.{kinds_of, kinds_in}
 use Rattle.bag_algebra.specs.Meaning.{Database, meaning}
@@ -22,16 +22,16 @@ use Rattle.bag_algebra.specs.declared.query.Aggr.{Aggr}
 use Rattle.bag_algebra.specs.declared.query.JoinKind.{JoinKind}
 use Rattle.bag_algebra.specs.declared.query.Label.{Label}
 use Rattle.bag_algebra.specs.declared.query.Query.{Query}
-use Rattle.bag_algebra.specs.declared.query.Query.TheVariants.{Base, Filter, Project, Join, Union, Intersect, Except, Distinct, Aggregate, Limit}
+use Rattle.bag_algebra.specs.declared.query.Query.TheVariants.{Base, Filter, Project, Join, Apply, Union, Intersect, Except, Distinct, Aggregate, Limit}
 use Rattle.bag_algebra.specs.declared.query.Sublink.{Sublink}
 use Rattle.contribution.proofs.QueryKinds.{seen-row, rows_have-kinds}
-use Rattle.contribution.proofs.RowKinds.{RowFits}
+use Rattle.contribution.proofs.RowKinds.{RowFits, row_fits-append}
 use Rattle.contribution.proofs.WhereGood.{each-in}
 use Rattle.bag_algebra.proofs.Members.{member-in}
-use Rattle.query_laws.proofs.RowsAlone.{base-rows, filter-rows, project-rows, join-rows, union-rows, intersect-rows, except-rows, distinct-rows, aggregate-rows, limit-rows}
+use Rattle.query_laws.proofs.RowsAlone.{base-rows, filter-rows, project-rows, join-rows, apply-rows, union-rows, intersect-rows, except-rows, distinct-rows, aggregate-rows, limit-rows}
 use Rattle.query_laws.specs.Agreeing.{SubsAgree}
 use Rattle.query_laws.specs.Standing.{SubsStand}
-use Rattle.bag_algebra.specs.BuiltScopes.{all_plain, is_plain-Filter, is_plain-Project, is_plain-Join, is_plain-Union, is_plain-Intersect, is_plain-Except, is_plain-Distinct, is_plain-Aggregate, is_plain-Limit}
+use Rattle.bag_algebra.specs.BuiltScopes.{all_plain, is_plain-Filter, is_plain-Project, is_plain-Join, is_plain-Apply, is_plain-Union, is_plain-Intersect, is_plain-Except, is_plain-Distinct, is_plain-Aggregate, is_plain-Limit}
 
 -- what one type has, an equal one has
 by : {A B : Type 0} → A ≡ B → A → B
@@ -108,12 +108,17 @@ module _ (q b : Query) (s : Stands q b) where
       (λ outer db env f h e.
       base-rows q b places label db env (s.rows outer db env (by (WellFormed-Base outer q places label) f).input (by (EachTable-Base _ q places label) h) e))
 
-  -- the rows of the input are outer rows of the sublinks' queries
+  -- the rows of the input have its kinds
+  rows-fit : (outer : List (List Kind)) (db : Database) (env : List Row) → WellFormed outer q → TablesFit db q → env_fits env outer ≡ true →
+      (us : Bag) (u : Row) → meaning q db env ≡ Good us → IsTrue (member u us) → RowFits (kinds_of q) u
+  rows-fit outer db env f h e us u good here =
+      each-in (RowFits (kinds_of q)) u us (rows_have-kinds outer q db env us (record { formed = f; tables = h; outer_rows = e }) good) (member-in u us here)
+
+  -- and are outer rows of the sublinks' queries
   inner-fits : (outer : List (List Kind)) (db : Database) (env : List Row) → WellFormed outer q → TablesFit db q → env_fits env outer ≡ true →
       (us : Bag) (u : Row) → meaning q db env ≡ Good us → IsTrue (member u us) → env_fits (u ∷ env) (kinds_of q ∷ outer) ≡ true
   inner-fits outer db env f h e us u good here =
-      let fits = rows_have-kinds outer q db env us (record { formed = f; tables = h; outer_rows = e }) good in
-      (seen-row (kinds_of q) outer env u e (each-in (RowFits (kinds_of q)) u us fits (member-in u us here))).fitting
+      (seen-row (kinds_of q) outer env u e (rows-fit outer db env f h e us u good here)).fitting
 
   pub stands-Filter : (condition : Expr) (subs others : List Sublink) → SubsStand subs others → Stands (Filter q condition subs) (Filter b condition others)
   stands-Filter condition subs others t =
@@ -206,7 +211,15 @@ module _ (q b : Query) (s : Stands q b) where
 -- ---- two inputs
 
 module _ (q b : Query) (s : Stands q b) (r d : Query) (t : Stands r d) where
-  -- a join in a well formed query has no sublinks
+  -- the pairs are outer rows of the sublinks' queries
+  pairs-fit : (outer : List (List Kind)) (db : Database) (env : List Row) → WellFormed outer q → WellFormed outer r → TablesFit db q → TablesFit db r →
+      env_fits env outer ≡ true → (us vs : Bag) (u v : Row) → meaning q db env ≡ Good us → meaning r db env ≡ Good vs → IsTrue (member u us) →
+      IsTrue (member v vs) → env_fits ((u ++ v) ∷ env) ((kinds_of q ++ kinds_of r) ∷ outer) ≡ true
+  pairs-fit outer db env f g h k e us vs u v of_left of_right here there =
+      (seen-row (kinds_of q ++ kinds_of r) outer env (u ++ v) e
+      (row_fits-append u v (kinds_of q) (kinds_of r) (rows-fit q b s outer db env f h e us u of_left here)
+      (rows-fit r d t outer db env g k e vs v of_right there))).fitting
+
   pub stands-Join : (kind : JoinKind) (condition : Expr) (subs others : List Sublink) → SubsStand subs others →
       Stands (Join kind q r condition subs) (Join kind b d condition others)
   stands-Join kind condition subs others k =
@@ -223,7 +236,6 @@ module _ (q b : Query) (s : Stands q b) (r d : Query) (t : Stands r d) where
         right = t.formed outer g.right;
         subs = by (λ i. AllSubsForm (e i ∷ outer) others) (subs-form ((kinds_of q ++ kinds_of r) ∷ outer) subs others k g.subs);
         condition = by (λ i. HasKind (e i ∷ outer) (subs-kinds ((kinds_of q ++ kinds_of r) ∷ outer) subs others k g.subs i) condition Boolean) g.condition;
-        without_subs = none subs others k g.without_subs;
       }))
       (λ P h.
       let g = by (EachTable-Join P kind q r condition subs) h in
@@ -233,17 +245,32 @@ module _ (q b : Query) (s : Stands q b) (r d : Query) (t : Stands r d) where
       let g = by (WellFormed-Join outer kind q r condition subs) f in
       let j = by (EachTable-Join _ kind q r condition subs) h in
       join-rows kind q r b d condition subs others db env (s.rows outer db env g.left j.0 e) (t.rows outer db env g.right j.1 e)
-      (ap length (sym (s.kinds outer g.left))) (ap length (sym (t.kinds outer g.right))) (λ u. agree db env u subs others k g.without_subs))
-    where
-      none : (subs others : List Sublink) → SubsStand subs others → NoneOf subs → NoneOf others
-      none [] [] k h = tt
-      none [] (other ∷ others) k h = absurd k
-      none (sub ∷ subs) others k h = absurd h
+      (ap length (sym (s.kinds outer g.left))) (ap length (sym (t.kinds outer g.right)))
+      (λ us vs u v of_left of_right here there. subs-agree ((kinds_of q ++ kinds_of r) ∷ outer) db (u ++ v) env
+      (pairs-fit outer db env g.left g.right j.0 j.1 e us vs u v of_left of_right here there) subs others k g.subs j.2))
 
-      agree : (db : Database) (env : List Row) (u : Row) (subs others : List Sublink) → SubsStand subs others → NoneOf subs → SubsAgree db env u subs others
-      agree db env u [] [] k h = tt
-      agree db env u [] (other ∷ others) k h = absurd k
-      agree db env u (sub ∷ subs) others k h = absurd h
+  pub stands-Apply : (kind : JoinKind) → Stands (Apply kind q r) (Apply kind b d)
+  stands-Apply kind =
+      standing (Apply kind q r) (Apply kind b d)
+      (is_plain-Apply kind b d ∙ and_from (is_plain b) (is_plain d) s.plain t.plain)
+      (λ outer f.
+      let g = by (WellFormed-Apply outer kind q r) f in
+      ap kinds_of (Apply-is kind b d) ∙ (λ i. s.kinds outer g.left i ++ t.kinds (kinds_of q ∷ outer) g.right i) ∙ sym (ap kinds_of (Apply-is kind q r)))
+      (λ outer f.
+      let g = by (WellFormed-Apply outer kind q r) f in
+      by (sym (WellFormed-Apply outer kind b d)) (record {
+        left = s.formed outer g.left;
+        right = by (λ i. WellFormed (sym (s.kinds outer g.left) i ∷ outer) d) (t.formed (kinds_of q ∷ outer) g.right);
+        dependent = g.dependent;
+      }))
+      (λ P h.
+      let g = by (EachTable-Apply P kind q r) h in
+      by (sym (EachTable-Apply P kind b d)) (reads_among-each P b q s.tables g.0, reads_among-each P d r t.tables g.1))
+      (λ outer db env f h e.
+      let g = by (WellFormed-Apply outer kind q r) f in
+      let j = by (EachTable-Apply _ kind q r) h in
+      apply-rows kind q r b d db env (s.rows outer db env g.left j.0 e) (ap length (sym (t.kinds (kinds_of q ∷ outer) g.right)))
+      (λ us u good here. t.rows (kinds_of q ∷ outer) db (u ∷ env) g.right j.1 (inner-fits q b s outer db env g.left j.0 e us u good here)))
 
   -- set operations differ in their rows alone
   module _ (node : Query → Query → Query)

@@ -1,6 +1,6 @@
 -- What the witness lists of a row are, node by node: each relation says of a row t of the node's answer that w is one of
 -- its lists (Glavic and Alonso, ICDE 2009 and EDBT 2009; those of EXCEPT are this project's own).
-use Rattle.std.specs.Prelude.{◌≡◌, ◌≢◌, ℕ, List, [], ◌++◌, take, length, Contains, IsTrue}
+use Rattle.std.specs.Prelude.{◌≡◌, ◌≢◌, ℕ, List, [], ◌∷◌, ◌++◌, take, length, Contains, IsTrue}
 use Rattle.perm_values.specs.Rows.{picked}
 use Rattle.bag_algebra.specs.Bags.{Row, nulls}
 use Rattle.bag_algebra.specs.Children.{subs_denote, subs_shape}
@@ -53,6 +53,18 @@ pub data JoinList (kind : JoinKind) (left right : Query) (condition : Expr) (sub
       ((u : Row) → InAnswer left db env u → Meets condition subs db env u v → ⊥) → Contains (witnesses right db env v) r →
       all_empty (shape left) ++ r ++ all_empty (subs_shape subs) ≡ w →
       JoinList kind left right condition subs db env t w
+
+-- ---- Apply
+
+-- a left row beside a right row under it has each list of the one, then each of the other; a left row without right rows,
+-- where the kind keeps it, has each of its lists with nothing on the right
+pub data ApplyList (kind : JoinKind) (left right : Query) (db : Database) (env : List Row) (t : Row) (w : Witness) : Type 0 where
+  of_right_row : (u v : Row) (l r : Witness) → InAnswer left db env u → InAnswer right db (u ∷ env) v → u ++ v ≡ t →
+      Contains (witnesses left db env u) l → Contains (witnesses right db (u ∷ env) v) r → l ++ r ≡ w →
+      ApplyList kind left right db env t w
+  of_no_right_row : (u : Row) (l : Witness) → IsTrue (keeps_left kind) → InAnswer left db env u → meaning right db (u ∷ env) ≡ Good [] →
+      u ++ nulls (width_of right) ≡ t → Contains (witnesses left db env u) l → l ++ all_empty (shape right) ≡ w →
+      ApplyList kind left right db env t w
 
 -- ---- set operations
 

@@ -10,7 +10,7 @@ use Rattle.perm_values.specs.Rows.{same_row, value_at, picked, printed_cmp}
 use Rattle.perm_values.specs.declared.key.Key.{Key}
 use Rattle.perm_values.specs.declared.value.Value.{Value}
 use Rattle.bag_algebra.specs.Bags.{Row, Bag, count, SameBag, nulls}
-use Rattle.bag_algebra.specs.Means.{Witness, flat, is_met, gives, keeps_left, keeps_right, present, total, aggregated, good_row, class_of}
+use Rattle.bag_algebra.specs.Means.{Witness, flat, is_met, gives, keeps_left, keeps_right, is_some_row, good_rows, present, total, aggregated, good_row, class_of}
 use Rattle.bag_algebra.specs.Outcome.{Outcome, Good}
 use Rattle.bag_algebra.specs.declared.query.AggFn.{AggFn}
 use Rattle.bag_algebra.specs.declared.query.AggFn.TheVariants.{Sum}
@@ -72,6 +72,27 @@ pub record IsJoined (kind : JoinKind) (condition : Row → Outcome Value) (left_
       (u v : Row) → length u ≡ left_width → count (u ++ v) ts ≡ cond (is_met (condition (u ++ v))) (count u us * count v vs) 0
       + cond (keeps_left kind && same_row (nulls right_width) v && is_unmatched_left condition vs u) (count u us) 0
       + cond (keeps_right kind && same_row (nulls left_width) u && is_unmatched_right condition us v) (count v vs) 0
+
+-- ---- Apply: each left row beside each right row under it, and beside NULLs where there is none and the kind keeps left rows
+
+-- whether a left row over these right rows stands beside NULLs
+abbrev pub is_alone : JoinKind → Bag → Bool
+is_alone kind vs = keeps_left kind && not (is_some_row vs)
+
+-- how often the row stands there for one such left row
+abbrev pub beside_count : JoinKind → ℕ → Row → Row → Bag → ℕ
+beside_count kind right_width t u vs =
+    count t (map (λ v. u ++ v) vs) + cond (is_alone kind vs && same_row (u ++ nulls right_width) t) 1 0
+
+pub record IsApplied (kind : JoinKind) (left_width right_width : ℕ) (left : Outcome Bag) (right : Row → Outcome Bag) (answer : Outcome Bag) : Type 0 where
+  pub bad : PassesFaults left answer
+  pub evaluated : (us : Bag) → left ≡ Good us → OverRows right us answer
+  pub counts : (us ts : Bag) → left ≡ Good us → answer ≡ Good ts → (lefts : List Row) → Lists lefts us →
+      (t : Row) → count t ts ≡ sum_by (λ u. count u us * beside_count kind right_width t u (good_rows (right u))) lefts
+  -- where all left rows have the left width, a row falls into its two parts in one way
+  pub product : (us ts : Bag) → left ≡ Good us → answer ≡ Good ts → HasWidth left_width us →
+      (u v : Row) → length u ≡ left_width → count (u ++ v) ts ≡ count u us
+      * (count v (good_rows (right u)) + cond (is_alone kind (good_rows (right u)) && same_row (nulls right_width) v) 1 0)
 
 -- ---- Union, Intersect, Except: with ALL a row has the count that `many` makes of its counts on both sides; without ALL
 -- the answer holds once each row whose counts are as `some` says

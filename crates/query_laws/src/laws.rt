@@ -23,13 +23,13 @@ ghost use Rattle.bag_algebra.specs.declared.query.AggFn.{AggFn};
 ghost use Rattle.bag_algebra.specs.declared.query.Aggr.{Aggr};
 ghost use Rattle.bag_algebra.specs.declared.query.JoinKind.{JoinKind};
 ghost use Rattle.bag_algebra.specs.declared.query.Label.{Label};
-ghost use Rattle.bag_algebra.specs.declared.query.Query.TheVariants.{Table, Single, Base, Filter, Project, Join, Union, Intersect, Except, Distinct, Aggregate, Limit, Prov};
+ghost use Rattle.bag_algebra.specs.declared.query.Query.TheVariants.{Table, Single, Base, Filter, Project, Join, Apply, Union, Intersect, Except, Distinct, Aggregate, Limit, Prov};
 ghost use Rattle.bag_algebra.specs.declared.query.Query.{Query};
 ghost use Rattle.bag_algebra.specs.declared.query.Sublink.{Sublink};
 ghost use Rattle.query_laws.specs.Aggregated.{occurrences, ListsValues, IsLeast, IsGreatest};
 ghost use Rattle.bag_algebra.specs.Rewriting.{SameRows};
 ghost use Rattle.query_laws.specs.Holding.{InBag, Lists};
-ghost use Rattle.query_laws.specs.Nodes.{IsFiltered, IsProjected, IsJoined, IsCombined, in_either, in_both, in_left_alone, IsDistinct, IsGrouped, IsLimited, IsProvenance};
+ghost use Rattle.query_laws.specs.Nodes.{IsFiltered, IsProjected, IsJoined, IsApplied, IsCombined, in_either, in_both, in_left_alone, IsDistinct, IsGrouped, IsLimited, IsProvenance};
 
 /// A table has the rows that the database has for it.
 pub fn table_has_its_rows()
@@ -68,6 +68,15 @@ pub fn join_multiplies_counts()
     ensures { (kind : JoinKind) (left right : Query) (condition : Expr) (subs : List Sublink) (db : Database)
         (env : List Row) →
         IsJoined kind (condition_on condition env (subs_denote subs db env)) (width_of left) (width_of right) (meaning left db env) (meaning right db env) (meaning (Join kind left right condition subs) db env) }
+{}
+
+/// A row has the sum, over the left rows, of their counts times how often it stands beside them: as often as a right row
+/// under the left row makes it; or once, made of NULLs, where there is none and the kind keeps left rows. What the right
+/// side meets under the left rows is met.
+pub fn dependent_join_multiplies_counts()
+    ensures { (kind : JoinKind) (left right : Query) (db : Database) (env : List Row) →
+        IsApplied kind (width_of left) (width_of right) (meaning left db env)
+        (λ u. meaning right db (u ∷ env)) (meaning (Apply kind left right) db env) }
 {}
 
 /// UNION ALL gives the sum of the counts, UNION each row of either side once.
@@ -143,6 +152,12 @@ pub fn laws_leave_no_choice()
         SameRows left other → SameRows right another →
         IsJoined kind condition left_width right_width left right a →
         IsJoined kind condition left_width right_width other another b → SameRows a b }
+    ensures apply { (kind : JoinKind) (left_width right_width : ℕ) (left other a b : Outcome Bag)
+        (right another : Row → Outcome Bag) →
+        SameRows left other →
+        ((us : Bag) (u : Row) → left ≡ Good us → InBag u us → SameRows (right u) (another u)) →
+        IsApplied kind left_width right_width left right a →
+        IsApplied kind left_width right_width other another b → SameRows a b }
     ensures union_of { (all : Bool) (left right other another a b : Outcome Bag) →
         SameRows left other → SameRows right another → IsCombined ◌+◌ in_either all left right a →
         IsCombined ◌+◌ in_either all other another b → SameRows a b }

@@ -13,9 +13,9 @@ use Rattle.bag_algebra.specs.Bags.{Row}
 use Rattle.bag_algebra.specs.Expressions.{row_at, operate, chain, has_truth, chosen_arm, value, values, step_values, arm_value}
 use Rattle.bag_algebra.specs.Kinds.{shape, width_of}
 use Rattle.bag_algebra.specs.Meaning.{Database, denote, sub_denote, meaning, optional_value, condition_on, items_on, arguments_on}
-use Rattle.bag_algebra.specs.Means.{SubMeans, with_sub, all_empty, base_means, filter_means, project_means, join_means, union_means, intersect_means, except_means, distinct_means, aggregate_means, limit_means, provenance_means}
+use Rattle.bag_algebra.specs.Means.{SubMeans, with_sub, all_empty, base_means, filter_means, project_means, join_means, apply_means, union_means, intersect_means, except_means, distinct_means, aggregate_means, limit_means, provenance_means}
 use Rattle.bag_algebra.specs.Outcome.{Outcome, Good, and_then, mapped, both, both_then, each}
-use Rattle.bag_algebra.specs.Patterns.{OpOf, ChainOf, CaseOf, IsNullOf, IsTruthOf, SameOf, BaseOf, FilterOf, ProjectOf, JoinOf, UnionOf, IntersectOf, ExceptOf, DistinctOf, AggregateOf, LimitOf, ProvOf}
+use Rattle.bag_algebra.specs.Patterns.{OpOf, ChainOf, CaseOf, IsNullOf, IsTruthOf, SameOf, BaseOf, FilterOf, ProjectOf, JoinOf, ApplyOf, UnionOf, IntersectOf, ExceptOf, DistinctOf, AggregateOf, LimitOf, ProvOf}
 use Rattle.bag_algebra.specs.declared.expr.Expr.{Expr, Row_of-Expr, Row_of-Arm, Row_of-ChainStep, more_of-Expr, end_of-Expr, more_of-Arm, end_of-Arm, more_of-ChainStep, end_of-ChainStep}
 use Rattle.bag_algebra.specs.declared.expr.Expr.TheVariants.{Col, Lit, Sub}
 use Rattle.bag_algebra.specs.declared.expr.Item.{Item}
@@ -151,6 +151,12 @@ mutual
       let c = condition_on-alike level n env other same condition (sub_denote subs db env) (sub_denote subs db other) (right inputs (expr_reach condition beyond) n own) e in
       λ i. join_means kind (c i) (e i).contributions (record { left = all_empty (shape first); right = all_empty (shape second); subs = (e i).blank })
       (width_of first) (width_of second) (lefts i) (rights i)
+  denote-alike (ApplyOf kind first second) level n db env other w same =
+      let here = query_reach first (suc level) in
+      let inside = query_reach second (suc (suc level)) in
+      let lefts = denote-alike first level n db env other (left here inside n w) same in
+      λ i. apply_means kind (width_of second) (all_empty (shape second)) (lefts i)
+      (λ u. denote-alike second (suc level) n db (u ∷ env) (u ∷ other) (right here inside n w) (one_further level n u env other same) i)
   denote-alike (UnionOf all first second) level n db env other w same =
       let lefts = denote-alike first level n db env other (left (query_reach first (suc level)) (query_reach second (suc level)) n w) same in
       let rights = denote-alike second level n db env other (right (query_reach first (suc level)) (query_reach second (suc level)) n w) same in

@@ -5,7 +5,7 @@ use Rattle.std.proofs.Common.{refl, ap, ◌∙◌}
 use Rattle.null_logic.specs.declared.operator.Operator.{Operator}
 use Rattle.null_logic.specs.declared.truth.Truth.{Truth}
 use Rattle.perm_values.specs.declared.key.Key.{Key}
-use Rattle.bag_algebra.specs.Built.{row_of_parts, row_of_steps, row_of_arms, Chain-is, Case-is, IsNull-is, IsTruth-is, Same-is, row_of_subs, Base-is, Filter-is, Project_with-is, Join-is, Union-is, Intersect-is, Except-is, Distinct-is, Aggregate-is, Limit-is, Prov-is}
+use Rattle.bag_algebra.specs.Built.{row_of_parts, row_of_steps, row_of_arms, Chain-is, Case-is, IsNull-is, IsTruth-is, Same-is, row_of_subs, Base-is, Filter-is, Project_with-is, Join-is, Apply-is, Union-is, Intersect-is, Except-is, Distinct-is, Aggregate-is, Limit-is, Prov-is}
 use Rattle.bag_algebra.specs.declared.expr.Arm.{Arm}
 use Rattle.bag_algebra.specs.declared.expr.ChainStep.{ChainStep}
 use Rattle.bag_algebra.specs.declared.expr.Expr.{Expr}
@@ -17,7 +17,7 @@ use Rattle.bag_algebra.specs.declared.query.JoinKind.{JoinKind}
 use Rattle.bag_algebra.specs.declared.query.Label.{Label}
 use Rattle.bag_algebra.specs.declared.query.Query.{Query}
 use Rattle.bag_algebra.specs.declared.query.Query.TheBlock.{shape-the_row-Sublink-1, hidden-the_row-Sublink-1}
-use Rattle.bag_algebra.specs.declared.query.Query.TheVariants.{Base, Filter, Project, Join, Union, Intersect, Except, Distinct, Aggregate, Limit, Prov}
+use Rattle.bag_algebra.specs.declared.query.Query.TheVariants.{Base, Filter, Project, Join, Apply, Union, Intersect, Except, Distinct, Aggregate, Limit, Prov}
 use Rattle.bag_algebra.specs.declared.query.Sublink.{Sublink}
 use Rattle.query_reach.specs.Reach.{greatest, expr_reach, parts_reach, steps_reach, arms_reach, option_reach, items_reach, aggregates_reach, query_reach, subs_reach}
 
@@ -107,6 +107,10 @@ module _ (level : ℕ) where
   reach-Join kind left right condition subs =
       ap (λ q. query_reach q level) (Join-is kind left right condition subs)
       ∙ ap (max (max (max (query_reach left level) (query_reach right level)) (expr_reach condition level))) (subs_reach-row_of_subs subs)
+
+  pub reach-Apply : (kind : JoinKind) (left right : Query) →
+      query_reach (Apply kind left right) level ≡ max (query_reach left level) (query_reach right (suc level))
+  reach-Apply kind left right = ap (λ q. query_reach q level) (Apply-is kind left right)
 
   pub reach-Union : (all : Bool) (left right : Query) → query_reach (Union all left right) level ≡ max (query_reach left level) (query_reach right level)
   reach-Union all left right = ap (λ q. query_reach q level) (Union-is all left right)

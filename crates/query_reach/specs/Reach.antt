@@ -1,8 +1,8 @@
 -- How many of the first columns of an outer row are read. A row is named by its level as an expression sees it: level 0 is the
 -- row of the expression's own node, level k the kth outer row. The queries of a node's sublinks see the node's row as their
--- nearest outer row, so every row is one level further out there.
+-- nearest outer row, and the right side of a dependent join a left row, so every row is one level further out there.
 use Rattle.std.specs.Prelude.{ℕ, suc, max, cond, ◌==◌, List, [], ◌∷◌, Option, Some, None}
-use Rattle.bag_algebra.specs.Patterns.{OpOf, ChainOf, CaseOf, IsNullOf, IsTruthOf, SameOf, BaseOf, FilterOf, ProjectOf, JoinOf, UnionOf, IntersectOf, ExceptOf, DistinctOf, AggregateOf, LimitOf, ProvOf}
+use Rattle.bag_algebra.specs.Patterns.{OpOf, ChainOf, CaseOf, IsNullOf, IsTruthOf, SameOf, BaseOf, FilterOf, ProjectOf, JoinOf, ApplyOf, UnionOf, IntersectOf, ExceptOf, DistinctOf, AggregateOf, LimitOf, ProvOf}
 use Rattle.bag_algebra.specs.declared.expr.Expr.{Expr, Row_of-Expr, Row_of-Arm, Row_of-ChainStep, more_of-Expr, end_of-Expr, more_of-Arm, end_of-Arm, more_of-ChainStep, end_of-ChainStep}
 use Rattle.bag_algebra.specs.declared.expr.Expr.TheVariants.{Col, Lit, Sub}
 use Rattle.bag_algebra.specs.declared.expr.Item.{Item}
@@ -65,6 +65,7 @@ abbrev mutual
   query_reach (ProjectOf input items _ subs) level = max (max (query_reach input level) (items_reach items level)) (subs_reach subs level)
   query_reach (JoinOf kind left right condition _ subs) level =
       max (max (max (query_reach left level) (query_reach right level)) (expr_reach condition level)) (subs_reach subs level)
+  query_reach (ApplyOf kind left right) level = max (query_reach left level) (query_reach right (suc level))
   query_reach (UnionOf all left right) level = max (query_reach left level) (query_reach right level)
   query_reach (IntersectOf all left right) level = max (query_reach left level) (query_reach right level)
   query_reach (ExceptOf all left right) level = max (query_reach left level) (query_reach right level)

@@ -68,6 +68,10 @@ fn query_reach(query: &Query, level: Option<usize>) -> Option<usize>
         )),
         Query::Limit { input, .. } => query_reach(input.get(), level),
         Query::Prov { input } => query_reach(input.get(), level),
+        Query::Apply { left, right, .. } => query_reach(left.get(), level).further(query_reach(
+            right.get(),
+            one_more(level),
+        )),
     }
 }
 

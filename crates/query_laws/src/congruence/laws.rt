@@ -1,5 +1,5 @@
 //! The law of each node: the contract of a function that does nothing.
-ghost use Rattle.std.specs.Prelude.{◌≡◌, ℕ, Bool, List, IsTrue};
+ghost use Rattle.std.specs.Prelude.{◌≡◌, ℕ, Bool, List, ◌∷◌, ◌++◌, IsTrue};
 ghost use Rattle.perm_values.specs.declared.key.Key.{Key};
 ghost use Rattle.bag_algebra.specs.Bags.{Row, Bag, member};
 ghost use Rattle.bag_algebra.specs.Kinds.{width_of};
@@ -11,15 +11,16 @@ ghost use Rattle.bag_algebra.specs.declared.expr.Item.{Item};
 ghost use Rattle.bag_algebra.specs.declared.query.Aggr.{Aggr};
 ghost use Rattle.bag_algebra.specs.declared.query.JoinKind.{JoinKind};
 ghost use Rattle.bag_algebra.specs.declared.query.Label.{Label};
-ghost use Rattle.bag_algebra.specs.declared.query.Query.TheVariants.{Base, Filter, Project, Join, Union, Intersect, Except, Distinct, Aggregate, Limit};
+ghost use Rattle.bag_algebra.specs.declared.query.Query.TheVariants.{Base, Filter, Project, Join, Apply, Union, Intersect, Except, Distinct, Aggregate, Limit};
 ghost use Rattle.bag_algebra.specs.declared.query.Query.{Query};
 ghost use Rattle.bag_algebra.specs.declared.query.Sublink.{Sublink};
 ghost use Rattle.query_laws.specs.Agreeing.{SubsAgree};
 ghost use Rattle.query_laws.specs.Standing.{SubsStand};
 
-/// Of its inputs a node sees the rows, each as often as it stands there, or the faults. Of its sublinks it sees, on each
-/// row of its input, the rows of their queries or the faults; a join on each row. A join takes the widths of its inputs for
-/// its NULLs. Of PROVENANCE nothing is said: it sees witness lists.
+/// Of its inputs a node sees the rows, each as often as it stands there, or the faults; a dependent join sees those of its
+/// right side under each row of its left one. Of its sublinks a node sees, on each row of its input, a join on each pair of
+/// rows of its inputs, the rows of their queries or the faults. A join takes the widths of its inputs for its NULLs. Of
+/// PROVENANCE nothing is said: it sees witness lists.
 pub fn nodes_see_rows_alone()
     ensures base { (input other : Query) (places : List ℕ) (label : Label) (db : Database) (env : List Row) →
         SameRows (meaning input db env) (meaning other db env) →
@@ -41,8 +42,14 @@ pub fn nodes_see_rows_alone()
         SameRows (meaning left db env) (meaning other db env) →
         SameRows (meaning right db env) (meaning another db env) →
         width_of left ≡ width_of other → width_of right ≡ width_of another →
-        ((u : Row) → SubsAgree db env u subs others) →
+        ((us vs : Bag) (u v : Row) → meaning left db env ≡ Good us → meaning right db env ≡ Good vs →
+        IsTrue (member u us) → IsTrue (member v vs) → SubsAgree db env (u ++ v) subs others) →
         SameRows (meaning (Join kind left right condition subs) db env) (meaning (Join kind other another condition others) db env) }
+    ensures apply { (kind : JoinKind) (left right other another : Query) (db : Database) (env : List Row) →
+        SameRows (meaning left db env) (meaning other db env) → width_of right ≡ width_of another →
+        ((us : Bag) (u : Row) → meaning left db env ≡ Good us → IsTrue (member u us) →
+        SameRows (meaning right db (u ∷ env)) (meaning another db (u ∷ env))) →
+        SameRows (meaning (Apply kind left right) db env) (meaning (Apply kind other another) db env) }
     ensures union_of { (all : Bool) (left right other another : Query) (db : Database) (env : List Row) →
         SameRows (meaning left db env) (meaning other db env) →
         SameRows (meaning right db env) (meaning another db env) →
@@ -81,6 +88,8 @@ pub fn nodes_over_what_stands_stand()
     ensures join { (kind : JoinKind) (q b r d : Query) (condition : Expr) (subs others : List Sublink) →
         Stands q b → Stands r d →
         SubsStand subs others → Stands (Join kind q r condition subs) (Join kind b d condition others) }
+    ensures apply { (kind : JoinKind) (q b r d : Query) → Stands q b → Stands r d →
+        Stands (Apply kind q r) (Apply kind b d) }
     ensures union_of { (all : Bool) (q b r d : Query) → Stands q b → Stands r d →
         Stands (Union all q r) (Union all b d) }
     ensures intersect { (all : Bool) (q b r d : Query) → Stands q b → Stands r d →

@@ -12,9 +12,9 @@ ghost use Rattle.bag_algebra.specs.declared.query.Aggr.{Aggr};
 ghost use Rattle.bag_algebra.specs.declared.query.JoinKind.{JoinKind};
 ghost use Rattle.bag_algebra.specs.declared.query.Label.{Label};
 ghost use Rattle.bag_algebra.specs.declared.query.Query.{Query};
-ghost use Rattle.bag_algebra.specs.declared.query.Query.TheVariants.{Table, Single, Base, Filter, Project, Join, Union, Intersect, Except, Distinct, Aggregate, Limit, Prov};
+ghost use Rattle.bag_algebra.specs.declared.query.Query.TheVariants.{Table, Single, Base, Filter, Project, Join, Apply, Union, Intersect, Except, Distinct, Aggregate, Limit, Prov};
 ghost use Rattle.bag_algebra.specs.declared.query.Sublink.{Sublink};
-ghost use Rattle.query_laws.specs.ListsOfNodes.{Followed, ProjectList, JoinList, UnionList, IntersectList, ExceptList, AggregateList};
+ghost use Rattle.query_laws.specs.ListsOfNodes.{Followed, ProjectList, JoinList, ApplyList, UnionList, IntersectList, ExceptList, AggregateList};
 ghost use Rattle.query_laws.specs.SublinkLists.{InAnswer};
 
 /// The row of a source has the one list that holds it, restricted to the source's places; the rows of a table, of no FROM
@@ -53,6 +53,14 @@ pub fn join_lists_pairs_and_unmatched_rows()
         Contains (witnesses (Join kind left right condition subs) db env t) w ↔
         (InAnswer (Join kind left right condition subs) db env t ×
         JoinList kind left right condition subs db env t w) }
+{}
+
+/// A left row beside a right row under it has each list of the one beside each of the other; a left row that stands beside
+/// NULLs has its own lists, with nothing at the other places.
+pub fn dependent_join_lists_rows_under_left_rows()
+    ensures { (db : Database) (env : List Row) (t : Row) (w : Witness) (kind : JoinKind) (left right : Query) →
+        Contains (witnesses (Apply kind left right) db env t) w ↔
+        (InAnswer (Apply kind left right) db env t × ApplyList kind left right db env t w) }
 {}
 
 /// UNION has the lists of either side with nothing at the other's places; INTERSECT each left list beside each right

@@ -1,7 +1,7 @@
 use Rattle.std.proofs.Common.{◌+◌, ◌-◌, min}
 use Rattle.query_laws.specs.Nodes.{in_either, in_both, in_left_alone}
-use Rattle.query_laws.proofs.Choice.{filter_once, project_once, join_once, combined_once, distinct_once, group_once, limit_once, provenance_once}
-use Rattle.query_laws.proofs.SameInputs.{filter_along, project_along, join_along, combined_along, distinct_along, group_along, limit_along, provenance_along}
+use Rattle.query_laws.proofs.Choice.{filter_once, project_once, join_once, apply_once, combined_once, distinct_once, group_once, limit_once, provenance_once}
+use Rattle.query_laws.proofs.SameInputs.{filter_along, project_along, join_along, apply_along, combined_along, distinct_along, group_along, limit_along, provenance_along}
 use Rattle.query_laws.proofs.laws.laws_leave_no_choice.Goals as goal
 
 pub returns-clause-filter : goal.returns-clause-filter
@@ -13,6 +13,10 @@ returns-clause-project c items input other a b s p = project_once items other a 
 pub returns-clause-join : goal.returns-clause-join
 returns-clause-join c kind condition left_width right_width left right other another a b s r p =
     join_once kind condition left_width right_width other another a b (join_along kind condition left_width right_width left right other another a s r p)
+
+pub returns-clause-apply : goal.returns-clause-apply
+returns-clause-apply c kind left_width right_width left other a b right another s under_each p =
+    apply_once kind left_width right_width other a b another (apply_along left other s right another under_each kind left_width right_width a p)
 
 pub returns-clause-union_of : goal.returns-clause-union_of
 returns-clause-union_of c all left right other another a b s r p =

@@ -1,6 +1,6 @@
 use Rattle.std.proofs.Common.{◌≡◌, ℕ, suc, max, Option, refl, sym, ap, ◌∙◌, arith}
 use Rattle.bag_algebra.specs.declared.query.Query.{Query}
-use Rattle.query_reach.specs.BuiltReach.{all_subs_reach, sub_reach, reach-Base, reach-Filter, reach-Project, reach-Join, reach-Union, reach-Intersect, reach-Except, reach-Distinct, reach-Aggregate, reach-Limit, reach-Prov}
+use Rattle.query_reach.specs.BuiltReach.{all_subs_reach, sub_reach, reach-Base, reach-Filter, reach-Project, reach-Join, reach-Apply, reach-Union, reach-Intersect, reach-Except, reach-Distinct, reach-Aggregate, reach-Limit, reach-Prov}
 use Rattle.query_reach.specs.InUsize.{in_usize}
 use Rattle.query_reach.specs.Reach.{expr_reach, option_reach, items_reach, aggregates_reach, query_reach}
 use Rattle.query_reach.proofs.Greatest.{one-more, all-done}
@@ -89,6 +89,13 @@ query_reach-returns-in-Limit t c = λ n h.
 pub query_reach-returns-in-Prov : goal.query_reach-returns-in-Prov
 query_reach-returns-in-Prov t c = λ n h.
     as_node _ _ n _ _ c.in-Prov.is (reach-Prov n c.in-Prov.input) (of_query n _ _ _ (c.query_reach-in-Prov.ensures n h) c.get-in-Prov.ensures)
+
+pub query_reach-returns-in-Apply : goal.query_reach-returns-in-Apply
+query_reach-returns-in-Apply t c = λ n h.
+    as_node _ _ n _ _ c.in-Apply.is (reach-Apply n c.in-Apply.kind c.in-Apply.left c.in-Apply.right)
+    (c.further-in-Apply.ensures (query_reach c.in-Apply.left n) (query_reach c.in-Apply.right (suc n))
+    (of_query n _ _ _ (c.query_reach-in-Apply.ensures n h) c.get-in-Apply.ensures)
+    (of_query (suc n) _ _ _ (c.query_reach-in-Apply-2.ensures (suc n) (c.one_more.ensures n h)) c.get-in-Apply-2.ensures))
 
 pub subs_reach-loop-sub-init : goal.subs_reach-loop-sub-init
 subs_reach-loop-sub-init t c = λ n h. refl

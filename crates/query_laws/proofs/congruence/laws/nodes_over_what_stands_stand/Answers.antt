@@ -1,4 +1,4 @@
-use Rattle.query_laws.proofs.StandingNodes.{stands-Base, stands-Filter, stands-Project, stands-Join, stands-Union, stands-Intersect, stands-Except, stands-Distinct, stands-Aggregate, stands-Limit}
+use Rattle.query_laws.proofs.StandingNodes.{stands-Base, stands-Filter, stands-Project, stands-Join, stands-Apply, stands-Union, stands-Intersect, stands-Except, stands-Distinct, stands-Aggregate, stands-Limit}
 use Rattle.query_laws.proofs.congruence.laws.nodes_over_what_stands_stand.Goals as goal
 
 pub returns-clause-base : goal.returns-clause-base
@@ -12,6 +12,9 @@ returns-clause-project c q b items subs others s t = stands-Project q b s items 
 
 pub returns-clause-join : goal.returns-clause-join
 returns-clause-join c kind q b r d condition subs others s t k = stands-Join q b s r d t kind condition subs others k
+
+pub returns-clause-apply : goal.returns-clause-apply
+returns-clause-apply c kind q b r d s t = stands-Apply q b s r d t kind
 
 pub returns-clause-union_of : goal.returns-clause-union_of
 returns-clause-union_of c all q b r d s t = stands-Union q b s r d t all

@@ -1,4 +1,4 @@
-use Rattle.query_laws.proofs.RowsAlone.{base-rows, filter-rows, project-rows, join-rows, union-rows, intersect-rows, except-rows, distinct-rows, aggregate-rows, limit-rows}
+use Rattle.query_laws.proofs.RowsAlone.{base-rows, filter-rows, project-rows, join-rows, apply-rows, union-rows, intersect-rows, except-rows, distinct-rows, aggregate-rows, limit-rows}
 use Rattle.query_laws.proofs.congruence.laws.nodes_see_rows_alone.Goals as goal
 
 pub returns-clause-base : goal.returns-clause-base
@@ -12,6 +12,9 @@ returns-clause-project c = project-rows
 
 pub returns-clause-join : goal.returns-clause-join
 returns-clause-join c = join-rows
+
+pub returns-clause-apply : goal.returns-clause-apply
+returns-clause-apply c = apply-rows
 
 pub returns-clause-union_of : goal.returns-clause-union_of
 returns-clause-union_of c = union-rows
