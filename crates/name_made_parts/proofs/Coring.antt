@@ -29,7 +29,6 @@ use Rattle.name_meaning.specs.declared.answer.Break.{Break}
 use Rattle.name_meaning.specs.declared.scope.Scope.{Scope}
 use Rattle.name_meaning.specs.declared.trace.Trace.{Trace}
 use Rattle.name_meaning.proofs.Equations.{token, selectitem-star, selectitem-tablestar, selectitem-value}
-use Rattle.name_seen_cores.proofs.Opened.{core-is}
 use Rattle.name_made_nodes.specs.Cored.{clauses_over, condition_over, listed_over}
 use Rattle.name_made_nodes.specs.Listed.{MakesItems, widths}
 use Rattle.name_made_nodes.specs.Makes.{Makes, MakesQuery, nothing_found}
@@ -42,6 +41,7 @@ use Rattle.name_made_parts.specs.Cored.{AreKept, Keeps, MakesClauses, MakesList,
 use Rattle.name_made_parts.specs.Sources.{IsScope, own_breaks}
 use Rattle.name_made_parts.specs.declared.asked.cores.Kept.{Kept}
 use Rattle.name_made_parts.proofs.Settling.{list-settles, settled-list}
+use Rattle.name_meaning.proofs.Opened.{core-is}
 
 -- ---- conditions
 
