@@ -17,7 +17,6 @@ use Rattle.sql_tree.specs.declared.query.SelectItem.{SelectItem}
 use Rattle.sql_tree.specs.declared.query.SelectItem.TheVariants as i
 use Rattle.sql_tree.specs.declared.query.Core.{Core, out-Core}
 use Rattle.name_meaning.specs.Cores.{BodyPart, aggregated_input, before_list, clause_breaks, core_clauses, core_over, core_seen, core_trace, core_unlooked, distinct_if, filtered, group_break, group_scope, has_some, in_clause, optional_breaks, optional_built, optional_meant, settle_known, word_breaks}
-use Rattle.name_meaning.specs.Cores.{Clauses as Looked}
 use Rattle.name_meaning.specs.Froms.{FromMeant, from_all}
 use Rattle.name_meaning.specs.Items.{Made, SelectMeant, SelectPart, all_known, items_breaks, made_items, named_from, star_meant, table_star_meant, title, value_meant}
 use Rattle.name_meaning.specs.Meanings.{Around, Before, Built, Meant, Part, QueryMeant, Surroundings, is_whole, means_at}
