@@ -59,11 +59,6 @@ module _ (scopes : List (List Kind)) (u v : Row) (env other : List Row) (same : 
       items_on items env (sub_denote subs db env) u ≡ items_on items other (sub_denote subs db other) v
   all_items-same subs items sub_kinds f h = λ i. and_then (answers-same subs f i) (λ answers. items-same scopes u v env other same sub_kinds answers items (each-all _ items h) i)
 
-pub all_arguments-same : (scopes : List (List Kind)) (u v : Row) (env other : List Row) → SameColumns scopes (u ∷ env) (v ∷ other) →
-    (aggregates : List Aggr) → AggregatesForm scopes aggregates →
-    arguments_on aggregates env u ≡ arguments_on aggregates other v
-all_arguments-same scopes u v env other same aggregates f = arguments-same scopes u v env other same aggregates (each-all _ aggregates f)
-
 -- ---- on lists of sublinks, as code holds them
 
 module _ (scopes : List (List Kind)) (subs : List Sublink) (db : Database) (u v : Row) (env other : List Row) where

@@ -15,10 +15,6 @@ agree-refl (Bad f) = agree_bad f
 pub agree-of_equal : {X : Type 0} {o p : Outcome (List X)} → o ≡ p → Agree o p
 agree-of_equal {X} {o} {p} e = subst (Agree o) e (agree-refl o)
 
-pub agree-sym : {X : Type 0} {o p : Outcome (List X)} → Agree o p → Agree p o
-agree-sym (agree_good p) = agree_good (permuted-sym p)
-agree-sym (agree_bad f) = agree_bad f
-
 good_after : {X : Type 0} {o : Outcome (List X)} (xs ys : List X) → Permuted xs ys → Agree (Good ys) o → Agree (Good xs) o
 good_after xs ys p (agree_good q) = agree_good (joined p q)
 

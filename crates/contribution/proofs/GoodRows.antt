@@ -10,9 +10,6 @@ pub good_rows-with_lists : (rows : Outcome Bag) (lists : Row → List Witness) �
 good_rows-with_lists (Good bag) lists = refl
 good_rows-with_lists (Bad faults) lists = refl
 
-pub from-good : (rows : Outcome Bag) (bag : Bag) (t : Row) → rows ≡ Good bag → IsIn t bag → IsIn t (good_rows rows)
-from-good rows bag t e h = subst (λ o. IsIn t (good_rows o)) (sym e) h
-
 pub from-and_then : (o : Outcome Bag) (next : Bag → Outcome Bag) (t : Row) → IsIn t (good_rows (and_then o next)) → IsIn t (good_rows (next (good_rows o)))
 from-and_then (Good bag) next t h = h
 from-and_then (Bad faults) next t h = absurd h

@@ -26,24 +26,3 @@ in-intersect true t us vs h g =
     let least : 0 < min (count t us) (count t vs) = omega arith in
     in-counted t (in_both us vs) (subst (λ n. 0 < n) (sym (count-in_both t us vs)) least)
 in-intersect false t us vs h g = in-once t _ (in-filter (λ u. member u vs) t us h (in-member t vs g))
-
--- EXCEPT has the rows of the left that aren't in the right
-pub in-except : (t : Row) (us vs : Bag) → IsIn t us → (IsIn t vs → ⊥) → IsIn t (except_of false us vs)
-in-except t us vs h none = in-once t _ (in-filter (λ u. not (member u vs)) t us h (not_member (member t vs) (λ e. none (member-in t vs e)))) where
-  not_member : (b : Bool) → (b ≡ true → ⊥) → not b ≡ true
-  not_member true f = absurd (f (λ i. true))
-  not_member false f = λ i. true
-
-pub from-except_once : (t : Row) (us vs : Bag) → IsIn t (except_of false us vs) → IsIn t us × (IsIn t vs → ⊥)
-from-except_once t us vs h =
-    let found = from-filter (λ u. not (member u vs)) t us (from-once t (filter (λ u. not (member u vs)) us) h) in
-    (found.0, λ g. true≢false (sym found.1 ∙ ap not (in-member t vs g)))
-
--- EXCEPT ALL has those that the left has more often
-pub in-except_all : (t : Row) (us vs : Bag) → count t vs < count t us → IsIn t (except_of true us vs)
-in-except_all t us vs h = in-counted t (beyond us vs) (subst (λ n. 0 < n) (sym (count-beyond t us vs)) (omega arith))
-
-pub from-except_all : (t : Row) (us vs : Bag) → IsIn t (except_of true us vs) → count t vs < count t us
-from-except_all t us vs h =
-    let some = subst (λ n. 0 < n) (count-beyond t us vs) (counted-in t (beyond us vs) h) in
-    omega arith

@@ -56,15 +56,8 @@ pub data Below {X : Type 0} : Outcome (List X) → Outcome (List X) → Type 0 w
   below_bad : (us : List X) (g : Faults) → Below (Good us) (Bad g)
   below_worse : {f g : Faults} → Included f g → Below (Bad f) (Bad g)
 
-within-refl : {X : Type 0} (us : List X) → Within us us
-within-refl us = record { within = λ x h. h }
-
 within-trans : {X : Type 0} {us vs ws : List X} → Within us vs → Within vs ws → Within us ws
 within-trans s r = record { within = λ x h. r.within x (s.within x h) }
-
-pub below-refl : {X : Type 0} (o : Outcome (List X)) → Below o o
-below-refl (Good us) = below_good (within-refl us)
-below-refl (Bad f) = below_worse (included-refl f)
 
 good_below : {X : Type 0} {o : Outcome (List X)} (us vs : List X) → Within us vs → Below (Good vs) o → Below (Good us) o
 good_below us vs s (below_good r) = below_good (within-trans s r)
@@ -141,13 +134,6 @@ set_agree-refl (Bad f) = set_bad f
 pub set_agree-sym : {X : Type 0} {o p : Outcome (List X)} → SetAgree o p → SetAgree p o
 set_agree-sym (set_good s) = set_good (shared-sym s)
 set_agree-sym (set_bad f) = set_bad f
-
-good_agrees : {X : Type 0} {o : Outcome (List X)} (us vs : List X) → Shared us vs → SetAgree (Good vs) o → SetAgree (Good us) o
-good_agrees us vs s (set_good r) = set_good (shared-trans s r)
-
-pub set_agree-trans : {X : Type 0} {o p r : Outcome (List X)} → SetAgree o p → SetAgree p r → SetAgree o r
-set_agree-trans (set_good {us} {vs} s) b = good_agrees us vs s b
-set_agree-trans (set_bad f) b = b
 
 pub set_agree-below : {X : Type 0} {o p : Outcome (List X)} → SetAgree o p → Below o p
 set_agree-below (set_good s) = below_good s.there
@@ -232,17 +218,6 @@ both-set k l (set_bad f) (set_bad g) next = set_bad (union f g)
 
 -- ---- items of items
 
--- looking at every item of every group is looking at every group
-pub gather-flat_map : {X Y Z : Type 0} (f : Y → Outcome (List Z)) (g : X → List Y) (xs : List X) →
-    SetAgree (gather f (flat_map g xs)) (gather (λ x. gather f (g x)) xs)
-gather-flat_map f g xs =
-    set_agree-of_below
-    (gather-below f (flat_map g xs) (gather (λ x. gather f (g x)) xs) (λ y i.
-    let found = from-flat_map g y xs i in
-    below-trans (below-gather f y (g found.0) found.2) (below-gather (λ x. gather f (g x)) found.0 xs found.1)))
-    (gather-below (λ x. gather f (g x)) xs (gather f (flat_map g xs)) (λ x i.
-    gather-below f (g x) (gather f (flat_map g xs)) (λ y j. below-gather f y (flat_map g xs) (in-flat_map g y x xs i j))))
-
 flat_map-append : {X Y : Type 0} (h : X → List Y) (xs ys : List X) → flat_map h (xs ++ ys) ≡ flat_map h xs ++ flat_map h ys
 flat_map-append h [] ys = refl
 flat_map-append h (x ∷ xs) ys = ap (λ l. h x ++ l) (flat_map-append h xs ys) ∙ sym (append_assoc (h x) (flat_map h xs) (flat_map h ys))
@@ -259,11 +234,3 @@ pub mapped-gather : {X Y Z : Type 0} (h : Y → List Z) (f : X → Outcome (List
     mapped (flat_map h) (gather f xs) ≡ gather (λ x. mapped (flat_map h) (f x)) xs
 mapped-gather h f [] = refl
 mapped-gather h f (x ∷ xs) = mapped-joined h (f x) (gather f xs) ∙ ap (joined_lists (mapped (flat_map h) (f x))) (mapped-gather h f xs)
-
--- where all items of a list that has one meet the same faults, so does the list
-pub gather-all_bad : {X Y : Type 0} (f : X → Outcome (List Y)) (faults : Faults) (x : X) (xs : List X) → IsIn x xs →
-    ((y : X) → IsIn y xs → f y ≡ Bad faults) → SetAgree (gather f xs) (Bad faults)
-gather-all_bad {X} {Y} f faults x xs here bad =
-    set_agree-of_below
-    (gather-below f xs (Bad faults) (λ y i. subst (λ o. Below o (Bad faults)) (sym (bad y i)) (below-refl (Bad faults))))
-    (subst (λ o. Below {X = Y} o (gather f xs)) (bad x here) (below-gather f x xs here))

@@ -24,9 +24,6 @@ shared-trans s r = record {
   back = record { within = λ x h. s.back.within x (r.back.within x h) };
 }
 
-pub shared-of_equal : {X : Type 0} {xs ys : List X} → xs ≡ ys → Shared xs ys
-shared-of_equal {X} {xs} {ys} e = subst (Shared xs) e (shared-refl xs)
-
 -- ---- permutations
 
 pub in-permuted : {X : Type 0} (x : X) {us vs : List X} → Permuted us vs → IsIn x us → IsIn x vs

@@ -64,9 +64,6 @@ module _ (test : Truth → Bool) (compared : Row → Truth) where
 
 -- ---- the rows that contribute
 
-is_false : Truth → Bool
-is_false t = is_true (truth_not t)
-
 any_kept : (c : Compare) (x : Value) (bag : Bag) (b : Bool) → is_true (some_of (comparisons c x bag)) ≡ b →
     some_of (comparisons c x (cond b (filter (λ row. is_true (compare_values c x (cell row))) bag) bag)) ≡ some_of (comparisons c x bag)
 any_kept c x bag true e =

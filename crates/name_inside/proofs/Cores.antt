@@ -1,7 +1,6 @@
 -- Over which parts queries, set operations, cores and FROM are.
-use Rattle.std.specs.Prelude.{◌≡◌, ⊤, ℕ, ℤ, Bool, true, false, cond, not, List, [], ◌∷◌, ◌++◌, map, flat_map, Option, Some, None, option_map, is_some}
-use Rattle.std.proofs.Common.{refl, ap, sym, subst, ◌∙◌, append-nil, true≢false}
-use Rattle.std.specs.List.{list_any}
+use Rattle.std.specs.Prelude.{◌≡◌, ⊤, ℕ, ℤ, Bool, true, false, cond, List, [], ◌∷◌, ◌++◌, map, flat_map, Option, Some, None, option_map}
+use Rattle.std.proofs.Common.{refl, ap, sym, subst, ◌∙◌, true≢false}
 use Rattle.std.specs.Option.{option_map_or}
 use Rattle.bag_algebra.specs.declared.query.Query.{Query}
 use Rattle.perm_catalog.specs.Contents.{Contents}
@@ -21,11 +20,11 @@ use Rattle.sql_tree.specs.declared.source.FromSource.TheVariants as source
 use Rattle.sql_tree.specs.declared.source.FromTree.{FromTree, out-FromTree}
 use Rattle.sql_tree.specs.declared.source.JoinStep.{JoinStep, out-JoinStep}
 use Rattle.sql_tree.specs.declared.source.ScopeMark.{ScopeMark}
-use Rattle.name_meaning.proofs.Equations.{token, settree-core, settree-paren, settree-chain, setstep-record, querytree-record, selectitem-star, selectitem-tablestar, selectitem-value, fromitem-record, fromsource-named, fromsource-inner}
+use Rattle.name_meaning.proofs.Equations.{token, selectitem-star, selectitem-tablestar, selectitem-value, fromsource-named, fromsource-inner}
 use Rattle.name_meaning.specs.Cores.{BodyPart, Clauses, clause_breaks, core_clauses, core_over, core_seen, core_trace, core_unlooked, group_break, group_scope, has_some, in_clause, optional_breaks, optional_inside, optional_meant, word_breaks}
-use Rattle.name_meaning.specs.Froms.{FromMeant, FromPart, ItemMeant, JoinPart, Read, SourcePart, beside_from, both_known, condition_breaks, first_item, from_all, from_more, in_on, item_meant, join_all, join_item, label_of, mark_breaks, on_breaks, on_meant, read_named, read_of, scope_items, scope_name, trace_under}
-use Rattle.name_meaning.specs.Items.{SelectMeant, SelectPart, columns_meant, item_step, items_breaks, items_inside, no_columns, star_meant, table_star_meant}
-use Rattle.name_meaning.specs.Meanings.{Around, Inside, Meant, OutColumn, Part, QueryMeant, QueryPart, Surroundings, both_inside, broken_if, is_whole, means_at, nothing_inside, query_means_at}
+use Rattle.name_meaning.specs.Froms.{FromMeant, FromPart, ItemMeant, JoinPart, Read, SourcePart, beside_from, both_known, first_item, from_all, from_more, in_on, item_meant, join_all, join_item, label_of, on_breaks, on_meant, read_named, read_of, scope_items, scope_name, trace_under}
+use Rattle.name_meaning.specs.Items.{SelectPart, columns_meant, items_breaks, items_inside, no_columns, star_meant, table_star_meant}
+use Rattle.name_meaning.specs.Meanings.{Around, Inside, Meant, Part, QueryMeant, Surroundings, both_inside, is_whole, means_at, nothing_inside, query_means_at}
 use Rattle.name_meaning.specs.Queries.{SetStepPart, count_columns, is_proving, keys_breaks, keys_of, limited, operand_breaks, plain_query, proved_query, query_seen, set_chain, set_joined, unprovable}
 use Rattle.name_meaning.specs.Scopes.{Placed, ScopeItem, item_columns, scope_of}
 use Rattle.name_meaning.specs.Trees.{core_of, from_item_of, from_of, item_of, join_of, part_of, query_of, set_of_tree, set_step_of, source_of}
@@ -33,14 +32,16 @@ use Rattle.name_meaning.specs.declared.answer.Break.{Break}
 use Rattle.name_meaning.specs.declared.scope.Scope.{Scope}
 use Rattle.name_meaning.specs.declared.trace.Trace.{Trace}
 use Rattle.name_meaning.specs.declared.trace.Trace.TheVariants.{InProvenance as in_provenance}
-use Rattle.name_laws.proofs.Every.{Every, front-none, back-none}
-use Rattle.name_inside.proofs.Opened.{core-is, from-is, from_item-is, join-is}
-use Rattle.name_inside.specs.Held.{Adds, Held, all_breaks, all_inside, around_body, around_parts, clauses_of, condition_of, having_of, held, held_at, held_clauses, held_from, held_froms, held_item, held_items, held_joins, held_operand, held_optional, held_query, held_read, held_select, inside_in, items_of, query_alone, sources_of}
+use Rattle.name_laws.proofs.Every.{Every, front-none, back-none, whole-none, none-whole}
+use Rattle.name_meaning.proofs.Opened.{core-is, join-is, opened_from, opened_from_item}
+use Rattle.name_inside.specs.Held.{Adds, Held, all_breaks, all_inside, clauses_of, condition_of, having_of, held_at, held_clauses, held_from, held_froms, held_item, held_items, held_joins, held_operand, held_optional, held_query, held_read, held_select, inside_in, items_of, query_alone, sources_of}
 use Rattle.name_inside.specs.Passed.{HasScope, HasWidth}
 use Rattle.name_inside.specs.declared.gathered.Gathered.{Gathered}
 use Rattle.name_inside.proofs.Bare.{bare-tree}
-use Rattle.name_inside.proofs.Forms.{BarePart, IsBare}
+use Rattle.name_inside.proofs.Forms.{BarePart}
 use Rattle.name_inside.proofs.Over.{IsOver, adds-both, adds-broken, adds-nothing, adds-over, adds-this, breaks-append, breaks-one, both-nothing, inside-append, inside-one, over-alike, over-front, over-pair, over-self}
+use Rattle.name_seen_parts.specs.Standing.{around_body, around_core}
+use Rattle.name_seen_cores.proofs.Opened.{set-is, paren-means, chain-means, step-operand, query-means}
 
 -- ---- set operations
 
@@ -58,45 +59,20 @@ chain-over around left (step ∷ steps) =
 
 module _ (c : Contents) (around : Around) (tree : SetTree) where
   pub core-stands : (core : Core) → tree ≡ set.Core core → held_query ((set_of_tree c tree).means around) ≡ held_query ((core_of c core).means around)
-  unfolding token
-  core-stands core is = ap (λ (t : SetTree). held_query ((set_of_tree c t).means around)) is
-      ∙ ap (λ (body : BodyPart). held_query (body.means around)) (settree-core c core)
+  core-stands core is = ap (λ (body : BodyPart). held_query (body.means around)) (set-is c tree core is)
 
   pub paren-stands : (query : QueryTree) → tree ≡ set.Paren query
       → held_query ((set_of_tree c tree).means around) ≡ held_query (query_means_at (query_of c query) (unprovable around))
-  unfolding token query_means_at
-  paren-stands query is = ap (λ (t : SetTree). held_query ((set_of_tree c t).means around)) is
-      ∙ ap (λ (body : BodyPart). held_query (body.means around)) (settree-paren c query)
+  paren-stands query is = ap held_query (paren-means c tree query around is)
 
   pub chain-stands : (first : SetTree) (steps : List SetStep) → tree ≡ set.Chain first steps
       → IsOver (held_query ((set_of_tree c tree).means around)) (held_query ((set_of_tree c first).means around) ∷ map (held_operand around) (map (set_step_of c) steps))
-  unfolding token
-  chain-stands first steps is = over-alike
-      (ap (λ (t : SetTree). held_query ((set_of_tree c t).means around)) is ∙ ap (λ (body : BodyPart). held_query (body.means around)) (settree-chain c first steps))
+  chain-stands first steps is = over-alike (ap held_query (chain-means c tree first steps around is))
       (chain-over around ((set_of_tree c first).means around) (map (set_step_of c) steps))
-
--- whether PROVENANCE stands behind the first SELECT
-pub core-word : (c : Contents) (tree : SetTree) (core read : Core) → tree ≡ set.Core core → read ≡ core
-    → is_some (out-Core read).provenance ≡ is_some (set_of_tree c tree).word
-unfolding token
-core-word c tree core read is same = sym (ap (λ (t : SetTree). is_some (set_of_tree c t).word) is
-    ∙ ap (λ (body : BodyPart). is_some body.word) (settree-core c core) ∙ ap (λ (body : BodyPart). is_some body.word) (core-is c core)
-    ∙ ap (λ (k : Core). is_some (out-Core k).provenance) (sym same))
-
-pub paren-word : (c : Contents) (tree : SetTree) (query : QueryTree) → tree ≡ set.Paren query → false ≡ is_some (set_of_tree c tree).word
-unfolding token
-paren-word c tree query is = sym (ap (λ (t : SetTree). is_some (set_of_tree c t).word) is ∙ ap (λ (body : BodyPart). is_some body.word) (settree-paren c query))
-
-pub chain-word : (c : Contents) (tree first read : SetTree) (steps : List SetStep) (b : Bool) → tree ≡ set.Chain first steps → read ≡ first
-    → b ≡ is_some (set_of_tree c read).word → b ≡ is_some (set_of_tree c tree).word
-unfolding token
-chain-word c tree first read steps b is same e = e ∙ ap (λ (t : SetTree). is_some (set_of_tree c t).word) same
-    ∙ sym (ap (λ (t : SetTree). is_some (set_of_tree c t).word) is ∙ ap (λ (body : BodyPart). is_some body.word) (settree-chain c first steps))
 
 operand-stands : (c : Contents) (around : Around) (step : SetStep)
     → held_operand around (set_step_of c step) ≡ held_query ((set_of_tree c step.operand).means (unprovable around))
-unfolding token
-operand-stands c around step = ap (held_operand around) (setstep-record c step.word step.all step.at step.operand)
+operand-stands c around step = ap (λ (body : BodyPart). held_query (body.means (unprovable around))) (step-operand c step)
 
 pub operand-adds : (c : Contents) (around : Around) (step : SetStep) {old new : Gathered}
     → Adds (held_query ((set_of_tree c step.operand).means (unprovable around)) ∷ []) old new → Adds (held_operand around (set_step_of c step) ∷ []) old new
@@ -123,7 +99,7 @@ proved-over at m order limit query =
     (λ none. (λ i. none i ++ front-none m.breaks (keys_breaks m.columns order) none i)) (λ none. refl)
 
 seen-over : (around : Around) (at : ℕ) (body : BodyPart) (order : List OrderTree) (limit : Option ℤ)
-    → IsOver (held_query (query_seen around at body order limit)) (held_alone at (query_seen around at body order limit) ∷ held_query (body.means (around_body around body)) ∷ [])
+    → IsOver (held_query (query_seen around at body order limit)) (held_alone at (query_seen around at body order limit) ∷ held_query (body.means (around_body (is_proving around body) around)) ∷ [])
 seen-over around at body order limit = chosen (is_proving around body) where
   chosen : (b : Bool) → IsOver (held_query (cond b
       (let m = body.means (record around { trace = in_provenance }) in proved_query at m order limit (limited limit (keys_of m.columns order) (m.make [])))
@@ -131,24 +107,19 @@ seen-over around at body order limit = chosen (is_proving around body) where
       (held_alone at (cond b
       (let m = body.means (record around { trace = in_provenance }) in proved_query at m order limit (limited limit (keys_of m.columns order) (m.make [])))
       (plain_query at (body.means around) order limit))
-      ∷ held_query (body.means (cond b (record around { trace = in_provenance }) around)) ∷ [])
+      ∷ held_query (body.means (around_body b around)) ∷ [])
   chosen true =
       let m = body.means (record around { trace = in_provenance }) in
       proved-over at m order limit (limited limit (keys_of m.columns order) (m.make []))
   chosen false = plain-over at (body.means around) order limit
 
-query-is : (c : Contents) (around : Around) (tree : QueryTree)
-    → query_means_at (query_of c tree) around ≡ query_seen around tree.at (set_of_tree c tree.body) tree.order tree.limit
-unfolding token query_means_at
-query-is c around tree = ap (λ (query : QueryPart). query.means around) (querytree-record c tree.at tree.body tree.order tree.limit)
-
 pub query-adds : (c : Contents) (around : Around) (tree : QueryTree) (width : ℕ) (old middle new : Gathered)
     → HasWidth (query_means_at (query_of c tree) around) (Some width) → inside_in middle ≡ both_inside (inside_in old) (query_alone tree.at width)
-    → Adds (held_query ((set_of_tree c tree.body).means (around_body around (set_of_tree c tree.body))) ∷ []) middle new
+    → Adds (held_query ((set_of_tree c tree.body).means (around_body (is_proving around (set_of_tree c tree.body)) around)) ∷ []) middle new
     → Adds (held_query (query_means_at (query_of c tree) around) ∷ []) old new
 query-adds c around tree width old middle new wide first body = adds-over
-    (subst (λ (m : QueryMeant). IsOver (held_query m) (held_alone tree.at m ∷ held_query ((set_of_tree c tree.body).means (around_body around (set_of_tree c tree.body))) ∷ []))
-    (sym (query-is c around tree)) (seen-over around tree.at (set_of_tree c tree.body) tree.order tree.limit))
+    (subst (λ (m : QueryMeant). IsOver (held_query m) (held_alone tree.at m ∷ held_query ((set_of_tree c tree.body).means (around_body (is_proving around (set_of_tree c tree.body)) around)) ∷ []))
+    (sym (query-means c tree around)) (seen-over around tree.at (set_of_tree c tree.body) tree.order tree.limit))
     (adds-both (adds-this (λ none. first ∙ ap (λ n. both_inside (inside_in old) (query_alone tree.at n)) (sym (wide none)))) body)
 
 -- ---- FROM
@@ -220,7 +191,7 @@ module _ (c : Contents) where
       ∷ held_joins outer trace (names ++ ((from_item_of c (out-FromTree tree).first).means outer trace names).name ∷ []) (map (join_of c) (out-FromTree tree).joins))
   from-stands outer trace names tree =
       let m = (from_item_of c (out-FromTree tree).first).means outer trace names in
-      over-alike (ap (λ (part : FromPart). held_from (part.means outer trace names)) (from-is c tree))
+      over-alike (ap (λ (part : FromPart). held_from (part.means outer trace names)) (opened_from c tree))
       (joins-over outer trace (first_item names m) (map (join_of c) (out-FromTree tree).joins) (joins-bare (out-FromTree tree).joins))
 
   join-stands : (outer : List Scope) (trace : Trace) (names : List (List ℕ)) (step : JoinStep)
@@ -251,7 +222,7 @@ module _ (c : Contents) where
 
   module _ (outer : List Scope) (trace : Trace) (names : List (List ℕ)) (item : FromItem) where
     item-stands : IsOver (held_item ((from_item_of c item).means outer trace names)) (held_read (read_of c item.mark outer trace (source_of c item.source)) ∷ [])
-    item-stands = over-alike (ap (λ part. held_item (part.means outer trace names)) (from_item-is c item))
+    item-stands = over-alike (ap (λ part. held_item (part.means outer trace names)) (opened_from_item c item))
         (item-over item.at item.mark trace names (scope_name (source_of c item.source) item.alias) (label_of (source_of c item.source) item.alias)
         (read_of c item.mark outer trace (source_of c item.source)))
 
@@ -308,13 +279,6 @@ module _ (c : Contents) (has_from : Bool) (scope : Scope) (here : Surroundings) 
 
 -- ---- cores
 
-whole-none : (breaks : List Break) → is_whole breaks ≡ true → breaks ≡ []
-whole-none [] e = refl
-whole-none (b ∷ bs) e = absurd (true≢false (sym e))
-
-none-whole : (breaks : List Break) → breaks ≡ [] → is_whole breaks ≡ true
-none-whole breaks e = ap is_whole e
-
 list-breaks : (has_from : Bool) (scope : Scope) (here : Surroundings) (items : List SelectPart)
     → all_breaks (held_items has_from scope here items) ≡ items_breaks (map (λ (item : SelectPart). item.means has_from scope here) items)
 list-breaks has_from scope here [] = refl
@@ -349,7 +313,7 @@ four-inside hs ks ls ms a b c d e f g h =
 module _ (around : Around) (word : Option ℕ) (has_from is_distinct : Bool) (items : List SelectPart) (sources : List FromPart)
     (condition : Option Part) (groups : List ColRef) (having : Option Part) where
   abbrev own : Around
-  own = around_parts around word
+  own = around_core around word
 
   abbrev input : FromMeant
   input = from_all around.outer (core_trace around word) sources
@@ -430,7 +394,7 @@ module _ (c : Contents) (around : Around) (core : Core) where
   core-stands-so : (core_of c core).means around ≡ seen_core
   core-stands-so = ap (λ (body : BodyPart). body.means around) (core-is c core)
 
-  module _ (own : Around) (k : Contents) (same : own ≡ around_parts around (out-Core core).provenance) (held_same : k ≡ c) where
+  module _ (own : Around) (k : Contents) (same : own ≡ around_core around (out-Core core).provenance) (held_same : k ≡ c) where
     abbrev Found : Option Scope → Type 0
     Found found = HasScope (from_all own.outer own.trace (sources_of k core)) (out-Core core).groups (having_of k core) (items_of k core) found
 
@@ -441,7 +405,7 @@ module _ (c : Contents) (around : Around) (core : Core) where
         (subst (λ (h : Contents). HasScope (from_all own.outer own.trace (sources_of h core)) (out-Core core).groups (having_of h core) (items_of h core) found) held_same is)
 
     clauses-here : (scope : Scope) (old new : Gathered) → Adds (clauses_of k own scope core) old new
-        → Adds (clauses_of c (around_parts around (out-Core core).provenance) scope core) old new
+        → Adds (clauses_of c (around_core around (out-Core core).provenance) scope core) old new
     clauses-here scope old new added =
         subst (λ (a : Around). Adds (clauses_of c a scope core) old new) same (subst (λ (h : Contents). Adds (clauses_of h own scope core) old new) held_same added)
 

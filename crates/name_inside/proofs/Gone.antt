@@ -1,35 +1,25 @@
 -- Lists that are gone through from the left.
 use Rattle.std.specs.Prelude.{◌≡◌, ℕ, ◌+◌, ◌<◌, List, [], ◌∷◌, ◌++◌, length, map, flat_map}
-use Rattle.std.proofs.Common.{refl, ap, sym, subst, ◌∙◌, take, get_or, append_assoc, append-nil}
-use Rattle.std.proofs.lemmas.List.{map-append, take_more}
-use Rattle.name_meaning.specs.Froms.{FromMeant, FromPart, ItemMeant, JoinPart}
+use Rattle.std.proofs.Common.{refl, ap, sym, subst, ◌∙◌, take, get_or}
+use Rattle.std.proofs.lemmas.List.{map-append}
+use Rattle.name_meaning.specs.Froms.{FromPart, JoinPart}
 use Rattle.name_meaning.specs.declared.scope.Scope.{Scope}
 use Rattle.name_meaning.specs.declared.trace.Trace.{Trace}
 use Rattle.name_inside.specs.Held.{Adds, Held, held_from, held_froms, held_item, held_joins}
 use Rattle.name_inside.specs.declared.gathered.Gathered.{Gathered}
 use Rattle.name_inside.proofs.Over.{adds-both}
-
-taken : {X : Type 0} (xs : List X) (i : ℕ) (x : X) → i < length xs → x ≡ get_or xs i x → take (i + 1) xs ≡ take i xs ++ x ∷ []
-taken xs i x within e = take_more xs i x within ∙ ap (λ y. take i xs ++ y ∷ []) (sym e)
-
-mapped-behind : {X Y : Type 0} (g : Y → Held) (p : X → Y) (xs : List X) (x : X) → map g (map p (xs ++ x ∷ [])) ≡ map g (map p xs) ++ g (p x) ∷ []
-mapped-behind g p [] x = refl
-mapped-behind g p (y ∷ xs) x = ap (λ (hs : List Held). g (p y) ∷ hs) (mapped-behind g p xs x)
+use Rattle.contribution.proofs.Added.{one_more}
+use Rattle.name_seen_cores.proofs.Forms.{mapped-behind, flat-behind}
 
 pub mapped-more : {X Y : Type 0} (g : Y → Held) (p : X → Y) (xs : List X) (i : ℕ) (x : X) {old middle new : Gathered} → i < length xs → x ≡ get_or xs i x
     → Adds (map g (map p (take i xs))) old middle → Adds (g (p x) ∷ []) middle new → Adds (map g (map p (take (i + 1) xs))) old new
 mapped-more g p xs i x {old = old} {new = new} within e so_far one =
-    subst (λ (hs : List Held). Adds hs old new) (sym (ap (λ (ys : List _). map g (map p ys)) (taken xs i x within e) ∙ mapped-behind g p (take i xs) x)) (adds-both so_far one)
-
-flat-behind : {X Y : Type 0} (g : Y → List Held) (p : X → Y) (xs : List X) (x : X) → flat_map g (map p (xs ++ x ∷ [])) ≡ flat_map g (map p xs) ++ g (p x)
-flat-behind g p [] x = append-nil (g (p x))
-flat-behind g p (y ∷ xs) x =
-    ap (λ (hs : List Held). g (p y) ++ hs) (flat-behind g p xs x) ∙ sym (append_assoc (g (p y)) (flat_map g (map p xs)) (g (p x)))
+    subst (λ (hs : List Held). Adds hs old new) (sym (ap (λ (ys : List _). map g (map p ys)) (one_more xs i x within e) ∙ mapped-behind g p (take i xs) x)) (adds-both so_far one)
 
 pub flat-more : {X Y : Type 0} (g : Y → List Held) (p : X → Y) (xs : List X) (i : ℕ) (x : X) {old middle new : Gathered} → i < length xs → x ≡ get_or xs i x
     → Adds (flat_map g (map p (take i xs))) old middle → Adds (g (p x)) middle new → Adds (flat_map g (map p (take (i + 1) xs))) old new
 flat-more g p xs i x {old = old} {new = new} within e so_far one =
-    subst (λ (hs : List Held). Adds hs old new) (sym (ap (λ (ys : List _). flat_map g (map p ys)) (taken xs i x within e) ∙ flat-behind g p (take i xs) x)) (adds-both so_far one)
+    subst (λ (hs : List Held). Adds hs old new) (sym (ap (λ (ys : List _). flat_map g (map p ys)) (one_more xs i x within e) ∙ flat-behind g p (take i xs) x)) (adds-both so_far one)
 
 -- ---- items of FROM, each behind those before it
 
@@ -60,7 +50,7 @@ module _ (outer : List Scope) (trace : Trace) where
   joins-more p xs i x names {old = old} {new = new} within e so_far one =
       let behind = joins-behind names (map p (take i xs)) (p x) in
       subst (λ (hs : List Held). Adds hs old new)
-      (sym (ap (λ (ys : List _). held_joins outer trace names (map p ys)) (taken xs i x within e)
+      (sym (ap (λ (ys : List _). held_joins outer trace names (map p ys)) (one_more xs i x within e)
       ∙ ap (held_joins outer trace names) (map-behind p (take i xs) x) ∙ behind.1)) (adds-both so_far (one behind.0))
 
   pub froms-more : {X : Type 0} (p : X → FromPart) (xs : List X) (i : ℕ) (x : X) (names : List (List ℕ)) {old middle new : Gathered}
@@ -70,5 +60,5 @@ module _ (outer : List Scope) (trace : Trace) where
   froms-more p xs i x names {old = old} {new = new} within e so_far one =
       let behind = froms-behind names (map p (take i xs)) (p x) in
       subst (λ (hs : List Held). Adds hs old new)
-      (sym (ap (λ (ys : List _). held_froms outer trace names (map p ys)) (taken xs i x within e)
+      (sym (ap (λ (ys : List _). held_froms outer trace names (map p ys)) (one_more xs i x within e)
       ∙ ap (held_froms outer trace names) (map-behind p (take i xs) x) ∙ behind.1)) (adds-both so_far (one behind.0))

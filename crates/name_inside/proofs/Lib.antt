@@ -3,7 +3,6 @@ pub mod Bare
 pub mod Cores
 pub mod Forms
 pub mod Gone
-pub mod Opened
 pub mod Over
 pub mod Sorted
 pub mod Widths

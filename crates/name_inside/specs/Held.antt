@@ -1,19 +1,18 @@
 -- What stands inside parts that may break.
-use Rattle.std.specs.Prelude.{◌≡◌, ℕ, Bool, true, false, cond, List, [], ◌∷◌, ◌++◌, map, Option, Some, None, option_map, nat_lt}
+use Rattle.std.specs.Prelude.{◌≡◌, ℕ, Bool, true, false, List, [], ◌∷◌, ◌++◌, map, Option, Some, None, option_map, nat_lt}
 use Rattle.perm_catalog.specs.Contents.{Contents}
 use Rattle.sql_tree.specs.declared.query.Core.{Core, out-Core}
-use Rattle.name_meaning.specs.Cores.{BodyPart, core_trace, has_some, in_clause}
+use Rattle.name_meaning.specs.Cores.{has_some, in_clause}
 use Rattle.name_meaning.specs.Expressions.{ArmPart, StepPart}
 use Rattle.name_meaning.specs.Froms.{FromMeant, FromPart, ItemMeant, JoinPart, Read}
 use Rattle.name_meaning.specs.Items.{SelectMeant, SelectPart}
 use Rattle.name_meaning.specs.Meanings.{Around, Inside, Meant, Part, QueryMeant, Surroundings, both_inside, nothing_inside, means_at}
-use Rattle.name_meaning.specs.Queries.{SetStepPart, is_proving, unprovable}
+use Rattle.name_meaning.specs.Queries.{SetStepPart, unprovable}
 use Rattle.name_meaning.specs.Statements.{most_query_columns}
 use Rattle.name_meaning.specs.Trees.{from_of, item_of, part_of}
 use Rattle.name_meaning.specs.declared.answer.Break.{Break}
 use Rattle.name_meaning.specs.declared.scope.Scope.{Scope}
 use Rattle.name_meaning.specs.declared.trace.Trace.{Trace}
-use Rattle.name_meaning.specs.declared.trace.Trace.TheVariants.{InProvenance as in_provenance}
 use Rattle.name_inside.specs.declared.gathered.Gathered.{Gathered}
 
 abbrev pub inside_in : Gathered → Inside
@@ -125,11 +124,3 @@ having_of c core = option_map (part_of c) (out-Core core).having
 abbrev pub clauses_of : Contents → Around → Scope → Core → List Held
 clauses_of c around scope core =
     held_clauses around scope (has_some (sources_of c core)) (items_of c core) (sources_of c core) (condition_of c core) (having_of c core)
-
--- where a core's own parts stand
-abbrev pub around_parts : Around → Option ℕ → Around
-around_parts around word = record around { trace = core_trace around word }
-
--- where a query's body stands
-abbrev pub around_body : Around → BodyPart → Around
-around_body around body = cond (is_proving around body) (record around { trace = in_provenance }) around

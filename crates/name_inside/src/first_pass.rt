@@ -1,11 +1,9 @@
 //! What the first pass of name analysis says of queries and cores.
-ghost use Rattle.std.specs.Prelude.{◌≡◌, IfOk, filter_map, map, option_map};
-ghost use Rattle.name_meaning.specs.Cores.{group_scope};
+ghost use Rattle.std.specs.Prelude.{IfOk};
 ghost use Rattle.name_meaning.specs.Froms.{from_all};
 ghost use Rattle.name_meaning.specs.Meanings.{query_means_at};
 ghost use Rattle.name_meaning.specs.Trees.{query_of};
 ghost use Rattle.name_seen_parts.specs.Standing.{around_of};
-ghost use Rattle.perm_catalog.specs.Contents.{Contents};
 ghost use Rattle.perm_catalog.specs.Sound.{IsSound};
 ghost use Rattle.sql_tree.specs.declared.query.Core.{out-Core};
 ghost use Rattle.name_inside.specs.Held.{having_of, items_of, sources_of};
@@ -13,17 +11,17 @@ ghost use Rattle.name_inside.specs.Passed.{HasScope, HasWidth};
 
 use name_meaning::Scope;
 use name_seen::{from_scope, query_seen};
-use name_seen_cores::is_grouped;
+use name_seen_cores::behind_groups;
 use name_seen_from::Facts;
-use name_seen_parts::{Around, Refusal, group_places, grouped};
+use name_seen_parts::{Around, Refusal};
 use perm_values::NoMemory;
 use sql_tree::{Core, QueryTree};
-use std::alloc::Global;
 
 /// The number of a query's columns; none where it breaks a rule.
 pub(crate) fn width_of(tree: &QueryTree, around: &Around) -> Result<Option<usize>, NoMemory>
     requires { IsSound around.now.catalog.now }
-    ensures { IfOk result (HasWidth (query_means_at (query_of around.now.catalog.now tree.now) (around_of around.now))) }
+    ensures { IfOk result (HasWidth (query_means_at (query_of around.now.catalog.now tree.now)
+        (around_of around.now))) }
 {
     match query_seen(tree, around) {
         Ok(shown) => Ok(Some(shown.columns.len())),
@@ -35,8 +33,10 @@ pub(crate) fn width_of(tree: &QueryTree, around: &Around) -> Result<Option<usize
 /// The scope of a core's list; none where its FROM breaks a rule.
 pub(crate) fn scope_of(core: &Core, around: &Around) -> Result<Option<Scope>, NoMemory>
     requires { IsSound around.now.catalog.now }
-    ensures { IfOk result (HasScope (from_all (around_of around.now).outer around.now.trace (sources_of around.now.catalog.now core.now))
-        (out-Core core.now).groups (having_of around.now.catalog.now core.now) (items_of around.now.catalog.now core.now)) }
+    ensures { IfOk result (HasScope (from_all (around_of around.now).outer around.now.trace
+        (sources_of around.now.catalog.now core.now))
+        (out-Core core.now).groups (having_of around.now.catalog.now core.now)
+        (items_of around.now.catalog.now core.now)) }
 {
     let mut facts = Facts::none(around.alloc);
     match from_scope(core.sources.as_slice(), around, &mut facts) {
@@ -44,15 +44,4 @@ pub(crate) fn scope_of(core: &Core, around: &Around) -> Result<Option<Scope>, No
         Err(Refusal::Break(_)) => Ok(None),
         Err(Refusal::NoMemory) => Err(NoMemory),
     }
-}
-
-/// The scope behind GROUP BY, also where that breaks a rule.
-fn behind_groups(alloc: Global, core: &Core, own: Scope) -> Result<Scope, NoMemory>
-    ensures { IfOk result (λ scope. (c : Contents) → scope ≡ group_scope own (out-Core core.now).groups (having_of c core.now) (items_of c core.now)) }
-{
-    if is_grouped(core) {
-        let places = group_places(alloc, &own, core.groups.as_slice())?;
-        return Ok(grouped(own, Some(places)));
-    }
-    Ok(grouped(own, None))
 }

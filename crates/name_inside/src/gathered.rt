@@ -27,7 +27,8 @@ impl Gathered {
 
     /// Adds a query at this offset with its number of columns.
     pub(crate) fn add_query(&mut self, at: usize, columns: usize) -> Result<(), NoMemory>
-        ensures { OnOk result (inside_in self.new ≡ both_inside (inside_in self.old) (query_alone at columns)) }
+        ensures { OnOk result (inside_in self.new
+            ≡ both_inside (inside_in self.old) (query_alone at columns)) }
     {
         self.queries.push((at, columns))?;
         Ok(())
@@ -35,7 +36,8 @@ impl Gathered {
 
     /// Adds the name of a table.
     pub(crate) fn add_table(&mut self, alloc: Global, name: &Chars) -> Result<(), NoMemory>
-        ensures { OnOk result (inside_in self.new ≡ both_inside (inside_in self.old) (names_alone (name.now ∷ []))) }
+        ensures { OnOk result (inside_in self.new
+            ≡ both_inside (inside_in self.old) (names_alone (name.now ∷ []))) }
     {
         self.names.push(name.copy(alloc)?)?;
         Ok(())
@@ -48,7 +50,8 @@ impl Gathered {
         name: &Chars,
         view: &ViewEntry,
     ) -> Result<(), NoMemory>
-        ensures { OnOk result (inside_in self.new ≡ both_inside (inside_in self.old) (names_alone (name.now ∷ view.now.names_used))) }
+        ensures { OnOk result (inside_in self.new
+            ≡ both_inside (inside_in self.old) (names_alone (name.now ∷ view.now.names_used))) }
     {
         self.names.push(name.copy(alloc)?)?;
         self.names.append(view.names_used.copy(alloc)?)?;

@@ -11,10 +11,8 @@ ghost use Rattle.name_meaning.specs.Sublinks.{around_of as below};
 
 use crate::first_pass::{scope_of, width_of};
 use crate::gathered::Gathered;
-use crate::standing::{
-    around_body, around_inner, around_parts, around_sublink, in_clause, unprovable,
-};
 use name_meaning::Scope;
+use name_seen_cores::{in_clause, is_proving};
 use name_seen_parts::{Around, Here, inside};
 use perm_values::{Boxed, NoMemory};
 use sql_tree::{
@@ -26,13 +24,16 @@ use sql_tree::{
 #[cycle(gathering)]
 pub fn query_inside(tree: &QueryTree, around: &Around, found: &mut Gathered) -> Result<(), NoMemory>
     requires { IsSound around.now.catalog.now }
-    ensures { OnOk result (Adds (held_query (query_means_at (query_of around.now.catalog.now tree.now) (around_of around.now)) ∷ []) found.old found.new) }
+    ensures { OnOk result (Adds (held_query
+        (query_means_at (query_of around.now.catalog.now tree.now) (around_of around.now))
+        ∷ []) found.old found.new) }
 {
     match width_of(tree, around)? {
         None => Ok(()),
         Some(width) => {
             found.add_query(tree.at, width)?;
-            set_inside(&tree.body, &around_body(&tree.body, around), found)?;
+            let proving = is_proving(&tree.body, around);
+            set_inside(&tree.body, &around.body(proving), found)?;
             Ok(())
         }
     }
@@ -41,7 +42,9 @@ pub fn query_inside(tree: &QueryTree, around: &Around, found: &mut Gathered) -> 
 #[cycle(gathering)]
 fn set_inside(tree: &SetTree, around: &Around, found: &mut Gathered) -> Result<(), NoMemory>
     requires { IsSound around.now.catalog.now }
-    ensures { OnOk result (Adds (held_query ((set_of_tree around.now.catalog.now tree.now).means (around_of around.now)) ∷ []) found.old found.new) }
+    ensures { OnOk result (Adds (held_query
+        ((set_of_tree around.now.catalog.now tree.now).means (around_of around.now))
+        ∷ []) found.old found.new) }
 {
     match tree {
         SetTree::Core(core) => {
@@ -49,7 +52,7 @@ fn set_inside(tree: &SetTree, around: &Around, found: &mut Gathered) -> Result<(
             Ok(())
         }
         SetTree::Paren(query) => {
-            query_inside(query.get(), &unprovable(around), found)?;
+            query_inside(query.get(), &around.operand(), found)?;
             Ok(())
         }
         SetTree::Chain { first, steps } => {
@@ -63,9 +66,10 @@ fn set_inside(tree: &SetTree, around: &Around, found: &mut Gathered) -> Result<(
 #[cycle(gathering)]
 fn operands_inside(steps: &[SetStep], around: &Around, found: &mut Gathered) -> Result<(), NoMemory>
     requires { IsSound around.now.catalog.now }
-    ensures { OnOk result (Adds (map (held_operand (around_of around.now)) (map (set_step_of around.now.catalog.now) steps.now)) found.old found.new) }
+    ensures { OnOk result (Adds (map (held_operand (around_of around.now))
+        (map (set_step_of around.now.catalog.now) steps.now)) found.old found.new) }
 {
-    let behind = unprovable(around);
+    let behind = around.operand();
     for step in steps {
         set_inside(&step.operand, &behind, found)?;
     }
@@ -75,9 +79,10 @@ fn operands_inside(steps: &[SetStep], around: &Around, found: &mut Gathered) -> 
 #[cycle(gathering)]
 fn core_inside(core: &Core, around: &Around, found: &mut Gathered) -> Result<(), NoMemory>
     requires { IsSound around.now.catalog.now }
-    ensures { OnOk result (Adds (held_query ((core_of around.now.catalog.now core.now).means (around_of around.now)) ∷ []) found.old found.new) }
+    ensures { OnOk result (Adds (held_query
+        ((core_of around.now.catalog.now core.now).means (around_of around.now)) ∷ []) found.old found.new) }
 {
-    let own = around_parts(core, around);
+    let own = around.core(core.provenance);
     match scope_of(core, &own)? {
         None => Ok(()),
         Some(scope) => {
@@ -95,24 +100,15 @@ fn clauses_inside(
     found: &mut Gathered,
 ) -> Result<(), NoMemory>
     requires { IsSound around.now.catalog.now }
-    ensures { OnOk result (Adds (clauses_of around.now.catalog.now (around_of around.now) scope.now core.now) found.old found.new) }
+    ensures { OnOk result (Adds (clauses_of around.now.catalog.now (around_of around.now) scope.now core.now)
+        found.old found.new) }
 {
     let grouped = inside(&*scope, false, &*around.outer)?;
-    let in_list = Here {
-        alloc: around.alloc,
-        catalog: &*around.catalog,
-        scopes: &grouped,
-        standing: in_clause(around.trace, true),
-    };
+    let in_list = (&*around).seeing(&grouped, in_clause(around.trace, true));
     items_inside(core.items.as_slice(), &in_list, found)?;
     sources_inside(core.sources.as_slice(), around, found)?;
     let rows = inside(&*scope, true, &*around.outer)?;
-    let in_where = Here {
-        alloc: around.alloc,
-        catalog: &*around.catalog,
-        scopes: &rows,
-        standing: in_clause(around.trace, false),
-    };
+    let in_where = (&*around).seeing(&rows, in_clause(around.trace, false));
     condition_inside(&core.condition, &in_where, found)?;
     condition_inside(&core.having, &in_list, found)?;
     Ok(())
@@ -121,7 +117,9 @@ fn clauses_inside(
 #[cycle(gathering)]
 fn items_inside(items: &[SelectItem], here: &Here, found: &mut Gathered) -> Result<(), NoMemory>
     requires { IsSound here.now.catalog.now }
-    ensures { OnOk result ((has_from : Bool) (scope : Sight) → Adds (held_items has_from scope (surroundings here.now) (map (item_of here.now.catalog.now) items.now)) found.old found.new) }
+    ensures { OnOk result ((has_from : Bool) (scope : Sight)
+        → Adds (held_items has_from scope (surroundings here.now)
+        (map (item_of here.now.catalog.now) items.now)) found.old found.new) }
 {
     for item in items {
         item_inside(item, here, found)?;
@@ -132,7 +130,9 @@ fn items_inside(items: &[SelectItem], here: &Here, found: &mut Gathered) -> Resu
 #[cycle(gathering)]
 fn item_inside(item: &SelectItem, here: &Here, found: &mut Gathered) -> Result<(), NoMemory>
     requires { IsSound here.now.catalog.now }
-    ensures { OnOk result ((has_from : Bool) (scope : Sight) → Adds (held_items has_from scope (surroundings here.now) (item_of here.now.catalog.now item.now ∷ [])) found.old found.new) }
+    ensures { OnOk result ((has_from : Bool) (scope : Sight)
+        → Adds (held_items has_from scope (surroundings here.now) (item_of here.now.catalog.now item.now
+        ∷ [])) found.old found.new) }
 {
     match item {
         SelectItem::Star { .. } => Ok(()),
@@ -151,7 +151,8 @@ fn condition_inside(
     found: &mut Gathered,
 ) -> Result<(), NoMemory>
     requires { IsSound here.now.catalog.now }
-    ensures { OnOk result (Adds (held_optional (surroundings here.now) (option_map (part_of here.now.catalog.now) tree.now)) found.old found.new) }
+    ensures { OnOk result (Adds (held_optional (surroundings here.now)
+        (option_map (part_of here.now.catalog.now) tree.now)) found.old found.new) }
 {
     match tree {
         None => Ok(()),
@@ -165,7 +166,9 @@ fn condition_inside(
 #[cycle(gathering)]
 fn sources_inside(trees: &[FromTree], around: &Around, found: &mut Gathered) -> Result<(), NoMemory>
     requires { IsSound around.now.catalog.now }
-    ensures { OnOk result ((names : Items (Items ℕ)) → Adds (held_froms (around_of around.now).outer around.now.trace names (map (from_of around.now.catalog.now) trees.now)) found.old found.new) }
+    ensures { OnOk result ((names : Items (Items ℕ))
+        → Adds (held_froms (around_of around.now).outer around.now.trace names
+        (map (from_of around.now.catalog.now) trees.now)) found.old found.new) }
 {
     for tree in trees {
         from_inside(tree, around, found)?;
@@ -176,7 +179,9 @@ fn sources_inside(trees: &[FromTree], around: &Around, found: &mut Gathered) -> 
 #[cycle(gathering)]
 fn from_inside(tree: &FromTree, around: &Around, found: &mut Gathered) -> Result<(), NoMemory>
     requires { IsSound around.now.catalog.now }
-    ensures { OnOk result ((names : Items (Items ℕ)) → Adds (held_from ((from_of around.now.catalog.now tree.now).means (around_of around.now).outer around.now.trace names) ∷ []) found.old found.new) }
+    ensures { OnOk result ((names : Items (Items ℕ))
+        → Adds (held_from ((from_of around.now.catalog.now tree.now).means (around_of around.now).outer
+        around.now.trace names) ∷ []) found.old found.new) }
 {
     source_inside(&tree.first, around, found)?;
     joins_inside(tree.joins.as_slice(), around, found)?;
@@ -186,7 +191,9 @@ fn from_inside(tree: &FromTree, around: &Around, found: &mut Gathered) -> Result
 #[cycle(gathering)]
 fn joins_inside(steps: &[JoinStep], around: &Around, found: &mut Gathered) -> Result<(), NoMemory>
     requires { IsSound around.now.catalog.now }
-    ensures { OnOk result ((names : Items (Items ℕ)) → Adds (held_joins (around_of around.now).outer around.now.trace names (map (join_of around.now.catalog.now) steps.now)) found.old found.new) }
+    ensures { OnOk result ((names : Items (Items ℕ))
+        → Adds (held_joins (around_of around.now).outer around.now.trace names
+        (map (join_of around.now.catalog.now) steps.now)) found.old found.new) }
 {
     for step in steps {
         source_inside(&step.item, around, found)?;
@@ -197,7 +204,9 @@ fn joins_inside(steps: &[JoinStep], around: &Around, found: &mut Gathered) -> Re
 #[cycle(gathering)]
 fn source_inside(item: &FromItem, around: &Around, found: &mut Gathered) -> Result<(), NoMemory>
     requires { IsSound around.now.catalog.now }
-    ensures { OnOk result ((names : Items (Items ℕ)) → Adds (held_item ((from_item_of around.now.catalog.now item.now).means (around_of around.now).outer around.now.trace names) ∷ []) found.old found.new) }
+    ensures { OnOk result ((names : Items (Items ℕ))
+        → Adds (held_item ((from_item_of around.now.catalog.now item.now).means (around_of around.now).outer
+        around.now.trace names) ∷ []) found.old found.new) }
 {
     match &item.source {
         FromSource::Named(name) => {
@@ -205,7 +214,7 @@ fn source_inside(item: &FromItem, around: &Around, found: &mut Gathered) -> Resu
             Ok(())
         }
         FromSource::Inner(query) => {
-            query_inside(query.get(), &around_inner(&item.mark, around), found)?;
+            query_inside(query.get(), &around.under(&item.mark), found)?;
             Ok(())
         }
     }
@@ -214,9 +223,11 @@ fn source_inside(item: &FromItem, around: &Around, found: &mut Gathered) -> Resu
 #[cycle(gathering)]
 fn sublink_inside(query: &QueryTree, here: &Here, found: &mut Gathered) -> Result<(), NoMemory>
     requires { IsSound here.now.catalog.now }
-    ensures { OnOk result (Adds (held_query (query_means_at (query_of here.now.catalog.now query.now) (below (surroundings here.now))) ∷ []) found.old found.new) }
+    ensures { OnOk result (Adds (held_query
+        (query_means_at (query_of here.now.catalog.now query.now) (below (surroundings here.now)))
+        ∷ []) found.old found.new) }
 {
-    query_inside(query, &around_sublink(here), found)?;
+    query_inside(query, &here.below(), found)?;
     Ok(())
 }
 
@@ -224,7 +235,8 @@ fn sublink_inside(query: &QueryTree, here: &Here, found: &mut Gathered) -> Resul
 #[cycle(gathering)]
 fn expression_inside(tree: &ExprTree, here: &Here, found: &mut Gathered) -> Result<(), NoMemory>
     requires { IsSound here.now.catalog.now }
-    ensures { OnOk result (Adds (held_at (surroundings here.now) (part_of here.now.catalog.now tree.now) ∷ []) found.old found.new) }
+    ensures { OnOk result (Adds (held_at (surroundings here.now) (part_of here.now.catalog.now tree.now)
+        ∷ []) found.old found.new) }
 {
     match &tree.body {
         ExprBody::Null => Ok(()),
@@ -289,7 +301,8 @@ fn expression_inside(tree: &ExprTree, here: &Here, found: &mut Gathered) -> Resu
 #[cycle(gathering)]
 fn expressions_inside(trees: &[ExprTree], here: &Here, found: &mut Gathered) -> Result<(), NoMemory>
     requires { IsSound here.now.catalog.now }
-    ensures { OnOk result (Adds (map (held_at (surroundings here.now)) (map (part_of here.now.catalog.now) trees.now)) found.old found.new) }
+    ensures { OnOk result (Adds (map (held_at (surroundings here.now))
+        (map (part_of here.now.catalog.now) trees.now)) found.old found.new) }
 {
     for tree in trees {
         expression_inside(tree, here, found)?;
@@ -300,7 +313,8 @@ fn expressions_inside(trees: &[ExprTree], here: &Here, found: &mut Gathered) -> 
 #[cycle(gathering)]
 fn steps_inside(steps: &[ExprStep], here: &Here, found: &mut Gathered) -> Result<(), NoMemory>
     requires { IsSound here.now.catalog.now }
-    ensures { OnOk result (Adds (map (held_step (surroundings here.now)) (map (step_of here.now.catalog.now) steps.now)) found.old found.new) }
+    ensures { OnOk result (Adds (map (held_step (surroundings here.now))
+        (map (step_of here.now.catalog.now) steps.now)) found.old found.new) }
 {
     for step in steps {
         expression_inside(&step.part, here, found)?;
@@ -311,7 +325,8 @@ fn steps_inside(steps: &[ExprStep], here: &Here, found: &mut Gathered) -> Result
 #[cycle(gathering)]
 fn arms_inside(arms: &[ArmTree], here: &Here, found: &mut Gathered) -> Result<(), NoMemory>
     requires { IsSound here.now.catalog.now }
-    ensures { OnOk result (Adds (flat_map (held_arm (surroundings here.now)) (map (arm_of here.now.catalog.now) arms.now)) found.old found.new) }
+    ensures { OnOk result (Adds (flat_map (held_arm (surroundings here.now))
+        (map (arm_of here.now.catalog.now) arms.now)) found.old found.new) }
 {
     for arm in arms {
         expression_inside(&arm.condition, here, found)?;
@@ -327,7 +342,8 @@ fn otherwise_inside(
     found: &mut Gathered,
 ) -> Result<(), NoMemory>
     requires { IsSound here.now.catalog.now }
-    ensures { OnOk result (Adds (held_optional (surroundings here.now) (option_map (part_of here.now.catalog.now) tree.now)) found.old found.new) }
+    ensures { OnOk result (Adds (held_optional (surroundings here.now)
+        (option_map (part_of here.now.catalog.now) tree.now)) found.old found.new) }
 {
     match tree {
         None => Ok(()),
@@ -340,7 +356,8 @@ fn otherwise_inside(
 
 /// The table of that name, or else the view with the names that it uses.
 fn name_inside(name: &Name, around: &Around, found: &mut Gathered) -> Result<(), NoMemory>
-    ensures { OnOk result (Adds (held_read (read_named around.now.catalog.now name.now) ∷ []) found.old found.new) }
+    ensures { OnOk result (Adds (held_read (read_named around.now.catalog.now name.now)
+        ∷ []) found.old found.new) }
 {
     match around.catalog.table(&name.text) {
         Some(_) => {

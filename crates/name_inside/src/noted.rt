@@ -35,7 +35,8 @@ fn note(alloc: Global, name: &Chars, sorted: &mut Vec<Chars>) -> Result<(), NoMe
 /// The place where the name comes among those in order; none where it stands there.
 fn place_for(name: &Chars, sorted: &[Chars]) -> Option<usize>
     ensures within { IfSome result (λ place. place ≤ length sorted.now) }
-    ensures comes { MatchOption result (noted name.now sorted.now ≡ sorted.now) (λ place. noted name.now sorted.now ≡ insert sorted.now place name.now) }
+    ensures comes { MatchOption result (noted name.now sorted.now
+        ≡ sorted.now) (λ place. noted name.now sorted.now ≡ insert sorted.now place name.now) }
 {
     for place in 0..sorted.len() {
         match name.as_str().cmp(sorted[place].as_str()) {

@@ -1,36 +1,32 @@
 -- Aggregates stand behind the GROUP BY columns, and their arguments are well formed over the rows before these are grouped.
 use Rattle.std.specs.Prelude.{◌≡◌, ◌≢◌, ℕ, ◌+◌, Bool, true, false, not, List, [], ◌∷◌, ◌++◌, is_some, slice_get, Option, Some, None}
-use Rattle.std.proofs.Common.{refl, ap, sym, ◌∙◌, subst, true≢false}
+use Rattle.std.proofs.Common.{refl, sym, ◌∙◌, subst, true≢false}
 use Rattle.std.proofs.lemmas.List.Elements.{All-cons}
 use Rattle.std.specs.Option.{option_map_or}
 use Rattle.perm_values.specs.declared.kind.Kind.{Kind}
 use Rattle.perm_values.specs.declared.kind.Kind.TheVariants.{Integer, Text, Boolean}
 use Rattle.bag_algebra.specs.BuiltForms.{subs_kinds}
-use Rattle.bag_algebra.specs.WellFormed.{HasKind, column_kind, aggr_form, AggregatesForm}
+use Rattle.bag_algebra.specs.WellFormed.{HasKind, column_kind, aggr_form}
 use Rattle.bag_algebra.specs.declared.expr.Expr.{Expr}
 use Rattle.bag_algebra.specs.declared.query.Aggr.{Aggr}
 use Rattle.sql_tree.specs.Regular.{has_argument}
 use Rattle.sql_tree.specs.declared.expression.AggWord.{AggWord}
 use Rattle.sql_tree.specs.declared.expression.AggWord.TheVariants as word
-use Rattle.name_meaning.specs.Meanings.{Surroundings, Before, Built, Meant, Part, broken_if, seen_kind, settled, unites, is_same_kind}
+use Rattle.name_meaning.specs.Meanings.{Surroundings, Before, Built, Meant, Part, broken_if, seen_kind, settled, is_same_kind}
 use Rattle.name_meaning.specs.Scopes.{group_count, ungrouped}
 use Rattle.name_meaning.specs.Sublinks.{function_of, takes_kind, argument_wanted, aggregate_kind, in_argument, nothing_before, aggregate_made, rows_counted, aggregated, aggregate_meant}
 use Rattle.name_laws.specs.Formed.{IsFormed}
 use Rattle.name_laws.specs.Standing.{StandAt, RowsHold, own_row, AggregatesStand}
 use Rattle.name_laws.proofs.Arms.{GoodOptional}
 use Rattle.name_laws.proofs.FormedParts.{none-formed}
-use Rattle.name_laws.proofs.GoodMeant.{GoodMeant, front-none, back-none, whole-kind}
+use Rattle.name_laws.proofs.GoodMeant.{GoodMeant}
 use Rattle.name_laws.proofs.Needs.{settled-of_kind}
 use Rattle.name_meaning.specs.declared.rule.Rule.TheVariants as rule
-use Rattle.name_meaning.specs.declared.rule.Rule.{Rule}
+use Rattle.name_laws.proofs.Every.{front-none, back-none, whole-kind, unbroken}
 
 own-column : (rows : List (List Kind)) (place : ℕ) (kind : Kind) → slice_get (own_row rows) place ≡ Some kind → column_kind rows 0 place ≡ Some kind
 own-column [] place kind e = e
 own-column (row ∷ rows) place kind e = e
-
-pub unbroken : (b : Bool) (which : Rule) (at : ℕ) → broken_if (not b) which at ≡ [] → b ≡ true
-unbroken true which at e = refl
-unbroken false which at e = cc e
 
 opposite : {P : Type 0} (b : Bool) → b ≡ true → b ≡ false → P
 opposite b e f = absurd (true≢false (sym e ∙ f))

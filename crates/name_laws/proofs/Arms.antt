@@ -1,7 +1,7 @@
 -- Chains and CASE, over parts that are made well formed.
-use Rattle.std.specs.Prelude.{◌≡◌, ⊤, ℕ, suc, ◌≤◌, Bool, true, false, ◌||◌, nat_eq, List, [], ◌∷◌, ◌++◌, map, flat_map, length, Option, Some, None}
+use Rattle.std.specs.Prelude.{◌≡◌, ⊤, ℕ, suc, Bool, true, false, ◌||◌, List, [], ◌∷◌, ◌++◌, map, flat_map, length, Option, Some, None}
 use Rattle.std.proofs.Common.{refl, ap, sym, ◌∙◌, subst, arith}
-use Rattle.std.specs.List.{list_any, AllByRecursion as Every}
+use Rattle.std.specs.List.{AllByRecursion as Every}
 use mathlib.Core.Bool.{beq}
 use Rattle.null_logic.specs.declared.operator.Operator.TheVariants as x
 use Rattle.perm_values.specs.declared.kind.Kind.{Kind}
@@ -11,17 +11,16 @@ use Rattle.bag_algebra.specs.WellFormed.{HasKind, is_additive}
 use Rattle.bag_algebra.specs.declared.expr.Expr.{Expr}
 use Rattle.sql_tree.specs.Regular.{IsFilled, level_of}
 use Rattle.name_meaning.specs.Expressions.{StepPart, ArmPart, first_of, steps_made, chain_made, arms_made, rest_made, null_meant, step_operand, first_need, chain_gives, arm_operands, else_operand, case_made, case_meant, arm_parts, optional_part}
-use Rattle.name_meaning.specs.Meanings.{Surroundings, Before, Meant, Part, settled}
-use Rattle.name_meaning.specs.Operands.{Operand, operand, node, need_of, gives_of}
+use Rattle.name_meaning.specs.Meanings.{Surroundings, Part}
+use Rattle.name_meaning.specs.Operands.{Operand, operand, node, need_of}
 use Rattle.name_meaning.specs.Sublinks.{null_at}
 use Rattle.name_meaning.specs.declared.need.Gives.TheVariants.{Always as always, Common as common}
-use Rattle.name_meaning.specs.declared.need.Need.{Need}
-use Rattle.name_meaning.specs.declared.need.Need.TheVariants.{OfKind as of_kind, Alike as alike}
 use Rattle.name_laws.proofs.FormedParts.{formed-none}
-use Rattle.name_laws.proofs.ExpressionForms.{need-arith, gives-arith, is_sum_level, level-additive, at_least_one, left-false, right-false, any_aggregating}
+use Rattle.name_laws.proofs.ExpressionForms.{need-arith, gives-arith, is_sum_level, level-additive, at_least_one, any_aggregating}
 use Rattle.name_laws.proofs.GoodMeant.{GoodMeant, GoodPart, GoodOperand, IsPlain, PlainOperand, HaveKinds, good-node, plain-node}
 use Rattle.name_laws.proofs.Holding.{AreOfLevel, chain-holds, case-holds}
 use Rattle.name_laws.proofs.Needs.{taken, taken_kinds}
+use Rattle.name_laws.proofs.Every.{left-false, right-false}
 
 -- ---- literals
 

@@ -1,7 +1,7 @@
 -- Each form of an expression is made well formed where its parts are.
-use Rattle.std.specs.Prelude.{◌≡◌, ⊤, ℕ, Bool, true, false, cond, not, List, [], ◌∷◌, ◌++◌, map, is_some, Option, Some, None}
+use Rattle.std.specs.Prelude.{◌≡◌, ⊤, ℕ, true, false, cond, not, List, [], ◌∷◌, is_some, Some, None}
 use Rattle.std.proofs.Common.{refl, true≢false}
-use Rattle.std.specs.List.{list_any, AllByRecursion as Every}
+use Rattle.std.specs.List.{AllByRecursion as Every}
 use Rattle.null_logic.specs.declared.compare.Compare.TheVariants.{Equal, NotEqual}
 use Rattle.null_logic.specs.declared.operator.Operator.TheVariants as x
 use Rattle.perm_values.specs.declared.kind.Kind.{Kind}
@@ -13,9 +13,9 @@ use Rattle.bag_algebra.specs.declared.expr.Expr.TheVariants.{Lit, Op, IsNull, Is
 use Rattle.sql_tree.specs.Regular.{IsConnective, IsFilled, IsSeveral, has_argument}
 use Rattle.sql_tree.specs.declared.expression.ExprBody.TheOpen.{ExprBody-F}
 use Rattle.name_meaning.proofs.Equations.{ExprBodyFrame}
-use Rattle.name_meaning.specs.Expressions.{Body, body_step, known, first_of, second_of, negated_if, times, chain_made, step_operand, first_need, chain_gives, in_kind}
-use Rattle.name_meaning.specs.Meanings.{Surroundings, Part, Around, QueryPart}
-use Rattle.name_meaning.specs.Operands.{operand, need_of, gives_of}
+use Rattle.name_meaning.specs.Expressions.{body_step, known, first_of, second_of, negated_if, times, in_kind}
+use Rattle.name_meaning.specs.Meanings.{Surroundings, Around, QueryPart}
+use Rattle.name_meaning.specs.Operands.{need_of, gives_of}
 use Rattle.name_meaning.specs.Scopes.{look_up}
 use Rattle.name_meaning.specs.Sublinks.{null_at, around_of, exists_meant, scalar_meant}
 use Rattle.name_meaning.specs.declared.need.Gives.TheVariants.{Always as always, Common as common}
@@ -24,9 +24,10 @@ use Rattle.name_laws.proofs.Aggregates.{good-aggregate}
 use Rattle.name_laws.proofs.Arms.{GoodStep, GoodArm, GoodOptional, null-holds, good-null, plain-null, good-chain, plain-chain, good-case, plain-case}
 use Rattle.name_laws.proofs.Columns.{good-column, plain-column}
 use Rattle.name_laws.proofs.FormedParts.{formed-none}
-use Rattle.name_laws.proofs.ExpressionForms.{any_aggregating, plain-alike, left-false, good-nots, good-signs, good-logic, good-compared, good-like, good-between, good-in_list, good-coalesce, good-null_if, good-is_null, good-is_truth, good-is_distinct}
+use Rattle.name_laws.proofs.ExpressionForms.{plain-alike, good-nots, good-signs, good-logic, good-compared, good-like, good-between, good-in_list, good-coalesce, good-null_if, good-is_null, good-is_truth, good-is_distinct}
 use Rattle.name_laws.proofs.GoodMeant.{GoodMeant, GoodPart, IsPlain}
 use Rattle.name_laws.proofs.Sublinks.{GoodQuery, good-exists, good-scalar, good-tested, good-if_standing, plain-if_standing, plain-tested}
+use Rattle.name_laws.proofs.Every.{left-false}
 
 abbrev pub GoodQueryPart : QueryPart → Type 0
 GoodQueryPart query = (around : Around) → GoodQuery around (query.means around)

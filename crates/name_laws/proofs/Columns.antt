@@ -1,5 +1,5 @@
 -- A name that is looked up names a column that the rows have, with its kind.
-use Rattle.std.specs.Prelude.{◌≡◌, ⊤, ℕ, zero, suc, ◌+◌, Bool, true, false, cond, not, ◌&&◌, nat_lt, List, [], ◌∷◌, ◌++◌, map, filter, is_some, slice_get, Option, Some, None, option_map}
+use Rattle.std.specs.Prelude.{◌≡◌, ℕ, suc, ◌+◌, Bool, true, false, cond, not, ◌&&◌, nat_lt, List, [], ◌∷◌, filter, is_some, slice_get, Option, Some, None, option_map}
 use Rattle.std.proofs.Common.{refl, ap, sym, ◌∙◌, subst, arith}
 use Rattle.std.proofs.lemmas.Option.{none-some, same_Some}
 use Rattle.std.specs.List.{enumerate_from, AllByRecursion as Every}
@@ -12,7 +12,6 @@ use Rattle.sql_tree.specs.declared.name.Name.{Name}
 use Rattle.name_meaning.specs.Meanings.{Surroundings, broken_if}
 use Rattle.name_meaning.specs.Scopes.{Placed, placed, is_meant, is_of_item, item_number, item_columns, columns_meant_by, if_some, meant_by, meant_in, place_among, found_among, look_up}
 use Rattle.name_meaning.specs.Sublinks.{column_meant, null_at}
-use Rattle.name_meaning.specs.declared.answer.Break.{Break}
 use Rattle.name_meaning.specs.declared.scope.Found.{Found}
 use Rattle.name_meaning.specs.declared.scope.Found.TheVariants.{Absent as absent, Ambiguous as ambiguous, Column as found}
 use Rattle.name_meaning.specs.declared.scope.FoundColumn.{FoundColumn}
@@ -20,8 +19,9 @@ use Rattle.name_meaning.specs.declared.scope.Scope.{Scope}
 use Rattle.name_meaning.specs.declared.scope.ScopeColumn.{ScopeColumn}
 use Rattle.name_laws.specs.Standing.{HoldsScope, RowsHold}
 use Rattle.name_laws.proofs.FormedParts.{formed-none}
-use Rattle.name_laws.proofs.GoodMeant.{GoodMeant, IsPlain, front-none}
+use Rattle.name_laws.proofs.GoodMeant.{GoodMeant, IsPlain}
 use Rattle.name_meaning.specs.declared.rule.Rule.TheVariants as rule
+use Rattle.name_laws.proofs.Every.{front-none}
 
 -- ---- columns with their places
 

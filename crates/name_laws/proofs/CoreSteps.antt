@@ -1,5 +1,5 @@
 -- A core over what is made well formed: FROM first, and then its clauses.
-use Rattle.std.specs.Prelude.{◌≡◌, ℕ, Bool, true, false, cond, List, [], ◌∷◌, Option}
+use Rattle.std.specs.Prelude.{◌≡◌, ℕ, Bool, true, false, cond, List, [], Option}
 use Rattle.std.proofs.Common.{refl, ap, sym, ◌∙◌, subst, true≢false}
 use Rattle.std.specs.List.{AllByRecursion as Every}
 use Rattle.std.specs.Option.{option_map_or}
@@ -12,23 +12,15 @@ use Rattle.name_meaning.specs.Froms.{FromMeant}
 use Rattle.name_meaning.specs.Items.{SelectPart}
 use Rattle.name_meaning.specs.Meanings.{Part, Around, QueryMeant, is_whole}
 use Rattle.name_meaning.specs.Scopes.{ScopeItem, scope_of}
-use Rattle.name_meaning.specs.declared.answer.Break.{Break}
 use Rattle.name_laws.specs.Standing.{HoldsScope, RowsHold}
 use Rattle.name_laws.proofs.Arms.{GoodOptional}
 use Rattle.name_laws.proofs.Cores.{formed-clauses}
 use Rattle.name_laws.proofs.Froms.{FormedFrom, GoodFrom, scope-holds}
-use Rattle.name_laws.proofs.GoodMeant.{back-none}
 use Rattle.name_laws.proofs.Items.{GoodItem}
+use Rattle.name_laws.proofs.Every.{back-none, whole-none, none-whole}
 
 abbrev pub FormedQuery : Around → QueryMeant → Type 0
 FormedQuery around m = m.breaks ≡ [] → (rows : List (List Kind)) → RowsHold around.outer rows → (wanted : List Kind) → WellFormed rows (m.make wanted)
-
-pub whole-none : (breaks : List Break) → is_whole breaks ≡ true → breaks ≡ []
-whole-none [] e = refl
-whole-none (b ∷ bs) e = absurd (true≢false (sym e))
-
-none-whole : (breaks : List Break) → breaks ≡ [] → is_whole breaks ≡ true
-none-whole breaks e = ap is_whole e
 
 pub formed-core_seen : (around : Around) (word : Option ℕ) (input : FromMeant) (has_from is_distinct : Bool) (items : List SelectPart) (condition : Option Part)
     (groups : List ColRef) (having : Option Part) → GoodFrom around.outer input → Every GoodItem items → GoodOptional condition → GoodOptional having

@@ -1,40 +1,38 @@
 -- A core that breaks nothing is made well formed.
-use Rattle.std.specs.Prelude.{◌≡◌, ⊤, ℕ, ◌+◌, Bool, true, false, cond, not, ◌||◌, List, [], ◌∷◌, ◌++◌, map, flat_map, filter_map, length, is_some, Option, Some, None}
-use Rattle.std.proofs.Common.{refl, ap, sym, ◌∙◌, subst, true≢false, append-nil}
+use Rattle.std.specs.Prelude.{◌≡◌, ⊤, ℕ, ◌+◌, Bool, true, false, cond, not, List, [], ◌∷◌, ◌++◌, flat_map, filter_map, length, is_some, Option, Some, None}
+use Rattle.std.proofs.Common.{refl, ap, sym, ◌∙◌, subst, true≢false}
 use Rattle.std.proofs.lemmas.List.Elements.{All-append}
 use Rattle.std.specs.List.{list_any, AllByRecursion as Every}
-use Rattle.std.specs.Option.{option_map_or}
 use Rattle.perm_values.specs.declared.kind.Kind.{Kind}
 use Rattle.perm_values.specs.declared.kind.Kind.TheVariants.{Boolean}
 use Rattle.bag_algebra.specs.Built.{kinds_of-Filter, kinds_of-Aggregate}
 use Rattle.bag_algebra.specs.BuiltForms.{subs_kinds, WellFormed-Filter, WellFormed-Project, WellFormed-Distinct, WellFormed-Aggregate}
 use Rattle.bag_algebra.specs.Kinds.{kinds_of, kinds_in, width_of}
-use Rattle.bag_algebra.specs.WellFormed.{HasKind, WellFormed, PlacesIn, AggregatesForm, aggr_form}
+use Rattle.bag_algebra.specs.WellFormed.{WellFormed, PlacesIn, AggregatesForm, aggr_form}
 use Rattle.bag_algebra.specs.declared.query.Aggr.{Aggr}
 use Rattle.bag_algebra.specs.declared.query.Query.{Query}
-use Rattle.bag_algebra.specs.declared.query.Query.TheVariants.{Filter, Project, Aggregate}
+use Rattle.bag_algebra.specs.declared.query.Query.TheVariants.{Project, Aggregate}
 use Rattle.sql_tree.specs.declared.name.ColRef.{ColRef}
-use Rattle.name_meaning.specs.Cores.{settle_known, in_clause, optional_meant, optional_built, optional_breaks, group_break, group_place, group_scope, is_grouped, filtered, aggregated_input, distinct_if, core_query, Clauses, list_columns, before_list, clauses_query, core_clauses, clause_breaks}
+use Rattle.name_meaning.specs.Cores.{settle_known, in_clause, optional_meant, optional_built, optional_breaks, group_break, group_place, group_scope, is_grouped, filtered, distinct_if, core_query, Clauses, list_columns, before_list, clauses_query, core_clauses, clause_breaks}
 use Rattle.name_meaning.specs.Froms.{FromMeant, condition_breaks}
-use Rattle.name_meaning.specs.Items.{Made, SelectMeant, SelectPart, made_items, items_breaks}
+use Rattle.name_meaning.specs.Items.{Made, SelectPart, made_items, items_breaks}
 use Rattle.name_meaning.specs.Meanings.{Surroundings, Built, Meant, Part, broken_if, seen_kind, unites, settled}
 use Rattle.name_meaning.specs.Scopes.{ScopeItem, scope_of, ungrouped}
 use Rattle.name_meaning.specs.Sublinks.{nothing_before}
 use Rattle.name_meaning.specs.declared.answer.Break.{Break}
 use Rattle.name_meaning.specs.declared.scope.Scope.{Scope}
 use Rattle.name_meaning.specs.declared.trace.Trace.{Trace}
-use Rattle.name_laws.specs.Formed.{IsFormed, IsFormedExpr}
-use Rattle.name_laws.specs.Standing.{StandAt, HoldsScope, RowsHold, aggregate_kinds, AggregatesStand}
-use Rattle.name_laws.proofs.Aggregates.{unbroken}
+use Rattle.name_laws.specs.Formed.{IsFormedExpr}
+use Rattle.name_laws.specs.Standing.{HoldsScope, RowsHold, aggregate_kinds, AggregatesStand}
 use Rattle.name_laws.proofs.Arms.{GoodOptional}
 use Rattle.name_laws.proofs.FormedParts.{none-formed}
-use Rattle.name_laws.proofs.ExpressionForms.{left-false, right-false}
-use Rattle.name_laws.proofs.GoodMeant.{GoodMeant, GoodPart, front-none, back-none, whole-kind}
+use Rattle.name_laws.proofs.GoodMeant.{GoodMeant}
 use Rattle.name_laws.proofs.Grouped.{groups-in, grouped-holds, grouped-stand}
-use Rattle.name_laws.proofs.Items.{IsFormedList, GoodSelect, GoodItem, good-list, plain-list, items-good, items-plain}
+use Rattle.name_laws.proofs.Items.{IsFormedList, GoodItem, good-list, plain-list, items-good, items-plain}
 use Rattle.name_laws.proofs.Needs.{settled-of_kind}
 use Rattle.name_laws.proofs.Standing.{stand-whole, aggregates-append}
 use Rattle.name_meaning.specs.declared.rule.Rule.TheVariants as rule
+use Rattle.name_laws.proofs.Every.{front-none, back-none, whole-kind, left-false, right-false, unbroken}
 
 pub by : {A B : Type 0} → A ≡ B → A → B
 by e h = subst (λ (X : Type 0). X) e h

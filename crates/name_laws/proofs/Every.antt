@@ -1,7 +1,10 @@
 -- What holds of each of a list, and lists that are empty in all their parts.
-use Rattle.std.specs.Prelude.{◌≡◌, ⊤, List, [], ◌∷◌, ◌++◌, map}
-use Rattle.std.proofs.Common.{refl}
+use Rattle.std.specs.Prelude.{◌≡◌, ⊤, true, cond, None, List, [], ◌∷◌, ◌++◌, map, Bool, false, ◌||◌, ℕ, not}
+use Rattle.std.proofs.Common.{refl, ap, sym, true≢false}
 use Rattle.std.specs.List.{flat_map}
+use Rattle.name_meaning.specs.Meanings.{Meant, is_whole, seen_kind, broken_if}
+use Rattle.name_meaning.specs.declared.answer.Break.{Break}
+use Rattle.name_meaning.specs.declared.rule.Rule.{Rule}
 
 abbrev pub Every : {X : Type 0} → (X → Type 0) → List X → Type 0
 Every P [] = ⊤
@@ -33,3 +36,33 @@ front-none (x ∷ xs) ys e = cc e
 pub back-none : {X : Type 0} (xs ys : List X) → xs ++ ys ≡ [] → ys ≡ []
 back-none [] ys e = e
 back-none (x ∷ xs) ys e = cc e
+
+-- ---- what breaks nothing
+
+pub whole-none : (breaks : List Break) → is_whole breaks ≡ true → breaks ≡ []
+whole-none [] e = refl
+whole-none (b ∷ bs) e = absurd (true≢false (sym e))
+
+pub none-whole : (breaks : List Break) → breaks ≡ [] → is_whole breaks ≡ true
+none-whole breaks e = ap is_whole e
+
+pub whole-kind : (m : Meant) → m.breaks ≡ [] → seen_kind m ≡ m.kind
+whole-kind m e = ap (λ (breaks : List Break). cond (is_whole breaks) m.kind None) e
+
+pub unbroken : (b : Bool) (which : Rule) (at : ℕ) → broken_if (not b) which at ≡ [] → b ≡ true
+unbroken true which at e = refl
+unbroken false which at e = cc e
+
+pub unbroken-not : (b : Bool) (which : Rule) (at : ℕ) → broken_if b which at ≡ [] → b ≡ false
+unbroken-not true which at e = cc e
+unbroken-not false which at e = refl
+
+-- ---- what is false whole is false in its parts
+
+pub left-false : (a b : Bool) → (a || b) ≡ false → a ≡ false
+left-false true b h = absurd (true≢false h)
+left-false false b h = refl
+
+pub right-false : (a b : Bool) → (a || b) ≡ false → b ≡ false
+right-false true b h = absurd (true≢false h)
+right-false false b h = h

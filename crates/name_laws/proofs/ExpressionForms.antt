@@ -1,8 +1,7 @@
 -- Each form of an expression, over parts that are made well formed.
-use Rattle.std.specs.Prelude.{◌≡◌, ⊤, ℕ, suc, ◌≤◌, Bool, true, false, cond, not, ◌||◌, nat_eq, List, [], ◌∷◌, ◌++◌, map, flat_map, length, Option, Some, None}
-use Rattle.std.proofs.Common.{refl, ap, sym, ◌∙◌, subst, arith, true≢false, inl, inr}
+use Rattle.std.specs.Prelude.{◌≡◌, ℕ, ◌≤◌, Bool, true, false, not, nat_eq, List, [], ◌∷◌, map, length, Option, Some, None}
+use Rattle.std.proofs.Common.{refl, ap, sym, subst, arith, inl, inr}
 use Rattle.std.specs.List.{list_any, AllByRecursion as Every}
-use mathlib.Core.Bool.{beq}
 use Rattle.null_logic.specs.declared.arith.Arith.{Arith}
 use Rattle.null_logic.specs.declared.arith.Arith.TheVariants as arithmetic
 use Rattle.null_logic.specs.declared.compare.Compare.{Compare}
@@ -12,21 +11,22 @@ use Rattle.null_logic.specs.declared.operator.Operator.TheVariants as x
 use Rattle.null_logic.specs.declared.truth.Truth.{Truth}
 use Rattle.perm_values.specs.declared.kind.Kind.{Kind}
 use Rattle.perm_values.specs.declared.kind.Kind.TheVariants.{Integer, Text, Boolean}
-use Rattle.bag_algebra.specs.BuiltForms.{AllHave, AllStepsHave, AllArmsHave}
+use Rattle.bag_algebra.specs.BuiltForms.{AllHave}
 use Rattle.bag_algebra.specs.WellFormed.{HasKind, is_additive}
 use Rattle.bag_algebra.specs.declared.expr.Expr.{Expr}
 use Rattle.bag_algebra.specs.declared.expr.Expr.TheVariants.{Op, IsNull, IsTruth, Same}
 use Rattle.sql_tree.specs.Regular.{IsConnective, IsFilled, IsSeveral, level_of}
-use Rattle.name_meaning.specs.Expressions.{StepPart, ArmPart, first_of, second_of, negated_if, times, steps_made, chain_made, arms_made, rest_made, null_meant, step_operand, first_need, chain_gives, arm_operands, else_operand, case_made, case_meant, arm_parts, optional_part}
-use Rattle.name_meaning.specs.Meanings.{Surroundings, Before, Meant, Part, settled}
-use Rattle.name_meaning.specs.Operands.{Operand, operand, node, need_of, gives_of, operated}
+use Rattle.name_meaning.specs.Expressions.{first_of, second_of, negated_if, times}
+use Rattle.name_meaning.specs.Meanings.{Surroundings, Part, settled}
+use Rattle.name_meaning.specs.Operands.{operand, node, need_of, gives_of, operated}
 use Rattle.name_meaning.specs.declared.need.Gives.{Gives}
 use Rattle.name_meaning.specs.declared.need.Gives.TheVariants.{Always as always, Common as common}
 use Rattle.name_meaning.specs.declared.need.Need.{Need}
 use Rattle.name_meaning.specs.declared.need.Need.TheVariants.{OfKind as of_kind, Alike as alike, Free as free}
 use Rattle.name_laws.proofs.GoodMeant.{GoodMeant, GoodPart, GoodOperand, IsPlain, PlainOperand, HaveKinds, good-node, plain-node, given}
-use Rattle.name_laws.proofs.Holding.{AreOfLevel, op-holds, not-holds, negate-holds, negated-holds, times-holds, is_null-holds, is_truth-holds, same-holds, chain-holds, case-holds, first-has, second-has, all-taken}
+use Rattle.name_laws.proofs.Holding.{op-holds, not-holds, negate-holds, negated-holds, times-holds, is_null-holds, is_truth-holds, same-holds, first-has, second-has, all-taken}
 use Rattle.name_laws.proofs.Needs.{taken, taken_kinds}
+use Rattle.name_laws.proofs.Every.{left-false, right-false}
 
 -- ---- the table of operators
 
@@ -77,14 +77,6 @@ level-additive arithmetic.Remainder = refl
 operands-good : (here : Surroundings) (need : Need) (parts : List Part) → Every GoodPart parts → Every (GoodOperand here) (map (operand here need) parts)
 operands-good here need [] h = tt
 operands-good here need (part ∷ parts) h = (h.0.formed here, operands-good here need parts h.1)
-
-pub left-false : (a b : Bool) → (a || b) ≡ false → a ≡ false
-left-false true b h = absurd (true≢false h)
-left-false false b h = refl
-
-pub right-false : (a b : Bool) → (a || b) ≡ false → b ≡ false
-right-false true b h = absurd (true≢false h)
-right-false false b h = h
 
 abbrev pub any_aggregating : List Part → Bool
 any_aggregating parts = list_any (λ (part : Part). part.aggregating) parts

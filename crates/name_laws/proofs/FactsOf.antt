@@ -1,5 +1,5 @@
 -- The facts of each node, of the facts of its parts.
-use Rattle.std.specs.Prelude.{◌≡◌, ℕ, Bool, List, [], ◌∷◌, ◌++◌}
+use Rattle.std.specs.Prelude.{◌≡◌, ℕ, Bool, List, [], ◌∷◌, ◌++◌, ℤ, nat_abs, true, false, Option, Some, None}
 use Rattle.std.proofs.Common.{refl, ap, sym, ◌∙◌, append_assoc, append-nil}
 use Rattle.std.proofs.Math.Bool.{and-true, and_assoc}
 use Rattle.perm_values.specs.declared.key.Key.{Key}
@@ -18,6 +18,10 @@ use Rattle.bag_algebra.specs.declared.query.Query.{Query}
 use Rattle.bag_algebra.specs.declared.query.Query.TheVariants.{Base, Filter, Project, Join, Union, Intersect, Except, Distinct, Aggregate, Limit, Prov}
 use Rattle.bag_algebra.specs.declared.query.Sublink.{Sublink}
 use Rattle.name_laws.specs.Facts.{Facts, facts_of, no_facts, both_facts, as_sublink, sub_facts, source_facts, proved_facts}
+use Rattle.sql_tree.specs.declared.query.SetWord.{SetWord}
+use Rattle.sql_tree.specs.declared.query.SetWord.TheVariants as word
+use Rattle.name_meaning.specs.Cores.{aggregated_input, distinct_if}
+use Rattle.name_meaning.specs.Queries.{set_of, limited}
 
 -- ---- facts put together
 
@@ -96,3 +100,22 @@ facts-Limit input keys count = facts-alike (shape-Limit input keys count) (over_
 
 pub facts-Prov : (input : Query) → facts_of (Prov input) ≡ proved_facts (facts_of input)
 facts-Prov input = facts-alike (shape-Prov input) (over_tables-Prov input) (traceable-Prov input)
+
+-- ---- queries that clauses make
+
+pub facts-set : (op : SetWord) (all : Bool) (left right : Query) → facts_of (set_of op all left right) ≡ both_facts (facts_of left) (facts_of right)
+facts-set word.Union all left right = facts-Union all left right
+facts-set word.Except all left right = facts-Except all left right
+facts-set word.Intersect all left right = facts-Intersect all left right
+
+pub facts-limited : (limit : Option ℤ) (keys : List Key) (query : Query) → facts_of (limited limit keys query) ≡ facts_of query
+facts-limited None keys query = refl
+facts-limited (Some n) keys query = facts-Limit query keys (nat_abs n)
+
+pub facts-aggregated : (input : Query) (groups : Option (List ℕ)) (aggregates : List Aggr) → facts_of (aggregated_input input groups aggregates) ≡ facts_of input
+facts-aggregated input None aggregates = refl
+facts-aggregated input (Some groups) aggregates = facts-Aggregate input groups aggregates
+
+pub facts-distinct_if : (is_distinct : Bool) (query : Query) → facts_of (distinct_if is_distinct query) ≡ facts_of query
+facts-distinct_if true query = facts-Distinct query
+facts-distinct_if false query = refl

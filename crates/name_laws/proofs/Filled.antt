@@ -35,6 +35,7 @@ use Rattle.name_meaning.specs.declared.scope.ScopeColumn.{ScopeColumn}
 use Rattle.name_meaning.specs.declared.trace.Trace.{Trace}
 use Rattle.name_meaning.specs.declared.trace.Trace.TheVariants.{InProvenance as in_provenance}
 use Rattle.name_laws.proofs.Every.{every-append}
+use Rattle.name_laws.proofs.KindsOf.{with_known}
 
 -- ---- lists
 
@@ -235,13 +236,6 @@ filled-item_step (SelectItem-F.TableStar table) has_from scope here all each = c
   chosen None h = tt
   chosen (Some columns) h = filled-map titled columns h
 filled-item_step (SelectItem-F.Value expr name) has_from scope here all each = tt
-
--- the columns of the first item before those of the items behind it
-abbrev with_known : Option (List Titled) → Option (List Titled) → Option (List Titled)
-with_known columns rest = elim columns [
-  | None ↦ None
-  | Some known ↦ option_map (λ more. known ++ more) rest
-]
 
 shown-list : (first rest : Option (List Titled)) → Shown first → Shown (with_known first rest)
 shown-list None rest h = tt

@@ -17,10 +17,10 @@ use Rattle.name_meaning.specs.Froms.{JoinPart, first_item, from_all, source_step
 use Rattle.name_meaning.specs.Meanings.{Around, QueryPart}
 use Rattle.name_meaning.specs.Queries.{set_step, unprovable}
 use Rattle.name_meaning.specs.Trees.{core_of, from_item_of, from_of, item_of, join_of, query_of, set_of_tree, set_step_of, source_of}
-use Rattle.name_laws.proofs.CoreSteps.{whole-none}
+use Rattle.name_laws.proofs.Every.{whole-none}
 use Rattle.name_laws.proofs.Filled.{FilledBody, FilledFrom, FilledItem, FilledSelect, FilledSource, Shown, filled-item_step, filled-map, shown-chain, shown-core_seen, shown-first, shown-from_all, shown-join_all, shown-query_seen, shown-read_of}
 use Rattle.name_laws.proofs.Froms.{GoodFromPart, good-from_all}
-use Rattle.name_laws.proofs.Opened.{opened_core, opened_from, opened_from_item, opened_item, opened_join, opened_query, opened_set, opened_source, shown_core, shown_item, shown_set, shown_source}
+use Rattle.name_meaning.proofs.Opened.{opened_core, opened_from, opened_from_item, opened_item, opened_join, opened_query, opened_set, opened_source, shown_core, shown_item, shown_set, shown_source}
 use Rattle.name_laws.proofs.FormedTrees.{all-meant, good-from}
 
 module _ (c : Contents) (sound : IsSound c) where

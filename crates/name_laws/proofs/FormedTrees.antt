@@ -33,7 +33,7 @@ use Rattle.name_laws.proofs.Filled.{filled-map}
 use Rattle.name_laws.proofs.Froms.{GoodSource, GoodFromItem, GoodFromPart, GoodJoin, good-read_of, good-item_meant, good-first, good-join_all, good-from_all}
 use Rattle.name_laws.proofs.GoodMeant.{GoodMeant, GoodPart, IsPlain}
 use Rattle.name_laws.proofs.Items.{GoodItem, good-star, plain-star, good-table_star, plain-table_star, good-value, plain-value}
-use Rattle.name_laws.proofs.Opened.{Layer_core, Layer_join, shown_body, shown_item, shown_set, shown_source, shown_core, shown_join, opened_body, opened_item, opened_set, opened_source, opened_core, opened_from, opened_join, opened_expr, opened_arm, opened_step, opened_query, opened_set_step, opened_from_item}
+use Rattle.name_meaning.proofs.Opened.{Layer_core, Layer_join, shown_body, shown_item, shown_set, shown_source, shown_core, shown_join, opened_body, opened_item, opened_set, opened_source, opened_core, opened_from, opened_join, opened_expr, opened_arm, opened_step, opened_query, opened_set_step, opened_from_item}
 use Rattle.name_laws.proofs.Queries.{GoodBody, GoodBodyMeant, GoodQueryMeant, good-chain, good-query_seen}
 
 -- ---- lists

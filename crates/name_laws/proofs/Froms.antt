@@ -1,6 +1,6 @@
 -- FROM that breaks nothing is made well formed, and its rows hold the columns of its items.
 use Rattle.std.specs.Prelude.{◌≡◌, ⊤, ℕ, zero, suc, ◌+◌, ◌≤◌, ◌<◌, Bool, true, false, List, [], ◌∷◌, ◌++◌, map, length, nat_eq, nat_lt, position, slice_get, Option, Some, None, option_map, IfSome}
-use Rattle.std.proofs.Common.{refl, ap, sym, ◌∙◌, subst, append_assoc, append-nil, true≢false, arith, pred}
+use Rattle.std.proofs.Common.{refl, ap, sym, ◌∙◌, subst, append-nil, true≢false, arith}
 use Rattle.std.proofs.lemmas.List.{length-map, map-append}
 use Rattle.std.proofs.lemmas.List.Elements.{All-nil, All-cons}
 use Rattle.std.proofs.lemmas.List.FromFn.{length-range_with_len}
@@ -9,8 +9,8 @@ use Rattle.std.proofs.lemmas.Option.{same_Some, slice_get-map}
 use Rattle.std.specs.List.{list_any, count_by, range_with_len, AllByRecursion as Every}
 use Rattle.std.specs.Option.{option_map_or}
 use Rattle.perm_values.specs.declared.kind.Kind.{Kind}
-use Rattle.perm_values.specs.declared.kind.Kind.TheVariants.{Text, Boolean}
-use Rattle.bag_algebra.specs.Built.{kinds_of-Base, kinds_of-Join}
+use Rattle.perm_values.specs.declared.kind.Kind.TheVariants.{Boolean}
+use Rattle.bag_algebra.specs.Built.{kinds_of-Join}
 use Rattle.bag_algebra.specs.BuiltForms.{subs_kinds, WellFormed-Base, WellFormed-Join}
 use Rattle.bag_algebra.specs.Kinds.{kinds_of, width_of}
 use Rattle.bag_algebra.specs.WellFormed.{HasKind, WellFormed, PlacesIn, label_width}
@@ -32,14 +32,11 @@ use Rattle.perm_catalog.specs.declared.entries.Mark.{Mark}
 use Rattle.perm_catalog.specs.declared.entries.TableEntry.{TableEntry}
 use Rattle.perm_catalog.specs.declared.entries.ViewEntry.{ViewEntry}
 use Rattle.sql_tree.specs.declared.name.Name.{Name}
-use Rattle.sql_tree.specs.declared.source.JoinWord.{JoinWord}
 use Rattle.sql_tree.specs.declared.source.ScopeMark.{ScopeMark}
 use Rattle.sql_tree.specs.declared.source.ScopeMark.TheVariants as mark
-use Rattle.name_meaning.specs.Cores.{settle}
 use Rattle.name_meaning.specs.Froms.{names_of, names_at, all_places, table_columns, settled_columns, named_columns, Read, external, read_table, read_view, read_nothing, read_named, read_query, named_so, place_of, column_breaks, attribute_breaks, texts_of, marked, mark_breaks, trace_under, SourcePart, named as named_source, inner as inner_source, ItemMeant, FromItemPart, read_of, read_names, scope_break, item_meant, in_on, FromMeant, JoinPart, FromPart, join_kind, scope_items, both_known, first_item, on_meant, on_breaks, on_made, join_item, join_all, beside_from, from_more, from_all, yes}
-use Rattle.name_meaning.specs.Meanings.{Around, Built, Meant, Part, OutColumn, QueryMeant, broken_if, settled}
+use Rattle.name_meaning.specs.Meanings.{Around, Part, OutColumn, QueryMeant, broken_if}
 use Rattle.name_meaning.specs.Scopes.{KnownColumn, ScopeItem, scope_of, numbered_columns, columns_from}
-use Rattle.name_meaning.specs.Sublinks.{nothing_before}
 use Rattle.name_meaning.specs.declared.answer.Break.{Break}
 use Rattle.name_meaning.specs.declared.scope.Scope.{Scope}
 use Rattle.name_meaning.specs.declared.scope.ScopeColumn.{ScopeColumn}
@@ -48,10 +45,11 @@ use Rattle.name_laws.specs.Known.{column_kinds_of, items_kinds}
 use Rattle.name_laws.specs.Standing.{StandAt, HoldsScope, RowsHold, AggregatesStand}
 use Rattle.name_laws.proofs.Arms.{GoodOptional}
 use Rattle.name_laws.proofs.Cores.{by, formed-condition}
-use Rattle.name_laws.proofs.GoodMeant.{front-none, back-none}
 use Rattle.name_laws.proofs.Sublinks.{GoodQuery}
 use Rattle.name_meaning.specs.declared.rule.Rule.TheVariants as rule
-use Rattle.name_meaning.specs.declared.rule.Rule.{Rule}
+use Rattle.name_laws.proofs.Every.{front-none, back-none, unbroken-not}
+use Rattle.name_laws.proofs.KindsOf.{kinds-table_columns, kinds-settled_columns, items_kinds-append, kinds-plain, table_with, kinds-table, kinds-marked}
+use Rattle.name_laws.proofs.Settled.{kinds-named_columns}
 
 -- ---- places
 
@@ -69,10 +67,6 @@ position-in {X} test (x ∷ xs) e = chosen (position test (x ∷ xs)) refl where
   chosen None f = omega arith
   chosen (Some at) f = (position-Some test (x ∷ xs) at x f).0
 
-pub unbroken-not : (b : Bool) (which : Rule) (at : ℕ) → broken_if b which at ≡ [] → b ≡ false
-unbroken-not true which at e = cc e
-unbroken-not false which at e = refl
-
 attributes-in : (names earlier : List (List ℕ)) (attributes : List Name) → attribute_breaks (Some names) earlier attributes ≡ []
     → PlacesIn (length names) (map (place_of names) (texts_of attributes))
 attributes-in names earlier [] whole = All-nil _
@@ -88,20 +82,6 @@ attributes-in names earlier (attribute ∷ attributes) whole =
     (attributes-in names (attribute.text ∷ earlier) attributes (back-none (one ++ again) rest whole))
 
 -- ---- kinds
-
-kinds-table_columns : (columns : List Column) → column_kinds columns ≡ column_kinds_of (table_columns columns)
-kinds-table_columns [] = refl
-kinds-table_columns (c ∷ columns) = ap (λ (kinds : List Kind). c.kind ∷ kinds) (kinds-table_columns columns)
-
-kinds-settled_columns : (columns : List OutColumn) → settle columns [] ≡ column_kinds_of (settled_columns columns)
-kinds-settled_columns [] = refl
-kinds-settled_columns (c ∷ columns) = ap (λ (kinds : List Kind). settled c.kind Text ∷ kinds) (kinds-settled_columns columns)
-
-kinds-named_columns : (names : List (List ℕ)) (kinds : List Kind) → length names ≡ length kinds → column_kinds_of (named_columns names kinds) ≡ kinds
-kinds-named_columns [] [] e = refl
-kinds-named_columns [] (k ∷ ks) e = absurd (omega (arith, e))
-kinds-named_columns (name ∷ names) [] e = refl
-kinds-named_columns (name ∷ names) (k ∷ ks) e = ap (λ kinds. k ∷ kinds) (kinds-named_columns names ks (ap pred e))
 
 kinds-columns_from : (number : ℕ) (items : List ScopeItem) → map (λ (column : ScopeColumn). column.kind) (columns_from number items) ≡ items_kinds items
 kinds-columns_from number [] = refl
@@ -144,16 +124,7 @@ plain-formed : (rows : List (List Kind)) (query : Query) (names : List (List ℕ
 plain-formed rows query names None f within = f
 plain-formed rows query names (Some places) f within = based-formed rows query places (External (names_at names places)) f within (length-map places _)
 
-kinds-plain : (query : Query) (names : List (List ℕ)) (places : Option (List ℕ)) → kinds_of (option_map_or (external query names) places query) ≡ kinds_of query
-kinds-plain query names None = refl
-kinds-plain query names (Some places) = kinds_of-Base query places (External (names_at names places))
-
 module _ (c : Contents) (sound : IsSound c) where
-  abbrev table_with : ℕ → List ℕ → List Column → Option Mark → Query
-  table_with id name columns stored = option_map_or
-      (λ (m : Mark). external (Table id (column_kinds columns)) (names_of (table_columns columns)) m.places) stored
-      (Base (Table id (column_kinds columns)) (all_places columns) (Relation name (names_of (table_columns columns))))
-
   table-formed : (rows : List (List Kind)) (id : ℕ) (name : List ℕ) (columns : List Column) (stored : Option Mark) → stored ≡ None
       → WellFormed rows (table_with id name columns stored)
   table-formed rows id name columns None e =
@@ -163,11 +134,6 @@ module _ (c : Contents) (sound : IsSound c) where
       based-formed rows (Table id (column_kinds columns)) (all_places columns) (Relation name (names_of (table_columns columns))) tt
       (range-in 0 (length columns) (length (column_kinds columns)) (omega (arith, l))) m
   table-formed rows id name columns (Some m) e = cc
-
-  kinds-table : (id : ℕ) (name : List ℕ) (columns : List Column) (stored : Option Mark) → kinds_of (table_with id name columns stored) ≡ column_kinds columns
-  kinds-table id name columns None = kinds_of-Base (Table id (column_kinds columns)) (all_places columns) (Relation name (names_of (table_columns columns)))
-  kinds-table id name columns (Some m) =
-      kinds_of-Base (Table id (column_kinds columns)) m.places (External (names_at (names_of (table_columns columns)) m.places))
 
   good-read_table : (outer : List Scope) (name : List ℕ) (table : TableEntry) → IsSoundTable c table → GoodRead outer (read_table name table)
   good-read_table outer name table is whole = record {
@@ -242,13 +208,6 @@ GoodItemMeant outer m = m.breaks ≡ [] → FormedItem outer m
 abbrev pub GoodFromItem : FromItemPart → Type 0
 GoodFromItem item = (outer : List Scope) (trace : Trace) (earlier : List (List ℕ)) → GoodItemMeant outer (item.means outer trace earlier)
 
-marked-kinds : (m : ScopeMark) (label : List ℕ) (names : List (List ℕ)) (read : Read) (kinds : List Kind)
-    → kinds_of read.query ≡ kinds → kinds_of read.plain ≡ kinds → kinds_of (marked m label names read) ≡ kinds
-marked-kinds mark.Plain label names read kinds e f = f
-marked-kinds mark.BaseRelation label names read kinds e f = kinds_of-Base read.query (all_places names) (Relation label names) ∙ e
-marked-kinds (mark.External attributes) label names read kinds e f =
-    kinds_of-Base read.query (map (place_of names) (texts_of attributes)) (External (texts_of attributes)) ∙ e
-
 marked-formed : (m : ScopeMark) (label : List ℕ) (names : List (List ℕ)) (read : Read) (rows : List (List Kind)) → WellFormed rows read.query → WellFormed rows read.plain
     → length names ≡ width_of read.query → mark_breaks m (Some names) ≡ [] → WellFormed rows (marked m label names read)
 marked-formed mark.Plain label names read rows f g width whole = g
@@ -275,7 +234,7 @@ good-item_meant outer at m trace earlier name label read good whole =
     record {
       columns = r.columns;
       known = r.known;
-      kinds = marked-kinds m label (read_names read) read (column_kinds_of r.columns) r.kinds r.plain_kinds;
+      kinds = kinds-marked m label (read_names read) read (column_kinds_of r.columns) r.kinds r.plain_kinds;
       formed = λ rows hold. marked-formed m label (read_names read) read rows (r.formed rows hold) (r.plain_formed rows hold) width
           (subst (λ (names : Option (List (List ℕ))). mark_breaks m names ≡ []) known (back-none (read.breaks ++ same_name) attributes first));
     }
@@ -296,12 +255,6 @@ GoodFromPart part = (outer : List Scope) (trace : Trace) (earlier : List (List �
 
 abbrev pub GoodJoin : JoinPart → Type 0
 GoodJoin step = GoodFromItem step.item × GoodOptional step.condition
-
-items_kinds-append : (xs ys : List ScopeItem) → items_kinds (xs ++ ys) ≡ items_kinds xs ++ items_kinds ys
-items_kinds-append [] ys = refl
-items_kinds-append (x ∷ xs) ys =
-    ap (λ (kinds : List Kind). column_kinds_of x.columns ++ kinds) (items_kinds-append xs ys)
-    ∙ sym (append_assoc (column_kinds_of x.columns) (items_kinds xs) (items_kinds ys))
 
 abbrev item_of : ItemMeant → List KnownColumn → List ScopeItem
 item_of m columns = record { name = m.name; columns = columns } ∷ []

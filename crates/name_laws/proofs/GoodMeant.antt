@@ -1,27 +1,18 @@
 -- What an expression makes of its operands is well formed where they are.
-use Rattle.std.specs.Prelude.{◌≡◌, ⊤, ℕ, suc, Bool, false, cond, List, [], ◌∷◌, ◌++◌, map, flat_map, length, Option, Some, None}
-use Rattle.std.proofs.Common.{refl, ap, sym, ◌∙◌, subst}
+use Rattle.std.specs.Prelude.{◌≡◌, ⊤, ℕ, false, List, [], ◌∷◌, ◌++◌, Option, Some, None}
+use Rattle.std.proofs.Common.{refl, subst}
 use Rattle.std.specs.List.{AllByRecursion as Every}
 use Rattle.perm_values.specs.declared.kind.Kind.{Kind}
 use Rattle.bag_algebra.specs.WellFormed.{HasKind}
 use Rattle.bag_algebra.specs.declared.expr.Expr.{Expr}
-use Rattle.name_meaning.specs.Meanings.{Surroundings, Before, Built, Meant, Part, is_whole, seen_kind, settled}
-use Rattle.name_meaning.specs.Operands.{Operand, operand, node, made_parts, BuiltParts, behind, wanted_of, alike_wanted, united, given_kind, parts_breaks, unfit_break, first_unfit}
-use Rattle.name_meaning.specs.declared.answer.Break.{Break}
+use Rattle.name_meaning.specs.Meanings.{Surroundings, Before, Built, Meant, Part, seen_kind, settled}
+use Rattle.name_meaning.specs.Operands.{Operand, node, made_parts, BuiltParts, behind, wanted_of, alike_wanted, united, given_kind, parts_breaks, unfit_break, first_unfit}
 use Rattle.name_meaning.specs.declared.need.Gives.{Gives}
 use Rattle.name_meaning.specs.declared.need.Gives.TheVariants.{Always as always, Common as common}
-use Rattle.name_meaning.specs.declared.need.Need.{Need}
 use Rattle.name_laws.specs.Formed.{IsFormed, IsFormedExpr}
 use Rattle.name_laws.proofs.FormedParts.{formed-none, formed-map, formed-both}
 use Rattle.name_laws.proofs.Needs.{Fits, fits-operands, taken, taken_kinds, taken-settled}
-
-pub front-none : {X : Type 0} (xs ys : List X) → xs ++ ys ≡ [] → xs ≡ []
-front-none [] ys e = refl
-front-none (x ∷ xs) ys e = cc e
-
-pub back-none : {X : Type 0} (xs ys : List X) → xs ++ ys ≡ [] → ys ≡ []
-back-none [] ys e = e
-back-none (x ∷ xs) ys e = cc e
+use Rattle.name_laws.proofs.Every.{front-none, back-none, whole-kind}
 
 -- an expression that breaks nothing is made to one that is well formed and has its kind, at any wanted kind and behind whatever
 -- stands before it
@@ -38,9 +29,6 @@ pub record GoodPart (part : Part) : Type 0 where
 
 abbrev pub GoodOperand : Surroundings → Operand → Type 0
 GoodOperand here o = GoodMeant here o.meant
-
-pub whole-kind : (m : Meant) → m.breaks ≡ [] → seen_kind m ≡ m.kind
-whole-kind m e = ap (λ (breaks : List Break). cond (is_whole breaks) m.kind None) e
 
 -- ---- expressions of these kinds
 

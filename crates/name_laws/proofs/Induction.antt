@@ -26,6 +26,7 @@ use Rattle.name_meaning.specs.Meanings.{Part, QueryPart}
 use Rattle.name_meaning.specs.Queries.{SetStepPart, set_step, set_step_step, query_step}
 use Rattle.name_meaning.specs.Trees.{body_of, item_of, set_of_tree, source_of, arm_of, step_of, part_of, core_of, query_of, set_step_of, from_item_of, from_of, join_of}
 use Rattle.name_laws.proofs.Every.{Every, every-proved}
+use Rattle.name_meaning.proofs.Opened.{Layer_body, Layer_item, Layer_set, Layer_source, Layer_arm, Layer_step, Layer_part, Layer_core, Layer_query, Layer_set_step, Layer_from_item, Layer_from, Layer_join, shown_body, shown_item, shown_set, shown_source, shown_arm, shown_step, shown_part, shown_core, shown_query, shown_set_step, shown_from_item, shown_from, shown_join}
 
 module _ (c : Contents) (OfBody : Body → Type 0) (OfItem : SelectPart → Type 0) (OfSet : BodyPart → Type 0) (OfSource : SourcePart → Type 0)
     (OfArm : ArmPart → Type 0) (OfStep : StepPart → Type 0) (OfPart : Part → Type 0) (OfCore : BodyPart → Type 0) (OfQuery : QueryPart → Type 0)
@@ -142,9 +143,6 @@ module _ (c : Contents) (OfBody : Body → Type 0) (OfItem : SelectPart → Type
 
   -- ---- one level of a tree, with a proof beside each part
 
-  abbrev Layer_body : Type 0
-  Layer_body = ExprBody-F ExprBody SelectItem SetTree FromSource ArmTree ExprStep ExprTree Core QueryTree SetStep FromItem FromTree JoinStep
-
   abbrev Proved_body : Type 0
   Proved_body = ExprBody-F WithBody WithItem WithSet WithSource WithArm WithStep WithPart WithCore WithQuery WithSetStep WithFromItem WithFrom WithJoin
 
@@ -152,14 +150,6 @@ module _ (c : Contents) (OfBody : Body → Type 0) (OfItem : SelectPart → Type
   first_body = map-ExprBody WithBody WithItem WithSet WithSource WithArm WithStep WithPart WithCore WithQuery WithSetStep WithFromItem WithFrom WithJoin
       ExprBody SelectItem SetTree FromSource ArmTree ExprStep ExprTree Core QueryTree SetStep FromItem FromTree JoinStep
       (λ (e : WithBody). e.0) (λ (e : WithItem). e.0) (λ (e : WithSet). e.0) (λ (e : WithSource). e.0) (λ (e : WithArm). e.0) (λ (e : WithStep). e.0) (λ (e : WithPart). e.0) (λ (e : WithCore). e.0) (λ (e : WithQuery). e.0) (λ (e : WithSetStep). e.0) (λ (e : WithFromItem). e.0) (λ (e : WithFrom). e.0) (λ (e : WithJoin). e.0)
-
-  abbrev shown_body : Proved_body → ExprBodyFrame
-  shown_body y = map-ExprBody ExprBody SelectItem SetTree FromSource ArmTree ExprStep ExprTree Core QueryTree SetStep FromItem FromTree JoinStep
-      Body SelectPart BodyPart SourcePart ArmPart StepPart Part BodyPart QueryPart SetStepPart FromItemPart FromPart JoinPart
-      (body_of c) (item_of c) (set_of_tree c) (source_of c) (arm_of c) (step_of c) (part_of c) (core_of c) (query_of c) (set_step_of c) (from_item_of c) (from_of c) (join_of c) (first_body y)
-
-  abbrev Layer_item : Type 0
-  Layer_item = SelectItem-F ExprBody SelectItem SetTree FromSource ArmTree ExprStep ExprTree Core QueryTree SetStep FromItem FromTree JoinStep
 
   abbrev Proved_item : Type 0
   Proved_item = SelectItem-F WithBody WithItem WithSet WithSource WithArm WithStep WithPart WithCore WithQuery WithSetStep WithFromItem WithFrom WithJoin
@@ -169,14 +159,6 @@ module _ (c : Contents) (OfBody : Body → Type 0) (OfItem : SelectPart → Type
       ExprBody SelectItem SetTree FromSource ArmTree ExprStep ExprTree Core QueryTree SetStep FromItem FromTree JoinStep
       (λ (e : WithBody). e.0) (λ (e : WithItem). e.0) (λ (e : WithSet). e.0) (λ (e : WithSource). e.0) (λ (e : WithArm). e.0) (λ (e : WithStep). e.0) (λ (e : WithPart). e.0) (λ (e : WithCore). e.0) (λ (e : WithQuery). e.0) (λ (e : WithSetStep). e.0) (λ (e : WithFromItem). e.0) (λ (e : WithFrom). e.0) (λ (e : WithJoin). e.0)
 
-  abbrev shown_item : Proved_item → SelectItemFrame
-  shown_item y = map-SelectItem ExprBody SelectItem SetTree FromSource ArmTree ExprStep ExprTree Core QueryTree SetStep FromItem FromTree JoinStep
-      Body SelectPart BodyPart SourcePart ArmPart StepPart Part BodyPart QueryPart SetStepPart FromItemPart FromPart JoinPart
-      (body_of c) (item_of c) (set_of_tree c) (source_of c) (arm_of c) (step_of c) (part_of c) (core_of c) (query_of c) (set_step_of c) (from_item_of c) (from_of c) (join_of c) (first_item y)
-
-  abbrev Layer_set : Type 0
-  Layer_set = SetTree-F ExprBody SelectItem SetTree FromSource ArmTree ExprStep ExprTree Core QueryTree SetStep FromItem FromTree JoinStep
-
   abbrev Proved_set : Type 0
   Proved_set = SetTree-F WithBody WithItem WithSet WithSource WithArm WithStep WithPart WithCore WithQuery WithSetStep WithFromItem WithFrom WithJoin
 
@@ -184,14 +166,6 @@ module _ (c : Contents) (OfBody : Body → Type 0) (OfItem : SelectPart → Type
   first_set = map-SetTree WithBody WithItem WithSet WithSource WithArm WithStep WithPart WithCore WithQuery WithSetStep WithFromItem WithFrom WithJoin
       ExprBody SelectItem SetTree FromSource ArmTree ExprStep ExprTree Core QueryTree SetStep FromItem FromTree JoinStep
       (λ (e : WithBody). e.0) (λ (e : WithItem). e.0) (λ (e : WithSet). e.0) (λ (e : WithSource). e.0) (λ (e : WithArm). e.0) (λ (e : WithStep). e.0) (λ (e : WithPart). e.0) (λ (e : WithCore). e.0) (λ (e : WithQuery). e.0) (λ (e : WithSetStep). e.0) (λ (e : WithFromItem). e.0) (λ (e : WithFrom). e.0) (λ (e : WithJoin). e.0)
-
-  abbrev shown_set : Proved_set → SetTreeFrame
-  shown_set y = map-SetTree ExprBody SelectItem SetTree FromSource ArmTree ExprStep ExprTree Core QueryTree SetStep FromItem FromTree JoinStep
-      Body SelectPart BodyPart SourcePart ArmPart StepPart Part BodyPart QueryPart SetStepPart FromItemPart FromPart JoinPart
-      (body_of c) (item_of c) (set_of_tree c) (source_of c) (arm_of c) (step_of c) (part_of c) (core_of c) (query_of c) (set_step_of c) (from_item_of c) (from_of c) (join_of c) (first_set y)
-
-  abbrev Layer_source : Type 0
-  Layer_source = FromSource-F ExprBody SelectItem SetTree FromSource ArmTree ExprStep ExprTree Core QueryTree SetStep FromItem FromTree JoinStep
 
   abbrev Proved_source : Type 0
   Proved_source = FromSource-F WithBody WithItem WithSet WithSource WithArm WithStep WithPart WithCore WithQuery WithSetStep WithFromItem WithFrom WithJoin
@@ -201,14 +175,6 @@ module _ (c : Contents) (OfBody : Body → Type 0) (OfItem : SelectPart → Type
       ExprBody SelectItem SetTree FromSource ArmTree ExprStep ExprTree Core QueryTree SetStep FromItem FromTree JoinStep
       (λ (e : WithBody). e.0) (λ (e : WithItem). e.0) (λ (e : WithSet). e.0) (λ (e : WithSource). e.0) (λ (e : WithArm). e.0) (λ (e : WithStep). e.0) (λ (e : WithPart). e.0) (λ (e : WithCore). e.0) (λ (e : WithQuery). e.0) (λ (e : WithSetStep). e.0) (λ (e : WithFromItem). e.0) (λ (e : WithFrom). e.0) (λ (e : WithJoin). e.0)
 
-  abbrev shown_source : Proved_source → FromSourceFrame
-  shown_source y = map-FromSource ExprBody SelectItem SetTree FromSource ArmTree ExprStep ExprTree Core QueryTree SetStep FromItem FromTree JoinStep
-      Body SelectPart BodyPart SourcePart ArmPart StepPart Part BodyPart QueryPart SetStepPart FromItemPart FromPart JoinPart
-      (body_of c) (item_of c) (set_of_tree c) (source_of c) (arm_of c) (step_of c) (part_of c) (core_of c) (query_of c) (set_step_of c) (from_item_of c) (from_of c) (join_of c) (first_source y)
-
-  abbrev Layer_arm : Type 0
-  Layer_arm = ArmTree-F ExprBody SelectItem SetTree FromSource ArmTree ExprStep ExprTree Core QueryTree SetStep FromItem FromTree JoinStep
-
   abbrev Proved_arm : Type 0
   Proved_arm = ArmTree-F WithBody WithItem WithSet WithSource WithArm WithStep WithPart WithCore WithQuery WithSetStep WithFromItem WithFrom WithJoin
 
@@ -216,14 +182,6 @@ module _ (c : Contents) (OfBody : Body → Type 0) (OfItem : SelectPart → Type
   first_arm = map-ArmTree WithBody WithItem WithSet WithSource WithArm WithStep WithPart WithCore WithQuery WithSetStep WithFromItem WithFrom WithJoin
       ExprBody SelectItem SetTree FromSource ArmTree ExprStep ExprTree Core QueryTree SetStep FromItem FromTree JoinStep
       (λ (e : WithBody). e.0) (λ (e : WithItem). e.0) (λ (e : WithSet). e.0) (λ (e : WithSource). e.0) (λ (e : WithArm). e.0) (λ (e : WithStep). e.0) (λ (e : WithPart). e.0) (λ (e : WithCore). e.0) (λ (e : WithQuery). e.0) (λ (e : WithSetStep). e.0) (λ (e : WithFromItem). e.0) (λ (e : WithFrom). e.0) (λ (e : WithJoin). e.0)
-
-  abbrev shown_arm : Proved_arm → ArmTreeFrame
-  shown_arm y = map-ArmTree ExprBody SelectItem SetTree FromSource ArmTree ExprStep ExprTree Core QueryTree SetStep FromItem FromTree JoinStep
-      Body SelectPart BodyPart SourcePart ArmPart StepPart Part BodyPart QueryPart SetStepPart FromItemPart FromPart JoinPart
-      (body_of c) (item_of c) (set_of_tree c) (source_of c) (arm_of c) (step_of c) (part_of c) (core_of c) (query_of c) (set_step_of c) (from_item_of c) (from_of c) (join_of c) (first_arm y)
-
-  abbrev Layer_step : Type 0
-  Layer_step = ExprStep-F ExprBody SelectItem SetTree FromSource ArmTree ExprStep ExprTree Core QueryTree SetStep FromItem FromTree JoinStep
 
   abbrev Proved_step : Type 0
   Proved_step = ExprStep-F WithBody WithItem WithSet WithSource WithArm WithStep WithPart WithCore WithQuery WithSetStep WithFromItem WithFrom WithJoin
@@ -233,14 +191,6 @@ module _ (c : Contents) (OfBody : Body → Type 0) (OfItem : SelectPart → Type
       ExprBody SelectItem SetTree FromSource ArmTree ExprStep ExprTree Core QueryTree SetStep FromItem FromTree JoinStep
       (λ (e : WithBody). e.0) (λ (e : WithItem). e.0) (λ (e : WithSet). e.0) (λ (e : WithSource). e.0) (λ (e : WithArm). e.0) (λ (e : WithStep). e.0) (λ (e : WithPart). e.0) (λ (e : WithCore). e.0) (λ (e : WithQuery). e.0) (λ (e : WithSetStep). e.0) (λ (e : WithFromItem). e.0) (λ (e : WithFrom). e.0) (λ (e : WithJoin). e.0)
 
-  abbrev shown_step : Proved_step → ExprStepFrame
-  shown_step y = map-ExprStep ExprBody SelectItem SetTree FromSource ArmTree ExprStep ExprTree Core QueryTree SetStep FromItem FromTree JoinStep
-      Body SelectPart BodyPart SourcePart ArmPart StepPart Part BodyPart QueryPart SetStepPart FromItemPart FromPart JoinPart
-      (body_of c) (item_of c) (set_of_tree c) (source_of c) (arm_of c) (step_of c) (part_of c) (core_of c) (query_of c) (set_step_of c) (from_item_of c) (from_of c) (join_of c) (first_step y)
-
-  abbrev Layer_part : Type 0
-  Layer_part = ExprTree-F ExprBody SelectItem SetTree FromSource ArmTree ExprStep ExprTree Core QueryTree SetStep FromItem FromTree JoinStep
-
   abbrev Proved_part : Type 0
   Proved_part = ExprTree-F WithBody WithItem WithSet WithSource WithArm WithStep WithPart WithCore WithQuery WithSetStep WithFromItem WithFrom WithJoin
 
@@ -248,14 +198,6 @@ module _ (c : Contents) (OfBody : Body → Type 0) (OfItem : SelectPart → Type
   first_part = map-ExprTree WithBody WithItem WithSet WithSource WithArm WithStep WithPart WithCore WithQuery WithSetStep WithFromItem WithFrom WithJoin
       ExprBody SelectItem SetTree FromSource ArmTree ExprStep ExprTree Core QueryTree SetStep FromItem FromTree JoinStep
       (λ (e : WithBody). e.0) (λ (e : WithItem). e.0) (λ (e : WithSet). e.0) (λ (e : WithSource). e.0) (λ (e : WithArm). e.0) (λ (e : WithStep). e.0) (λ (e : WithPart). e.0) (λ (e : WithCore). e.0) (λ (e : WithQuery). e.0) (λ (e : WithSetStep). e.0) (λ (e : WithFromItem). e.0) (λ (e : WithFrom). e.0) (λ (e : WithJoin). e.0)
-
-  abbrev shown_part : Proved_part → ExprTreeFrame
-  shown_part y = map-ExprTree ExprBody SelectItem SetTree FromSource ArmTree ExprStep ExprTree Core QueryTree SetStep FromItem FromTree JoinStep
-      Body SelectPart BodyPart SourcePart ArmPart StepPart Part BodyPart QueryPart SetStepPart FromItemPart FromPart JoinPart
-      (body_of c) (item_of c) (set_of_tree c) (source_of c) (arm_of c) (step_of c) (part_of c) (core_of c) (query_of c) (set_step_of c) (from_item_of c) (from_of c) (join_of c) (first_part y)
-
-  abbrev Layer_core : Type 0
-  Layer_core = Core-F ExprBody SelectItem SetTree FromSource ArmTree ExprStep ExprTree Core QueryTree SetStep FromItem FromTree JoinStep
 
   abbrev Proved_core : Type 0
   Proved_core = Core-F WithBody WithItem WithSet WithSource WithArm WithStep WithPart WithCore WithQuery WithSetStep WithFromItem WithFrom WithJoin
@@ -265,14 +207,6 @@ module _ (c : Contents) (OfBody : Body → Type 0) (OfItem : SelectPart → Type
       ExprBody SelectItem SetTree FromSource ArmTree ExprStep ExprTree Core QueryTree SetStep FromItem FromTree JoinStep
       (λ (e : WithBody). e.0) (λ (e : WithItem). e.0) (λ (e : WithSet). e.0) (λ (e : WithSource). e.0) (λ (e : WithArm). e.0) (λ (e : WithStep). e.0) (λ (e : WithPart). e.0) (λ (e : WithCore). e.0) (λ (e : WithQuery). e.0) (λ (e : WithSetStep). e.0) (λ (e : WithFromItem). e.0) (λ (e : WithFrom). e.0) (λ (e : WithJoin). e.0)
 
-  abbrev shown_core : Proved_core → CoreFrame
-  shown_core y = map-Core ExprBody SelectItem SetTree FromSource ArmTree ExprStep ExprTree Core QueryTree SetStep FromItem FromTree JoinStep
-      Body SelectPart BodyPart SourcePart ArmPart StepPart Part BodyPart QueryPart SetStepPart FromItemPart FromPart JoinPart
-      (body_of c) (item_of c) (set_of_tree c) (source_of c) (arm_of c) (step_of c) (part_of c) (core_of c) (query_of c) (set_step_of c) (from_item_of c) (from_of c) (join_of c) (first_core y)
-
-  abbrev Layer_query : Type 0
-  Layer_query = QueryTree-F ExprBody SelectItem SetTree FromSource ArmTree ExprStep ExprTree Core QueryTree SetStep FromItem FromTree JoinStep
-
   abbrev Proved_query : Type 0
   Proved_query = QueryTree-F WithBody WithItem WithSet WithSource WithArm WithStep WithPart WithCore WithQuery WithSetStep WithFromItem WithFrom WithJoin
 
@@ -280,14 +214,6 @@ module _ (c : Contents) (OfBody : Body → Type 0) (OfItem : SelectPart → Type
   first_query = map-QueryTree WithBody WithItem WithSet WithSource WithArm WithStep WithPart WithCore WithQuery WithSetStep WithFromItem WithFrom WithJoin
       ExprBody SelectItem SetTree FromSource ArmTree ExprStep ExprTree Core QueryTree SetStep FromItem FromTree JoinStep
       (λ (e : WithBody). e.0) (λ (e : WithItem). e.0) (λ (e : WithSet). e.0) (λ (e : WithSource). e.0) (λ (e : WithArm). e.0) (λ (e : WithStep). e.0) (λ (e : WithPart). e.0) (λ (e : WithCore). e.0) (λ (e : WithQuery). e.0) (λ (e : WithSetStep). e.0) (λ (e : WithFromItem). e.0) (λ (e : WithFrom). e.0) (λ (e : WithJoin). e.0)
-
-  abbrev shown_query : Proved_query → QueryTreeFrame
-  shown_query y = map-QueryTree ExprBody SelectItem SetTree FromSource ArmTree ExprStep ExprTree Core QueryTree SetStep FromItem FromTree JoinStep
-      Body SelectPart BodyPart SourcePart ArmPart StepPart Part BodyPart QueryPart SetStepPart FromItemPart FromPart JoinPart
-      (body_of c) (item_of c) (set_of_tree c) (source_of c) (arm_of c) (step_of c) (part_of c) (core_of c) (query_of c) (set_step_of c) (from_item_of c) (from_of c) (join_of c) (first_query y)
-
-  abbrev Layer_set_step : Type 0
-  Layer_set_step = SetStep-F ExprBody SelectItem SetTree FromSource ArmTree ExprStep ExprTree Core QueryTree SetStep FromItem FromTree JoinStep
 
   abbrev Proved_set_step : Type 0
   Proved_set_step = SetStep-F WithBody WithItem WithSet WithSource WithArm WithStep WithPart WithCore WithQuery WithSetStep WithFromItem WithFrom WithJoin
@@ -297,14 +223,6 @@ module _ (c : Contents) (OfBody : Body → Type 0) (OfItem : SelectPart → Type
       ExprBody SelectItem SetTree FromSource ArmTree ExprStep ExprTree Core QueryTree SetStep FromItem FromTree JoinStep
       (λ (e : WithBody). e.0) (λ (e : WithItem). e.0) (λ (e : WithSet). e.0) (λ (e : WithSource). e.0) (λ (e : WithArm). e.0) (λ (e : WithStep). e.0) (λ (e : WithPart). e.0) (λ (e : WithCore). e.0) (λ (e : WithQuery). e.0) (λ (e : WithSetStep). e.0) (λ (e : WithFromItem). e.0) (λ (e : WithFrom). e.0) (λ (e : WithJoin). e.0)
 
-  abbrev shown_set_step : Proved_set_step → SetStepFrame
-  shown_set_step y = map-SetStep ExprBody SelectItem SetTree FromSource ArmTree ExprStep ExprTree Core QueryTree SetStep FromItem FromTree JoinStep
-      Body SelectPart BodyPart SourcePart ArmPart StepPart Part BodyPart QueryPart SetStepPart FromItemPart FromPart JoinPart
-      (body_of c) (item_of c) (set_of_tree c) (source_of c) (arm_of c) (step_of c) (part_of c) (core_of c) (query_of c) (set_step_of c) (from_item_of c) (from_of c) (join_of c) (first_set_step y)
-
-  abbrev Layer_from_item : Type 0
-  Layer_from_item = FromItem-F ExprBody SelectItem SetTree FromSource ArmTree ExprStep ExprTree Core QueryTree SetStep FromItem FromTree JoinStep
-
   abbrev Proved_from_item : Type 0
   Proved_from_item = FromItem-F WithBody WithItem WithSet WithSource WithArm WithStep WithPart WithCore WithQuery WithSetStep WithFromItem WithFrom WithJoin
 
@@ -312,14 +230,6 @@ module _ (c : Contents) (OfBody : Body → Type 0) (OfItem : SelectPart → Type
   first_from_item = map-FromItem WithBody WithItem WithSet WithSource WithArm WithStep WithPart WithCore WithQuery WithSetStep WithFromItem WithFrom WithJoin
       ExprBody SelectItem SetTree FromSource ArmTree ExprStep ExprTree Core QueryTree SetStep FromItem FromTree JoinStep
       (λ (e : WithBody). e.0) (λ (e : WithItem). e.0) (λ (e : WithSet). e.0) (λ (e : WithSource). e.0) (λ (e : WithArm). e.0) (λ (e : WithStep). e.0) (λ (e : WithPart). e.0) (λ (e : WithCore). e.0) (λ (e : WithQuery). e.0) (λ (e : WithSetStep). e.0) (λ (e : WithFromItem). e.0) (λ (e : WithFrom). e.0) (λ (e : WithJoin). e.0)
-
-  abbrev shown_from_item : Proved_from_item → FromItemFrame
-  shown_from_item y = map-FromItem ExprBody SelectItem SetTree FromSource ArmTree ExprStep ExprTree Core QueryTree SetStep FromItem FromTree JoinStep
-      Body SelectPart BodyPart SourcePart ArmPart StepPart Part BodyPart QueryPart SetStepPart FromItemPart FromPart JoinPart
-      (body_of c) (item_of c) (set_of_tree c) (source_of c) (arm_of c) (step_of c) (part_of c) (core_of c) (query_of c) (set_step_of c) (from_item_of c) (from_of c) (join_of c) (first_from_item y)
-
-  abbrev Layer_from : Type 0
-  Layer_from = FromTree-F ExprBody SelectItem SetTree FromSource ArmTree ExprStep ExprTree Core QueryTree SetStep FromItem FromTree JoinStep
 
   abbrev Proved_from : Type 0
   Proved_from = FromTree-F WithBody WithItem WithSet WithSource WithArm WithStep WithPart WithCore WithQuery WithSetStep WithFromItem WithFrom WithJoin
@@ -329,14 +239,6 @@ module _ (c : Contents) (OfBody : Body → Type 0) (OfItem : SelectPart → Type
       ExprBody SelectItem SetTree FromSource ArmTree ExprStep ExprTree Core QueryTree SetStep FromItem FromTree JoinStep
       (λ (e : WithBody). e.0) (λ (e : WithItem). e.0) (λ (e : WithSet). e.0) (λ (e : WithSource). e.0) (λ (e : WithArm). e.0) (λ (e : WithStep). e.0) (λ (e : WithPart). e.0) (λ (e : WithCore). e.0) (λ (e : WithQuery). e.0) (λ (e : WithSetStep). e.0) (λ (e : WithFromItem). e.0) (λ (e : WithFrom). e.0) (λ (e : WithJoin). e.0)
 
-  abbrev shown_from : Proved_from → FromTreeFrame
-  shown_from y = map-FromTree ExprBody SelectItem SetTree FromSource ArmTree ExprStep ExprTree Core QueryTree SetStep FromItem FromTree JoinStep
-      Body SelectPart BodyPart SourcePart ArmPart StepPart Part BodyPart QueryPart SetStepPart FromItemPart FromPart JoinPart
-      (body_of c) (item_of c) (set_of_tree c) (source_of c) (arm_of c) (step_of c) (part_of c) (core_of c) (query_of c) (set_step_of c) (from_item_of c) (from_of c) (join_of c) (first_from y)
-
-  abbrev Layer_join : Type 0
-  Layer_join = JoinStep-F ExprBody SelectItem SetTree FromSource ArmTree ExprStep ExprTree Core QueryTree SetStep FromItem FromTree JoinStep
-
   abbrev Proved_join : Type 0
   Proved_join = JoinStep-F WithBody WithItem WithSet WithSource WithArm WithStep WithPart WithCore WithQuery WithSetStep WithFromItem WithFrom WithJoin
 
@@ -345,12 +247,7 @@ module _ (c : Contents) (OfBody : Body → Type 0) (OfItem : SelectPart → Type
       ExprBody SelectItem SetTree FromSource ArmTree ExprStep ExprTree Core QueryTree SetStep FromItem FromTree JoinStep
       (λ (e : WithBody). e.0) (λ (e : WithItem). e.0) (λ (e : WithSet). e.0) (λ (e : WithSource). e.0) (λ (e : WithArm). e.0) (λ (e : WithStep). e.0) (λ (e : WithPart). e.0) (λ (e : WithCore). e.0) (λ (e : WithQuery). e.0) (λ (e : WithSetStep). e.0) (λ (e : WithFromItem). e.0) (λ (e : WithFrom). e.0) (λ (e : WithJoin). e.0)
 
-  abbrev shown_join : Proved_join → JoinStepFrame
-  shown_join y = map-JoinStep ExprBody SelectItem SetTree FromSource ArmTree ExprStep ExprTree Core QueryTree SetStep FromItem FromTree JoinStep
-      Body SelectPart BodyPart SourcePart ArmPart StepPart Part BodyPart QueryPart SetStepPart FromItemPart FromPart JoinPart
-      (body_of c) (item_of c) (set_of_tree c) (source_of c) (arm_of c) (step_of c) (part_of c) (core_of c) (query_of c) (set_step_of c) (from_item_of c) (from_of c) (join_of c) (first_join y)
-
-  parts_body : (y : Proved_body) → BodyParts (shown_body y)
+  parts_body : (y : Proved_body) → BodyParts (shown_body c (first_body y))
   parts_body ExprBody-F.Null = tt
   parts_body (ExprBody-F.NullOf kind) = tt
   parts_body (ExprBody-F.Integer number) = tt
@@ -380,29 +277,29 @@ module _ (c : Contents) (OfBody : Body → Type 0) (OfItem : SelectPart → Type
   parts_body (ExprBody-F.Exists query) = query.1
   parts_body (ExprBody-F.Scalar query) = query.1
 
-  parts_item : (y : Proved_item) → ItemParts (shown_item y)
+  parts_item : (y : Proved_item) → ItemParts (shown_item c (first_item y))
   parts_item (SelectItem-F.Star at) = tt
   parts_item (SelectItem-F.TableStar table) = tt
   parts_item (SelectItem-F.Value expr name) = expr.1
 
-  parts_set : (y : Proved_set) → SetParts (shown_set y)
+  parts_set : (y : Proved_set) → SetParts (shown_set c (first_set y))
   parts_set (SetTree-F.Core core) = core.1
   parts_set (SetTree-F.«SetTree::Paren» query) = query.1
   parts_set (SetTree-F.«SetTree::Chain» first steps) = (first.1, every-proved OfSetStep (set_step_of c) steps)
 
-  parts_source : (y : Proved_source) → SourceParts (shown_source y)
+  parts_source : (y : Proved_source) → SourceParts (shown_source c (first_source y))
   parts_source (FromSource-F.Named name) = tt
   parts_source (FromSource-F.Inner query) = query.1
 
-  condition_part : (y : Proved_core) (o : Option WithPart) → Optional (shown_core (record y { condition = o })).condition
+  condition_part : (y : Proved_core) (o : Option WithPart) → Optional (shown_core c (first_core (record y { condition = o }))).condition
   condition_part y None = tt
   condition_part y (Some e) = e.1
 
-  having_part : (y : Proved_core) (o : Option WithPart) → Optional (shown_core (record y { having = o })).having
+  having_part : (y : Proved_core) (o : Option WithPart) → Optional (shown_core c (first_core (record y { having = o }))).having
   having_part y None = tt
   having_part y (Some e) = e.1
 
-  parts_core : (y : Proved_core) → CoreParts (shown_core y)
+  parts_core : (y : Proved_core) → CoreParts (shown_core c (first_core y))
   parts_core y = record {
     items = every-proved OfItem (item_of c) y.items;
     sources = every-proved OfFrom (from_of c) y.sources;
@@ -410,7 +307,7 @@ module _ (c : Contents) (OfBody : Body → Type 0) (OfItem : SelectPart → Type
     having = having_part y y.having;
   }
 
-  on_part : (y : Proved_join) (o : Option WithPart) → Optional (shown_join (record y { condition = o })).condition
+  on_part : (y : Proved_join) (o : Option WithPart) → Optional (shown_join c (first_join (record y { condition = o }))).condition
   on_part y None = tt
   on_part y (Some e) = e.1
 
@@ -422,91 +319,91 @@ module _ (c : Contents) (OfBody : Body → Type 0) (OfItem : SelectPart → Type
     holds_body x y is = subst (λ z. OfBody (body_of c (roll-ExprBody z))) is (subst OfBody
         (sym (fold-roll-ExprBody Body SelectPart BodyPart SourcePart ArmPart StepPart Part BodyPart QueryPart SetStepPart FromItemPart FromPart JoinPart
         body_step item_step set_step source_step arm_step step_step expr_step core_step query_step set_step_step (from_item_step c) from_step join_step (first_body y)))
-        (kept.body (shown_body y) (parts_body y)))
+        (kept.body (shown_body c (first_body y)) (parts_body y)))
 
     holds_item : (x : Layer_item) (y : Proved_item) → first_item y ≡ x → OfItem (item_of c (roll-SelectItem x))
     unfolding body_of item_of set_of_tree source_of arm_of step_of part_of core_of query_of set_step_of from_item_of from_of join_of
     holds_item x y is = subst (λ z. OfItem (item_of c (roll-SelectItem z))) is (subst OfItem
         (sym (fold-roll-SelectItem Body SelectPart BodyPart SourcePart ArmPart StepPart Part BodyPart QueryPart SetStepPart FromItemPart FromPart JoinPart
         body_step item_step set_step source_step arm_step step_step expr_step core_step query_step set_step_step (from_item_step c) from_step join_step (first_item y)))
-        (kept.item (shown_item y) (parts_item y)))
+        (kept.item (shown_item c (first_item y)) (parts_item y)))
 
     holds_set : (x : Layer_set) (y : Proved_set) → first_set y ≡ x → OfSet (set_of_tree c (roll-SetTree x))
     unfolding body_of item_of set_of_tree source_of arm_of step_of part_of core_of query_of set_step_of from_item_of from_of join_of
     holds_set x y is = subst (λ z. OfSet (set_of_tree c (roll-SetTree z))) is (subst OfSet
         (sym (fold-roll-SetTree Body SelectPart BodyPart SourcePart ArmPart StepPart Part BodyPart QueryPart SetStepPart FromItemPart FromPart JoinPart
         body_step item_step set_step source_step arm_step step_step expr_step core_step query_step set_step_step (from_item_step c) from_step join_step (first_set y)))
-        (kept.set (shown_set y) (parts_set y)))
+        (kept.set (shown_set c (first_set y)) (parts_set y)))
 
     holds_source : (x : Layer_source) (y : Proved_source) → first_source y ≡ x → OfSource (source_of c (roll-FromSource x))
     unfolding body_of item_of set_of_tree source_of arm_of step_of part_of core_of query_of set_step_of from_item_of from_of join_of
     holds_source x y is = subst (λ z. OfSource (source_of c (roll-FromSource z))) is (subst OfSource
         (sym (fold-roll-FromSource Body SelectPart BodyPart SourcePart ArmPart StepPart Part BodyPart QueryPart SetStepPart FromItemPart FromPart JoinPart
         body_step item_step set_step source_step arm_step step_step expr_step core_step query_step set_step_step (from_item_step c) from_step join_step (first_source y)))
-        (kept.source (shown_source y) (parts_source y)))
+        (kept.source (shown_source c (first_source y)) (parts_source y)))
 
     holds_arm : (x : Layer_arm) (y : Proved_arm) → first_arm y ≡ x → OfArm (arm_of c (roll-ArmTree x))
     unfolding body_of item_of set_of_tree source_of arm_of step_of part_of core_of query_of set_step_of from_item_of from_of join_of
     holds_arm x y is = subst (λ z. OfArm (arm_of c (roll-ArmTree z))) is (subst OfArm
         (sym (fold-roll-ArmTree Body SelectPart BodyPart SourcePart ArmPart StepPart Part BodyPart QueryPart SetStepPart FromItemPart FromPart JoinPart
         body_step item_step set_step source_step arm_step step_step expr_step core_step query_step set_step_step (from_item_step c) from_step join_step (first_arm y)))
-        (kept.arm (shown_arm y) y.condition.1 y.value.1))
+        (kept.arm (shown_arm c (first_arm y)) y.condition.1 y.value.1))
 
     holds_step : (x : Layer_step) (y : Proved_step) → first_step y ≡ x → OfStep (step_of c (roll-ExprStep x))
     unfolding body_of item_of set_of_tree source_of arm_of step_of part_of core_of query_of set_step_of from_item_of from_of join_of
     holds_step x y is = subst (λ z. OfStep (step_of c (roll-ExprStep z))) is (subst OfStep
         (sym (fold-roll-ExprStep Body SelectPart BodyPart SourcePart ArmPart StepPart Part BodyPart QueryPart SetStepPart FromItemPart FromPart JoinPart
         body_step item_step set_step source_step arm_step step_step expr_step core_step query_step set_step_step (from_item_step c) from_step join_step (first_step y)))
-        (kept.step (shown_step y) y.part.1))
+        (kept.step (shown_step c (first_step y)) y.part.1))
 
     holds_part : (x : Layer_part) (y : Proved_part) → first_part y ≡ x → OfPart (part_of c (roll-ExprTree x))
     unfolding body_of item_of set_of_tree source_of arm_of step_of part_of core_of query_of set_step_of from_item_of from_of join_of
     holds_part x y is = subst (λ z. OfPart (part_of c (roll-ExprTree z))) is (subst OfPart
         (sym (fold-roll-ExprTree Body SelectPart BodyPart SourcePart ArmPart StepPart Part BodyPart QueryPart SetStepPart FromItemPart FromPart JoinPart
         body_step item_step set_step source_step arm_step step_step expr_step core_step query_step set_step_step (from_item_step c) from_step join_step (first_part y)))
-        (kept.part (shown_part y) y.body.1))
+        (kept.part (shown_part c (first_part y)) y.body.1))
 
     holds_core : (x : Layer_core) (y : Proved_core) → first_core y ≡ x → OfCore (core_of c (roll-Core x))
     unfolding body_of item_of set_of_tree source_of arm_of step_of part_of core_of query_of set_step_of from_item_of from_of join_of
     holds_core x y is = subst (λ z. OfCore (core_of c (roll-Core z))) is (subst OfCore
         (sym (fold-roll-Core Body SelectPart BodyPart SourcePart ArmPart StepPart Part BodyPart QueryPart SetStepPart FromItemPart FromPart JoinPart
         body_step item_step set_step source_step arm_step step_step expr_step core_step query_step set_step_step (from_item_step c) from_step join_step (first_core y)))
-        (kept.core (shown_core y) (parts_core y)))
+        (kept.core (shown_core c (first_core y)) (parts_core y)))
 
     holds_query : (x : Layer_query) (y : Proved_query) → first_query y ≡ x → OfQuery (query_of c (roll-QueryTree x))
     unfolding body_of item_of set_of_tree source_of arm_of step_of part_of core_of query_of set_step_of from_item_of from_of join_of
     holds_query x y is = subst (λ z. OfQuery (query_of c (roll-QueryTree z))) is (subst OfQuery
         (sym (fold-roll-QueryTree Body SelectPart BodyPart SourcePart ArmPart StepPart Part BodyPart QueryPart SetStepPart FromItemPart FromPart JoinPart
         body_step item_step set_step source_step arm_step step_step expr_step core_step query_step set_step_step (from_item_step c) from_step join_step (first_query y)))
-        (kept.query (shown_query y) y.body.1))
+        (kept.query (shown_query c (first_query y)) y.body.1))
 
     holds_set_step : (x : Layer_set_step) (y : Proved_set_step) → first_set_step y ≡ x → OfSetStep (set_step_of c (roll-SetStep x))
     unfolding body_of item_of set_of_tree source_of arm_of step_of part_of core_of query_of set_step_of from_item_of from_of join_of
     holds_set_step x y is = subst (λ z. OfSetStep (set_step_of c (roll-SetStep z))) is (subst OfSetStep
         (sym (fold-roll-SetStep Body SelectPart BodyPart SourcePart ArmPart StepPart Part BodyPart QueryPart SetStepPart FromItemPart FromPart JoinPart
         body_step item_step set_step source_step arm_step step_step expr_step core_step query_step set_step_step (from_item_step c) from_step join_step (first_set_step y)))
-        (kept.set_operand (shown_set_step y) y.operand.1))
+        (kept.set_operand (shown_set_step c (first_set_step y)) y.operand.1))
 
     holds_from_item : (x : Layer_from_item) (y : Proved_from_item) → first_from_item y ≡ x → OfFromItem (from_item_of c (roll-FromItem x))
     unfolding body_of item_of set_of_tree source_of arm_of step_of part_of core_of query_of set_step_of from_item_of from_of join_of
     holds_from_item x y is = subst (λ z. OfFromItem (from_item_of c (roll-FromItem z))) is (subst OfFromItem
         (sym (fold-roll-FromItem Body SelectPart BodyPart SourcePart ArmPart StepPart Part BodyPart QueryPart SetStepPart FromItemPart FromPart JoinPart
         body_step item_step set_step source_step arm_step step_step expr_step core_step query_step set_step_step (from_item_step c) from_step join_step (first_from_item y)))
-        (kept.from_item (shown_from_item y) y.source.1))
+        (kept.from_item (shown_from_item c (first_from_item y)) y.source.1))
 
     holds_from : (x : Layer_from) (y : Proved_from) → first_from y ≡ x → OfFrom (from_of c (roll-FromTree x))
     unfolding body_of item_of set_of_tree source_of arm_of step_of part_of core_of query_of set_step_of from_item_of from_of join_of
     holds_from x y is = subst (λ z. OfFrom (from_of c (roll-FromTree z))) is (subst OfFrom
         (sym (fold-roll-FromTree Body SelectPart BodyPart SourcePart ArmPart StepPart Part BodyPart QueryPart SetStepPart FromItemPart FromPart JoinPart
         body_step item_step set_step source_step arm_step step_step expr_step core_step query_step set_step_step (from_item_step c) from_step join_step (first_from y)))
-        (kept.from_tree (shown_from y) y.first.1 (every-proved OfJoin (join_of c) y.joins)))
+        (kept.from_tree (shown_from c (first_from y)) y.first.1 (every-proved OfJoin (join_of c) y.joins)))
 
     holds_join : (x : Layer_join) (y : Proved_join) → first_join y ≡ x → OfJoin (join_of c (roll-JoinStep x))
     unfolding body_of item_of set_of_tree source_of arm_of step_of part_of core_of query_of set_step_of from_item_of from_of join_of
     holds_join x y is = subst (λ z. OfJoin (join_of c (roll-JoinStep z))) is (subst OfJoin
         (sym (fold-roll-JoinStep Body SelectPart BodyPart SourcePart ArmPart StepPart Part BodyPart QueryPart SetStepPart FromItemPart FromPart JoinPart
         body_step item_step set_step source_step arm_step step_step expr_step core_step query_step set_step_step (from_item_step c) from_step join_step (first_join y)))
-        (kept.join (shown_join y) y.item.1 (on_part y y.condition)))
+        (kept.join (shown_join c (first_join y)) y.item.1 (on_part y y.condition)))
 
     pub kept-part : (tree : ExprTree) → OfPart (part_of c tree)
     kept-part = ind-ExprTree (λ (tree : ExprBody). OfBody (body_of c tree)) (λ (tree : SelectItem). OfItem (item_of c tree)) (λ (tree : SetTree). OfSet (set_of_tree c tree)) (λ (tree : FromSource). OfSource (source_of c tree)) (λ (tree : ArmTree). OfArm (arm_of c tree)) (λ (tree : ExprStep). OfStep (step_of c tree)) (λ (tree : ExprTree). OfPart (part_of c tree)) (λ (tree : Core). OfCore (core_of c tree)) (λ (tree : QueryTree). OfQuery (query_of c tree)) (λ (tree : SetStep). OfSetStep (set_step_of c tree)) (λ (tree : FromItem). OfFromItem (from_item_of c tree)) (λ (tree : FromTree). OfFrom (from_of c tree)) (λ (tree : JoinStep). OfJoin (join_of c tree))

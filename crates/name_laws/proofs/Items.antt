@@ -1,6 +1,6 @@
 -- The items of a SELECT list are made well formed in the rows of their core.
-use Rattle.std.specs.Prelude.{◌≡◌, ⊤, ℕ, Bool, true, false, cond, ◌||◌, List, [], ◌∷◌, ◌++◌, map, take, drop, is_none, Option, Some, None}
-use Rattle.std.proofs.Common.{refl, ap, sym, ◌∙◌, subst, true≢false}
+use Rattle.std.specs.Prelude.{◌≡◌, ℕ, Bool, true, false, List, [], ◌∷◌, ◌++◌, map, take, drop, Option, Some, None}
+use Rattle.std.proofs.Common.{refl, subst}
 use Rattle.std.proofs.lemmas.List.Elements.{All-nil, All-cons, All-append}
 use Rattle.std.specs.List.{list_any, AllByRecursion as Every}
 use Rattle.std.specs.Option.{option_map_or}
@@ -9,20 +9,20 @@ use Rattle.bag_algebra.specs.WellFormed.{HasKind, ItemsForm}
 use Rattle.bag_algebra.specs.declared.expr.Expr.TheVariants.{Col}
 use Rattle.bag_algebra.specs.declared.expr.Item.{Item}
 use Rattle.sql_tree.specs.declared.name.Name.{Name}
-use Rattle.name_meaning.specs.Items.{Made, SelectMeant, SelectPart, column_item, is_ungrouped, columns_meant, no_columns, star_meant, table_star_meant, first_wanted, value_meant, width_of_item, made_items, items_breaks}
-use Rattle.name_meaning.specs.Meanings.{Surroundings, Before, Meant, broken_if, settled}
+use Rattle.name_meaning.specs.Items.{Made, SelectMeant, SelectPart, column_item, columns_meant, no_columns, star_meant, table_star_meant, first_wanted, value_meant, width_of_item, made_items, items_breaks}
+use Rattle.name_meaning.specs.Meanings.{Surroundings, Before, Meant, settled}
 use Rattle.name_meaning.specs.Operands.{behind}
 use Rattle.name_meaning.specs.Scopes.{Placed, placed, item_columns, place_among}
 use Rattle.name_meaning.specs.Sublinks.{null_at}
 use Rattle.name_meaning.specs.declared.scope.Scope.{Scope}
 use Rattle.name_laws.specs.Formed.{IsFormed}
-use Rattle.name_laws.specs.Standing.{HoldsScope, RowsHold}
+use Rattle.name_laws.specs.Standing.{RowsHold}
 use Rattle.name_laws.proofs.Columns.{IsPlaced, all-placed, item-placed}
 use Rattle.name_laws.proofs.FormedParts.{formed-none, formed-map, formed-both}
-use Rattle.name_laws.proofs.ExpressionForms.{left-false, right-false}
-use Rattle.name_laws.proofs.GoodMeant.{GoodMeant, IsPlain, front-none, back-none}
+use Rattle.name_laws.proofs.GoodMeant.{GoodMeant, IsPlain}
 use Rattle.name_laws.proofs.Arms.{null-holds}
-use Rattle.name_laws.proofs.Sublinks.{settled-twice}
+use Rattle.name_laws.proofs.Every.{front-none, back-none, left-false, right-false}
+use Rattle.name_laws.proofs.Settled.{settled-twice}
 
 abbrev pub IsFormedList : Surroundings → Before → Made → Type 0
 IsFormedList here before made =

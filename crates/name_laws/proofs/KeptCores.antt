@@ -22,7 +22,7 @@ use Rattle.name_meaning.specs.declared.trace.Trace.{Trace}
 use Rattle.name_laws.specs.Facts.{Facts, facts_of, both_facts, sub_facts}
 use Rattle.name_laws.specs.Known.{item_kinds}
 use Rattle.name_laws.proofs.Every.{Every, every-append, every-map, back-none}
-use Rattle.name_laws.proofs.FactsOf.{facts-Filter, facts-Project, facts-Aggregate, facts-Distinct}
+use Rattle.name_laws.proofs.FactsOf.{facts-Filter, facts-Project, facts-aggregated, facts-distinct_if}
 use Rattle.name_laws.proofs.Kept.{GoodQuery}
 use Rattle.name_laws.proofs.KeptItems.{ListIsKnown, GoodSelect, GoodItem, known-list, steady-list, named-list}
 use Rattle.name_laws.proofs.NamedPlaces.{IsNamed, AreNamed}
@@ -64,14 +64,6 @@ filter_facts facts (Some m) = both_facts facts (sub_facts (optional_built (Some 
 facts-filtered : (input : Query) (condition : Option Meant) → facts_of (filtered input condition) ≡ filter_facts (facts_of input) condition
 facts-filtered input None = refl
 facts-filtered input (Some m) = facts-Filter input (optional_built (Some m)).expr (optional_built (Some m)).subs
-
-facts-aggregated : (input : Query) (groups : Option (List ℕ)) (aggregates : List Aggr) → facts_of (aggregated_input input groups aggregates) ≡ facts_of input
-facts-aggregated input None aggregates = refl
-facts-aggregated input (Some groups) aggregates = facts-Aggregate input groups aggregates
-
-facts-distinct_if : (is_distinct : Bool) (query : Query) → facts_of (distinct_if is_distinct query) ≡ facts_of query
-facts-distinct_if true query = facts-Distinct query
-facts-distinct_if false query = refl
 
 -- those of FROM, WHERE, HAVING and the list, in this order
 abbrev pub core_facts : Facts → Option Meant → Option Meant → Facts → Facts

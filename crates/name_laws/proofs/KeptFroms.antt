@@ -1,13 +1,12 @@
 -- What FROM keeps: where it breaks nothing its columns are known, and its places are named.
 use Rattle.std.specs.Prelude.{◌≡◌, ⊤, ℕ, true, List, [], ◌∷◌, ◌++◌, map, length, Option, Some, None, option_map}
-use Rattle.std.proofs.Common.{refl, ap, sym, ◌∙◌, subst, append_assoc}
+use Rattle.std.proofs.Common.{refl, ap, sym, ◌∙◌, subst, append-nil}
 use Rattle.std.proofs.lemmas.List.{length-map}
 use Rattle.std.proofs.lemmas.List.FromFn.{length-range_with_len}
 use Rattle.std.specs.List.{list_any}
 use Rattle.std.specs.Option.{option_map_or}
-use Rattle.perm_values.specs.declared.kind.Kind.{Kind}
 use Rattle.perm_values.specs.declared.kind.Kind.TheVariants as kind
-use Rattle.bag_algebra.specs.Built.{kinds_of-Base, kinds_of-Join, shape-Base}
+use Rattle.bag_algebra.specs.Built.{kinds_of-Join, shape-Base}
 use Rattle.bag_algebra.specs.Kinds.{kinds_of, shape}
 use Rattle.bag_algebra.specs.WellFormed.{label_width}
 use Rattle.bag_algebra.specs.declared.query.JoinKind.TheVariants as join
@@ -27,21 +26,21 @@ use Rattle.sql_tree.specs.declared.name.Name.{Name}
 use Rattle.sql_tree.specs.declared.source.JoinWord.{JoinWord}
 use Rattle.sql_tree.specs.declared.source.ScopeMark.{ScopeMark}
 use Rattle.sql_tree.specs.declared.source.ScopeMark.TheVariants as mark
-use Rattle.name_meaning.specs.Cores.{settle}
 use Rattle.name_meaning.specs.Froms.{names_of, names_at, all_places, table_columns, settled_columns, named_columns, Read, external, read_table, read_view, read_nothing, read_named, read_query, named_so, place_of, texts_of, marked, mark_breaks, trace_under, SourcePart, named as named_source, inner as inner_source, ItemMeant, FromItemPart, read_of, read_names, scope_break, item_meant, FromMeant, JoinPart, FromPart, join_kind, scope_items, both_known, first_item, on_meant, on_breaks, on_made, joined, join_item, join_all, beside_from, from_more, from_all, yes}
-use Rattle.name_meaning.specs.Meanings.{Around, Meant, Part, OutColumn, QueryMeant, broken_if, settled}
+use Rattle.name_meaning.specs.Meanings.{Around, Meant, Part, OutColumn, QueryMeant, broken_if}
 use Rattle.name_meaning.specs.Scopes.{KnownColumn, ScopeItem}
 use Rattle.name_meaning.specs.declared.answer.Break.{Break}
 use Rattle.name_meaning.specs.declared.scope.Scope.{Scope}
 use Rattle.name_meaning.specs.declared.trace.Trace.{Trace}
 use Rattle.name_laws.specs.Facts.{Facts}
-use Rattle.name_laws.specs.Known.{ReadIsKnown, ItemIsKnown, FromIsKnown, column_kinds_of, items_kinds}
+use Rattle.name_laws.specs.Known.{ReadIsKnown, ItemIsKnown, FromIsKnown, column_kinds_of}
 use Rattle.name_laws.proofs.Every.{Every, every-append, front-none, back-none}
 use Rattle.name_laws.proofs.FactsOf.{facts-Join_alone}
 use Rattle.name_laws.proofs.Kept.{GoodQuery}
 use Rattle.name_laws.proofs.NamedPlaces.{IsNamed, AreNamed, named-base, named-formed}
 use Rattle.name_laws.proofs.Settled.{kinds-named_columns}
 use Rattle.name_meaning.specs.declared.rule.Rule.TheVariants as rule
+use Rattle.name_laws.proofs.KindsOf.{kinds-table_columns, kinds-settled_columns, items_kinds-append, kinds-plain, table_with, kinds-table, kinds-marked}
 
 -- ---- sources
 
@@ -56,43 +55,19 @@ named-all : {X : Type 0} (query : Query) (name : List ℕ) (names : List (List �
 named-all query name names columns e =
     named-Base query (all_places columns) (Relation name names) (e ∙ sym (length-range_with_len 0 (length columns)))
 
-kinds-table_columns : (columns : List Column) → column_kinds columns ≡ column_kinds_of (table_columns columns)
-kinds-table_columns [] = refl
-kinds-table_columns (c ∷ columns) = ap (λ (kinds : List Kind). c.kind ∷ kinds) (kinds-table_columns columns)
-
-pub kinds-settled_columns : (columns : List OutColumn) → settle columns [] ≡ column_kinds_of (settled_columns columns)
-kinds-settled_columns [] = refl
-kinds-settled_columns (c ∷ columns) = ap (λ (kinds : List Kind). settled c.kind kind.Text ∷ kinds) (kinds-settled_columns columns)
-
 -- the names of a subquery's columns
 abbrev pub out_names : QueryMeant → List (List ℕ)
 out_names m = option_map_or (λ (columns : List OutColumn). names_of (settled_columns columns)) m.columns []
 
-kinds-plain : (query : Query) (names : List (List ℕ)) (places : Option (List ℕ)) → kinds_of (option_map_or (external query names) places query) ≡ kinds_of query
-kinds-plain query names None = refl
-kinds-plain query names (Some places) = kinds_of-Base query places (External (names_at names places))
-
 named-plain : (query : Query) (names : List (List ℕ)) (places : Option (List ℕ)) → AreNamed (shape query) → AreNamed (shape (option_map_or (external query names) places query))
 named-plain query names None h = h
 named-plain query names (Some places) h = named-external query names places
-
--- a table with the provenance that it stores, if any
-abbrev table_with : ℕ → List ℕ → List Column → Option Mark → Query
-table_with id name columns stored = option_map_or
-    (λ (m : Mark). external (Table id (column_kinds columns)) (names_of (table_columns columns)) m.places) stored
-    (Base (Table id (column_kinds columns)) (all_places columns) (Relation name (names_of (table_columns columns))))
 
 named-table_plain : (id : ℕ) (name : List ℕ) (columns : List Column) (stored : Option Mark) → AreNamed (shape (table_with id name columns stored))
 named-table_plain id name columns None =
     named-all (Table id (column_kinds columns)) name (names_of (table_columns columns)) columns
     (length-map (table_columns columns) _ ∙ length-map columns _)
 named-table_plain id name columns (Some m) = named-external (Table id (column_kinds columns)) (names_of (table_columns columns)) m.places
-
-kinds-table_plain : (id : ℕ) (name : List ℕ) (columns : List Column) (stored : Option Mark) → kinds_of (table_with id name columns stored) ≡ column_kinds columns
-kinds-table_plain id name columns None =
-    kinds_of-Base (Table id (column_kinds columns)) (all_places columns) (Relation name (names_of (table_columns columns)))
-kinds-table_plain id name columns (Some m) =
-    kinds_of-Base (Table id (column_kinds columns)) m.places (External (names_at (names_of (table_columns columns)) m.places))
 
 -- ---- what an item reads
 
@@ -107,7 +82,7 @@ module _ (c : Contents) where
       columns = table_columns table.columns;
       known = refl;
       kinds = kinds-table_columns table.columns;
-      plain = kinds-table_plain table.id name table.columns table.stored ∙ kinds-table_columns table.columns;
+      plain = kinds-table table.id name table.columns table.stored ∙ kinds-table_columns table.columns;
     };
     named = λ sound. named-table_plain table.id name table.columns table.stored;
   }
@@ -172,13 +147,6 @@ module _ (c : Contents) where
   abbrev pub GoodFromItem : FromItemPart → Type 0
   GoodFromItem item = (outer : List Scope) (trace : Trace) (earlier : List (List ℕ)) → GoodItem (item.means outer trace earlier)
 
-  kinds-marked : (m : ScopeMark) (label : List ℕ) (names : List (List ℕ)) (read : Read) (kinds : List Kind)
-      → kinds_of read.query ≡ kinds → kinds_of read.plain ≡ kinds → kinds_of (marked m label names read) ≡ kinds
-  kinds-marked mark.Plain label names read kinds e f = f
-  kinds-marked mark.BaseRelation label names read kinds e f = kinds_of-Base read.query (all_places names) (Relation label names) ∙ e
-  kinds-marked (mark.External attributes) label names read kinds e f =
-      kinds_of-Base read.query (map (place_of names) (texts_of attributes)) (External (texts_of attributes)) ∙ e
-
   named-marked : (m : ScopeMark) (label : List ℕ) (names : List (List ℕ)) (read : Read) → AreNamed (shape read.plain) → AreNamed (shape (marked m label names read))
   named-marked mark.Plain label names read h = h
   named-marked mark.BaseRelation label names read h = named-all read.query label names names refl
@@ -211,16 +179,6 @@ module _ (c : Contents) where
   abbrev pub GoodJoin : JoinPart → Type 0
   GoodJoin step = GoodFromItem step.item
 
-  append-nothing : (kinds : List Kind) → kinds ≡ kinds ++ []
-  append-nothing [] = refl
-  append-nothing (k ∷ ks) = ap (λ (kinds : List Kind). k ∷ kinds) (append-nothing ks)
-
-  items_kinds-append : (xs ys : List ScopeItem) → items_kinds (xs ++ ys) ≡ items_kinds xs ++ items_kinds ys
-  items_kinds-append [] ys = refl
-  items_kinds-append (x ∷ xs) ys =
-      ap (λ (kinds : List Kind). column_kinds_of x.columns ++ kinds) (items_kinds-append xs ys)
-      ∙ sym (append_assoc (column_kinds_of x.columns) (items_kinds xs) (items_kinds ys))
-
   pub good-first : (earlier : List (List ℕ)) (m : ItemMeant) → GoodItem m → GoodFrom (first_item earlier m)
   good-first earlier m good = record {
     known = λ sound whole.
@@ -228,7 +186,7 @@ module _ (c : Contents) where
         record {
           items = record { name = m.name; columns = item.columns } ∷ [];
           known = ap (option_map (λ (columns : List KnownColumn). record { name = m.name; columns = columns } ∷ [])) item.known;
-          kinds = item.kinds ∙ append-nothing (column_kinds_of item.columns);
+          kinds = item.kinds ∙ sym (append-nil (column_kinds_of item.columns));
         };
     named = good.named;
   }
@@ -249,7 +207,7 @@ module _ (c : Contents) where
           known = known-both left.items (scope_items m) from.items own from.known
               (ap (option_map (λ (columns : List KnownColumn). record { name = m.name; columns = columns } ∷ [])) item.known);
           kinds = kinds_of-Join (join_kind word) left.query m.query (on_made on) []
-              ∙ (λ i. from.kinds i ++ (item.kinds ∙ append-nothing (column_kinds_of item.columns)) i)
+              ∙ (λ i. from.kinds i ++ (item.kinds ∙ sym (append-nil (column_kinds_of item.columns))) i)
               ∙ sym (items_kinds-append from.items own);
         };
     named = λ sound. subst (λ (facts : Facts). AreNamed facts.places) (sym (facts-Join_alone (join_kind word) left.query m.query (on_made on)))

@@ -1,5 +1,5 @@
 -- What a SELECT list keeps: the kinds of its columns, and the facts of its sublinks.
-use Rattle.std.specs.Prelude.{◌≡◌, ℕ, Bool, true, false, cond, List, [], ◌∷◌, ◌++◌, map, length, take, drop, Option, Some, None, option_map}
+use Rattle.std.specs.Prelude.{◌≡◌, ℕ, Bool, true, false, List, [], ◌∷◌, ◌++◌, map, length, take, drop, Option, Some, None}
 use Rattle.std.proofs.Common.{refl, ap, sym, ◌∙◌}
 use Rattle.std.specs.Option.{option_map_or}
 use Rattle.std.proofs.lemmas.List.{map-append}
@@ -8,18 +8,18 @@ use Rattle.perm_values.specs.declared.kind.Kind.TheVariants as kind
 use Rattle.bag_algebra.specs.declared.expr.Item.{Item}
 use Rattle.sql_tree.specs.declared.name.Name.{Name}
 use Rattle.name_meaning.specs.Items.{Titled, Made, SelectMeant, SelectPart, titled, column_item, columns_meant, no_columns, star_meant, table_star_meant, first_wanted, value_meant, all_known, width_of_item, made_items, items_breaks}
-use Rattle.name_meaning.specs.Meanings.{Surroundings, Before, Meant, is_whole, seen_kind, settled}
+use Rattle.name_meaning.specs.Meanings.{Surroundings, Before, Meant, seen_kind, settled}
 use Rattle.name_meaning.specs.Operands.{behind}
 use Rattle.name_meaning.specs.Scopes.{Placed, placed, item_columns}
-use Rattle.name_meaning.specs.declared.answer.Break.{Break}
 use Rattle.name_meaning.specs.declared.scope.Scope.{Scope}
 use Rattle.name_laws.specs.Facts.{both_facts, sub_facts}
 use Rattle.name_laws.specs.Known.{item_kinds}
-use Rattle.name_laws.proofs.Every.{Every, front-none, back-none}
+use Rattle.name_laws.proofs.Every.{Every, front-none, back-none, whole-kind}
 use Rattle.name_laws.proofs.FactsOf.{sub_facts-append}
 use Rattle.name_laws.proofs.NamedPlaces.{AreNamed}
 use Rattle.name_laws.proofs.Settled.{settle_titles, settle_titles-append}
 use Rattle.name_laws.proofs.SteadyMeant.{GoodMeant, named-both}
+use Rattle.name_laws.proofs.KindsOf.{with_known}
 
 -- the columns are known, and what is made has their kinds
 pub record SelectIsKnown (m : SelectMeant) : Type 0 where
@@ -38,9 +38,6 @@ kinds-columns scope [] w = refl
 kinds-columns scope (c ∷ columns) [] = ap (λ (kinds : List Kind). c.1.kind ∷ kinds) (kinds-columns scope columns [])
 kinds-columns scope (c ∷ columns) (k ∷ ks) = ap (λ (kinds : List Kind). c.1.kind ∷ kinds) (kinds-columns scope columns ks)
 
-whole-kind : (m : Meant) → m.breaks ≡ [] → seen_kind m ≡ m.kind
-whole-kind m e = ap (λ (breaks : List Break). cond (is_whole breaks) m.kind None) e
-
 kinds-value : (name : Option (List ℕ)) (own found : Option Kind) (w : List Kind) → found ≡ own
     → settled own (first_wanted w) ∷ [] ≡ settle_titles (record { name = name; kind = found } ∷ []) w
 kinds-value name own found [] e = ap (λ (k : Option Kind). settled k kind.Text ∷ []) (sym e)
@@ -57,13 +54,6 @@ joined-kinds m ms item list w n =
     ∙ ap (λ (size : ℕ). settle_titles item.titles (take size w) ++ settle_titles list.titles (drop size w))
     (ap (λ (columns : Option (List Titled)). option_map_or length columns 0) item.are)
     ∙ sym (settle_titles-append item.titles list.titles w)
-
--- the columns of an item before those of the items behind it
-abbrev with_known : Option (List Titled) → Option (List Titled) → Option (List Titled)
-with_known columns rest = elim columns [
-  | None ↦ None
-  | Some known ↦ option_map (λ more. known ++ more) rest
-]
 
 joined-known : (m : SelectMeant) (ms : List SelectMeant) (item : SelectIsKnown m) (list : ListIsKnown ms) → all_known (m ∷ ms) ≡ Some (item.titles ++ list.titles)
 joined-known m ms item list =

@@ -1,44 +1,30 @@
 -- What set operations, ORDER BY, LIMIT and PROVENANCE keep.
-use Rattle.std.specs.Prelude.{◌≡◌, ℕ, ℤ, Bool, true, false, cond, List, [], ◌∷◌, ◌++◌, map, Option, Some, None, option_map, nat_abs}
-use Rattle.std.proofs.Common.{refl, ap, sym, ◌∙◌, subst}
+use Rattle.std.specs.Prelude.{◌≡◌, ℕ, ℤ, Bool, true, false, cond, List, [], ◌∷◌, ◌++◌, map, Option, Some}
+use Rattle.std.proofs.Common.{ap, sym, ◌∙◌, subst}
 use Rattle.perm_values.specs.declared.key.Key.{Key}
 use Rattle.perm_values.specs.declared.kind.Kind.{Kind}
-use Rattle.bag_algebra.specs.Built.{kinds_of-Union, kinds_of-Intersect, kinds_of-Except, kinds_of-Limit, kinds_of-Prov}
+use Rattle.bag_algebra.specs.Built.{kinds_of-Prov}
 use Rattle.bag_algebra.specs.Kinds.{kinds_of, shape, place_kinds}
 use Rattle.bag_algebra.specs.PlaceNames.{place_names}
 use Rattle.bag_algebra.specs.declared.place.Place.{Place}
 use Rattle.bag_algebra.specs.declared.query.Query.{Query}
 use Rattle.sql_tree.specs.declared.query.OrderTree.{OrderTree}
-use Rattle.sql_tree.specs.declared.query.SetWord.{SetWord}
 use Rattle.sql_tree.specs.declared.query.SetWord.TheVariants as word
 use Rattle.name_meaning.specs.Cores.{BodyPart, settle, settle_known}
 use Rattle.name_meaning.specs.Froms.{named_columns}
-use Rattle.name_meaning.specs.Meanings.{Around, OutColumn, QueryMeant, is_whole}
-use Rattle.name_meaning.specs.Queries.{SetStepPart, set_of, united_columns, columns_so_far, operand_breaks, set_joined, unprovable, set_chain, keys_of, keys_breaks, limited, out_column, provenance_columns, plain_query, proved_columns, proved_query, is_proving, query_seen}
-use Rattle.name_meaning.specs.declared.answer.Break.{Break}
+use Rattle.name_meaning.specs.Meanings.{Around, OutColumn, QueryMeant}
+use Rattle.name_meaning.specs.Queries.{SetStepPart, united_columns, columns_so_far, operand_breaks, set_joined, unprovable, set_chain, keys_of, keys_breaks, limited, out_column, provenance_columns, plain_query, proved_query, is_proving, query_seen}
 use Rattle.name_meaning.specs.declared.trace.Trace.TheVariants.{InProvenance as in_provenance}
 use Rattle.name_laws.specs.Facts.{Facts, facts_of, both_facts, proved_facts}
 use Rattle.name_laws.specs.Known.{HasItsKinds}
 use Rattle.name_laws.proofs.Every.{Every, every-append, front-none, back-none}
-use Rattle.name_laws.proofs.FactsOf.{facts-Union, facts-Intersect, facts-Except, facts-Limit, facts-Prov}
+use Rattle.name_laws.proofs.FactsOf.{facts-Prov, facts-set, facts-limited}
 use Rattle.name_laws.proofs.Kept.{GoodQuery}
 use Rattle.name_laws.proofs.NamedPlaces.{IsNamed, AreNamed, length-place_names}
 use Rattle.name_laws.proofs.Settled.{settle-united, settle-known, kinds-named_columns}
+use Rattle.name_laws.proofs.KindsOf.{kinds-set, kinds-limited, columns-joined, known-proved}
 
 -- ---- set operations
-
-kinds-set : (op : SetWord) (all : Bool) (left right : Query) → kinds_of (set_of op all left right) ≡ kinds_of left
-kinds-set word.Union all left right = kinds_of-Union all left right
-kinds-set word.Except all left right = kinds_of-Except all left right
-kinds-set word.Intersect all left right = kinds_of-Intersect all left right
-
-pub facts-set : (op : SetWord) (all : Bool) (left right : Query) → facts_of (set_of op all left right) ≡ both_facts (facts_of left) (facts_of right)
-facts-set word.Union all left right = facts-Union all left right
-facts-set word.Except all left right = facts-Except all left right
-facts-set word.Intersect all left right = facts-Intersect all left right
-
-columns-joined : (l r : Option (List OutColumn)) (left right : List OutColumn) → l ≡ Some left → r ≡ Some right → columns_so_far l r ≡ Some (united_columns left right)
-columns-joined l r left right e f = λ i. columns_so_far (e i) (f i)
 
 kinds-joined : (left right : QueryMeant) (step : SetStepPart) (ls rs : List OutColumn)
     → columns_so_far left.columns right.columns ≡ Some (united_columns ls rs)
@@ -52,14 +38,6 @@ kinds-joined left right step ls rs known kinds wanted =
     ∙ settle-united ls rs wanted
 
 -- ---- ORDER BY and LIMIT
-
-kinds-limited : (limit : Option ℤ) (keys : List Key) (query : Query) → kinds_of (limited limit keys query) ≡ kinds_of query
-kinds-limited None keys query = refl
-kinds-limited (Some n) keys query = kinds_of-Limit query keys (nat_abs n)
-
-pub facts-limited : (limit : Option ℤ) (keys : List Key) (query : Query) → facts_of (limited limit keys query) ≡ facts_of query
-facts-limited None keys query = refl
-facts-limited (Some n) keys query = facts-Limit query keys (nat_abs n)
 
 module _ (Sound : Type 0) where
   known-joined : (left right : QueryMeant) (step : SetStepPart) → HasItsKinds left → HasItsKinds right → HasItsKinds (set_joined left step right)
@@ -110,12 +88,6 @@ module _ (Sound : Type 0) where
       }
 
   -- ---- PROVENANCE
-
-  known-proved : (body : QueryMeant) (query : Query) (columns : List OutColumn) → body.breaks ≡ [] → body.columns ≡ Some columns
-      → proved_columns body query ≡ Some (columns ++ provenance_columns query)
-  known-proved body query columns whole known =
-      ap (λ (breaks : List Break). cond (is_whole breaks) (option_map (λ (own : List OutColumn). own ++ provenance_columns query) body.columns) body.columns) whole
-      ∙ ap (option_map (λ (own : List OutColumn). own ++ provenance_columns query)) known
 
   -- the columns of the places, whose kinds are known
   kinds-proved : (columns : List OutColumn) (places : List Place) (wanted : List Kind) → AreNamed places

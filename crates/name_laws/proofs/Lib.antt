@@ -22,7 +22,6 @@ mod KeptQueries
 mod KeptTrees
 mod NamedPlaces
 mod Needs
-mod Opened
 mod Queries
 mod ReadCores
 mod ReadFroms
@@ -42,6 +41,7 @@ pub mod Every
 pub mod FactsOf
 pub mod FittingTables
 pub mod Induction
+pub mod KindsOf
 pub mod Named
 pub mod TreeLaws
 pub mod Trees

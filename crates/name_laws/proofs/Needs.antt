@@ -9,6 +9,7 @@ use Rattle.name_meaning.specs.Meanings.{is_same_kind, unites, united_kind, settl
 use Rattle.name_meaning.specs.Operands.{Operand, seen_of, unfit_from, first_unfit, united_from, united, wanted_of}
 use Rattle.name_meaning.specs.declared.need.Need.{Need}
 use Rattle.name_meaning.specs.declared.need.Need.TheVariants.{OfKind as of_kind, Alike as alike, Free as free}
+use Rattle.name_meaning.proofs.Uniting.{united-assoc}
 
 pub same_kind : (k l : Kind) → is_same_kind k l ≡ true → k ≡ l
 same_kind Integer Integer e = refl
@@ -32,10 +33,6 @@ settled-alike None None rest wanted e = refl
 settled-alike None (Some k) rest wanted e = refl
 settled-alike (Some l) None rest wanted e = refl
 settled-alike (Some l) (Some k) rest wanted e = sym (same_kind l k e)
-
-united-assoc : (a b c : Option Kind) → united_kind (united_kind a b) c ≡ united_kind a (united_kind b c)
-united-assoc None b c = refl
-united-assoc (Some k) b c = refl
 
 -- an operand of the kind `found` takes what its need wants of it, where those that are to be alike take this kind
 abbrev pub takes : Kind → Need → Option Kind → Type 0

@@ -1,14 +1,13 @@
 -- Set operations, ORDER BY, LIMIT and PROVENANCE over what is made well formed.
-use Rattle.std.specs.Prelude.{◌≡◌, ⊤, ℕ, zero, suc, pred, ◌+◌, ◌<◌, ◌≤◌, ℤ, pos, negsuc, nat_abs, Bool, true, false, cond, not, ◌&&◌, nat_eq, nat_lt, nat_le, List, [], ◌∷◌, ◌++◌, map, flat_map, length, position, Option, Some, None, option_map, IfSome}
+use Rattle.std.specs.Prelude.{◌≡◌, ℕ, zero, suc, pred, ◌+◌, ◌<◌, ◌≤◌, ℤ, pos, negsuc, nat_abs, Bool, true, false, cond, not, nat_eq, nat_lt, nat_le, List, [], ◌∷◌, ◌++◌, map, flat_map, length, Option, Some, None, IfSome}
 use Rattle.std.proofs.Common.{refl, ap, sym, ◌∙◌, subst, true≢false, arith, ltb-true, leb-true, eqb-true}
 use Rattle.std.proofs.lemmas.List.{length-append}
 use Rattle.std.proofs.lemmas.List.Elements.{All-nil, All-cons}
-use Rattle.std.specs.List.{count_by, range_with_len, AllByRecursion as Every}
-use Rattle.std.specs.Option.{option_map_or}
+use Rattle.std.specs.List.{count_by, AllByRecursion as Every}
 use Rattle.perm_values.specs.declared.key.Key.{Key}
 use Rattle.perm_values.specs.declared.kind.Kind.{Kind}
 use Rattle.perm_values.specs.declared.kind.Kind.TheVariants.{Text}
-use Rattle.bag_algebra.specs.Built.{kinds_of-Union, kinds_of-Intersect, kinds_of-Except, kinds_of-Limit, kinds_of-Prov}
+use Rattle.bag_algebra.specs.Built.{kinds_of-Prov}
 use Rattle.bag_algebra.specs.BuiltForms.{WellFormed-Union, WellFormed-Intersect, WellFormed-Except, WellFormed-Limit, WellFormed-Prov}
 use Rattle.bag_algebra.specs.Kinds.{kinds_of, width_of, shape, place_kinds}
 use Rattle.bag_algebra.specs.WellFormed.{WellFormed, PlacesIn, KeysIn}
@@ -21,19 +20,19 @@ use Rattle.sql_tree.specs.declared.query.OrderTree.{OrderTree}
 use Rattle.sql_tree.specs.declared.query.SetWord.{SetWord}
 use Rattle.sql_tree.specs.declared.query.SetWord.TheVariants as word
 use Rattle.name_meaning.specs.Cores.{BodyPart, settle, settle_known}
-use Rattle.name_meaning.specs.Meanings.{Around, OutColumn, QueryMeant, broken, broken_if, unites, united_kind, settled}
-use Rattle.name_meaning.specs.Queries.{SetStepPart, set_of, united_columns, do_unite, operand_break, operand_breaks, columns_so_far, set_joined, unprovable, set_chain, is_named, is_position, key_break, key_place, key_of, keys_of, keys_breaks, limited, provenance_places, count_columns, plain_query, proved_query, is_proving, query_seen}
+use Rattle.name_meaning.specs.Meanings.{Around, OutColumn, QueryMeant, broken, broken_if, unites}
+use Rattle.name_meaning.specs.Queries.{SetStepPart, set_of, united_columns, do_unite, operand_break, operand_breaks, columns_so_far, set_joined, unprovable, set_chain, is_named, is_position, key_break, key_place, key_of, keys_of, keys_breaks, limited, count_columns, plain_query, proved_query, is_proving, query_seen}
 use Rattle.name_meaning.specs.declared.answer.Break.{Break}
 use Rattle.name_meaning.specs.declared.trace.Trace.TheVariants.{InProvenance as in_provenance}
 use Rattle.name_laws.specs.Known.{HasItsKinds}
 use Rattle.name_laws.specs.Standing.{RowsHold}
-use Rattle.name_laws.proofs.Aggregates.{unbroken}
 use Rattle.name_laws.proofs.Cores.{by}
-use Rattle.name_laws.proofs.Froms.{range-in, position-in, unbroken-not}
-use Rattle.name_laws.proofs.GoodMeant.{front-none, back-none}
-use Rattle.name_laws.proofs.Needs.{same_kind}
-use Rattle.name_laws.proofs.Sublinks.{GoodQuery, settled-twice}
+use Rattle.name_laws.proofs.Froms.{range-in, position-in}
 use Rattle.name_meaning.specs.declared.rule.Rule.TheVariants as rule
+use Rattle.name_laws.proofs.Every.{front-none, back-none, unbroken, unbroken-not}
+use Rattle.name_laws.proofs.KindsOf.{kinds-set, kinds-limited}
+use Rattle.name_laws.proofs.Settled.{both-same, settle-united, settled-second}
+use Rattle.bag_algebra.proofs.Truths.{left-true, right-true}
 
 pub record GoodBodyMeant (around : Around) (m : QueryMeant) : Type 0 where
   pub known : m.breaks ≡ [] → HasItsKinds m
@@ -44,49 +43,11 @@ GoodBody body = (around : Around) → GoodBodyMeant around (body.means around)
 
 -- ---- set operations
 
-kinds-set : (op : SetWord) (all : Bool) (left right : Query) → kinds_of (set_of op all left right) ≡ kinds_of left
-kinds-set word.Union all left right = kinds_of-Union all left right
-kinds-set word.Except all left right = kinds_of-Except all left right
-kinds-set word.Intersect all left right = kinds_of-Intersect all left right
-
 formed-set : (rows : List (List Kind)) (op : SetWord) (all : Bool) (left right : Query) → WellFormed rows left → WellFormed rows right → kinds_of left ≡ kinds_of right
     → WellFormed rows (set_of op all left right)
 formed-set rows word.Union all left right f g e = by (sym (WellFormed-Union rows all left right)) (record { left_side = f; right_side = g; same_kinds = e })
 formed-set rows word.Except all left right f g e = by (sym (WellFormed-Except rows all left right)) (record { left_side = f; right_side = g; same_kinds = e })
 formed-set rows word.Intersect all left right f g e = by (sym (WellFormed-Intersect rows all left right)) (record { left_side = f; right_side = g; same_kinds = e })
-
-both-same : (a b : Kind) (xs ys : List Kind) → a ≡ b → xs ≡ ys → a ∷ xs ≡ b ∷ ys
-both-same a b xs ys e f = λ i. e i ∷ f i
-
-settle-twice : (columns : List OutColumn) (wanted : List Kind) → settle columns (settle columns wanted) ≡ settle columns wanted
-settle-twice [] wanted = refl
-settle-twice (column ∷ columns) [] = both-same _ _ _ _ (settled-twice column.kind Text) (settle-twice columns [])
-settle-twice (column ∷ columns) (k ∷ ks) = both-same _ _ _ _ (settled-twice column.kind k) (settle-twice columns ks)
-
-settled-first : (a b : Option Kind) (wanted : Kind) → settled a (settled (united_kind a b) wanted) ≡ settled (united_kind a b) wanted
-settled-first None b wanted = refl
-settled-first (Some k) b wanted = refl
-
-settled-second : (a b : Option Kind) (wanted : Kind) → unites a b ≡ true → settled b (settled (united_kind a b) wanted) ≡ settled (united_kind a b) wanted
-settled-second None None wanted e = refl
-settled-second None (Some l) wanted e = refl
-settled-second (Some k) None wanted e = refl
-settled-second (Some k) (Some l) wanted e = sym (same_kind k l e)
-
--- the first operand at the kinds of both
-settle-first : (left right : List OutColumn) (wanted : List Kind) → settle left (settle (united_columns left right) wanted) ≡ settle (united_columns left right) wanted
-settle-first [] right wanted = refl
-settle-first (l ∷ left) [] wanted = settle-twice (l ∷ left) wanted
-settle-first (l ∷ left) (r ∷ right) [] = both-same _ _ _ _ (settled-first l.kind r.kind Text) (settle-first left right [])
-settle-first (l ∷ left) (r ∷ right) (k ∷ ks) = both-same _ _ _ _ (settled-first l.kind r.kind k) (settle-first left right ks)
-
-pub left-true : (a b : Bool) → (a && b) ≡ true → a ≡ true
-left-true true b e = refl
-left-true false b e = e
-
-pub right-true : (a b : Bool) → (a && b) ≡ true → b ≡ true
-right-true true b e = e
-right-true false b e = absurd (true≢false (sym e))
 
 -- the second operand at the kinds of both
 settle-second : (left right : List OutColumn) (wanted : List Kind) → length left ≡ length right → do_unite left right ≡ true
@@ -153,7 +114,7 @@ good-joined around left right step l r = record {
             kinds-set step.word step.all (left.make at) (right.make at)
             ∙ p.first.kinds at
             ∙ ap (λ (columns : Option (List OutColumn)). settle p.first.columns (settle_known columns wanted)) p.columns
-            ∙ settle-first p.first.columns p.second.columns wanted;
+            ∙ settle-united p.first.columns p.second.columns wanted;
       };
   formed = λ whole rows hold wanted.
       let p = joined-parts left right step l.known r.known whole in
@@ -161,7 +122,7 @@ good-joined around left right step l r = record {
       let is : at ≡ settle (united_columns p.first.columns p.second.columns) wanted =
       ap (λ (columns : Option (List OutColumn)). settle_known columns wanted) p.columns in
       formed-set rows step.word step.all (left.make at) (right.make at) (l.formed p.first_whole rows hold at) (r.formed p.second_whole rows hold at)
-      (p.first.kinds at ∙ ap (settle p.first.columns) is ∙ settle-first p.first.columns p.second.columns wanted
+      (p.first.kinds at ∙ ap (settle p.first.columns) is ∙ settle-united p.first.columns p.second.columns wanted
       ∙ sym (p.second.kinds at ∙ ap (settle p.second.columns) is ∙ settle-second p.first.columns p.second.columns wanted p.widths p.unite));
 }
 
@@ -209,10 +170,6 @@ keys_of-in : (body : QueryMeant) (order : List OrderTree) (known : HasItsKinds b
 keys_of-in body order known whole =
     subst (λ (columns : Option (List OutColumn)). KeysIn (length known.columns) (keys_of columns order)) (sym known.known)
     (keys-in known.columns order (subst (λ (columns : Option (List OutColumn)). keys_breaks columns order ≡ []) known.known whole))
-
-kinds-limited : (limit : Option ℤ) (keys : List Key) (query : Query) → kinds_of (limited limit keys query) ≡ kinds_of query
-kinds-limited None keys query = refl
-kinds-limited (Some n) keys query = kinds_of-Limit query keys (nat_abs n)
 
 formed-limited : (rows : List (List Kind)) (limit : Option ℤ) (keys : List Key) (query : Query) → IfThere IsTokenNumber limit → WellFormed rows query
     → KeysIn (width_of query) keys → WellFormed rows (limited limit keys query)

@@ -24,7 +24,7 @@ use Rattle.name_meaning.specs.declared.scope.Scope.{Scope}
 use Rattle.name_meaning.specs.declared.trace.Trace.{Trace}
 use Rattle.name_meaning.specs.declared.trace.Trace.TheVariants.{Untraced as untraced, InProvenance as in_provenance}
 use Rattle.name_laws.specs.Traced.{IsInScope}
-use Rattle.name_laws.proofs.Every.{Every, every-map, front-none, back-none}
+use Rattle.name_laws.proofs.Every.{Every, every-map, front-none, back-none, whole-none}
 use Rattle.name_laws.proofs.KeptCores.{never-whole}
 use Rattle.name_laws.proofs.ScopedMeant.{QueryFits, PartFits, SelectFits, ItemFits, fits-list}
 use Rattle.name_laws.proofs.Scopes.{scope-Filter, scope-Project, scope-Union, scope-Intersect, scope-Except, scope-Distinct, scope-Aggregate, scope-Limit, scope-Prov}
@@ -117,10 +117,6 @@ module _ (Sound : Type 0) where
       → QueryFits Sound around.trace (core_seen around at input has_from is_distinct items condition groups having)
   fits-core_seen around at input has_from is_distinct items condition groups having from good_items good_condition good_having =
       chosen (is_whole input.breaks) refl where
-        none : (breaks : List Break) → is_whole breaks ≡ true → breaks ≡ []
-        none [] e = refl
-        none (b ∷ bs) e = absurd (cc e)
-
         chosen : (b : Bool) → is_whole input.breaks ≡ b → QueryFits Sound around.trace (cond b
             (core_over around.outer (core_trace around at) (word_breaks around at) input has_from is_distinct items condition groups having
             (option_map_or (λ known. known) input.items []))
@@ -132,7 +128,7 @@ module _ (Sound : Type 0) where
             (clause_breaks (scope_of (option_map_or (λ known. known) input.items [])) condition groups having
             (over_clauses around.outer (core_trace around at) input has_from items condition groups having (option_map_or (λ known. known) input.items []))) whole))
             (fits-core_over around.outer (core_trace around at) (word_breaks around at) input has_from is_distinct items condition groups having
-            (option_map_or (λ known. known) input.items []) (λ s. from s (none input.breaks e)) good_items good_condition good_having sound whole w)
+            (option_map_or (λ known. known) input.items []) (λ s. from s (whole-none input.breaks e)) good_items good_condition good_having sound whole w)
         chosen false e = λ sound whole w. absurd (never-whole input.breaks (back-none (word_breaks around at) input.breaks whole) e)
 
   -- ---- queries

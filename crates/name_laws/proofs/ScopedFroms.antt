@@ -1,5 +1,5 @@
 -- What FROM reads, where it breaks nothing, is scoped and may be traced as it is.
-use Rattle.std.specs.Prelude.{◌≡◌, ⊤, ℕ, Bool, true, false, cond, List, [], ◌∷◌, ◌++◌, map, Option, Some, None, option_map}
+use Rattle.std.specs.Prelude.{◌≡◌, ⊤, ℕ, true, false, cond, List, [], ◌∷◌, ◌++◌, map, Option, Some, None, option_map}
 use Rattle.std.proofs.Common.{refl, ap, sym, ◌∙◌, true≢false}
 use Rattle.std.specs.List.{list_any}
 use Rattle.std.specs.Option.{option_map_or}
@@ -27,7 +27,7 @@ use Rattle.name_meaning.specs.declared.scope.Scope.{Scope}
 use Rattle.name_meaning.specs.declared.trace.Trace.{Trace}
 use Rattle.name_laws.specs.Facts.{facts_of}
 use Rattle.name_laws.specs.Traced.{MayBeTraced, IsInScope}
-use Rattle.name_laws.proofs.Every.{Every, front-none, back-none}
+use Rattle.name_laws.proofs.Every.{Every, front-none, back-none, unbroken-not}
 use Rattle.name_laws.proofs.KeptFroms.{out_names}
 use Rattle.name_laws.proofs.ScopedMeant.{QueryFits, QueryPartFits}
 use Rattle.name_laws.proofs.Scopes.{WhenTraced, when-traced, traced-traceable, looked-traced, scope-Join, traced-none}
@@ -50,13 +50,9 @@ pub record ReadIsInScope (t : Trace) (r : Read) : Type 0 where
   pub plain : is_scoped r.plain ≡ true
   pub traced : r.viewed ≡ false → WhenTraced t (traceable r.plain ≡ true)
 
-unbroken : (is_broken : Bool) (at : ℕ) → broken_if is_broken rule.MisplacedProvenance at ≡ [] → is_broken ≡ false
-unbroken true at e = absurd (cc e)
-unbroken false at e = refl
-
 in_scope : (t : Trace) (read : Read) (query : Query) (at : ℕ) → read.breaks ≡ [] → scope_break read.breaks t read.viewed query at ≡ []
     → is_out_of_scope t read.viewed query ≡ false
-in_scope t read query at whole e = unbroken (is_out_of_scope t read.viewed query) at
+in_scope t read query at whole e = unbroken-not (is_out_of_scope t read.viewed query) rule.MisplacedProvenance at
     (sym (ap (λ (breaks : List Break). cond (is_whole breaks) (broken_if (is_out_of_scope t read.viewed query) rule.MisplacedProvenance at) []) whole) ∙ e)
 
 scoped-marked : (m : ScopeMark) (label : List ℕ) (names : List (List ℕ)) (read : Read) → is_scoped read.query ≡ true → is_scoped read.plain ≡ true

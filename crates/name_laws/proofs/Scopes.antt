@@ -1,5 +1,5 @@
 -- What is scoped and may be traced, put together from parts.
-use Rattle.std.specs.Prelude.{◌≡◌, ⊤, ℕ, Bool, true, false, not, ◌&&◌, ◌||◌, List, [], ◌∷◌, ◌++◌}
+use Rattle.std.specs.Prelude.{◌≡◌, ⊤, ℕ, Bool, true, false, not, ◌&&◌, List, [], ◌∷◌, ◌++◌}
 use Rattle.std.proofs.Common.{refl, ap, sym, ◌∙◌, subst, true≢false}
 use Rattle.std.proofs.Math.Bool.{and_assoc}
 use Rattle.bag_algebra.specs.Scoped.{over_tables, traceable, is_scoped}
@@ -19,13 +19,10 @@ use Rattle.name_meaning.specs.declared.trace.Trace.TheVariants.{Untraced as untr
 use Rattle.name_laws.specs.Facts.{Facts, facts_of, no_facts, both_facts, as_sublink, sub_facts, proved_facts}
 use Rattle.name_laws.specs.Traced.{MayBeTraced, IsInScope, AreInScope}
 use Rattle.name_laws.proofs.FactsOf.{sub_facts-append, facts-Filter, facts-Project, facts-Join_alone, facts-Union, facts-Intersect, facts-Except, facts-Distinct, facts-Aggregate, facts-Limit, facts-Prov}
+use Rattle.name_laws.proofs.Every.{left-false, right-false}
 
 both-true : {a b : Bool} → a ≡ true → b ≡ true → (a && b) ≡ true
 both-true e f = λ i. e i && f i
-
-left-true : (a b : Bool) → (a && b) ≡ true → a ≡ true
-left-true true b h = refl
-left-true false b h = h
 
 -- ---- facts
 
@@ -152,14 +149,6 @@ traced-traceable traced_sublink query h = h.1
 not-false : (b : Bool) → not b ≡ false → b ≡ true
 not-false true h = refl
 not-false false h = absurd (true≢false h)
-
-left-false : (a b : Bool) → (a || b) ≡ false → a ≡ false
-left-false true b h = absurd (true≢false h)
-left-false false b h = refl
-
-right-false : (a b : Bool) → (a || b) ≡ false → b ≡ false
-right-false true b h = absurd (true≢false h)
-right-false false b h = h
 
 -- a view is looked at itself, and all else is traceable
 view-traced : (viewed : Bool) (query : Query) → (viewed && not (traceable query)) ≡ false → (viewed ≡ false → traceable query ≡ true) → traceable query ≡ true

@@ -1,24 +1,32 @@
 -- Columns at the kinds that are wanted of them.
-use Rattle.std.specs.Prelude.{◌≡◌, ℕ, suc, pred, List, [], ◌∷◌, ◌++◌, map, length, take, drop, Option, Some, None}
-use Rattle.std.proofs.Common.{refl, ap, ◌∙◌, arith}
+use Rattle.std.specs.Prelude.{◌≡◌, ℕ, suc, pred, List, [], ◌∷◌, ◌++◌, map, length, take, drop, Option, Some, None, true}
+use Rattle.std.proofs.Common.{refl, ap, ◌∙◌, arith, sym}
 use Rattle.perm_values.specs.declared.kind.Kind.{Kind}
 use Rattle.perm_values.specs.declared.kind.Kind.TheVariants as kind
 use Rattle.name_meaning.specs.Cores.{settle}
 use Rattle.name_meaning.specs.Froms.{named_columns}
 use Rattle.name_meaning.specs.Items.{Titled, named_from}
-use Rattle.name_meaning.specs.Meanings.{OutColumn, settled, united_kind}
+use Rattle.name_meaning.specs.Meanings.{OutColumn, settled, united_kind, unites}
 use Rattle.name_meaning.specs.Queries.{out_column, united_columns}
 use Rattle.name_meaning.specs.Scopes.{KnownColumn}
+use Rattle.name_laws.proofs.Needs.{same_kind}
 
 pub settled-twice : (k : Option Kind) (wanted : Kind) → settled k (settled k wanted) ≡ settled k wanted
 settled-twice None wanted = refl
 settled-twice (Some k) wanted = refl
 
-settled-united : (k other : Option Kind) (wanted : Kind) → settled k (settled (united_kind k other) wanted) ≡ settled (united_kind k other) wanted
+pub settled-united : (k other : Option Kind) (wanted : Kind) → settled k (settled (united_kind k other) wanted) ≡ settled (united_kind k other) wanted
 settled-united None other wanted = refl
 settled-united (Some k) other wanted = refl
 
-both-same : (a b : Kind) (xs ys : List Kind) → a ≡ b → xs ≡ ys → a ∷ xs ≡ b ∷ ys
+-- the second of two kinds that unite at the kind of both
+pub settled-second : (a b : Option Kind) (wanted : Kind) → unites a b ≡ true → settled b (settled (united_kind a b) wanted) ≡ settled (united_kind a b) wanted
+settled-second None None wanted e = refl
+settled-second None (Some l) wanted e = refl
+settled-second (Some k) None wanted e = refl
+settled-second (Some k) (Some l) wanted e = sym (same_kind k l e)
+
+pub both-same : (a b : Kind) (xs ys : List Kind) → a ≡ b → xs ≡ ys → a ∷ xs ≡ b ∷ ys
 both-same a b xs ys e f = λ i. e i ∷ f i
 
 pub settle-twice : (columns : List OutColumn) (wanted : List Kind) → settle columns (settle columns wanted) ≡ settle columns wanted

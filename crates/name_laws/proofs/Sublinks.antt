@@ -1,31 +1,29 @@
 -- Sublinks over queries that are made well formed.
-use Rattle.std.specs.Prelude.{◌≡◌, ⊤, ℕ, pred, Bool, true, false, cond, not, List, [], ◌∷◌, ◌++◌, length, nat_eq, slice_get, Option, Some, None, IfSome}
+use Rattle.std.specs.Prelude.{◌≡◌, ℕ, Bool, true, false, cond, not, List, [], ◌∷◌, ◌++◌, length, nat_eq, slice_get, Option, Some, None, IfSome}
 use Rattle.std.proofs.Common.{refl, ap, sym, ◌∙◌, subst, true≢false, arith, eqb-true}
 use Rattle.null_logic.specs.declared.compare.Compare.{Compare}
 use Rattle.perm_values.specs.declared.kind.Kind.{Kind}
 use Rattle.perm_values.specs.declared.kind.Kind.TheVariants.{Text, Boolean}
-use Rattle.bag_algebra.specs.BuiltForms.{AllSubsForm, subs_kinds}
+use Rattle.bag_algebra.specs.BuiltForms.{subs_kinds}
 use Rattle.bag_algebra.specs.Kinds.{kinds_of, kind_in, width_of}
 use Rattle.bag_algebra.specs.WellFormed.{HasKind, WellFormed, PlacesIn, AggregatesForm, sub_form, sub_kind}
 use Rattle.bag_algebra.specs.declared.expr.Expr.{Expr}
 use Rattle.bag_algebra.specs.declared.query.Aggr.{Aggr}
 use Rattle.bag_algebra.specs.declared.query.SubKind.{SubKind}
 use Rattle.bag_algebra.specs.declared.query.SubKind.TheVariants as sub
-use Rattle.bag_algebra.specs.declared.query.Sublink.{Sublink}
 use Rattle.name_meaning.specs.Cores.{settle}
 use Rattle.name_meaning.specs.Expressions.{in_kind}
-use Rattle.name_meaning.specs.Meanings.{Surroundings, Before, Built, Meant, Part, Around, OutColumn, QueryMeant, QueryPart, is_whole, broken, broken_if, seen_kind, settled, unites, united_kind}
+use Rattle.name_meaning.specs.Meanings.{Surroundings, Before, Built, Meant, Part, Around, OutColumn, QueryMeant, QueryPart, is_whole, broken, broken_if, seen_kind, settled, unites}
 use Rattle.name_meaning.specs.Scopes.{ungrouped}
-use Rattle.name_meaning.specs.Sublinks.{breaking, around_of, is_one_column, first_kind, exists_meant, scalar_meant, in_tested, tested_break, tested_kind, tested_looked, tested_unlooked, tested_meant, if_standing, sub_built}
-use Rattle.name_meaning.specs.declared.answer.Break.{Break}
+use Rattle.name_meaning.specs.Sublinks.{breaking, around_of, is_one_column, first_kind, exists_meant, scalar_meant, in_tested, tested_break, tested_kind, tested_looked, tested_unlooked, tested_meant, if_standing}
 use Rattle.name_laws.specs.Known.{HasItsKinds}
 use Rattle.name_laws.specs.Formed.{IsFormed}
 use Rattle.name_laws.specs.Standing.{StandAt, RowsHold, AggregatesStand}
-use Rattle.name_laws.proofs.Aggregates.{unbroken}
 use Rattle.name_laws.proofs.FormedParts.{none-formed}
-use Rattle.name_laws.proofs.GoodMeant.{GoodMeant, GoodPart, IsPlain, front-none, back-none, whole-kind}
-use Rattle.name_laws.proofs.Needs.{same_kind}
+use Rattle.name_laws.proofs.GoodMeant.{GoodMeant, GoodPart, IsPlain}
 use Rattle.name_meaning.specs.declared.rule.Rule.TheVariants as rule
+use Rattle.name_laws.proofs.Every.{front-none, back-none, whole-kind, unbroken}
+use Rattle.name_laws.proofs.Settled.{settled-twice, settled-united, settled-second}
 
 -- a query that breaks nothing has its kinds and is made well formed, and its provenance columns are columns of it
 pub record GoodQuery (around : Around) (m : QueryMeant) : Type 0 where
@@ -80,10 +78,6 @@ good-exists here at q standing good whole wanted n =
     formed-sub here n sub.Exists None q [] [] Boolean standing refl (λ rows hold. good.formed whole rows hold [])
     (λ rows hold stand. tt) (λ rows hold. none-formed rows) (λ no. refl)
 
-pub settled-twice : (k : Option Kind) (wanted : Kind) → settled k (settled k wanted) ≡ settled k wanted
-settled-twice None wanted = refl
-settled-twice (Some k) wanted = refl
-
 pub good-scalar : (here : Surroundings) (at : ℕ) (q : QueryMeant) → here.sublinks ≡ true → GoodQuery (around_of here) q → GoodMeant here (scalar_meant here at q)
 good-scalar here at q standing good whole wanted n =
     let own = front-none q.breaks (broken_if (not (is_one_column q.columns)) rule.UnfitWidth at) whole in
@@ -111,16 +105,6 @@ plain-if_standing here at kind m plain = chosen here.sublinks where
   chosen false = λ wanted n. refl
 
 -- ---- a tested expression
-
-settled-first : (a b : Option Kind) (wanted : Kind) → settled a (settled (united_kind a b) wanted) ≡ settled (united_kind a b) wanted
-settled-first None b wanted = refl
-settled-first (Some k) b wanted = refl
-
-settled-second : (a b : Option Kind) (wanted : Kind) → unites a b ≡ true → settled b (settled (united_kind a b) wanted) ≡ settled (united_kind a b) wanted
-settled-second None None wanted e = refl
-settled-second None (Some l) wanted e = refl
-settled-second (Some k) None wanted e = refl
-settled-second (Some k) (Some l) wanted e = sym (same_kind k l e)
 
 form-in_kind : (every : Bool) (op : Compare) (tested : Expr) (rows : List (List Kind)) (kinds : List Kind) (common : Kind) → kinds ≡ common ∷ []
     → HasKind rows [] tested common → sub_form (in_kind every op) (Some tested) rows kinds
@@ -153,7 +137,7 @@ good-looked here every op tested at q standing good inner whole wanted n =
     one.kinds common ∙ ap (λ k. settled k common ∷ []) (sym one.first)
     ∙ ap (λ k. k ∷ []) (settled-second (seen_kind tested) (first_kind q) Text fits.1) in
     let taken : settled tested.kind common ≡ common =
-    ap (λ k. settled k common) (sym (whole-kind tested tested_whole)) ∙ settled-first (seen_kind tested) (first_kind q) Text in
+    ap (λ k. settled k common) (sym (whole-kind tested tested_whole)) ∙ settled-united (seen_kind tested) (first_kind q) Text in
     formed-sub here n (in_kind every op) (Some made.expr) q (common ∷ []) made.aggregates Boolean standing (kind-in_kind every op _)
     (λ rows hold. inner.formed query_whole rows hold (common ∷ []))
     (λ rows hold stand. form-in_kind every op made.expr rows _ common kinds

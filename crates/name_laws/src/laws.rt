@@ -19,35 +19,45 @@ ghost use Rattle.sql_tree.specs.declared.source.FromTree.{FromTree};
 /// their kinds.
 pub fn queries_have_their_kinds()
     ensures { (c : Contents) (tree : QueryTree) (around : Around) → IsSound c
-        → (query_means_at (query_of c tree) around).breaks ≡ [] → HasItsKinds (query_means_at (query_of c tree) around) }
+        → (query_means_at (query_of c tree) around).breaks ≡ []
+        → HasItsKinds (query_means_at (query_of c tree) around) }
 {}
 
 /// The places of a query, and what may be traced of it, are the same whatever kinds are wanted of its columns.
 pub fn queries_keep_their_facts()
     ensures { (c : Contents) (tree : QueryTree) (around : Around) (wanted : List Kind) →
-        facts_of ((query_means_at (query_of c tree) around).make wanted) ≡ facts_of ((query_means_at (query_of c tree) around).make []) }
+        facts_of ((query_means_at (query_of c tree) around).make wanted)
+        ≡ facts_of ((query_means_at (query_of c tree) around).make []) }
 {}
 
 /// Those of an expression's sublinks are the same whatever kind is wanted of it and whatever stands before it.
 pub fn expressions_keep_their_facts()
-    ensures { (c : Contents) (tree : ExprTree) (here : Surroundings) (wanted other : Kind) (before earlier : Before) →
-        sub_facts ((means_at (part_of c tree) here).make wanted before).subs ≡ sub_facts ((means_at (part_of c tree) here).make other earlier).subs }
+    ensures { (c : Contents) (tree : ExprTree) (here : Surroundings) (wanted other : Kind)
+        (before earlier : Before) →
+        sub_facts ((means_at (part_of c tree) here).make wanted before).subs
+        ≡ sub_facts ((means_at (part_of c tree) here).make other earlier).subs }
 {}
 
 /// Over a sound catalog, the items of a FROM that breaks nothing are known, and its rows have their columns side by side.
 pub fn from_is_known()
-    ensures { (c : Contents) (tree : FromTree) (outer : List Scope) (trace : Trace) (earlier : List (List ℕ)) → IsSound c
-        → ((from_of c tree).means outer trace earlier).breaks ≡ [] → FromIsKnown ((from_of c tree).means outer trace earlier) }
+    ensures { (c : Contents) (tree : FromTree) (outer : List Scope) (trace : Trace) (earlier : List (List ℕ))
+        → IsSound c
+        → ((from_of c tree).means outer trace earlier).breaks ≡ []
+        → FromIsKnown ((from_of c tree).means outer trace earlier) }
 {}
 
 /// Over a sound catalog, a query that breaks nothing is made to one that is scoped, and that may be traced as it is.
 pub fn queries_are_in_scope()
-    ensures { (c : Contents) (tree : QueryTree) (around : Around) → IsSound c → (query_means_at (query_of c tree) around).breaks ≡ []
-        → (wanted : List Kind) → IsInScope around.trace ((query_means_at (query_of c tree) around).make wanted) }
+    ensures { (c : Contents) (tree : QueryTree) (around : Around) → IsSound c
+        → (query_means_at (query_of c tree) around).breaks ≡ []
+        → (wanted : List Kind) → IsInScope around.trace
+        ((query_means_at (query_of c tree) around).make wanted) }
 {}
 
 /// So are the sublinks of an expression that breaks nothing.
 pub fn sublinks_are_in_scope()
-    ensures { (c : Contents) (tree : ExprTree) (here : Surroundings) → IsSound c → (means_at (part_of c tree) here).breaks ≡ []
-        → (wanted : Kind) (before : Before) → AreInScope here.trace ((means_at (part_of c tree) here).make wanted before).subs }
+    ensures { (c : Contents) (tree : ExprTree) (here : Surroundings) → IsSound c
+        → (means_at (part_of c tree) here).breaks ≡ []
+        → (wanted : Kind) (before : Before) → AreInScope here.trace
+        ((means_at (part_of c tree) here).make wanted before).subs }
 {}

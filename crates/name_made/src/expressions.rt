@@ -25,8 +25,8 @@ use name_made_parts::{
     group_count, kind_or_any, scalar_kind, tested_kind,
 };
 use name_meaning::{Gives, Need};
-use name_seen_cores::{in_argument, in_tested, trace_below};
-use name_seen_parts::{Around, Here, gives_of, look_up, need_of, ungrouped};
+use name_seen_cores::{in_argument, in_tested};
+use name_seen_parts::{Around, Here, gives_of, look_up, need_of, trace_below, ungrouped};
 use null_logic::Operator;
 use perm_values::{Kind, List, NoMemory};
 use sql_tree::{AggWord, ArmTree, ExprBody, ExprStep, ExprTree, QueryTree};

@@ -18,8 +18,7 @@ use name_made_parts::{
 };
 use name_meaning::Scope;
 use name_seen_cores::in_on;
-use name_seen_from::trace_under;
-use name_seen_parts::{Around, Here, inside};
+use name_seen_parts::{Around, Here, inside, trace_under};
 use perm_values::{Kind, NoMemory};
 use sql_tree::{ExprTree, FromItem, FromSource, FromTree, JoinStep};
 

@@ -4,6 +4,7 @@ ghost use Rattle.name_meaning.specs.Cores.{aggregated_input};
 ghost use Rattle.name_made_nodes.specs.Cored.{condition_over, clauses_over, listed_over};
 
 use crate::nodes::distinct_if;
+use crate::together::beside;
 use bag_algebra::{Aggr, Expr, Item, Query, Sublink};
 use perm_values::{List, NoMemory, both};
 use std::alloc::Global;
@@ -50,12 +51,8 @@ pub fn core_of(
         list,
         distinct,
     } = clauses;
-    let Ok(rows) = condition_over(alloc, input, condition) else {
-        drop(groups);
-        drop(having);
-        drop(list);
-        return Err(NoMemory);
-    };
+    let rows = condition_over(alloc, input, condition);
+    let ((groups, having, list), rows) = beside((groups, having, list), rows)?;
     let made = listed_over(alloc, rows, groups, having, list)?;
     distinct_if(alloc, distinct, made)
 }
@@ -89,17 +86,10 @@ fn listed_over(
         subs,
         aggregates,
     } = list;
-    let Ok(rows) = grouped_if(alloc, rows, groups, aggregates) else {
-        drop(having);
-        drop(items);
-        drop(subs);
-        return Err(NoMemory);
-    };
-    let Ok(kept) = condition_over(alloc, rows, having) else {
-        drop(items);
-        drop(subs);
-        return Err(NoMemory);
-    };
+    let grouped = grouped_if(alloc, rows, groups, aggregates);
+    let ((having, items, subs), grouped) = beside((having, items, subs), grouped)?;
+    let kept = condition_over(alloc, grouped, having);
+    let ((items, subs), kept) = beside((items, subs), kept)?;
     Query::project(alloc, kept, items, subs)
 }
 

@@ -5,9 +5,10 @@ ghost use Rattle.bag_algebra.specs.declared.query.Query.TheVariants.{Base, Table
 ghost use Rattle.perm_catalog.specs.Columns.{column_kinds};
 ghost use Rattle.name_meaning.specs.Froms.{all_places, external, named_so, names_at, names_of, place_of, table_columns, table_plain, texts_of};
 
+use crate::together::beside;
 use bag_algebra::{Label, Query};
 use perm_catalog::{Column, TableEntry};
-use perm_values::{Chars, Copyable, Kind, List, NoMemory};
+use perm_values::{Chars, Copyable, Kind, List, NoMemory, both};
 use sql_tree::Name;
 use std::alloc::Global;
 
@@ -61,15 +62,9 @@ pub fn external(
 ) -> Result<Query, NoMemory>
     ensures { IfOk result (λ made. made ≡ external query names.now places.now) }
 {
-    let Ok(columns) = names_at(alloc, names, places) else {
-        drop(query);
-        return Err(NoMemory);
-    };
-    let Ok(places) = List::copy_of(alloc, places) else {
-        drop(query);
-        drop(columns);
-        return Err(NoMemory);
-    };
+    let columns = names_at(alloc, names, places);
+    let places = List::copy_of(alloc, places);
+    let (query, (columns, places)) = beside(query, both(columns, places))?;
     Query::base(alloc, query, places, Label::External { columns })
 }
 
@@ -82,26 +77,10 @@ pub fn whole_source(
 ) -> Result<Query, NoMemory>
     ensures { IfOk result (λ made. made ≡ Base query (all_places names) (Relation label.now names)) }
 {
-    let Ok(places) = List::range(alloc, 0, names.len()) else {
-        drop(query);
-        drop(names);
-        return Err(NoMemory);
-    };
-    let Ok(name) = label.copy(alloc) else {
-        drop(query);
-        drop(names);
-        drop(places);
-        return Err(NoMemory);
-    };
-    Query::base(
-        alloc,
-        query,
-        places,
-        Label::Relation {
-            name,
-            columns: names,
-        },
-    )
+    let places = List::range(alloc, 0, names.len());
+    let name = label.copy(alloc);
+    let (query, (columns, (places, name))) = beside(query, beside(names, both(places, name)))?;
+    Query::base(alloc, query, places, Label::Relation { name, columns })
 }
 
 /// The place of the first column of this name.
@@ -155,15 +134,9 @@ pub fn attributes_of(
     ensures { IfOk result (λ made. made ≡ Base query
         (map (place_of names.now) (texts_of attributes.now)) (External (texts_of attributes.now))) }
 {
-    let Ok(places) = attribute_places(alloc, names, attributes) else {
-        drop(query);
-        return Err(NoMemory);
-    };
-    let Ok(columns) = attribute_names(alloc, attributes) else {
-        drop(query);
-        drop(places);
-        return Err(NoMemory);
-    };
+    let places = attribute_places(alloc, names, attributes);
+    let columns = attribute_names(alloc, attributes);
+    let (query, (places, columns)) = beside(query, both(places, columns))?;
     Query::base(alloc, query, places, Label::External { columns })
 }
 
@@ -182,15 +155,13 @@ pub fn table_rows(alloc: Global, table: &TableEntry) -> Result<Query, NoMemory>
 pub fn table_plain(alloc: Global, name: &Chars, table: &TableEntry) -> Result<Query, NoMemory>
     ensures { IfOk result (λ made. made ≡ table_plain name.now table.now) }
 {
-    let names = column_names(alloc, table.columns.as_slice())?;
-    let Ok(rows) = table_rows(alloc, table) else {
-        drop(names);
-        return Err(NoMemory);
-    };
+    let names = column_names(alloc, table.columns.as_slice());
+    let rows = table_rows(alloc, table);
+    let (names, rows) = both(names, rows)?;
     match &table.stored {
         None => whole_source(alloc, rows, name, names),
-        Some(mark) => {
-            let made = external(alloc, rows, names.as_slice(), mark.places.as_slice());
+        Some(stored) => {
+            let made = external(alloc, rows, names.as_slice(), stored.places.as_slice());
             drop(names);
             made
         }

@@ -17,7 +17,6 @@ use Rattle.sql_tree.specs.declared.query.SelectItem.{SelectItem}
 use Rattle.sql_tree.specs.declared.query.SelectItem.TheVariants as i
 use Rattle.sql_tree.specs.declared.query.Core.{Core, out-Core}
 use Rattle.name_meaning.specs.Cores.{BodyPart, aggregated_input, before_list, clause_breaks, core_clauses, core_over, core_seen, core_trace, core_unlooked, distinct_if, filtered, group_break, group_scope, has_some, in_clause, optional_breaks, optional_built, optional_meant, settle_known, word_breaks}
-use Rattle.name_meaning.specs.Cores.{Clauses as Looked}
 use Rattle.name_meaning.specs.Froms.{FromMeant, from_all}
 use Rattle.name_meaning.specs.Items.{Made, SelectMeant, SelectPart, all_known, items_breaks, made_items, named_from, star_meant, table_star_meant, title, value_meant}
 use Rattle.name_meaning.specs.Meanings.{Around, Before, Built, Meant, Part, QueryMeant, Surroundings, is_whole, means_at}
@@ -29,7 +28,6 @@ use Rattle.name_meaning.specs.declared.answer.Break.{Break}
 use Rattle.name_meaning.specs.declared.scope.Scope.{Scope}
 use Rattle.name_meaning.specs.declared.trace.Trace.{Trace}
 use Rattle.name_meaning.proofs.Equations.{token, selectitem-star, selectitem-tablestar, selectitem-value}
-use Rattle.name_seen_cores.proofs.Opened.{core-is}
 use Rattle.name_made_nodes.specs.Cored.{clauses_over, condition_over, listed_over}
 use Rattle.name_made_nodes.specs.Listed.{MakesItems, widths}
 use Rattle.name_made_nodes.specs.Makes.{Makes, MakesQuery, nothing_found}
@@ -42,6 +40,7 @@ use Rattle.name_made_parts.specs.Cored.{AreKept, Keeps, MakesClauses, MakesList,
 use Rattle.name_made_parts.specs.Sources.{IsScope, own_breaks}
 use Rattle.name_made_parts.specs.declared.asked.cores.Kept.{Kept}
 use Rattle.name_made_parts.proofs.Settling.{list-settles, settled-list}
+use Rattle.name_meaning.proofs.Opened.{core-is}
 
 -- ---- conditions
 

@@ -137,28 +137,10 @@ pub fn marked_of(
         (read_names (read_query m)) (read_query m))) }
 {
     let (shown, query) = beside(shown, query)?;
-    marked_query(alloc, query, shown, alias, mark)
-}
-
-/// A subquery under the mark, as it is made.
-fn marked_query(
-    alloc: Global,
-    query: Query,
-    shown: ShownNames,
-    alias: &Option<Name>,
-    mark: &ScopeMark,
-) -> Result<Query, NoMemory>
-    ensures { IfOk result (λ made. (m : QueryMeant) → m.breaks ≡ [] → Shows m shown → query ≡ m.make []
-        → made ≡ marked mark.now (option_map_or text_of alias.now [])
-        (read_names (read_query m)) (read_query m)) }
-{
     match mark {
         ScopeMark::Plain => shown_plain(alloc, query, shown),
         ScopeMark::BaseRelation => {
-            let Ok(label) = alias_text(alloc, alias) else {
-                drop(query);
-                return Err(NoMemory);
-            };
+            let (query, label) = beside(query, alias_text(alloc, alias))?;
             let ShownNames { names, .. } = shown;
             whole_source(alloc, query, &label, names)
         }

@@ -1,2 +1,4 @@
 pub mod Equations
 pub mod Forms
+pub mod Opened
+pub mod Uniting

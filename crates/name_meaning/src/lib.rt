@@ -2,12 +2,16 @@
 #![tactic(auto)]
 
 mod answer;
+mod columns;
+mod kinds;
 mod need;
 mod rule;
 mod scope;
 mod trace;
 
 pub use answer::{Break, Resolved};
+pub use columns::names_at;
+pub use kinds::{aggregate_kind, settled};
 pub use need::{Gives, Need};
 pub use rule::Rule;
 pub use scope::{Found, FoundColumn, Scope, ScopeColumn};

@@ -23,8 +23,8 @@ use Rattle.name_seen_from.specs.declared.facts.Facts.{Facts as Gathered}
 use Rattle.name_seen_cores.specs.Behind.{ConditionSeen, ConditionWhole, GroupsSeen, GroupsWhole, core_behind, optional_part}
 use Rattle.name_seen_cores.specs.Listed.{ListSeen, seen_at}
 use Rattle.name_seen_cores.proofs.Cored.{core-whole, groups-break, having-breaks, list-breaks, looked, trace-kept, unlooked-breaks, where-breaks, word-breaks, word-fine}
-use Rattle.name_seen_cores.proofs.Opened.{core-is}
 use Rattle.name_seen.specs.Joining.{input_of}
+use Rattle.name_meaning.proofs.Opened.{core-is}
 
 module _ (c : Contents) (tree : Core) (around : Around) where
   -- the core over a FROM that is traced so

@@ -1,6 +1,6 @@
 -- What trees of FROM mean, of what their parts mean.
-use Rattle.std.specs.Prelude.{◌≡◌, ◌++◌, ℕ, true, List, map, Option, Some, None, Err}
-use Rattle.std.proofs.Common.{refl, ap, sym, ◌∙◌}
+use Rattle.std.specs.Prelude.{◌≡◌, ℕ, true, List, map, Option, Err}
+use Rattle.std.proofs.Common.{ap, sym, ◌∙◌}
 use Rattle.perm_catalog.specs.Contents.{Contents}
 use Rattle.sql_tree.specs.declared.expression.ExprTree.{ExprTree}
 use Rattle.sql_tree.specs.declared.name.Name.{Name}
@@ -9,16 +9,15 @@ use Rattle.sql_tree.specs.declared.source.FromItem.{FromItem}
 use Rattle.sql_tree.specs.declared.source.FromSource.{FromSource}
 use Rattle.sql_tree.specs.declared.source.FromSource.TheVariants as source
 use Rattle.sql_tree.specs.declared.source.FromTree.{FromTree, out-FromTree}
-use Rattle.sql_tree.specs.declared.expression.ExprBody.TheViews.{roll-out-FromTree, roll-out-JoinStep}
-use Rattle.sql_tree.specs.declared.source.JoinStep.{JoinStep, out-JoinStep, roll-JoinStep}
-use Rattle.sql_tree.specs.declared.source.JoinWord.{JoinWord}
+use Rattle.sql_tree.specs.declared.expression.ExprBody.TheViews.{roll-out-FromTree}
+use Rattle.sql_tree.specs.declared.source.JoinStep.{JoinStep, out-JoinStep}
 use Rattle.sql_tree.specs.declared.source.ScopeMark.{ScopeMark}
-use Rattle.name_meaning.specs.Froms.{FromItemPart, FromMeant, FromPart, ItemMeant, JoinPart, Read, SourcePart, first_item, item_meant, join_all, label_of, read_named, read_of, read_query, scope_name, trace_under}
-use Rattle.name_meaning.specs.Meanings.{Part, QueryMeant, query_means_at}
-use Rattle.name_meaning.specs.Trees.{from_item_of, from_of, join_of, part_of, query_of, source_of}
+use Rattle.name_meaning.specs.Froms.{FromItemPart, FromPart, JoinPart, Read, SourcePart, first_item, item_meant, join_all, label_of, read_named, read_of, read_query, scope_name, trace_under}
+use Rattle.name_meaning.specs.Meanings.{QueryMeant, query_means_at}
+use Rattle.name_meaning.specs.Trees.{from_item_of, from_of, join_of, query_of, source_of}
 use Rattle.name_meaning.specs.declared.scope.Scope.{Scope}
 use Rattle.name_meaning.specs.declared.trace.Trace.{Trace}
-use Rattle.name_meaning.proofs.Equations.{token, fromitem-record, fromsource-inner, fromsource-named, fromtree-record, joinstep-record-none, joinstep-record-some}
+use Rattle.name_meaning.proofs.Equations.{token, fromitem-record, fromsource-inner, fromsource-named, fromtree-record}
 use Rattle.name_seen_parts.specs.declared.refusal.Refusal.{Refusal}
 use Rattle.name_seen_parts.specs.declared.refusal.Refusal.TheVariants.{Break as Broken, NoMemory}
 use Rattle.name_seen_from.specs.Queried.{QuerySeen}
@@ -26,6 +25,7 @@ use Rattle.name_seen_from.specs.declared.facts.Facts.{Facts as Gathered}
 use Rattle.name_seen_from.specs.Readings.{ItemSeen, ReadSeen}
 use Rattle.name_seen_cores.specs.Behind.{optional_part}
 use Rattle.name_seen_cores.proofs.Cored.{where-breaks}
+use Rattle.name_meaning.proofs.Opened.{join-is}
 
 pub from-means : (c : Contents) (tree : FromTree) (outer : List Scope) (trace : Trace) (earlier : List (List ℕ))
     → (from_of c tree).means outer trace earlier
@@ -34,18 +34,6 @@ unfolding token
 from-means c tree outer trace earlier =
     ap (λ (t : FromTree). (from_of c t).means outer trace earlier) (sym (roll-out-FromTree tree))
     ∙ ap (λ (part : FromPart). part.means outer trace earlier) (fromtree-record c (out-FromTree tree).first (out-FromTree tree).joins)
-
-abbrev joined_by : JoinWord → FromItemPart → Option Part → JoinPart
-joined_by word item condition = record { word = word; item = item; condition = condition }
-
-join-record : (c : Contents) (word : JoinWord) (item : FromItem) (condition : Option ExprTree)
-    → join_of c (roll-JoinStep (record { word = word; item = item; condition = condition })) ≡ joined_by word (from_item_of c item) (optional_part c condition)
-unfolding token
-join-record c word item None = joinstep-record-none c word item
-join-record c word item (Some condition) = joinstep-record-some c word item condition
-
-pub join-is : (c : Contents) (step : JoinStep) → join_of c step ≡ joined_by (out-JoinStep step).word (from_item_of c (out-JoinStep step).item) (optional_part c (out-JoinStep step).condition)
-join-is c step = ap (join_of c) (sym (roll-out-JoinStep step)) ∙ join-record c (out-JoinStep step).word (out-JoinStep step).item (out-JoinStep step).condition
 
 pub item-means : (c : Contents) (item : FromItem) (outer : List Scope) (trace : Trace) (earlier : List (List ℕ))
     → (from_item_of c item).means outer trace earlier
@@ -62,14 +50,12 @@ named-read c mark outer trace tree name is =
     ap (λ (s : FromSource). read_of c mark outer trace (source_of c s)) is
     ∙ ap (λ (part : SourcePart). read_of c mark outer trace part) (fromsource-named c name)
 
-pub inner-read : (c : Contents) (mark : ScopeMark) (outer : List Scope) (trace under : Trace) (tree : FromSource) (query : QueryTree) → tree ≡ source.Inner query
-    → trace_under mark trace ≡ under
-    → read_of c mark outer trace (source_of c tree) ≡ read_query (query_means_at (query_of c query) (record { outer = outer; trace = under; provable = true }))
+pub inner-read : (c : Contents) (mark : ScopeMark) (outer : List Scope) (trace : Trace) (tree : FromSource) (query : QueryTree) → tree ≡ source.Inner query
+    → read_of c mark outer trace (source_of c tree) ≡ read_query (query_means_at (query_of c query) (record { outer = outer; trace = trace_under mark trace; provable = true }))
 unfolding token query_means_at
-inner-read c mark outer trace under tree query is same =
+inner-read c mark outer trace tree query is =
     ap (λ (s : FromSource). read_of c mark outer trace (source_of c s)) is
     ∙ ap (λ (part : SourcePart). read_of c mark outer trace part) (fromsource-inner c query)
-    ∙ ap (λ (t : Trace). read_query ((query_of c query).means (record { outer = outer; trace = t; provable = true }))) same
 
 -- the item of a join, behind the items before it
 pub joined-item : (c : Contents) (step : JoinStep) (outer : List Scope) (trace : Trace) (names held : List (List ℕ)) → names ≡ held

@@ -20,8 +20,9 @@ use Rattle.name_seen_parts.proofs.Firsts.{first-stays}
 use Rattle.name_seen_from.specs.Queried.{ColumnsSeen, QuerySeen}
 use Rattle.name_seen_from.specs.declared.facts.Facts.{Facts as Gathered}
 use Rattle.name_seen_from.specs.declared.shown.QueryShown.{QueryShown}
-use Rattle.name_seen_cores.specs.Behind.{around_body, query_behind}
+use Rattle.name_seen_cores.specs.Behind.{query_behind}
 use Rattle.name_seen_cores.proofs.Opened.{query-means}
+use Rattle.name_seen_parts.specs.Standing.{around_body}
 
 -- a query that was refused, in parentheses
 pub paren-refused : (m : QueryMeant) (old new : Gathered) (refusal : Refusal) → QuerySeen m (Err refusal) → ColumnsSeen m old new (Err refusal)

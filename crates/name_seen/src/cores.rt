@@ -21,7 +21,7 @@ use crate::sources::from_scope;
 use name_meaning::Scope;
 use name_seen_cores::{add_star, add_table_star, add_value, grouped_scope, in_clause};
 use name_seen_from::Facts;
-use name_seen_parts::{Around, Here, Refusal, ShownColumn, condition_over, inside, word_break};
+use name_seen_parts::{Around, Refusal, ShownColumn, condition_over, inside, word_break};
 use perm_values::{Kind, List};
 use sql_tree::{Core, ExprTree, SelectItem};
 
@@ -33,7 +33,8 @@ pub(crate) fn core_seen(
     facts: &mut Facts,
 ) -> Result<List<ShownColumn>, Refusal>
     requires { IsSound around.now.catalog.now }
-    ensures { ColumnsSeen ((core_of around.now.catalog.now core.now).means (around_of around.now)) facts.old facts.new result }
+    ensures { ColumnsSeen ((core_of around.now.catalog.now core.now).means (around_of around.now)) facts.old
+        facts.new result }
 {
     word_break(around.provable, core.provenance)?;
     let own = from_scope(core.sources.as_slice(), around, facts)?;
@@ -51,7 +52,8 @@ fn core_clauses(
     requires { IsSound around.now.catalog.now }
     ensures { (before : Gathered) (input : FromMeant) (items : Items ScopeItem) → own ≡ scope_of items
         → facts_in facts.old ≡ both_facts (facts_in before) (facts_of input.query)
-        → ColumnsSeen (core_behind around.now.catalog.now core.now (around_of around.now) input items) before facts.new result }
+        → ColumnsSeen (core_behind around.now.catalog.now core.now (around_of around.now) input items) before
+        facts.new result }
 {
     condition_seen(&core.condition, &own, false, around, facts)?;
     let scope = grouped_scope(around.alloc, core, own)?;
@@ -76,7 +78,8 @@ fn condition_seen(
 ) -> Result<(), Refusal>
     requires { IsSound around.now.catalog.now }
     ensures { ConditionSeen (optional_part around.now.catalog.now condition.now)
-        (optional_meant (in_clause scope.now (scopes_of around.now.outer.now) around.now.trace aggregates) (optional_part around.now.catalog.now condition.now))
+        (optional_meant (in_clause scope.now (scopes_of around.now.outer.now) around.now.trace aggregates)
+        (optional_part around.now.catalog.now condition.now))
         facts.old facts.new result }
 {
     match condition {
@@ -96,16 +99,12 @@ fn clause_kind(
 ) -> Result<Option<Kind>, Refusal>
     requires { IsSound around.now.catalog.now }
     ensures { ExpressionSeen (means_at (part_of around.now.catalog.now tree.now)
-        (in_clause scope.now (scopes_of around.now.outer.now) around.now.trace aggregates)) facts.old facts.new result }
+        (in_clause scope.now (scopes_of around.now.outer.now) around.now.trace aggregates)) facts.old
+        facts.new result }
 {
     let scopes = inside(scope, false, around.outer)?;
-    let here = Here {
-        alloc: around.alloc,
-        catalog: &*around.catalog,
-        scopes: &scopes,
-        standing: in_clause(around.trace, aggregates),
-    };
-    expression_seen(tree, &here, facts)
+    let place = (&*around).seeing(&scopes, in_clause(around.trace, aggregates));
+    expression_seen(tree, &place, facts)
 }
 
 /// The columns of a SELECT list, or its first break.
@@ -118,7 +117,8 @@ fn list_seen(
     facts: &mut Facts,
 ) -> Result<List<ShownColumn>, Refusal>
     requires { IsSound around.now.catalog.now }
-    ensures { ListSeen (map (seen_at has_from scope.now (in_clause scope.now (scopes_of around.now.outer.now) around.now.trace true))
+    ensures { ListSeen (map (seen_at has_from scope.now
+        (in_clause scope.now (scopes_of around.now.outer.now) around.now.trace true))
         (map (item_of around.now.catalog.now) items.now)) facts.old facts.new result }
 {
     let mut columns = List::new(around.alloc);
@@ -139,7 +139,8 @@ fn list_item(
     facts: &mut Facts,
 ) -> Result<(), Refusal>
     requires { IsSound around.now.catalog.now }
-    ensures { ItemSeen (seen_at has_from scope.now (in_clause scope.now (scopes_of around.now.outer.now) around.now.trace true)
+    ensures { ItemSeen (seen_at has_from scope.now
+        (in_clause scope.now (scopes_of around.now.outer.now) around.now.trace true)
         (item_of around.now.catalog.now item.now)) columns.old columns.new facts.old facts.new result }
 {
     match item {

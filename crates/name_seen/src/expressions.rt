@@ -19,10 +19,10 @@ use crate::queries::query_seen;
 use name_meaning::{Break, Gives, Need, Rule};
 use name_seen_cores::{
     InnerColumns, add_inner, aggregated, answered, chain_gives, column, exists_over, first_need,
-    in_argument, in_tested, kind_over, operands_with, scalar_over, tested_over, trace_below,
+    in_argument, in_tested, kind_over, operands_with, scalar_over, tested_over,
 };
 use name_seen_from::Facts;
-use name_seen_parts::{Around, Here, Operands, Refusal, count_kind, gives_of, need_of, ungrouped};
+use name_seen_parts::{Here, Operands, Refusal, count_kind, gives_of, need_of, ungrouped};
 use null_logic::Operator;
 use perm_values::{Boxed, Kind};
 use sql_tree::{AggWord, ArmTree, ExprBody, ExprStep, ExprTree, QueryTree};
@@ -36,7 +36,8 @@ pub fn expression_seen(
     facts: &mut Facts,
 ) -> Result<Option<Kind>, Refusal>
     requires { IsSound here.now.catalog.now }
-    ensures { ExpressionSeen (means_at (part_of here.now.catalog.now tree.now) (surroundings here.now)) facts.old facts.new result }
+    ensures { ExpressionSeen (means_at (part_of here.now.catalog.now tree.now) (surroundings here.now))
+        facts.old facts.new result }
 {
     let none = Ok(Operands::none());
     match &tree.body {
@@ -155,7 +156,8 @@ fn over_last(
     facts: &mut Facts,
 ) -> Result<Option<Kind>, Refusal>
     requires { IsSound here.now.catalog.now }
-    ensures { NodeBehind gives (operand (surroundings here.now) need (part_of here.now.catalog.now tree.now) ∷ []) so_far facts.old facts.new result }
+    ensures { NodeBehind gives (operand (surroundings here.now) need (part_of here.now.catalog.now tree.now)
+        ∷ []) so_far facts.old facts.new result }
 {
     let seen = operand(tree, need, so_far, here, facts);
     kind_over(gives, seen)
@@ -172,7 +174,8 @@ fn over_rest(
     facts: &mut Facts,
 ) -> Result<Option<Kind>, Refusal>
     requires { IsSound here.now.catalog.now }
-    ensures { NodeBehind gives (map (operand (surroundings here.now) need) (map (part_of here.now.catalog.now) trees.now)) so_far facts.old facts.new result }
+    ensures { NodeBehind gives (map (operand (surroundings here.now) need)
+        (map (part_of here.now.catalog.now) trees.now)) so_far facts.old facts.new result }
 {
     let seen = operands(trees, need, so_far, here, facts);
     kind_over(gives, seen)
@@ -187,7 +190,8 @@ fn over_steps(
     facts: &mut Facts,
 ) -> Result<Option<Kind>, Refusal>
     requires { IsSound here.now.catalog.now }
-    ensures { NodeBehind (chain_gives (map (step_of here.now.catalog.now) steps.now)) (map (step_operand (surroundings here.now)) (map (step_of here.now.catalog.now) steps.now))
+    ensures { NodeBehind (chain_gives (map (step_of here.now.catalog.now) steps.now))
+        (map (step_operand (surroundings here.now)) (map (step_of here.now.catalog.now) steps.now))
         so_far facts.old facts.new result }
 {
     let seen = operands_of_steps(steps, so_far, here, facts);
@@ -203,7 +207,8 @@ fn over_else(
     facts: &mut Facts,
 ) -> Result<Option<Kind>, Refusal>
     requires { IsSound here.now.catalog.now }
-    ensures { NodeBehind common (else_operand (surroundings here.now) (optional_part here.now.catalog.now otherwise.now) ∷ []) so_far facts.old facts.new result }
+    ensures { NodeBehind common (else_operand (surroundings here.now)
+        (optional_part here.now.catalog.now otherwise.now) ∷ []) so_far facts.old facts.new result }
 {
     match otherwise {
         None => kind_over(Gives::Common, so_far),
@@ -220,19 +225,15 @@ fn aggregate_seen(
     here: &Here,
 ) -> Result<Option<Kind>, Refusal>
     requires { IsSound here.now.catalog.now }
-    ensures { Tells (seen (aggregate_meant (surroundings here.now) at function (optional_part here.now.catalog.now argument.now))) result }
+    ensures { Tells (seen (aggregate_meant (surroundings here.now) at function
+        (optional_part here.now.catalog.now argument.now))) result }
 {
     match argument {
         None => answered(count_kind(here.standing.aggregates, at, function)),
         Some(argument) => {
             let scopes = ungrouped(&*here.scopes);
-            let inner = Here {
-                alloc: here.alloc,
-                catalog: &*here.catalog,
-                scopes: &scopes,
-                standing: in_argument(here.standing),
-            };
-            let kind = kind_of(argument.get(), &inner);
+            let place = (&*here).seeing(&scopes, in_argument(here.standing));
+            let kind = kind_of(argument.get(), &place);
             aggregated(here, at, function, argument.get().at, kind)
         }
     }
@@ -252,15 +253,11 @@ pub fn kind_of(tree: &ExprTree, here: &Here) -> Result<Option<Kind>, Refusal>
 #[cycle(seen)]
 fn tested_kind(tree: &ExprTree, here: &Here) -> Result<Option<Kind>, Refusal>
     requires { IsSound here.now.catalog.now }
-    ensures { Tells (seen (means_at (part_of here.now.catalog.now tree.now) (in_tested (surroundings here.now)))) result }
+    ensures { Tells (seen (means_at (part_of here.now.catalog.now tree.now)
+        (in_tested (surroundings here.now)))) result }
 {
-    let inner = Here {
-        alloc: here.alloc,
-        catalog: &*here.catalog,
-        scopes: &*here.scopes,
-        standing: in_tested(here.standing),
-    };
-    kind_of(tree, &inner)
+    let place = (&*here).seeing(&*here.scopes, in_tested(here.standing));
+    kind_of(tree, &place)
 }
 
 /// The columns of the query of a sublink at this offset, or that no sublink stands here. Its facts come behind those so
@@ -274,7 +271,9 @@ fn inner_seen(
     facts: &mut Facts,
 ) -> Result<InnerColumns, Refusal>
     requires { IsSound here.now.catalog.now }
-    ensures { InnerLooked here.now.standing.sublinks (query_means_at (query_of here.now.catalog.now query.now) (around_of (surroundings here.now))) at facts.old facts.new result }
+    ensures { InnerLooked here.now.standing.sublinks
+        (query_means_at (query_of here.now.catalog.now query.now) (around_of (surroundings here.now))) at
+        facts.old facts.new result }
 {
     if !here.standing.sublinks {
         return Err(Refusal::Break(Break {
@@ -282,14 +281,7 @@ fn inner_seen(
             at,
         }));
     }
-    let around = Around {
-        alloc: here.alloc,
-        catalog: &*here.catalog,
-        outer: &*here.scopes,
-        trace: trace_below(here.standing.trace),
-        provable: false,
-    };
-    match query_seen(query, &around) {
+    match query_seen(query, &here.below()) {
         Ok(shown) => add_inner(shown, facts),
         Err(refusal) => Err(refusal),
     }
@@ -305,7 +297,8 @@ pub fn operand(
     facts: &mut Facts,
 ) -> Result<Operands, Refusal>
     requires { IsSound here.now.catalog.now }
-    ensures { OperandsBehind (operand (surroundings here.now) need (part_of here.now.catalog.now tree.now) ∷ []) so_far facts.old facts.new result }
+    ensures { OperandsBehind (operand (surroundings here.now) need (part_of here.now.catalog.now tree.now)
+        ∷ []) so_far facts.old facts.new result }
 {
     match so_far {
         Ok(operands) => operands_with(operands, need, tree.at, expression_seen(tree, here, facts)),
@@ -323,7 +316,8 @@ pub fn operands(
     facts: &mut Facts,
 ) -> Result<Operands, Refusal>
     requires { IsSound here.now.catalog.now }
-    ensures { OperandsBehind (map (operand (surroundings here.now) need) (map (part_of here.now.catalog.now) trees.now)) so_far facts.old facts.new result }
+    ensures { OperandsBehind (map (operand (surroundings here.now) need)
+        (map (part_of here.now.catalog.now) trees.now)) so_far facts.old facts.new result }
 {
     let mut seen = so_far;
     for tree in trees {
@@ -341,7 +335,8 @@ pub fn operands_of_steps(
     facts: &mut Facts,
 ) -> Result<Operands, Refusal>
     requires { IsSound here.now.catalog.now }
-    ensures { OperandsBehind (map (step_operand (surroundings here.now)) (map (step_of here.now.catalog.now) steps.now)) so_far facts.old facts.new result }
+    ensures { OperandsBehind (map (step_operand (surroundings here.now))
+        (map (step_of here.now.catalog.now) steps.now)) so_far facts.old facts.new result }
 {
     let mut seen = so_far;
     for step in steps {
@@ -360,7 +355,8 @@ pub fn operands_of_arms(
     facts: &mut Facts,
 ) -> Result<Operands, Refusal>
     requires { IsSound here.now.catalog.now }
-    ensures { OperandsBehind (flat_map (arm_operands (surroundings here.now)) (map (arm_of here.now.catalog.now) arms.now)) so_far facts.old facts.new result }
+    ensures { OperandsBehind (flat_map (arm_operands (surroundings here.now))
+        (map (arm_of here.now.catalog.now) arms.now)) so_far facts.old facts.new result }
 {
     let mut seen = so_far;
     for arm in arms {

@@ -10,7 +10,7 @@ ghost use Rattle.name_seen_from.specs.declared.facts.Facts.{Facts as Gathered};
 
 use crate::cores::core_seen;
 use crate::queries::query_seen;
-use name_seen_cores::{add_operand, add_shown, unprovable};
+use name_seen_cores::{add_operand, add_shown};
 use name_seen_from::Facts;
 use name_seen_parts::{Around, Refusal, ShownColumn};
 use perm_values::List;
@@ -24,11 +24,12 @@ pub fn set_seen(
     facts: &mut Facts,
 ) -> Result<List<ShownColumn>, Refusal>
     requires { IsSound around.now.catalog.now }
-    ensures { ColumnsSeen ((set_of_tree around.now.catalog.now tree.now).means (around_of around.now)) facts.old facts.new result }
+    ensures { ColumnsSeen ((set_of_tree around.now.catalog.now tree.now).means (around_of around.now))
+        facts.old facts.new result }
 {
     match tree {
         SetTree::Core(core) => core_seen(core.get(), around, facts),
-        SetTree::Paren(query) => match query_seen(query.get(), &unprovable(around)) {
+        SetTree::Paren(query) => match query_seen(query.get(), &around.operand()) {
             Ok(shown) => add_shown(shown, facts),
             Err(refusal) => Err(refusal),
         },
@@ -49,7 +50,8 @@ fn operands_seen(
 ) -> Result<List<ShownColumn>, Refusal>
     requires { IsSound around.now.catalog.now }
     ensures { (left : QueryMeant) (before : Gathered) → ColumnsSeen left before facts.old first
-        → ColumnsSeen (set_chain (around_of around.now) left (map (set_step_of around.now.catalog.now) steps.now)) before facts.new result }
+        → ColumnsSeen (set_chain (around_of around.now) left
+        (map (set_step_of around.now.catalog.now) steps.now)) before facts.new result }
 {
     let mut seen = first;
     for step in steps {
@@ -69,11 +71,12 @@ fn operand_seen(
     requires { IsSound around.now.catalog.now }
     ensures { (left : QueryMeant) (before : Gathered) → ColumnsSeen left before facts.old so_far
         → ColumnsSeen (set_joined left (set_step_of around.now.catalog.now step.now)
-        ((set_step_of around.now.catalog.now step.now).operand.means (unprovable (around_of around.now)))) before facts.new result }
+        ((set_step_of around.now.catalog.now step.now).operand.means (unprovable (around_of around.now))))
+        before facts.new result }
 {
     match so_far {
         Ok(columns) => {
-            let operand = set_seen(&step.operand, &unprovable(around), facts);
+            let operand = set_seen(&step.operand, &around.operand(), facts);
             add_operand(columns, step.at, operand)
         }
         Err(refusal) => Err(refusal),

@@ -1,27 +1,27 @@
 //! What FROM reads.
 ghost use Rattle.std.specs.Prelude.{◌≡◌, ◌++◌, true, List as Items, Some, [], map};
 ghost use Rattle.perm_catalog.specs.Sound.{IsSound};
-ghost use Rattle.name_meaning.specs.Froms.{FromMeant, from_all, in_on, join_item, on_breaks, read_of, read_query, trace_under};
+ghost use Rattle.name_meaning.specs.Froms.{FromMeant, from_all, in_on, join_item, on_breaks, read_of, read_query};
 ghost use Rattle.name_meaning.specs.Meanings.{means_at, query_means_at};
 ghost use Rattle.name_meaning.specs.Scopes.{ScopeItem, scope_of};
 ghost use Rattle.name_meaning.specs.Trees.{from_item_of, from_of, join_of, part_of, query_of, source_of};
 ghost use Rattle.name_seen_parts.specs.Named.{scopes_of};
 ghost use Rattle.name_seen_parts.specs.Seen.{first_or};
+ghost use Rattle.name_seen_parts.specs.Standing.{around_of, around_under};
 ghost use Rattle.name_seen_parts.specs.Told.{Tells};
 ghost use Rattle.name_seen_from.specs.Queried.{FromSeen, FromWhole};
 ghost use Rattle.name_seen_from.specs.declared.facts.Facts.{Facts as Gathered};
 ghost use Rattle.name_seen_from.specs.Readings.{ItemSeen, ReadSeen};
 ghost use Rattle.name_seen.specs.Joining.{JoinSeen};
-ghost use Rattle.sql_tree.specs.declared.source.ScopeMark.{ScopeMark as Mark};
 
 use crate::expressions::kind_of;
 use crate::queries::query_seen;
-use name_meaning::{Scope, Trace};
+use name_meaning::Scope;
 use name_seen_cores::in_on;
-use name_seen_from::{Facts, Reading, put_item, read_named, read_shown, trace_under};
-use name_seen_parts::{Around, Here, Refusal, add_items, condition_over, inside, no_items};
+use name_seen_from::{Facts, Reading, put_item, read_named, read_shown};
+use name_seen_parts::{Around, Refusal, add_items, condition_over, inside, no_items};
 use perm_values::Chars;
-use sql_tree::{ExprTree, FromItem, FromSource, FromTree, JoinStep, QueryTree};
+use sql_tree::{ExprTree, FromItem, FromSource, FromTree, JoinStep, QueryTree, ScopeMark};
 
 /// The scope of all items of FROM, whose rows aren't grouped, or its first break. The facts of what is read come behind
 /// those so far.
@@ -32,7 +32,8 @@ pub fn from_scope(
     facts: &mut Facts,
 ) -> Result<Scope, Refusal>
     requires { IsSound around.now.catalog.now }
-    ensures { FromSeen (from_all (scopes_of around.now.outer.now) around.now.trace (map (from_of around.now.catalog.now) sources.now)) [] facts.old facts.new result }
+    ensures { FromSeen (from_all (scopes_of around.now.outer.now) around.now.trace
+        (map (from_of around.now.catalog.now) sources.now)) [] facts.old facts.new result }
 {
     let mut scope = no_items(around.alloc);
     for source in sources {
@@ -51,7 +52,8 @@ fn source_items(
     facts: &mut Facts,
 ) -> Result<Scope, Refusal>
     requires { IsSound around.now.catalog.now }
-    ensures { FromSeen ((from_of around.now.catalog.now tree.now).means (scopes_of around.now.outer.now) around.now.trace earlier.now) earlier.now facts.old facts.new result }
+    ensures { FromSeen ((from_of around.now.catalog.now tree.now).means (scopes_of around.now.outer.now)
+        around.now.trace earlier.now) earlier.now facts.old facts.new result }
 {
     let mut scope = no_items(around.alloc);
     from_item(&tree.first, earlier, &mut scope, around, facts)?;
@@ -72,8 +74,10 @@ fn join_seen(
 ) -> Result<(), Refusal>
     requires { IsSound around.now.catalog.now }
     ensures { (left : FromMeant) (before : Gathered) → FromWhole left earlier.now before facts.old scope.old →
-        JoinSeen (join_item (scopes_of around.now.outer.now) around.now.trace left (join_of around.now.catalog.now step.now)
-        ((join_of around.now.catalog.now step.now).item.means (scopes_of around.now.outer.now) around.now.trace left.names))
+        JoinSeen (join_item (scopes_of around.now.outer.now) around.now.trace left
+        (join_of around.now.catalog.now step.now)
+        ((join_of around.now.catalog.now step.now).item.means (scopes_of around.now.outer.now)
+        around.now.trace left.names))
         earlier.now before facts.new scope.new result }
 {
     from_item(&step.item, earlier, scope, around, facts)?;
@@ -89,16 +93,12 @@ fn on_seen(condition: &ExprTree, scope: &Scope, around: &Around) -> Result<(), R
     requires { IsSound around.now.catalog.now }
     ensures { (items : Items ScopeItem) → scope.now ≡ scope_of items →
         Tells (first_or (on_breaks (Some (part_of around.now.catalog.now condition.now))
-        (Some (means_at (part_of around.now.catalog.now condition.now) (in_on items (scopes_of around.now.outer.now) around.now.trace)))) tt) result }
+        (Some (means_at (part_of around.now.catalog.now condition.now)
+        (in_on items (scopes_of around.now.outer.now) around.now.trace)))) tt) result }
 {
     let scopes = inside(scope, false, around.outer)?;
-    let here = Here {
-        alloc: around.alloc,
-        catalog: &*around.catalog,
-        scopes: &scopes,
-        standing: in_on(around.trace),
-    };
-    condition_over(condition.at, kind_of(condition, &here))
+    let place = (&*around).seeing(&scopes, in_on(around.trace));
+    condition_over(condition.at, kind_of(condition, &place))
 }
 
 /// One more item in scope, behind items of these names and those in scope, or its first break.
@@ -111,42 +111,37 @@ fn from_item(
     facts: &mut Facts,
 ) -> Result<(), Refusal>
     requires { IsSound around.now.catalog.now }
-    ensures { ItemSeen ((from_item_of around.now.catalog.now item.now).means (scopes_of around.now.outer.now) around.now.trace (earlier.now ++ scope.old.items))
+    ensures { ItemSeen ((from_item_of around.now.catalog.now item.now).means (scopes_of around.now.outer.now)
+        around.now.trace (earlier.now ++ scope.old.items))
         scope.old facts.old facts.new scope.new result }
 {
-    let trace = trace_under(&item.mark, around.trace);
-    let reading = read_source(&item.source, trace, around)?;
+    let reading = read_source(&item.source, &item.mark, around)?;
     put_item(item, earlier, scope, around, reading, facts)
 }
 
-/// What an item reads that is traced so, or its first break.
+/// What an item with this mark reads, or its first break.
 #[cycle(seen)]
-fn read_source(source: &FromSource, trace: Trace, around: &Around) -> Result<Reading, Refusal>
+fn read_source(source: &FromSource, mark: &ScopeMark, around: &Around) -> Result<Reading, Refusal>
     requires { IsSound around.now.catalog.now }
-    ensures { (mark : Mark) → trace_under mark around.now.trace ≡ trace →
-        ReadSeen (read_of around.now.catalog.now mark (scopes_of around.now.outer.now) around.now.trace (source_of around.now.catalog.now source.now)) result }
+    ensures { ReadSeen (read_of around.now.catalog.now mark.now (scopes_of around.now.outer.now)
+        around.now.trace
+        (source_of around.now.catalog.now source.now)) result }
 {
     match source {
         FromSource::Named(name) => read_named(around.alloc, around.catalog, name),
-        FromSource::Inner(query) => read_inner(query.get(), trace, around),
+        FromSource::Inner(query) => read_inner(query.get(), mark, around),
     }
 }
 
-/// What a subquery gives to FROM, or its first break: it sees the scopes around its core, and no item beside it.
+/// What a subquery under this mark gives to FROM, or its first break: it sees the scopes around its core, and no item
+/// beside it.
 #[cycle(seen)]
-fn read_inner(query: &QueryTree, trace: Trace, around: &Around) -> Result<Reading, Refusal>
+fn read_inner(query: &QueryTree, mark: &ScopeMark, around: &Around) -> Result<Reading, Refusal>
     requires { IsSound around.now.catalog.now }
     ensures { ReadSeen (read_query (query_means_at (query_of around.now.catalog.now query.now)
-        (record { outer = scopes_of around.now.outer.now; trace = trace; provable = true }))) result }
+        (around_under mark.now (around_of around.now)))) result }
 {
-    let inner = Around {
-        alloc: around.alloc,
-        catalog: &*around.catalog,
-        outer: &*around.outer,
-        trace,
-        provable: true,
-    };
-    match query_seen(query, &inner) {
+    match query_seen(query, &around.under(mark)) {
         Ok(shown) => Ok(read_shown(around.alloc, shown)?),
         Err(refusal) => Err(refusal),
     }

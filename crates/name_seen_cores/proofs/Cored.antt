@@ -7,22 +7,21 @@ use Rattle.bag_algebra.specs.Scoped.{is_table}
 use Rattle.bag_algebra.specs.declared.expr.Item.{Item}
 use Rattle.bag_algebra.specs.declared.query.Aggr.{Aggr}
 use Rattle.bag_algebra.specs.declared.query.Query.{Query}
-use Rattle.bag_algebra.specs.declared.query.Query.TheVariants.{Distinct, Project}
+use Rattle.bag_algebra.specs.declared.query.Query.TheVariants.{Project}
 use Rattle.bag_algebra.specs.declared.query.Sublink.{Sublink}
 use Rattle.perm_values.specs.declared.kind.Kind.{Kind}
 use Rattle.sql_tree.specs.declared.name.ColRef.{ColRef}
-use Rattle.name_meaning.specs.Cores.{Clauses, aggregated_input, before_list, clause_breaks, clauses_query, core_clauses, core_over, core_query, core_seen, core_trace, core_unlooked, distinct_if, filtered, group_break, group_scope, in_clause, list_columns, optional_breaks, optional_built, optional_meant, settle_known, word_breaks}
+use Rattle.name_meaning.specs.Cores.{Clauses, aggregated_input, before_list, clauses_query, core_clauses, core_over, core_seen, core_trace, core_unlooked, distinct_if, filtered, group_break, group_scope, in_clause, list_columns, optional_breaks, optional_built, optional_meant, settle_known, word_breaks}
 use Rattle.name_meaning.specs.Froms.{FromMeant}
 use Rattle.name_meaning.specs.Items.{Made, SelectPart, items_breaks, made_items, named_from}
-use Rattle.name_meaning.specs.Meanings.{Around, Meant, OutColumn, Part, QueryMeant, is_whole}
+use Rattle.name_meaning.specs.Meanings.{Around, Meant, Part, QueryMeant, is_whole}
 use Rattle.name_meaning.specs.Scopes.{ScopeItem, scope_of}
 use Rattle.name_meaning.specs.declared.answer.Break.{Break}
 use Rattle.name_meaning.specs.declared.scope.Scope.{Scope}
 use Rattle.name_meaning.specs.declared.trace.Trace.{Trace}
 use Rattle.name_laws.specs.Facts.{Facts, both_facts, facts_of, sub_facts}
-use Rattle.name_laws.proofs.FactsOf.{both_facts-assoc, both_facts-none, facts-Aggregate, facts-Distinct, facts-Filter, facts-Project}
+use Rattle.name_laws.proofs.FactsOf.{both_facts-assoc, both_facts-none, facts-Filter, facts-Project, facts-aggregated, facts-distinct_if}
 use Rattle.name_seen_parts.specs.Seen.{first_or}
-use Rattle.name_seen_parts.specs.Columns.{columns_of}
 use Rattle.name_seen_parts.specs.declared.clauses.column.ShownColumn.{ShownColumn}
 use Rattle.name_seen_parts.proofs.Firsts.{all-none, both-none, first-behind, first-behind_two, first-stays, first-stays_first, first-stays_second, none-broken}
 use Rattle.name_seen_from.specs.Added.{facts_in}
@@ -40,14 +39,6 @@ facts-filtered : (input : Query) (m : Option Meant) → facts_of (filtered input
 facts-filtered input None = sym (both_facts-none (facts_of input))
 facts-filtered input (Some m) = facts-Filter input (optional_built (Some m)).expr (optional_built (Some m)).subs
 
-facts-input : (input : Query) (groups : Option (List ℕ)) (aggregates : List Aggr) → facts_of (aggregated_input input groups aggregates) ≡ facts_of input
-facts-input input None aggregates = refl
-facts-input input (Some groups) aggregates = facts-Aggregate input groups aggregates
-
-facts-distinct : (is_distinct : Bool) (query : Query) → facts_of (distinct_if is_distinct query) ≡ facts_of query
-facts-distinct true query = facts-Distinct query
-facts-distinct false query = refl
-
 -- FROM's, then those of WHERE, of HAVING and of the list
 abbrev clauses_facts : Clauses → List Sublink → Facts
 clauses_facts k subs =
@@ -59,11 +50,11 @@ facts-clauses k is_distinct wanted =
     let list : Made = made_items k.list (settle_known (list_columns k) wanted) (before_list k) in
     let aggregates : List Aggr = (optional_built k.having_meant).aggregates ++ list.aggregates in
     let rows : Query = aggregated_input (filtered k.input.query k.where_meant) k.groups aggregates in
-    facts-distinct is_distinct (Project (filtered rows k.having_meant) list.items list.subs)
+    facts-distinct_if is_distinct (Project (filtered rows k.having_meant) list.items list.subs)
     ∙ facts-Project (filtered rows k.having_meant) list.items list.subs
     ∙ ap (λ (facts : Facts). both_facts facts (sub_facts list.subs))
     (facts-filtered rows k.having_meant ∙ ap (λ (facts : Facts). both_facts facts (condition_facts k.having_meant))
-    (facts-input (filtered k.input.query k.where_meant) k.groups aggregates ∙ facts-filtered k.input.query k.where_meant))
+    (facts-aggregated (filtered k.input.query k.where_meant) k.groups aggregates ∙ facts-filtered k.input.query k.where_meant))
 
 adds-clauses : (k : Clauses) (is_distinct : Bool) (wanted : List Kind) (before from where_ having new : Facts)
     → from ≡ both_facts before (facts_of k.input.query)

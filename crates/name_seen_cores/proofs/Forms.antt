@@ -1,7 +1,6 @@
 -- Lists of operands, gone through one after the other.
 use Rattle.std.specs.Prelude.{◌≡◌, ℕ, ◌+◌, ◌<◌, false, List, [], ◌∷◌, ◌++◌, length, map, flat_map, slice_get, Option, Some, None, Result, Ok, Err}
 use Rattle.std.proofs.Common.{refl, ap, sym, subst, ◌∙◌, take, get_or, append_assoc, append-nil}
-use Rattle.std.proofs.lemmas.List.{take_more}
 use Rattle.null_logic.specs.declared.operator.Operator.TheVariants as x
 use Rattle.perm_catalog.specs.Contents.{Contents}
 use Rattle.perm_values.specs.declared.kind.Kind.{Kind}
@@ -23,35 +22,33 @@ use Rattle.name_seen_from.specs.Added.{facts_in}
 use Rattle.name_seen_cores.specs.Expressed.{OperandsBehind}
 use Rattle.name_seen_from.specs.declared.facts.Facts.{Facts as Gathered}
 use Rattle.name_seen_cores.proofs.Behind.{behind-both}
+use Rattle.contribution.proofs.Added.{one_more}
 
 -- ---- loops
 
-pub taken : {X : Type 0} (xs : List X) (i : ℕ) (x : X) → i < length xs → x ≡ get_or xs i x → take (i + 1) xs ≡ take i xs ++ x ∷ []
-taken xs i x within e = take_more xs i x within ∙ ap (λ y. take i xs ++ y ∷ []) (sym e)
-
-mapped-behind : {X Y : Type 0} (g : Y → Operand) (p : X → Y) (xs : List X) (x : X) → map g (map p (xs ++ x ∷ [])) ≡ map g (map p xs) ++ g (p x) ∷ []
+pub mapped-behind : {X Y Z : Type 0} (g : Y → Z) (p : X → Y) (xs : List X) (x : X) → map g (map p (xs ++ x ∷ [])) ≡ map g (map p xs) ++ g (p x) ∷ []
 mapped-behind g p [] x = refl
-mapped-behind g p (y ∷ xs) x = ap (λ (os : List Operand). g (p y) ∷ os) (mapped-behind g p xs x)
+mapped-behind g p (y ∷ xs) x = ap (λ (zs : List _). g (p y) ∷ zs) (mapped-behind g p xs x)
 
 pub mapped-more : {X Y : Type 0} (g : Y → Operand) (p : X → Y) (xs : List X) (i : ℕ) (x : X) (q r s : Result Operands Refusal) (old middle new : Gathered)
     → i < length xs → x ≡ get_or xs i x → OperandsBehind (map g (map p (take i xs))) q old middle r → OperandsBehind (g (p x) ∷ []) r middle new s
     → OperandsBehind (map g (map p (take (i + 1) xs))) q old new s
 mapped-more g p xs i x q r s old middle new within e so_far one =
     subst (λ os. OperandsBehind os q old new s)
-    (sym (ap (λ (ys : List _). map g (map p ys)) (taken xs i x within e) ∙ mapped-behind g p (take i xs) x)) (behind-both (map g (map p (take i xs))) (g (p x) ∷ []) q r s old middle new so_far one)
+    (sym (ap (λ (ys : List _). map g (map p ys)) (one_more xs i x within e) ∙ mapped-behind g p (take i xs) x)) (behind-both (map g (map p (take i xs))) (g (p x) ∷ []) q r s old middle new so_far one)
 
-flat-behind : {X Y : Type 0} (g : Y → List Operand) (p : X → Y) (xs : List X) (x : X)
+pub flat-behind : {X Y Z : Type 0} (g : Y → List Z) (p : X → Y) (xs : List X) (x : X)
     → flat_map g (map p (xs ++ x ∷ [])) ≡ flat_map g (map p xs) ++ g (p x)
 flat-behind g p [] x = append-nil (g (p x))
 flat-behind g p (y ∷ xs) x =
-    ap (λ (os : List Operand). g (p y) ++ os) (flat-behind g p xs x) ∙ sym (append_assoc (g (p y)) (flat_map g (map p xs)) (g (p x)))
+    ap (λ (zs : List _). g (p y) ++ zs) (flat-behind g p xs x) ∙ sym (append_assoc (g (p y)) (flat_map g (map p xs)) (g (p x)))
 
 pub flat-more : {X Y : Type 0} (g : Y → List Operand) (p : X → Y) (xs : List X) (i : ℕ) (x : X) (q r s : Result Operands Refusal) (old middle new : Gathered)
     → i < length xs → x ≡ get_or xs i x → OperandsBehind (flat_map g (map p (take i xs))) q old middle r → OperandsBehind (g (p x)) r middle new s
     → OperandsBehind (flat_map g (map p (take (i + 1) xs))) q old new s
 flat-more g p xs i x q r s old middle new within e so_far one =
     subst (λ os. OperandsBehind os q old new s)
-    (sym (ap (λ (ys : List _). flat_map g (map p ys)) (taken xs i x within e) ∙ flat-behind g p (take i xs) x)) (behind-both (flat_map g (map p (take i xs))) (g (p x)) q r s old middle new so_far one)
+    (sym (ap (λ (ys : List _). flat_map g (map p ys)) (one_more xs i x within e) ∙ flat-behind g p (take i xs) x)) (behind-both (flat_map g (map p (take i xs))) (g (p x)) q r s old middle new so_far one)
 
 -- ---- steps and arms
 

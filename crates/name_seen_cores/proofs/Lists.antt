@@ -1,5 +1,5 @@
 -- A SELECT list with one more item.
-use Rattle.std.specs.Prelude.{◌≡◌, ℕ, suc, ◌+◌, List, [], ◌∷◌, ◌++◌, length, take, drop, Option, Some, None, option_map, Ok, Err}
+use Rattle.std.specs.Prelude.{◌≡◌, ℕ, suc, ◌+◌, List, [], ◌∷◌, ◌++◌, length, take, drop, Option, Some, None, option_map, Err}
 use Rattle.std.proofs.Common.{refl, ap, sym, ◌∙◌, append_assoc, append-nil, arith}
 use Rattle.std.proofs.lemmas.List.{length-map}
 use Rattle.perm_values.specs.declared.kind.Kind.{Kind}
@@ -17,6 +17,7 @@ use Rattle.name_seen_parts.proofs.Firsts.{both-none, first-stays, first-behind}
 use Rattle.name_seen_from.specs.Added.{facts_in}
 use Rattle.name_seen_from.specs.declared.facts.Facts.{Facts as Gathered}
 use Rattle.name_seen_cores.specs.Listed.{ItemWhole, ListWhole}
+use Rattle.name_laws.proofs.KindsOf.{with_known}
 
 -- ---- breaks
 
@@ -35,12 +36,6 @@ item-breaks ms m more b none broken =
     ∙ first-stays m.breaks (items_breaks more) (tt {0}) (tt {0}) b broken
 
 -- ---- columns
-
-abbrev with_known : Option (List Titled) → Option (List Titled) → Option (List Titled)
-with_known columns rest = elim columns [
-  | None ↦ None
-  | Some known ↦ option_map (λ more. known ++ more) rest
-]
 
 known-more : (first rest later : Option (List Titled)) (titles own : List Titled) → with_known first rest ≡ Some titles
     → ((others : List Titled) → rest ≡ Some others → later ≡ Some (others ++ own)) → with_known first later ≡ Some (titles ++ own)

@@ -1,7 +1,6 @@
 -- The columns of places, gone through one after the other.
-use Rattle.std.specs.Prelude.{◌≡◌, ℕ, zero, suc, ◌+◌, ◌<◌, ◌≤◌, min, List, [], ◌∷◌, ◌++◌, length, map, Some}
-use Rattle.std.specs.List.{range_with_len}
-use Rattle.std.proofs.Common.{inl, inr, refl, ap, sym, ◌∙◌, drop, get_or, append_assoc, append-nil, add-one, arith}
+use Rattle.std.specs.Prelude.{◌≡◌, ℕ, ◌+◌, ◌<◌, ◌≤◌, min, List, [], ◌∷◌, ◌++◌, length, map, Some}
+use Rattle.std.proofs.Common.{inl, inr, refl, ap, sym, ◌∙◌, drop, get_or, append_assoc, append-nil, arith}
 use Rattle.std.proofs.Math.ListN.{drop_of_length-le}
 use Rattle.std.proofs.lemmas.Bool.{cases_lt}
 use Rattle.std.proofs.lemmas.List.{map-append}
@@ -56,16 +55,3 @@ pub named-end : (names : List (List ℕ)) (kinds : List Kind) (at end : ℕ) (so
     → columns_of so_far ++ named_from_place at names kinds ≡ all → columns_of so_far ≡ all
 named-end names kinds at end so_far all least past before =
     sym (append-nil (columns_of so_far)) ∙ ap (λ (rest : List OutColumn). columns_of so_far ++ rest) (sym (none-left names kinds at end least past)) ∙ before
-
--- ---- consecutive places
-
-range-suc : (start count : ℕ) → range_with_len start (suc count) ≡ range_with_len start count ++ (start + count) ∷ []
-range-suc start zero =
-    let none : start ≡ start + 0 = omega arith in
-    ap (λ (n : ℕ). n ∷ []) none
-range-suc start (suc count) =
-    let next : (start + 1) + count ≡ start + suc count = omega arith in
-    ap (λ (rest : List ℕ). start ∷ rest) (range-suc (start + 1) count ∙ ap (λ (n : ℕ). range_with_len (start + 1) count ++ n ∷ []) next)
-
-pub range-more : (start count : ℕ) → range_with_len start (count + 1) ≡ range_with_len start count ++ (start + count) ∷ []
-range-more start count = ap (range_with_len start) (add-one count) ∙ range-suc start count

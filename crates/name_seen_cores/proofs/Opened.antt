@@ -1,58 +1,18 @@
 -- What trees of queries mean, of what their parts mean.
-use Rattle.std.specs.Prelude.{◌≡◌, ℕ, Bool, List, map, Option, Some, None, option_map}
-use Rattle.std.proofs.Common.{refl, ap, sym, ◌∙◌}
+use Rattle.std.specs.Prelude.{◌≡◌, List, map, None}
+use Rattle.std.proofs.Common.{ap, sym, ◌∙◌}
 use Rattle.perm_catalog.specs.Contents.{Contents}
-use Rattle.sql_tree.specs.declared.expression.ExprTree.{ExprTree}
-use Rattle.sql_tree.specs.declared.name.ColRef.{ColRef}
-use Rattle.sql_tree.specs.declared.query.Core.{Core, out-Core, roll-Core}
-use Rattle.sql_tree.specs.declared.expression.ExprBody.TheViews.{roll-out-Core}
+use Rattle.sql_tree.specs.declared.query.Core.{Core, out-Core}
 use Rattle.sql_tree.specs.declared.query.QueryTree.{QueryTree}
-use Rattle.sql_tree.specs.declared.query.SelectItem.{SelectItem}
 use Rattle.sql_tree.specs.declared.query.SetStep.{SetStep}
 use Rattle.sql_tree.specs.declared.query.SetTree.{SetTree}
 use Rattle.sql_tree.specs.declared.query.SetTree.TheVariants as set
-use Rattle.sql_tree.specs.declared.source.FromTree.{FromTree}
-use Rattle.name_meaning.specs.Cores.{BodyPart, core_step}
-use Rattle.name_meaning.specs.Meanings.{Around, QueryMeant, QueryPart, query_means_at}
+use Rattle.name_meaning.specs.Cores.{BodyPart}
+use Rattle.name_meaning.specs.Meanings.{Around, QueryPart, query_means_at}
 use Rattle.name_meaning.specs.Queries.{SetStepPart, query_seen, set_chain, unprovable}
-use Rattle.name_meaning.specs.Trees.{core_of, from_of, item_of, part_of, query_of, set_of_tree, set_step_of}
-use Rattle.name_meaning.proofs.Equations.{CoreFrame, token, core-record-none-none, core-record-none-some, core-record-some-none, core-record-some-some, querytree-record, setstep-record, settree-chain, settree-core, settree-paren}
-use Rattle.name_seen_cores.specs.Behind.{optional_part}
-
--- ---- cores
-
-abbrev frame : Contents → ℕ → Option ℕ → Bool → List SelectItem → List FromTree → Option ExprTree → List ColRef → Option ExprTree → CoreFrame
-frame c at provenance distinct items sources condition groups having = record {
-  at = at;
-  provenance = provenance;
-  distinct = distinct;
-  items = map (item_of c) items;
-  sources = map (from_of c) sources;
-  condition = optional_part c condition;
-  groups = groups;
-  having = optional_part c having;
-}
-
-core-record : (c : Contents) (at : ℕ) (provenance : Option ℕ) (distinct : Bool) (items : List SelectItem) (sources : List FromTree) (condition : Option ExprTree)
-    (groups : List ColRef) (having : Option ExprTree)
-    → core_of c (roll-Core (record { at = at; provenance = provenance; distinct = distinct; items = items; sources = sources; condition = condition; groups = groups; having = having }))
-    ≡ core_step (frame c at provenance distinct items sources condition groups having)
-unfolding token
-core-record c at provenance distinct items sources None groups None = core-record-none-none c at provenance distinct items sources groups
-core-record c at provenance distinct items sources None groups (Some having) = core-record-none-some c at provenance distinct items sources groups having
-core-record c at provenance distinct items sources (Some condition) groups None = core-record-some-none c at provenance distinct items sources condition groups
-core-record c at provenance distinct items sources (Some condition) groups (Some having) =
-    core-record-some-some c at provenance distinct items sources condition groups having
-
-abbrev pub core_frame : Contents → Core → CoreFrame
-core_frame c tree = frame c (out-Core tree).at (out-Core tree).provenance (out-Core tree).distinct (out-Core tree).items (out-Core tree).sources (out-Core tree).condition
-    (out-Core tree).groups (out-Core tree).having
-
-pub core-is : (c : Contents) (tree : Core) → core_of c tree ≡ core_step (core_frame c tree)
-core-is c tree =
-    ap (core_of c) (sym (roll-out-Core tree))
-    ∙ core-record c (out-Core tree).at (out-Core tree).provenance (out-Core tree).distinct (out-Core tree).items (out-Core tree).sources (out-Core tree).condition
-    (out-Core tree).groups (out-Core tree).having
+use Rattle.name_meaning.specs.Trees.{core_of, query_of, set_of_tree, set_step_of}
+use Rattle.name_meaning.proofs.Equations.{token, querytree-record, setstep-record, settree-chain, settree-core, settree-paren}
+use Rattle.name_meaning.proofs.Opened.{core-is}
 
 -- ---- set operations
 

@@ -1,8 +1,8 @@
 -- What the code finds of set operations, and of a query over its body, is what these mean.
-use Rattle.std.specs.Prelude.{◌≡◌, ℕ, ℤ, Bool, true, false, cond, List, [], ◌∷◌, ◌++◌, flat_map, length, map, nat_abs, Option, Some, None, option_map, Result, Ok, Err}
+use Rattle.std.specs.Prelude.{◌≡◌, ℕ, ℤ, Bool, true, false, List, [], ◌∷◌, ◌++◌, length, map, nat_abs, Option, Some, None, Result, Ok, Err}
 use Rattle.std.specs.List.{range_with_len}
 use Rattle.std.specs.Option.{option_map_or}
-use Rattle.std.proofs.Common.{refl, ap, sym, subst, ◌∙◌}
+use Rattle.std.proofs.Common.{refl, ap, sym, ◌∙◌}
 use Rattle.std.proofs.lemmas.List.{length-map}
 use Rattle.bag_algebra.specs.Built.{Except-is, Intersect-is, Limit-is, Prov-is, Union-is}
 use Rattle.bag_algebra.specs.Kinds.{kinds_of, place_kinds, shape}
@@ -17,23 +17,24 @@ use Rattle.sql_tree.specs.declared.query.SetWord.{SetWord}
 use Rattle.sql_tree.specs.declared.query.SetWord.TheVariants as word
 use Rattle.name_meaning.specs.Cores.{settle, settle_known}
 use Rattle.name_meaning.specs.Froms.{named_columns}
-use Rattle.name_meaning.specs.Meanings.{Around, OutColumn, QueryMeant, is_whole}
-use Rattle.name_meaning.specs.Queries.{SetStepPart, columns_so_far, keys_breaks, keys_of, limited, operand_break, operand_breaks, out_column, plain_query, proved_columns, proved_query, provenance_columns, provenance_places, set_chain, set_joined, set_of, united_columns, unprovable}
+use Rattle.name_meaning.specs.Meanings.{Around, OutColumn, QueryMeant}
+use Rattle.name_meaning.specs.Queries.{SetStepPart, columns_so_far, keys_breaks, keys_of, limited, operand_break, operand_breaks, out_column, plain_query, proved_columns, set_chain, set_joined, set_of, united_columns, unprovable}
 use Rattle.name_meaning.specs.declared.answer.Break.{Break}
 use Rattle.name_laws.specs.Facts.{Facts, both_facts, facts_of, no_facts, proved_facts}
 use Rattle.name_laws.specs.Known.{HasItsKinds}
-use Rattle.name_laws.proofs.FactsOf.{both_facts-assoc, facts-Except, facts-Intersect, facts-Limit, facts-Prov, facts-Union}
+use Rattle.name_laws.proofs.FactsOf.{both_facts-assoc, facts-Prov, facts-set, facts-limited}
 use Rattle.name_seen_parts.specs.Seen.{first_or}
 use Rattle.name_seen_parts.specs.declared.refusal.Refusal.{Refusal}
 use Rattle.name_seen_parts.specs.declared.refusal.Refusal.TheVariants.{Break as Broken, NoMemory}
 use Rattle.name_seen_parts.specs.Columns.{column_of, columns_of}
 use Rattle.name_seen_parts.specs.declared.clauses.column.ShownColumn.{ShownColumn}
-use Rattle.name_seen_parts.proofs.Firsts.{all-none, both-none, first-behind, first-behind_two, first-stays, first-stays_first, first-stays_second, none-broken}
+use Rattle.name_seen_parts.proofs.Firsts.{all-none, both-none, first-behind, first-behind_two, first-stays_first, first-stays_second, none-broken}
 use Rattle.name_seen_from.specs.Added.{facts_in}
-use Rattle.name_seen_from.specs.Queried.{ColumnsSeen, ColumnsWhole, QuerySeen, QueryWhole}
+use Rattle.name_seen_from.specs.Queried.{ColumnsSeen, ColumnsWhole, QueryWhole}
 use Rattle.name_seen_from.specs.declared.facts.Facts.{Facts as Gathered}
 use Rattle.name_seen_from.specs.declared.shown.QueryShown.{QueryShown}
 use Rattle.name_seen_cores.specs.Behind.{OperandUnited, PlacesBehind, query_behind}
+use Rattle.name_laws.proofs.KindsOf.{columns-joined, known-proved}
 
 -- ---- set operations
 
@@ -42,17 +43,9 @@ set-inner word.Union all left right = ap is_table (Union-is all left right)
 set-inner word.Except all left right = ap is_table (Except-is all left right)
 set-inner word.Intersect all left right = ap is_table (Intersect-is all left right)
 
-set-facts : (op : SetWord) (all : Bool) (left right : Query) → facts_of (set_of op all left right) ≡ both_facts (facts_of left) (facts_of right)
-set-facts word.Union all left right = facts-Union all left right
-set-facts word.Except all left right = facts-Except all left right
-set-facts word.Intersect all left right = facts-Intersect all left right
-
 operands-are : (at : ℕ) (l r : Option (List OutColumn)) (left right : List OutColumn) → l ≡ Some left → r ≡ Some right
     → operand_breaks at l r ≡ operand_break at left right
 operands-are at l r left right e f = λ i. operand_breaks at (e i) (f i)
-
-columns-are : (l r : Option (List OutColumn)) (left right : List OutColumn) → l ≡ Some left → r ≡ Some right → columns_so_far l r ≡ Some (united_columns left right)
-columns-are l r left right e f = λ i. columns_so_far (e i) (f i)
 
 joined-whole : (before : QueryMeant) (step : SetStepPart) (operand : QueryMeant) (old middle new : Gathered) (left right columns : List ShownColumn)
     → ColumnsWhole before old middle left → ColumnsWhole operand middle new right → operand_break step.at (columns_of left) (columns_of right) ≡ []
@@ -62,13 +55,13 @@ joined-whole before step operand old middle new left right columns first second 
     record {
       whole = all-none before.breaks operand.breaks (operand_breaks step.at before.columns operand.columns) first.whole second.whole
           (operands-are step.at before.columns operand.columns (columns_of left) (columns_of right) first.known second.known ∙ fits);
-      known = columns-are before.columns operand.columns (columns_of left) (columns_of right) first.known second.known ∙ ap Some (sym united);
+      known = columns-joined before.columns operand.columns (columns_of left) (columns_of right) first.known second.known ∙ ap Some (sym united);
       inner = λ wanted. set-inner step.word step.all (before.make (kinds wanted)) (operand.make (kinds wanted));
       adds = λ wanted.
           second.adds (kinds wanted)
           ∙ ap (λ (facts : Facts). both_facts facts (facts_of (operand.make (kinds wanted)))) (first.adds (kinds wanted))
           ∙ both_facts-assoc (facts_in old) (facts_of (before.make (kinds wanted))) (facts_of (operand.make (kinds wanted)))
-          ∙ ap (both_facts (facts_in old)) (sym (set-facts step.word step.all (before.make (kinds wanted)) (operand.make (kinds wanted))));
+          ∙ ap (both_facts (facts_in old)) (sym (facts-set step.word step.all (before.make (kinds wanted)) (operand.make (kinds wanted))));
     }
 
 -- an operand that was answered
@@ -121,15 +114,11 @@ limited-inner : (limit : Option ℤ) (keys : List Key) (query : Query) → is_ta
 limited-inner None keys query inner = inner
 limited-inner (Some n) keys query inner = ap is_table (Limit-is query keys (nat_abs n))
 
-limited-facts : (limit : Option ℤ) (keys : List Key) (query : Query) → facts_of (limited limit keys query) ≡ facts_of query
-limited-facts None keys query = refl
-limited-facts (Some n) keys query = facts-Limit query keys (nat_abs n)
-
 -- the facts of a body, where none stand before them
 body-facts : (body : QueryMeant) (none facts : Gathered) (columns : List ShownColumn) (limit : Option ℤ) (keys : List Key) (wanted : List Kind) → facts_in none ≡ no_facts
     → ColumnsWhole body none facts columns → facts_in facts ≡ facts_of (limited limit keys (body.make wanted))
 body-facts body none facts columns limit keys wanted empty is =
-    is.adds wanted ∙ ap (λ (before : Facts). both_facts before (facts_of (body.make wanted))) empty ∙ sym (limited-facts limit keys (body.make wanted))
+    is.adds wanted ∙ ap (λ (before : Facts). both_facts before (facts_of (body.make wanted))) empty ∙ sym (facts-limited limit keys (body.make wanted))
 
 -- a query whose columns are known has their kinds
 kinds-are : (m : QueryMeant) (columns : List OutColumn) → HasItsKinds m → m.columns ≡ Some columns → (wanted : List Kind) → kinds_of (m.make wanted) ≡ settle columns wanted
@@ -169,12 +158,6 @@ plain-whole at body order limit none facts columns empty is fine kinds =
 
 -- ---- PROVENANCE
 
-proved-known : (body : QueryMeant) (query : Query) (columns : List OutColumn) → body.breaks ≡ [] → body.columns ≡ Some columns
-    → proved_columns body query ≡ Some (columns ++ provenance_columns query)
-proved-known body query columns whole known =
-    ap (λ (breaks : List Break). cond (is_whole breaks) (option_map (λ (own : List OutColumn). own ++ provenance_columns query) body.columns) body.columns) whole
-    ∙ ap (option_map (λ (own : List OutColumn). own ++ provenance_columns query)) known
-
 abbrev columns_at : List Place → List OutColumn
 columns_at places = map out_column (named_columns (place_names places) (place_kinds places))
 
@@ -189,7 +172,7 @@ proved-whole at body order limit none facts columns shown empty is fine kinds be
     both-none body.breaks (keys_breaks body.columns order) is.whole (keys-are body (columns_of columns) order is.known ∙ fine) in
     let places : facts.places ≡ shape query = ap (λ (f : Facts). f.places) (body-facts body none facts columns limit keys [] empty is) in
     let known : proved_columns body query ≡ Some (columns_of shown.columns) =
-    proved-known body query (columns_of columns) is.whole is.known
+    known-proved body query (columns_of columns) is.whole is.known
     ∙ ap Some (ap (λ (ps : List Place). columns_of columns ++ columns_at ps) (sym places) ∙ sym behind.shown) in
     let count : option_map_or length body.columns 0 ≡ length columns =
     ap (λ (cs : Option (List OutColumn)). option_map_or length cs 0) is.known ∙ length-map columns column_of in

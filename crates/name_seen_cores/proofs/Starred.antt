@@ -19,7 +19,8 @@ use Rattle.name_seen_parts.proofs.Firsts.{none-broken}
 use Rattle.name_seen_from.specs.Added.{facts_in}
 use Rattle.name_seen_from.specs.declared.facts.Facts.{Facts as Gathered}
 use Rattle.name_seen_cores.specs.Listed.{ItemWhole}
-use Rattle.name_seen_cores.specs.Shown.{columns_shown, is_of, shown}
+use Rattle.name_seen_cores.specs.Shown.{columns_shown, shown}
+use Rattle.name_seen_parts.specs.Stars.{is_of}
 
 abbrev shown_at : Placed → OutColumn
 shown_at column = shown column.1

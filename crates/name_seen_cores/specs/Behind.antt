@@ -1,5 +1,5 @@
 -- What the code finds of the clauses of a core behind its FROM, and of a query behind its body.
-use Rattle.std.specs.Prelude.{◌≡◌, ℕ, ℤ, Bool, true, false, cond, List, [], ◌++◌, flat_map, length, map, Option, Some, None, option_map, Result, Ok, Err}
+use Rattle.std.specs.Prelude.{◌≡◌, ℕ, ℤ, Bool, true, false, List, [], ◌++◌, flat_map, length, map, Option, Some, option_map, Result, Ok, Err}
 use Rattle.std.specs.List.{range_with_len}
 use Rattle.bag_algebra.specs.Kinds.{place_kinds}
 use Rattle.bag_algebra.specs.PlaceNames.{place_names}
@@ -16,7 +16,6 @@ use Rattle.name_meaning.specs.Queries.{keys_of, limited, operand_break, out_colu
 use Rattle.name_meaning.specs.Scopes.{ScopeItem}
 use Rattle.name_meaning.specs.Trees.{from_of, item_of, part_of}
 use Rattle.name_meaning.specs.declared.scope.Scope.{Scope}
-use Rattle.name_meaning.specs.declared.trace.Trace.TheVariants.{InProvenance as in_provenance}
 use Rattle.name_laws.specs.Facts.{both_facts, proved_facts, sub_facts}
 use Rattle.name_seen_parts.specs.Seen.{first_or}
 use Rattle.name_seen_parts.specs.declared.refusal.Refusal.{Refusal}
@@ -52,16 +51,6 @@ GroupsSeen own groups having items (Ok scope) = GroupsWhole own groups having it
 GroupsSeen own groups having items (Err (Broken first)) = first_or (flat_map (group_break own) groups) (tt {0}) ≡ Err first
 GroupsSeen own groups having items (Err NoMemory) = Unit {0}
 
--- the places of the GROUP BY columns, where the core is grouped
-pub record PlacesWhole (own : Scope) (groups : List ColRef) (having : Option Part) (items : List SelectPart) (places : Option (List ℕ)) : Type 0 where
-  pub whole : flat_map (group_break own) groups ≡ []
-  pub places_are : places ≡ (group_scope own groups having items).groups
-
-abbrev pub PlacesSeen : Scope → List ColRef → Option Part → List SelectPart → Result (Option (List ℕ)) Refusal → Type 0
-PlacesSeen own groups having items (Ok places) = PlacesWhole own groups having items places
-PlacesSeen own groups having items (Err (Broken first)) = first_or (flat_map (group_break own) groups) (tt {0}) ≡ Err first
-PlacesSeen own groups having items (Err NoMemory) = Unit {0}
-
 abbrev pub is_aggregating : SelectPart → Bool
 is_aggregating item = item.aggregating
 
@@ -80,9 +69,6 @@ OperandUnited at left right (Err (Broken first)) = first_or (operand_break at (c
 OperandUnited at left right (Err NoMemory) = ⊥
 
 -- ---- a query
-
-abbrev pub around_body : Bool → Around → Around
-around_body proving around = record around { trace = cond proving in_provenance around.trace }
 
 -- the query over its body, which asks for provenance or not
 abbrev pub query_behind : Bool → ℕ → QueryMeant → List OrderTree → Option ℤ → QueryMeant

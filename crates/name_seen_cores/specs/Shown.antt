@@ -1,5 +1,5 @@
 -- The columns that `*` and `x.*` show, and the names of columns.
-use Rattle.std.specs.Prelude.{ℕ, Bool, true, List, [], ◌∷◌, ◌++◌, map, filter, nat_eq, Option, Some, None, codes, decimal}
+use Rattle.std.specs.Prelude.{ℕ, List, [], ◌++◌, map, filter, Option, Some, codes, decimal}
 use Rattle.std.specs.Option.{option_map_or}
 use Rattle.perm_catalog.specs.Contents.{Contents}
 use Rattle.sql_tree.specs.declared.expression.ExprTree.{ExprTree}
@@ -7,14 +7,10 @@ use Rattle.name_meaning.specs.Meanings.{OutColumn}
 use Rattle.name_meaning.specs.Trees.{part_of}
 use Rattle.name_meaning.specs.declared.scope.Scope.{Scope}
 use Rattle.name_meaning.specs.declared.scope.ScopeColumn.{ScopeColumn}
+use Rattle.name_seen_parts.specs.Stars.{is_of}
 
 abbrev pub shown : ScopeColumn → OutColumn
 shown column = record { name = column.name; kind = Some column.kind }
-
--- whether the column is one of the item, if there is one
-abbrev pub is_of : Option ℕ → ScopeColumn → Bool
-is_of None column = true
-is_of (Some number) column = nat_eq number column.item
 
 abbrev pub columns_shown : Option ℕ → Scope → List OutColumn
 columns_shown item scope = map shown (filter (is_of item) scope.columns)

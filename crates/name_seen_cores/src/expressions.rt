@@ -58,7 +58,9 @@ pub fn answered(kind: Result<Option<Kind>, Break>) -> Result<Option<Kind>, Refus
 
 /// The kind of the column that a reference means, or why it means none.
 pub fn column(reference: &ColRef, here: &Here) -> Result<Option<Kind>, Refusal>
-    ensures { result ≡ answered (seen (column_meant (surroundings here.now) reference.now.at (look_up 0 (scopes_of here.now.scopes.now) reference.now))) }
+    ensures { result
+        ≡ answered (seen (column_meant (surroundings here.now) reference.now.at
+        (look_up 0 (scopes_of here.now.scopes.now) reference.now))) }
 {
     let found = look_up(&*here.scopes, reference);
     answered(column_kind(here.standing.argument, reference.at, found))
@@ -86,7 +88,8 @@ pub fn chain_gives(steps: &[ExprStep]) -> Gives
 
 /// How the argument of an aggregate stands.
 pub fn in_argument(standing: Standing) -> Standing
-    ensures { (scopes : Items Scope) → standing_in (ungrouped scopes) result ≡ in_argument (standing_in scopes standing) }
+    ensures { (scopes : Items Scope) → standing_in (ungrouped scopes) result
+        ≡ in_argument (standing_in scopes standing) }
 {
     Standing {
         aggregates: false,

@@ -15,11 +15,9 @@ mod sublinks;
 pub use expressions::{
     aggregated, answered, chain_gives, column, first_need, in_argument, kind_over, operands_with,
 };
-pub use grouping::{grouped_scope, is_grouped};
+pub use grouping::{behind_groups, grouped_scope, is_grouped, places_of_groups};
 pub use listing::{add_star, add_table_star, add_value};
-pub use queries::{body_around, core_word, is_proving, query_over, unprovable};
+pub use queries::{core_word, is_proving, query_over};
 pub use sets::{add_operand, add_shown};
 pub use standing::{in_clause, in_on};
-pub use sublinks::{
-    InnerColumns, add_inner, exists_over, in_tested, scalar_over, tested_over, trace_below,
-};
+pub use sublinks::{InnerColumns, add_inner, exists_over, in_tested, scalar_over, tested_over};

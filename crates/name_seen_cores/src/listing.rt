@@ -4,13 +4,14 @@ ghost use Rattle.name_meaning.specs.Items.{named_from, star_meant, table_star_me
 ghost use Rattle.name_meaning.specs.Trees.{part_of};
 ghost use Rattle.perm_catalog.specs.Contents.{Contents};
 ghost use Rattle.name_seen_parts.specs.Columns.{columns_of};
+ghost use Rattle.name_seen_parts.specs.Stars.{is_of};
 ghost use Rattle.name_seen_from.specs.declared.facts.Facts.{Facts as Gathered};
 ghost use Rattle.name_seen_cores.specs.Listed.{ItemSeen};
-ghost use Rattle.name_seen_cores.specs.Shown.{columns_shown, is_of, shown};
+ghost use Rattle.name_seen_cores.specs.Shown.{columns_shown, shown};
 
 use crate::names::title;
 use name_meaning::{Scope, ScopeColumn};
-use name_seen_parts::{Refusal, ShownColumn, item_number, star, table_star};
+use name_seen_parts::{Refusal, ShownColumn, is_of, item_number, star, table_star};
 use perm_values::{Copyable, Kind, List, NoMemory};
 use sql_tree::{ExprTree, Name};
 use std::alloc::Global;
@@ -23,7 +24,8 @@ pub fn add_star(
     at: usize,
     columns: &mut List<ShownColumn>,
 ) -> Result<(), Refusal>
-    ensures { (facts : Gathered) → ItemSeen (star_meant has_from scope.now at) columns.old columns.new facts facts result }
+    ensures { (facts : Gathered) → ItemSeen (star_meant has_from scope.now at) columns.old columns.new facts
+        facts result }
 {
     star(has_from, scope, at)?;
     add_columns(alloc, scope, None, columns)?;
@@ -37,7 +39,8 @@ pub fn add_table_star(
     table: &Name,
     columns: &mut List<ShownColumn>,
 ) -> Result<(), Refusal>
-    ensures { (facts : Gathered) → ItemSeen (table_star_meant scope.now table.now) columns.old columns.new facts facts result }
+    ensures { (facts : Gathered) → ItemSeen (table_star_meant scope.now table.now) columns.old columns.new
+        facts facts result }
 {
     table_star(scope, table)?;
     match item_number(scope, &table.text) {
@@ -68,7 +71,8 @@ fn add_if(
     column: &ScopeColumn,
     columns: &mut List<ShownColumn>,
 ) -> Result<(), NoMemory>
-    ensures { OnOk result (columns_of columns.new ≡ columns_of columns.old ++ map shown (filter (is_of item) (column.now ∷ []))) }
+    ensures { OnOk result (columns_of columns.new ≡ columns_of columns.old
+        ++ map shown (filter (is_of item) (column.now ∷ []))) }
 {
     if !is_of(item, column) {
         return Ok(());
@@ -77,15 +81,6 @@ fn add_if(
         name: column.name.copy(alloc)?,
         kind: Some(column.kind),
     })
-}
-
-fn is_of(item: Option<usize>, column: &ScopeColumn) -> bool
-    ensures { result ≡ is_of item column.now }
-{
-    match item {
-        None => true,
-        Some(number) => number == column.item,
-    }
 }
 
 /// The column of an expression of this kind behind those so far.
@@ -97,7 +92,8 @@ pub fn add_value(
     columns: &mut List<ShownColumn>,
 ) -> Result<(), NoMemory>
     ensures { (c : Contents) → OnOk result (columns_of columns.new
-        ≡ columns_of columns.old ++ named_from (suc (length columns.old)) (record { name = title name.now (part_of c tree.now); kind = kind } ∷ [])) }
+        ≡ columns_of columns.old ++ named_from (suc (length columns.old))
+        (record { name = title name.now (part_of c tree.now); kind = kind } ∷ [])) }
 {
     let name = title(alloc, name, tree, columns.len() + 1)?;
     columns.push(ShownColumn { name, kind })

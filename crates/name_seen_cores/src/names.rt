@@ -17,7 +17,8 @@ pub(crate) fn title(
     tree: &ExprTree,
     position: usize,
 ) -> Result<Chars, NoMemory>
-    ensures { (c : Contents) → IfOk result (λ text. text ≡ name_or position (title name.now (part_of c tree.now))) }
+    ensures { (c : Contents) → IfOk result (λ text. text
+        ≡ name_or position (title name.now (part_of c tree.now))) }
 {
     match name {
         Some(name) => name.text.copy(alloc),

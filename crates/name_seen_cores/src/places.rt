@@ -1,5 +1,5 @@
 //! The provenance columns of a query behind its own.
-ghost use Rattle.std.specs.Prelude.{◌≡◌, ◌++◌, ◌+◌, ◌<◌, ◌^◌, length, map, IfOk, OnOk};
+ghost use Rattle.std.specs.Prelude.{◌≡◌, ◌++◌, length, map, IfOk, OnOk};
 ghost use Rattle.std.specs.List.{range_with_len};
 ghost use Rattle.bag_algebra.specs.Kinds.{place_kinds};
 ghost use Rattle.bag_algebra.specs.PlaceNames.{place_names};
@@ -44,14 +44,16 @@ fn add_places(
     list: &PlaceList,
 ) -> Result<List<usize>, NoMemory>
     ensures shown { OnOk result (columns_of columns.new
-        ≡ columns_of columns.old ++ map out_column (named_columns (place_names list.now.places) (place_kinds list.now.places))) }
-    ensures places { IfOk result (λ places. places ≡ range_with_len (length columns.old) (length (place_kinds list.now.places))) }
+        ≡ columns_of columns.old ++ map out_column
+        (named_columns (place_names list.now.places) (place_kinds list.now.places))) }
+    ensures places { IfOk result (λ places. places
+        ≡ range_with_len (length columns.old) (length (place_kinds list.now.places))) }
 {
     let own = columns.len();
     let kinds = kinds_of_places(alloc, list.places.as_slice())?;
     let names = prov_names(alloc, list)?;
     add_named(alloc, columns, names.as_slice(), kinds.as_slice())?;
-    places_from(alloc, own, kinds.len())
+    List::range(alloc, own, kinds.len())
 }
 
 fn kinds_of_places(alloc: Global, places: &[Place]) -> Result<List<Kind>, NoMemory>
@@ -79,7 +81,8 @@ fn add_named(
     names: &[Chars],
     kinds: &[Kind],
 ) -> Result<(), NoMemory>
-    ensures { OnOk result (columns_of columns.new ≡ columns_of columns.old ++ map out_column (named_columns names.now kinds.now)) }
+    ensures { OnOk result (columns_of columns.new ≡ columns_of columns.old
+        ++ map out_column (named_columns names.now kinds.now)) }
 {
     for at in 0..names.len().min(kinds.len()) {
         columns.push(ShownColumn {
@@ -88,16 +91,4 @@ fn add_named(
         })?;
     }
     Ok(())
-}
-
-/// As many places in a row.
-fn places_from(alloc: Global, start: usize, count: usize) -> Result<List<usize>, NoMemory>
-    requires { start + count < 2 ^ 64 }
-    ensures { IfOk result (λ places. places ≡ range_with_len start count) }
-{
-    let mut places = List::new(alloc);
-    for at in 0..count {
-        places.push(start + at)?;
-    }
-    Ok(places)
 }

@@ -1,9 +1,8 @@
-//! What queries show over their bodies, and where these stand.
-ghost use Rattle.std.specs.Prelude.{◌≡◌, [], ℕ, ℤ, Option, cond};
+//! What queries show over their bodies.
+ghost use Rattle.std.specs.Prelude.{◌≡◌, [], ℕ, ℤ, Option};
 ghost use Rattle.name_meaning.specs.Meanings.{QueryMeant};
-ghost use Rattle.name_meaning.specs.Queries.{is_proving, unprovable};
+ghost use Rattle.name_meaning.specs.Queries.{is_proving};
 ghost use Rattle.name_meaning.specs.Trees.{set_of_tree};
-ghost use Rattle.name_meaning.specs.declared.trace.Trace.TheVariants.{InProvenance as Proving};
 ghost use Rattle.name_laws.specs.Known.{HasItsKinds};
 ghost use Rattle.name_seen_parts.specs.Standing.{around_of};
 ghost use Rattle.perm_catalog.specs.Contents.{Contents};
@@ -11,10 +10,9 @@ ghost use Rattle.name_seen_from.specs.Added.{facts_in};
 ghost use Rattle.name_seen_from.specs.Queried.{ColumnsWhole, QuerySeen};
 ghost use Rattle.name_seen_from.specs.declared.facts.Facts.{Facts as Gathered};
 ghost use Rattle.name_laws.specs.Facts.{no_facts};
-ghost use Rattle.name_seen_cores.specs.Behind.{around_body, query_behind};
+ghost use Rattle.name_seen_cores.specs.Behind.{query_behind};
 
 use crate::places::with_places;
-use name_meaning::Trace;
 use name_seen_from::{Facts, QueryShown};
 use name_seen_parts::{Around, Refusal, ShownColumn, keys_break};
 use perm_values::List;
@@ -39,40 +37,6 @@ pub fn is_proving(tree: &SetTree, around: &Around) -> bool
     around.provable && core_word(tree).is_some()
 }
 
-/// Where the body of a query stands.
-pub fn body_around<'a>(around: &Around<'a>, proving: bool) -> Around<'a>
-    ensures place { around_of result ≡ around_body proving (around_of around.now) }
-    ensures catalog { result.catalog.now ≡ around.now.catalog.now }
-{
-    Around {
-        alloc: around.alloc,
-        catalog: around.catalog,
-        outer: around.outer,
-        trace: trace_inside(around.trace, proving),
-        provable: around.provable,
-    }
-}
-
-fn trace_inside(trace: Trace, proving: bool) -> Trace
-    ensures { result ≡ cond proving Proving trace }
-{
-    if proving { Trace::InProvenance } else { trace }
-}
-
-/// Where an operand stands behind the first, and a query in parentheses.
-pub fn unprovable<'a>(around: &Around<'a>) -> Around<'a>
-    ensures place { around_of result ≡ unprovable (around_of around.now) }
-    ensures catalog { result.catalog.now ≡ around.now.catalog.now }
-{
-    Around {
-        alloc: around.alloc,
-        catalog: around.catalog,
-        outer: around.outer,
-        trace: around.trace,
-        provable: false,
-    }
-}
-
 /// What a query shows over a body with these columns and facts, or the first break of its keys.
 pub fn query_over(
     alloc: Global,
@@ -81,8 +45,10 @@ pub fn query_over(
     columns: List<ShownColumn>,
     facts: Facts,
 ) -> Result<QueryShown, Refusal>
-    ensures { (at : ℕ) (body : QueryMeant) (limit : Option ℤ) (none : Gathered) → facts_in none ≡ no_facts → ColumnsWhole body none facts columns
-        → ((query_behind proving at body order.now limit).breaks ≡ [] → HasItsKinds (query_behind proving at body order.now limit))
+    ensures { (at : ℕ) (body : QueryMeant) (limit : Option ℤ) (none : Gathered) → facts_in none ≡ no_facts
+        → ColumnsWhole body none facts columns
+        → ((query_behind proving at body order.now limit).breaks ≡ []
+        → HasItsKinds (query_behind proving at body order.now limit))
         → QuerySeen (query_behind proving at body order.now limit) result }
 {
     keys_break(columns.as_slice(), order)?;

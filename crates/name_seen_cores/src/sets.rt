@@ -16,8 +16,10 @@ pub fn add_operand(
     at: usize,
     right: Result<List<ShownColumn>, Refusal>,
 ) -> Result<List<ShownColumn>, Refusal>
-    ensures { (before : QueryMeant) (step : SetStepPart) (operand : QueryMeant) (old middle new : Gathered) → step.at ≡ at
-        → ColumnsWhole before old middle left → ColumnsSeen operand middle new right → ColumnsSeen (set_joined before step operand) old new result }
+    ensures { (before : QueryMeant) (step : SetStepPart) (operand : QueryMeant) (old middle new : Gathered)
+        → step.at ≡ at
+        → ColumnsWhole before old middle left → ColumnsSeen operand middle new right
+        → ColumnsSeen (set_joined before step operand) old new result }
 {
     match right {
         Ok(right) => united(left, at, right),

@@ -11,7 +11,8 @@ use name_seen_parts::Standing;
 
 /// How an expression stands in a clause of a core, where an aggregate may stand or not.
 pub fn in_clause(trace: Trace, aggregates: bool) -> Standing
-    ensures { (scope : Seen) (outer : Items Seen) → standing_in (scope ∷ outer) result ≡ in_clause scope outer trace aggregates }
+    ensures { (scope : Seen) (outer : Items Seen) → standing_in (scope ∷ outer) result
+        ≡ in_clause scope outer trace aggregates }
 {
     Standing {
         trace,
@@ -23,7 +24,8 @@ pub fn in_clause(trace: Trace, aggregates: bool) -> Standing
 
 /// How the condition of a join stands: with neither aggregates nor sublinks.
 pub fn in_on(trace: Trace) -> Standing
-    ensures { (items : Items ScopeItem) (outer : Items Seen) → standing_in (scope_of items ∷ outer) result ≡ in_on items outer trace }
+    ensures { (items : Items ScopeItem) (outer : Items Seen) → standing_in (scope_of items ∷ outer) result
+        ≡ in_on items outer trace }
 {
     Standing {
         trace,

@@ -1,13 +1,13 @@
 //! What sublinks ask of their queries.
 ghost use Rattle.std.specs.Prelude.{◌≡◌, List as Items, nat_eq, length};
-ghost use Rattle.name_meaning.specs.Meanings.{QueryMeant, trace_below};
+ghost use Rattle.name_meaning.specs.Meanings.{QueryMeant};
 ghost use Rattle.name_meaning.specs.Sublinks.{in_tested};
 ghost use Rattle.name_meaning.specs.declared.scope.Scope.{Scope};
 ghost use Rattle.name_seen_parts.specs.Standing.{standing_in};
 ghost use Rattle.name_seen_cores.specs.Inner.{InnerSeen, exists_over, first_shown, scalar_over, tested_over, tested_by};
 ghost use Rattle.name_seen_from.specs.Queried.{QueryWhole};
 
-use name_meaning::{Break, Rule, Trace};
+use name_meaning::{Break, Rule};
 use name_seen_from::{Facts, QueryShown};
 use name_seen_parts::{Refusal, ShownColumn, Standing, unites};
 use perm_values::Kind;
@@ -44,17 +44,6 @@ fn first_shown(columns: &[ShownColumn]) -> Option<Kind>
     match columns.first() {
         None => None,
         Some(column) => column.kind,
-    }
-}
-
-/// In a sublink of what is traced.
-pub fn trace_below(trace: Trace) -> Trace
-    ensures { result ≡ trace_below trace }
-{
-    match trace {
-        Trace::Untraced => Trace::Untraced,
-        Trace::InProvenance => Trace::TracedSublink,
-        Trace::TracedSublink => Trace::TracedSublink,
     }
 }
 

@@ -28,8 +28,10 @@ pub fn put_item(
     facts: &mut Facts,
 ) -> Result<(), Refusal>
     ensures { (c : Contents) (read : Read) → IsRead read reading →
-        ItemSeen (item_meant item.now.at item.now.mark around.now.trace (earlier.now ++ scope.old.items) (scope_name (source_of c item.now.source) item.now.alias)
-        (label_of (source_of c item.now.source) item.now.alias) read) scope.old facts.old facts.new scope.new result }
+        ItemSeen (item_meant item.now.at item.now.mark around.now.trace (earlier.now
+        ++ scope.old.items) (scope_name (source_of c item.now.source) item.now.alias)
+        (label_of (source_of c item.now.source) item.now.alias) read) scope.old facts.old facts.new scope.new
+        result }
 {
     let name = scope_name(around.alloc, item)?;
     item_break(
@@ -54,7 +56,8 @@ fn put_read(
     facts: &mut Facts,
 ) -> Result<(), NoMemory>
     ensures wider { OnOk result (scope.new ≡ scope_beside scope.old (item_scope name reading.columns)) }
-    ensures adds { OnOk result (facts_in facts.new ≡ both_facts (facts_in facts.old) (facts_in reading.plain)) }
+    ensures adds { OnOk result (facts_in facts.new
+        ≡ both_facts (facts_in facts.old) (facts_in reading.plain)) }
 {
     let Reading {
         columns,

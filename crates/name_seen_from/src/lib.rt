@@ -10,7 +10,6 @@ mod viewed;
 
 pub use facts::Facts;
 pub use items::put_item;
-pub use marks::trace_under;
 pub use reading::{Reading, read_named, read_shown};
 pub use shown::QueryShown;
 pub use viewed::{facts_of, is_table, kinds_at};

@@ -5,7 +5,7 @@ ghost use Rattle.bag_algebra.specs.declared.query.Label.TheVariants.{External};
 ghost use Rattle.bag_algebra.specs.declared.query.Query.{Query};
 ghost use Rattle.name_laws.specs.Facts.{facts_of, source_facts};
 ghost use Rattle.name_seen_parts.specs.Seen.{first_or};
-ghost use Rattle.name_meaning.specs.Froms.{is_out_of_scope, label_of, texts_of, trace_under};
+ghost use Rattle.name_meaning.specs.Froms.{is_out_of_scope, label_of, texts_of};
 ghost use Rattle.name_meaning.specs.Meanings.{broken_if};
 ghost use Rattle.name_meaning.specs.Trees.{source_of};
 ghost use Rattle.name_meaning.specs.declared.rule.Rule.TheVariants as rule;
@@ -26,24 +26,14 @@ use perm_values::NoMemory;
 use sql_tree::{FromItem, Name, ScopeMark};
 use std::alloc::Global;
 
-/// Nothing under a mark is traced.
-pub fn trace_under(mark: &ScopeMark, trace: Trace) -> Trace
-    ensures { result ≡ trace_under mark.now trace }
-{
-    match mark {
-        ScopeMark::Plain => trace,
-        ScopeMark::BaseRelation => Trace::Untraced,
-        ScopeMark::External { .. } => Trace::Untraced,
-    }
-}
-
 /// What an item gives of what it reads: its facts are those of its mark.
 pub(crate) fn with_mark(
     alloc: Global,
     item: &FromItem,
     reading: Reading,
 ) -> Result<Reading, NoMemory>
-    ensures { (c : Contents) → IfOk result (IsMarked item.now.mark (label_of (source_of c item.now.source) item.now.alias) reading) }
+    ensures { (c : Contents) → IfOk result
+        (IsMarked item.now.mark (label_of (source_of c item.now.source) item.now.alias) reading) }
 {
     match &item.mark {
         ScopeMark::Plain => Ok(reading),
@@ -61,7 +51,8 @@ pub(crate) fn with_mark(
 /// The facts of a source of all columns of what an item reads.
 fn labelled(alloc: Global, item: &FromItem, reading: &Reading) -> Result<Facts, NoMemory>
     ensures { (c : Contents) → IfOk result (λ facts. facts_in facts ≡
-        relation_facts (label_of (source_of c item.now.source) item.now.alias) (known_names reading.now.columns) reading.now.kinds reading.now.is_table) }
+        relation_facts (label_of (source_of c item.now.source) item.now.alias)
+        (known_names reading.now.columns) reading.now.kinds reading.now.is_table) }
 {
     let label = label_of(alloc, item)?;
     let names = names_of(alloc, reading.columns.as_slice())?;
@@ -77,7 +68,11 @@ fn labelled(alloc: Global, item: &FromItem, reading: &Reading) -> Result<Facts, 
 /// The facts of a source of these attributes.
 fn attributed(alloc: Global, attributes: &[Name], reading: &Reading) -> Result<Facts, NoMemory>
     ensures { IfOk result (λ facts. facts_in facts ≡ source_facts
-        (record { label = External (texts_of attributes.now); kinds = kinds_in reading.now.kinds (places_of (known_names reading.now.columns) attributes.now) })
+        (record {
+          label = External (texts_of attributes.now);
+          kinds = kinds_in reading.now.kinds
+              (places_of (known_names reading.now.columns) attributes.now);
+        })
         reading.now.is_table) }
 {
     let places = places_of(alloc, attributes, reading.columns.as_slice())?;
@@ -103,7 +98,8 @@ pub(crate) fn scope_break(trace: Trace, viewed: bool, facts: &Facts, at: usize) 
 }
 
 fn is_out_of_scope(trace: Trace, viewed: bool, facts: &Facts) -> bool
-    ensures { (query : Query) → facts_in facts.now ≡ facts_of query → result ≡ is_out_of_scope trace viewed query }
+    ensures { (query : Query) → facts_in facts.now ≡ facts_of query → result
+        ≡ is_out_of_scope trace viewed query }
 {
     match trace {
         Trace::Untraced => false,

@@ -16,10 +16,8 @@ use crate::shown::QueryShown;
 use crate::viewed::{facts_of, is_table, kinds_at};
 use bag_algebra::{Label, Place};
 use contribution::kinds;
-use name_meaning::{Break, Rule};
-use name_seen_parts::{
-    Refusal, all_places, kinds_of_columns, named_columns, names_at, names_of, settled_columns,
-};
+use name_meaning::{Break, Rule, names_at};
+use name_seen_parts::{Refusal, kinds_of_columns, named_columns, names_of, settled_columns};
 use perm_catalog::{Catalog, Column, TableEntry, ViewEntry};
 use perm_values::{Chars, Copyable, Kind, List, NoMemory};
 use sql_tree::Name;
@@ -100,7 +98,8 @@ fn table_plain(
     table: &TableEntry,
     kinds: &[Kind],
 ) -> Result<Facts, NoMemory>
-    ensures { kinds.now ≡ column_kinds table.now.columns → IfOk result (λ facts. facts_in facts ≡ facts_of (table_plain name.now table.now)) }
+    ensures { kinds.now ≡ column_kinds table.now.columns
+        → IfOk result (λ facts. facts_in facts ≡ facts_of (table_plain name.now table.now)) }
 {
     let names = names_of(alloc, table.columns.as_slice())?;
     match &table.stored {
@@ -117,7 +116,8 @@ pub(crate) fn external(
     reads_table: bool,
     places: &[usize],
 ) -> Result<Facts, NoMemory>
-    ensures { IfOk result (λ facts. facts_in facts ≡ external_facts names.now kinds.now reads_table places.now) }
+    ensures { IfOk result (λ facts. facts_in facts
+        ≡ external_facts names.now kinds.now reads_table places.now) }
 {
     let columns = names_at(alloc, names, places)?;
     let place = Place {
@@ -137,7 +137,7 @@ pub(crate) fn relation(
 ) -> Result<Facts, NoMemory>
     ensures { IfOk result (λ facts. facts_in facts ≡ relation_facts label.now names kinds.now reads_table) }
 {
-    let places = all_places(alloc, names.len())?;
+    let places = List::range(alloc, 0, names.len())?;
     let place = Place {
         label: Label::Relation {
             name: label.copy(alloc)?,
@@ -165,7 +165,8 @@ fn read_view(alloc: Global, view: &ViewEntry) -> Result<Reading, NoMemory>
 
 /// The facts of a view of these kinds without a mark of FROM.
 fn view_plain(alloc: Global, view: &ViewEntry, kinds: &[Kind]) -> Result<Facts, NoMemory>
-    ensures { kinds.now ≡ kinds_of view.now.answer.query → (name : Items ℕ) → IfOk result (λ facts. facts_in facts ≡ facts_of (read_view name view.now).plain) }
+    ensures { kinds.now ≡ kinds_of view.now.answer.query → (name : Items ℕ)
+        → IfOk result (λ facts. facts_in facts ≡ facts_of (read_view name view.now).plain) }
 {
     let query = &view.answer.query;
     let names = view.answer.names.as_slice();
@@ -198,7 +199,9 @@ fn shown_plain(
     kinds: &[Kind],
     shown: QueryShown,
 ) -> Result<Facts, NoMemory>
-    ensures { IfOk result (λ plain. facts_in plain ≡ option_map_or (external_facts (known_names columns.now) kinds.now false) shown.places (facts_in shown.facts)) }
+    ensures { IfOk result (λ plain. facts_in plain
+        ≡ option_map_or (external_facts (known_names columns.now) kinds.now false) shown.places
+        (facts_in shown.facts)) }
 {
     let QueryShown {
         columns: _columns,

@@ -12,6 +12,7 @@ use Rattle.name_meaning.specs.declared.need.Need.{Need}
 use Rattle.name_meaning.specs.declared.need.Need.TheVariants.{OfKind, Alike, Free}
 use Rattle.name_seen_parts.specs.Seen.{first_or, seen, no_operand, fitted, with_operand, kind_given, unfit_or, whole_of, after, operands_seen}
 use Rattle.name_seen_parts.specs.declared.operands.Operands.{Operands}
+use Rattle.name_meaning.proofs.Uniting.{united-assoc}
 
 abbrev or_first : Option ℕ → Option ℕ → Option ℕ
 or_first None later = later
@@ -47,10 +48,6 @@ unfit-with (OfKind kind) at found so_far rest =
     ∙ fit-or (unites (Some kind) found) at so_far (rest so_far.common)
 unfit-with Alike at found so_far rest = fit-or (unites so_far.common found) at so_far (rest (united_kind so_far.common found))
 unfit-with Free at found so_far rest = refl
-
-united-assoc : (a b c : Option Kind) → united_kind (united_kind a b) c ≡ united_kind a (united_kind b c)
-united-assoc None b c = refl
-united-assoc (Some kind) b c = refl
 
 common-with : (need : Need) (at : ℕ) (found : Option Kind) (so_far : Operands) (rest : Option Kind)
     → united_kind (with_operand need at found so_far).common rest ≡ united_kind so_far.common (united_from need found rest)

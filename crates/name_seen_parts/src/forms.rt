@@ -1,13 +1,13 @@
 ghost use Rattle.std.specs.Prelude.{◌≡◌, false};
 ghost use Rattle.std.specs.Option.{option_map_or};
-ghost use Rattle.perm_values.specs.declared.kind.Kind.TheVariants.{Text, Boolean};
+ghost use Rattle.perm_values.specs.declared.kind.Kind.TheVariants.{Boolean};
 ghost use Rattle.name_meaning.specs.Froms.{condition_breaks};
-ghost use Rattle.name_meaning.specs.Meanings.{Surroundings, Meant, is_same_kind, settled};
+ghost use Rattle.name_meaning.specs.Meanings.{Surroundings, Meant, is_same_kind};
 ghost use Rattle.name_meaning.specs.Sublinks.{column_meant, takes_kind, aggregate_kind, rows_counted, aggregated};
 ghost use Rattle.name_seen_parts.specs.Seen.{first_or, seen, IsSeenAs};
 
 use crate::kinds::{is_same_kind, unites};
-use name_meaning::{Break, Found, Rule};
+use name_meaning::{Break, Found, Rule, aggregate_kind};
 use perm_values::Kind;
 use sql_tree::AggWord;
 
@@ -63,30 +63,6 @@ fn is_boolean(kind: Option<Kind>) -> bool
     match kind {
         None => false,
         Some(kind) => is_same_kind(Kind::Boolean, kind),
-    }
-}
-
-/// The kind of an aggregate of such an argument.
-fn aggregate_kind(word: AggWord, argument: Option<Kind>) -> Kind
-    ensures { result ≡ aggregate_kind word argument }
-{
-    match word {
-        AggWord::CountRows => Kind::Integer,
-        AggWord::Count => Kind::Integer,
-        AggWord::CountDistinct => Kind::Integer,
-        AggWord::Sum => Kind::Integer,
-        AggWord::Min => settled(argument),
-        AggWord::Max => settled(argument),
-    }
-}
-
-/// The kind itself, or Text for any.
-fn settled(kind: Option<Kind>) -> Kind
-    ensures { result ≡ settled kind Text }
-{
-    match kind {
-        None => Kind::Text,
-        Some(kind) => kind,
     }
 }
 

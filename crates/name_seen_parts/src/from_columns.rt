@@ -5,9 +5,7 @@ mod items;
 mod marks;
 mod scopes;
 
-pub use columns::{
-    all_places, kinds_of_columns, named_columns, names_at, names_of, settled_columns,
-};
+pub use columns::{kinds_of_columns, named_columns, names_of, settled_columns};
 pub use items::{item_break, label_of, scope_name};
 pub use marks::{places_of, texts_of};
 pub use scopes::{add_item, add_items, no_items};

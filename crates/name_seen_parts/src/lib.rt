@@ -19,8 +19,8 @@ pub use clauses::{
 };
 pub use forms::{aggregated_kind, column_kind, condition_kind, count_kind};
 pub use from_columns::{
-    add_item, add_items, all_places, item_break, kinds_of_columns, label_of, named_columns,
-    names_at, names_of, no_items, places_of, scope_name, settled_columns, texts_of,
+    add_item, add_items, item_break, kinds_of_columns, label_of, named_columns, names_of, no_items,
+    places_of, scope_name, settled_columns, texts_of,
 };
 pub use kinds::{is_same_kind, united_kind, unites};
 pub use named::{Named, item_number, named_in};
@@ -28,5 +28,5 @@ pub use needs::{gives_of, need_of};
 pub use operands::Operands;
 pub use refusal::Refusal;
 pub use scopes::{Scopes, inside, look_up, place_among, ungrouped};
-pub use standing::{Around, Here, Standing};
-pub use stars::{star, table_star};
+pub use standing::{Around, Here, Standing, trace_below, trace_under};
+pub use stars::{is_of, star, table_star};

@@ -103,7 +103,8 @@ fn look_up_from(scopes: &Scopes, level: usize, left: usize, reference: &ColRef) 
 
 /// What a reference means in one scope, if it is looked for there.
 fn found_in(scope: &Scope, level: usize, bare: bool, reference: &ColRef) -> Option<Found>
-    ensures { result ≡ option_map (found_among level (here_only bare scope.now)) (meant_in reference.now scope.now) }
+    ensures { result ≡ option_map (found_among level (here_only bare scope.now))
+        (meant_in reference.now scope.now) }
 {
     let name = &reference.name.text;
     match &reference.table {

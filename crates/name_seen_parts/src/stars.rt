@@ -1,8 +1,8 @@
-ghost use Rattle.std.specs.Prelude.{◌≡◌, ℕ, ◌&&◌};
+ghost use Rattle.std.specs.Prelude.{◌≡◌, ◌&&◌};
 ghost use Rattle.std.specs.List.{list_any};
 ghost use Rattle.name_meaning.specs.Items.{columns_meant, is_ungrouped, star_meant, table_star_meant};
 ghost use Rattle.name_seen_parts.specs.Seen.{first_or};
-ghost use Rattle.name_seen_parts.specs.Stars.{is_in_item, columns_of};
+ghost use Rattle.name_seen_parts.specs.Stars.{is_in_item, is_of, columns_of};
 
 use crate::named::item_number;
 use crate::scopes::place_among;
@@ -63,11 +63,12 @@ fn is_any_left_out(scope: &Scope, item: Option<usize>) -> bool
 fn is_left_out(scope: &Scope, item: Option<usize>, column: &ScopeColumn, place: usize) -> bool
     ensures { result ≡ (is_in_item item (place, column.now) && is_ungrouped scope.now (place, column.now)) }
 {
-    is_in_item(item, column) && place_among(scope, false, place).is_none()
+    is_of(item, column) && place_among(scope, false, place).is_none()
 }
 
-fn is_in_item(item: Option<usize>, column: &ScopeColumn) -> bool
-    ensures { (place : ℕ) → result ≡ is_in_item item (place, column.now) }
+/// Whether the column is one of the item, if there is one.
+pub fn is_of(item: Option<usize>, column: &ScopeColumn) -> bool
+    ensures { result ≡ is_of item column.now }
 {
     match item {
         None => true,

@@ -20,8 +20,5 @@ permuted-from_occurrences vs ws e =
     permuted-map cell (permuted-from_same_bag (map single vs) (map single ws) (record { counts = singles_counts vs ws e })) in
     subst (λ l. Permuted l ws) (cells vs) (subst (Permuted (map cell (map single vs))) (cells ws) rows)
 
-pub occurrences-permuted : (vs ws : List Value) → Permuted vs ws → (v : Value) → occurrences v vs ≡ occurrences v ws
-occurrences-permuted vs ws p v = sym (count-single v vs) ∙ permuted-counts (permuted-map single p) (single v) ∙ count-single v ws
-
 pub aggregated-same : (function : AggFn) (vs ws : List Value) → ((v : Value) → occurrences v vs ≡ occurrences v ws) → aggregated function vs ≡ aggregated function ws
 aggregated-same function vs ws e = aggregated-permuted function (permuted-from_occurrences vs ws e)

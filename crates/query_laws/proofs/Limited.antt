@@ -42,10 +42,6 @@ module _ {X : Type 0} (cmp : X → X → Ordering) where
     above x y Equal e g = absurd (true≢false (sym g))
     above x y Greater e g = ap is_lt e
 
-    leads-placed : (w x : X) (xs : List X) (b : Bool) → leads w xs → is_lt (cmp x w) ≡ false → (rest : List X) → leads w (cond b xs (x ∷ rest))
-    leads-placed w x xs true l e rest = l
-    leads-placed w x xs false l e rest = e
-
     leads-after : (w x : X) (xs : List X) → leads w xs → is_lt (cmp x w) ≡ false → leads w (placed cmp x xs)
     leads-after w x [] l e = e
     leads-after w x (y ∷ ys) l e = by (is_gt (cmp x y)) where

@@ -25,10 +25,6 @@ in-in_bag t us h = (member_decides t us).0 (in-member t us h)
 pub good-good : {X : Type 0} (o : Outcome X) (x : X) → o ≡ Good x → IsGood o
 good-good o x e = subst IsGood (sym e) tt
 
-pub good-is : {X : Type 0} (o : Outcome X) → IsGood o → (x : X) × (o ≡ Good x)
-good-is (Good x) g = (x, refl)
-good-is (Bad faults) g = absurd g
-
 -- ---- faults of a union
 
 pub from-union : (f g : Faults) (fault : RunFault) → has (union f g) fault ≡ true → (has f fault ≡ true) ⊎ (has g fault ≡ true)

@@ -7,7 +7,7 @@ use bag_algebra::{JoinKind, SubKind};
 use null_logic::Truth;
 
 /// The value with which a sublink lets those rows alone contribute that compare so: a true ANY, a false ALL.
-pub fn deciding(kind: SubKind) -> Option<Truth>
+pub(crate) fn deciding(kind: SubKind) -> Option<Truth>
     ensures { result ≡ deciding kind }
 {
     match kind {
@@ -19,14 +19,14 @@ pub fn deciding(kind: SubKind) -> Option<Truth>
 }
 
 /// Where there is no row, a row of NULLs stands.
-pub fn outwards() -> JoinKind
+pub(crate) fn outwards() -> JoinKind
     ensures { result ≡ Left }
 {
     JoinKind::Left
 }
 
 /// Where a candidate stands, seen from the rows of a sublink's query: in the nearest outer row.
-pub fn candidate_level() -> usize
+pub(crate) fn candidate_level() -> usize
     ensures { result ≡ 1 }
 {
     1

@@ -8,6 +8,5 @@ mod laws;
 mod matching;
 mod rules;
 
-pub use decisions::{candidate_level, deciding, outwards};
 pub use laws::{filters_over_candidates_rewrite, projects_over_candidates_rewrite};
 pub use rules::{filter_with, project_with};

@@ -21,14 +21,16 @@ ghost use Rattle.sql_tree.specs.declared.query.QueryTree.{QueryTree};
 pub fn expressions_are_well_formed()
     ensures { (c : Contents) (tree : ExprTree) (here : Surroundings) → IsSound c → RegularExpr tree
         → (means_at (part_of c tree) here).breaks ≡ [] → (wanted : Kind) (before : Before)
-        → IsFormedExpr here before ((means_at (part_of c tree) here).make wanted before) (settled (means_at (part_of c tree) here).kind wanted) }
+        → IsFormedExpr here before ((means_at (part_of c tree) here).make wanted before)
+        (settled (means_at (part_of c tree) here).kind wanted) }
 {}
 
 /// Over a sound catalog, a query that breaks nothing is made to one that is well formed under outer rows that hold the
 /// scopes around it, whatever kinds are wanted of its columns.
 pub fn queries_are_well_formed()
     ensures { (c : Contents) (tree : QueryTree) (around : Around) → IsSound c → RegularQuery tree
-        → (query_means_at (query_of c tree) around).breaks ≡ [] → (rows : List (List Kind)) → RowsHold around.outer rows → (wanted : List Kind)
+        → (query_means_at (query_of c tree) around).breaks ≡ [] → (rows : List (List Kind))
+        → RowsHold around.outer rows → (wanted : List Kind)
         → WellFormed rows ((query_means_at (query_of c tree) around).make wanted) }
 {}
 
@@ -36,18 +38,21 @@ pub fn queries_are_well_formed()
 pub fn outermost_queries_are_closed()
     ensures { (c : Contents) (tree : QueryTree) (around : Around) → IsSound c → RegularQuery tree
         → (query_means_at (query_of c tree) around).breaks ≡ [] → around.outer ≡ [] → (wanted : List Kind)
-        → WellFormed [] ((query_means_at (query_of c tree) around).make wanted) × (is_closed ((query_means_at (query_of c tree) around).make wanted) ≡ true) }
+        → WellFormed [] ((query_means_at (query_of c tree) around).make wanted)
+        × (is_closed ((query_means_at (query_of c tree) around).make wanted) ≡ true) }
 {}
 
 /// A query that is well formed under some outer rows is closed exactly where it is well formed under none.
 pub fn closed_queries_are_well_formed_alone()
-    ensures { (outer : List (List Kind)) (query : Query) → WellFormed outer query → (is_closed query ≡ true) ↔ WellFormed [] query }
+    ensures { (outer : List (List Kind)) (query : Query) → WellFormed outer query → (is_closed query ≡ true)
+        ↔ WellFormed [] query }
 {}
 
 /// It has as many names as columns, and its keys and its provenance columns are among its columns.
 pub fn queries_are_answers()
     ensures { (c : Contents) (tree : QueryTree) (around : Around) → IsSound c → RegularQuery tree
-        → (query_means_at (query_of c tree) around).breaks ≡ [] → IsAnswer (query_means_at (query_of c tree) around) }
+        → (query_means_at (query_of c tree) around).breaks ≡ []
+        → IsAnswer (query_means_at (query_of c tree) around) }
 {}
 
 /// It has at least one column.

@@ -22,5 +22,6 @@ pub fn tables_fit_queries()
 /// or through other views.
 pub fn views_name_what_they_read()
     ensures { (c : Contents) (tree : QueryTree) → IsSound c
-        → All (IsHeldRead c (view_entry (query_meant c tree))) (tables_read (view_entry (query_meant c tree)).answer.query) }
+        → All (IsHeldRead c (view_entry (query_meant c tree)))
+        (tables_read (view_entry (query_meant c tree)).answer.query) }
 {}

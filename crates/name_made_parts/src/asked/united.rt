@@ -14,8 +14,8 @@ ghost use Rattle.perm_catalog.specs.Sound.{IsSound};
 use name_made_nodes::{alike_wanted, settled};
 use name_meaning::{Gives, Need};
 use name_seen::{kind_of, query_seen};
-use name_seen_cores::{in_tested, trace_below};
-use name_seen_parts::{Around, Here, Refusal, ShownColumn};
+use name_seen_cores::in_tested;
+use name_seen_parts::{Around, Here, Refusal, ShownColumn, trace_below};
 use perm_values::{Kind, NoMemory};
 use sql_tree::{ArmTree, ExprTree, QueryTree};
 

@@ -18,15 +18,14 @@ use Rattle.sql_tree.specs.declared.expression.ExprTree.{ExprTree}
 use Rattle.name_seen_parts.specs.Seen.{no_operand, seen}
 use Rattle.name_meaning.specs.Operands.{Operand, gives_of, need_of, node, operand}
 use Rattle.name_meaning.specs.Trees.{part_of, step_of, arm_of, query_of}
-use Rattle.name_meaning.specs.declared.trace.Trace.{Trace}
 use Rattle.name_meaning.specs.declared.need.Gives.{Gives}
 use Rattle.name_meaning.specs.declared.need.Gives.TheVariants.{Common as common}
 use Rattle.name_meaning.specs.declared.need.Need.TheVariants.{Alike as alike, OfKind as of_kind}
 use Rattle.name_meaning.proofs.Forms.{means-null, means-nullof, means-integer, means-text, means-truth, means-column, means-paren, means-nots, means-signs, means-logic, means-chain, means-compared, means-like, means-between, means-inlist, means-isnull, means-istruth, means-isdistinct, means-coalesce, means-exists, means-inquery, means-nullif, means-quantified, means-scalar}
 use Rattle.name_seen_parts.specs.Named.{scopes_of}
-use Rattle.name_seen_parts.specs.Standing.{surroundings}
+use Rattle.name_seen_parts.specs.Standing.{surroundings, around_under}
 use Rattle.name_seen_cores.specs.Expressed.{ExpressionSeen, OperandsBehind, kind_over}
-use Rattle.name_seen_cores.specs.Inner.{InnerSeen, exists_over, scalar_over, tested_over}
+use Rattle.name_seen_cores.specs.Inner.{exists_over, scalar_over, tested_over}
 use Rattle.name_seen_cores.proofs.Alone.{null-alone, known-alone, column-alone, told-by, told-so}
 use Rattle.name_seen_parts.proofs.Arms.{means-is, part-at}
 use Rattle.name_seen_cores.proofs.Behind.{behind-both, behind-nothing, meant-so, operand-seen}
@@ -276,7 +275,13 @@ expressions::aggregate_seen-returns-in-Some t c =
     (argument-told here c.args.at c.args.function part c.get-in-Some.result.now.at c.aggregated.result
     (ap (λ (tree : ExprTree). tree.at) c.get-in-Some.ensures ∙ sym (part-at catalog c.in-Some.argument))
     (c.aggregated.ensures (means_at part (in_argument here))
-    (rw (c.ungrouped-scopes.ensures, c.in_argument.ensures (scopes_of c.args.here.now.scopes.now), c.get.ensures) at c.kind_of-kind.ensures)))
+    (rw (
+      c.seeing-place.ensures.place,
+      c.seeing-place.ensures.catalog,
+      c.ungrouped-scopes.ensures,
+      c.in_argument.ensures (scopes_of c.args.here.now.scopes.now),
+      c.get.ensures,
+    ) at c.kind_of-kind.ensures)))
 
 pub expressions::operand-returns-in-Ok : goal.expressions::operand-returns-in-Ok
 expressions::operand-returns-in-Ok t c =
@@ -327,7 +332,8 @@ pub expressions::kind_of-returns : goal.expressions::kind_of-returns
 expressions::kind_of-returns t c = told-so (means_at (part_of c.args.here.now.catalog.now c.args.tree.now) (surroundings c.args.here.now)) _ c.expression_seen.new.facts c.expression_seen.result c.expression_seen.ensures
 
 pub expressions::tested_kind-returns : goal.expressions::tested_kind-returns
-expressions::tested_kind-returns t c = rw (c.in_tested.ensures (scopes_of c.args.here.now.scopes.now)) at c.kind_of.ensures
+expressions::tested_kind-returns t c =
+    rw (c.seeing-place.ensures.place, c.seeing-place.ensures.catalog, c.in_tested.ensures (scopes_of c.args.here.now.scopes.now)) at c.kind_of.ensures
 
 pub expressions::expression_seen-returns-in-Exists : goal.expressions::expression_seen-returns-in-Exists
 expressions::expression_seen-returns-in-Exists t c =
@@ -371,15 +377,17 @@ expressions::inner_seen-returns-in-Ok t c =
     let here = c.args.here.now in
     let query = query_means_at (query_of here.catalog.now c.args.query.now) (inner_around (surroundings here)) in
     looked_so here.standing.sublinks query c.args.at c.args.facts.now c.add_inner.new.facts c.add_inner.result c.if-not-here.false
-    (c.add_inner.ensures query (rw c.trace_below.ensures at c.in-Ok.ensures))
+    (c.add_inner.ensures query (rw (c.below.ensures.place, c.below.ensures.catalog) at c.in-Ok.ensures))
 
 pub expressions::inner_seen-returns-in-Err : goal.expressions::inner_seen-returns-in-Err
 expressions::inner_seen-returns-in-Err t c =
     let here = c.args.here.now in
     let query = query_of here.catalog.now c.args.query.now in
     looked_so here.standing.sublinks (query_means_at query (inner_around (surroundings here))) c.args.at c.args.facts.now c.args.facts.now (Err c.in-Err.refusal) c.if-not-here.false
-    (subst (λ (trace : Trace). InnerSeen (query_means_at query (record { outer = scopes_of here.scopes.now; trace = trace; provable = false })) c.args.facts.now c.args.facts.now (Err c.in-Err.refusal))
-    c.trace_below.ensures (inner-refused (query_means_at query (record { outer = scopes_of here.scopes.now; trace = c.trace_below.result; provable = false })) c.args.facts.now c.args.facts.now c.in-Err.refusal c.in-Err.ensures))
+    (inner-refused (query_means_at query (inner_around (surroundings here))) c.args.facts.now c.args.facts.now c.in-Err.refusal
+    (subst (λ (place : Around). QuerySeen (query_means_at query place) (Err c.in-Err.refusal)) c.below.ensures.place
+    (subst (λ (held : Contents). QuerySeen (query_means_at (query_of held c.args.query.now) (around_of c.below.result)) (Err c.in-Err.refusal)) c.below.ensures.catalog
+    c.in-Err.ensures)))
 
 pub expressions::expression_seen-returns-in-Aggregate : goal.expressions::expression_seen-returns-in-Aggregate
 expressions::expression_seen-returns-in-Aggregate t c =
@@ -393,7 +401,8 @@ expressions::expression_seen-returns-in-Aggregate t c =
 
 pub cores::clause_kind-returns : goal.cores::clause_kind-returns
 cores::clause_kind-returns t c =
-    rw (c.in_ok-scopes.ensures, c.in_clause.ensures c.args.scope.now (scopes_of c.args.around.now.outer.now)) at c.expression_seen.ensures
+    rw (c.seeing-place.ensures.place, c.seeing-place.ensures.catalog, c.in_ok-scopes.ensures, c.in_clause.ensures c.args.scope.now (scopes_of c.args.around.now.outer.now))
+    at c.expression_seen.ensures
 
 pub cores::condition_seen-returns-in-Some : goal.cores::condition_seen-returns-in-Some
 cores::condition_seen-returns-in-Some t c =
@@ -505,7 +514,7 @@ sets::set_seen-returns-in-Ok t c =
     subst (λ (m : QueryMeant). ColumnsSeen m c.args.facts.now c.add_shown.new.facts c.add_shown.result)
     (sym (paren-means around.catalog.now c.args.tree.now c.in-Paren.query (around_of around) c.in-Paren.is))
     (c.add_shown.ensures (query_means_at (query_of around.catalog.now c.in-Paren.query) (unprovable (around_of around)))
-    (rw (c.unprovable.ensures.place, c.unprovable.ensures.catalog, c.get-in-Paren.ensures) at c.in-Ok.ensures))
+    (rw (c.operand.ensures.place, c.operand.ensures.catalog, c.get-in-Paren.ensures) at c.in-Ok.ensures))
 
 pub sets::set_seen-returns-in-Err : goal.sets::set_seen-returns-in-Err
 sets::set_seen-returns-in-Err t c =
@@ -515,8 +524,8 @@ sets::set_seen-returns-in-Err t c =
     (sym (paren-means around.catalog.now c.args.tree.now c.in-Paren.query (around_of around) c.in-Paren.is))
     (paren-refused (query_means_at (query_of around.catalog.now c.in-Paren.query) place) c.args.facts.now c.args.facts.now c.in-Err.refusal
     (subst (λ (query : QueryTree). QuerySeen (query_means_at (query_of around.catalog.now query) place) (Err c.in-Err.refusal)) c.get-in-Paren.ensures
-    (subst (λ (place : Around). QuerySeen (query_means_at (query_of around.catalog.now c.get-in-Paren.result.now) place) (Err c.in-Err.refusal)) c.unprovable.ensures.place
-    (subst (λ (held : Contents). QuerySeen (query_means_at (query_of held c.get-in-Paren.result.now) (around_of c.unprovable.result)) (Err c.in-Err.refusal)) c.unprovable.ensures.catalog c.in-Err.ensures))))
+    (subst (λ (place : Around). QuerySeen (query_means_at (query_of around.catalog.now c.get-in-Paren.result.now) place) (Err c.in-Err.refusal)) c.operand.ensures.place
+    (subst (λ (held : Contents). QuerySeen (query_means_at (query_of held c.get-in-Paren.result.now) (around_of c.operand.result)) (Err c.in-Err.refusal)) c.operand.ensures.catalog c.in-Err.ensures))))
 
 pub sets::operands_seen-loop-step-init : goal.sets::operands_seen-loop-step-init
 sets::operands_seen-loop-step-init t c = λ left before first. first
@@ -543,7 +552,7 @@ sets::operand_seen-returns-in-Ok t c = λ left before so_far.
     c.add_operand.ensures left step operand before c.args.facts.now c.set_seen-operand.new.facts (step-at around.catalog.now c.args.step.now)
     (subst (λ r. ColumnsSeen left before c.args.facts.now r) c.in-Ok.is so_far)
     (subst (λ (body : BodyPart). ColumnsSeen (body.means (unprovable (around_of around))) c.args.facts.now c.set_seen-operand.new.facts c.set_seen-operand.result)
-    (sym (operand-of around.catalog.now c.args.step.now)) (rw (c.unprovable.ensures.place, c.unprovable.ensures.catalog) at c.set_seen-operand.ensures))
+    (sym (operand-of around.catalog.now c.args.step.now)) (rw (c.operand.ensures.place, c.operand.ensures.catalog) at c.set_seen-operand.ensures))
 
 pub sets::operand_seen-returns-in-Err : goal.sets::operand_seen-returns-in-Err
 sets::operand_seen-returns-in-Err t c = λ left before so_far.
@@ -562,9 +571,9 @@ queries::query_seen-returns-in_err-columns t c =
     same-refused (QuerySeen (query_means_at (query_of around.catalog.now tree) (around_of around))) c.from_residual.result c.in_err-columns.field-0.0 c.from_residual.ensures.1
     (query-refused around.catalog.now tree (around_of around) c.is_proving-proving.result is c.none-facts.result c.set_seen.new.facts c.in_err-columns.field-0.0
     (subst (λ (place : Around). ColumnsSeen ((set_of_tree around.catalog.now tree.body).means place) c.none-facts.result c.set_seen.new.facts (Err c.in_err-columns.field-0.0))
-    c.body_around.ensures.place
-    (subst (λ (held : Contents). ColumnsSeen ((set_of_tree held tree.body).means (around_of c.body_around.result)) c.none-facts.result c.set_seen.new.facts (Err c.in_err-columns.field-0.0))
-    c.body_around.ensures.catalog c.in_err-columns.ensures)))
+    c.body.ensures.place
+    (subst (λ (held : Contents). ColumnsSeen ((set_of_tree held tree.body).means (around_of c.body.result)) c.none-facts.result c.set_seen.new.facts (Err c.in_err-columns.field-0.0))
+    c.body.ensures.catalog c.in_err-columns.ensures)))
 
 pub queries::query_seen-returns : goal.queries::query_seen-returns
 queries::query_seen-returns t c =
@@ -573,35 +582,37 @@ queries::query_seen-returns t c =
     let is = c.is_proving-proving.ensures around.catalog.now in
     query-answered around.catalog.now tree (around_of around) c.is_proving-proving.result is c.query_over.result
     (rw c.as_slice.ensures at (c.query_over.ensures tree.at (body_meant around.catalog.now tree (around_of around) c.is_proving-proving.result) tree.limit c.none-facts.result
-    c.none-facts.ensures (rw (c.body_around.ensures.place, c.body_around.ensures.catalog) at c.in_ok-columns.ensures)
+    c.none-facts.ensures (rw (c.body.ensures.place, c.body.ensures.catalog) at c.in_ok-columns.ensures)
     (rw c.as_slice.ensures (kinds-known around.catalog.now tree (around_of around) c.is_proving-proving.result is c.requires))))
 
 -- ---- sources
 
 pub sources::read_source-returns-in-Named : goal.sources::read_source-returns-in-Named
-sources::read_source-returns-in-Named t c = λ mark same.
+sources::read_source-returns-in-Named t c =
     let around = c.args.around.now in
-    subst (λ (read : Read). ReadSeen read c.read_named.result) (sym (named-read around.catalog.now mark (scopes_of around.outer.now) around.trace c.args.source.now c.in-Named.name c.in-Named.is))
+    subst (λ (read : Read). ReadSeen read c.read_named.result) (sym (named-read around.catalog.now c.args.mark.now (scopes_of around.outer.now) around.trace c.args.source.now c.in-Named.name c.in-Named.is))
     c.read_named.ensures
 
 pub sources::read_source-returns-in-Inner : goal.sources::read_source-returns-in-Inner
-sources::read_source-returns-in-Inner t c = λ mark same.
+sources::read_source-returns-in-Inner t c =
     let around = c.args.around.now in
     subst (λ (read : Read). ReadSeen read c.read_inner.result)
-    (sym (inner-read around.catalog.now mark (scopes_of around.outer.now) around.trace c.args.trace c.args.source.now c.in-Inner.query c.in-Inner.is same))
+    (sym (inner-read around.catalog.now c.args.mark.now (scopes_of around.outer.now) around.trace c.args.source.now c.in-Inner.query c.in-Inner.is))
     (rw c.get.ensures at c.read_inner.ensures)
 
 pub sources::read_inner-returns-in_ok-read_shown-in-Ok : goal.sources::read_inner-returns-in_ok-read_shown-in-Ok
 sources::read_inner-returns-in_ok-read_shown-in-Ok t c =
     let around = c.args.around.now in
     c.in_ok-read_shown-in-Ok.ensures (query_means_at (query_of around.catalog.now c.args.query.now)
-    (record { outer = scopes_of around.outer.now; trace = c.args.trace; provable = true })) c.in-Ok.ensures
+    (around_under c.args.mark.now (around_of around))) (rw (c.under.ensures.place, c.under.ensures.catalog) at c.in-Ok.ensures)
 
 pub sources::read_inner-returns-in-Err : goal.sources::read_inner-returns-in-Err
 sources::read_inner-returns-in-Err t c =
     let around = c.args.around.now in
-    read-refused (query_means_at (query_of around.catalog.now c.args.query.now) (record { outer = scopes_of around.outer.now; trace = c.args.trace; provable = true })) c.in-Err.refusal
-    c.in-Err.ensures
+    read-refused (query_means_at (query_of around.catalog.now c.args.query.now) (around_under c.args.mark.now (around_of around))) c.in-Err.refusal
+    (subst (λ (place : Around). QuerySeen (query_means_at (query_of around.catalog.now c.args.query.now) place) (Err c.in-Err.refusal)) c.under.ensures.place
+    (subst (λ (held : Contents). QuerySeen (query_means_at (query_of held c.args.query.now) (around_of c.under.result)) (Err c.in-Err.refusal)) c.under.ensures.catalog
+    c.in-Err.ensures))
 
 pub sources::from_item-returns-in_err-reading : goal.sources::from_item-returns-in_err-reading
 sources::from_item-returns-in_err-reading t c =
@@ -615,7 +626,7 @@ sources::from_item-returns-in_err-reading t c =
     (sym (item-means around.catalog.now item outer around.trace held))
     (item-refused item.at item.mark around.trace held (scope_name (source_of around.catalog.now item.source) item.alias) (label_of (source_of around.catalog.now item.source) item.alias)
     (read_of around.catalog.now item.mark outer around.trace (source_of around.catalog.now item.source)) c.args.scope.now c.args.scope.now c.args.facts.now c.args.facts.now
-    c.in_err-reading.field-0.0 (c.in_err-reading.ensures item.mark (sym c.trace_under-trace.ensures))))
+    c.in_err-reading.field-0.0 c.in_err-reading.ensures))
 
 pub sources::from_item-returns : goal.sources::from_item-returns
 sources::from_item-returns t c =
@@ -624,14 +635,15 @@ sources::from_item-returns t c =
     subst (λ (m : ItemMeant). ItemSeen m c.args.scope.now c.args.facts.now c.put_item.new.facts c.put_item.new.scope c.put_item.result)
     (sym (item-means around.catalog.now item (scopes_of around.outer.now) around.trace (c.args.earlier.now ++ c.args.scope.now.items)))
     (c.put_item.ensures around.catalog.now (read_of around.catalog.now item.mark (scopes_of around.outer.now) around.trace (source_of around.catalog.now item.source))
-    (c.in_ok-reading.ensures item.mark (sym c.trace_under-trace.ensures)))
+    c.in_ok-reading.ensures)
 
 pub sources::on_seen-returns : goal.sources::on_seen-returns
 sources::on_seen-returns t c = λ items is.
     let around = c.args.around.now in
     let m = means_at (part_of around.catalog.now c.args.condition.now) (in_on items (scopes_of around.outer.now) around.trace) in
     subst (λ (at : ℕ). Tells (first_or (condition_breaks at m) (tt {0})) c.condition_over.result) (sym (part-at around.catalog.now c.args.condition.now))
-    (c.condition_over.ensures.tells m (rw (c.in_ok-scopes.ensures, is, c.in_on.ensures items (scopes_of around.outer.now)) at c.kind_of.ensures))
+    (c.condition_over.ensures.tells m
+    (rw (c.seeing-place.ensures.place, c.seeing-place.ensures.catalog, c.in_ok-scopes.ensures, is, c.in_on.ensures items (scopes_of around.outer.now)) at c.kind_of.ensures))
 
 pub sources::join_seen-returns-in_err-from_item : goal.sources::join_seen-returns-in_err-from_item
 sources::join_seen-returns-in_err-from_item t c = λ left before first.

@@ -92,7 +92,8 @@ fn any_step_aggregates(steps: &[ExprStep]) -> bool
 
 #[cycle(aggregates)]
 fn any_arm_aggregates(arms: &[ArmTree]) -> bool
-    ensures { (c : Contents) → result ≡ list_any is_aggregating (flat_map arm_parts (map (arm_of c) arms.now)) }
+    ensures { (c : Contents) → result ≡ list_any is_aggregating
+        (flat_map arm_parts (map (arm_of c) arms.now)) }
 {
     let mut found = false;
     for arm in arms {

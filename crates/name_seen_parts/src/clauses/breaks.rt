@@ -33,7 +33,8 @@ pub fn word_break(provable: bool, word: Option<usize>) -> Result<(), Break>
 
 /// That a condition at this offset, whose kind was answered or refused, breaks a rule.
 pub fn condition_over(at: usize, kind: Result<Option<Kind>, Refusal>) -> Result<(), Refusal>
-    ensures tells { (meant : Meant) → Tells (seen meant) kind → Tells (first_or (condition_breaks at meant) tt) result }
+    ensures tells { (meant : Meant) → Tells (seen meant) kind
+        → Tells (first_or (condition_breaks at meant) tt) result }
     ensures short { result ≡ Err Short → kind ≡ Err Short }
 {
     match kind {

@@ -8,7 +8,8 @@ use name_meaning::{Break, Rule};
 /// That a name at this offset names no column, or more than one.
 pub fn count_break(count: usize, at: usize) -> Result<(), Break>
     ensures { result ≡ first_or
-        (broken_if (nat_eq count 0) rule.UnknownColumn at ++ broken_if (nat_lt 1 count) rule.AmbiguousColumn at) tt }
+        (broken_if (nat_eq count 0) rule.UnknownColumn at
+        ++ broken_if (nat_lt 1 count) rule.AmbiguousColumn at) tt }
 {
     if count == 0 {
         return Err(Break {

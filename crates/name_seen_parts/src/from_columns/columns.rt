@@ -1,12 +1,12 @@
 //! The names, kinds and places of columns.
-ghost use Rattle.std.specs.Prelude.{◌≡◌, [], IfOk, slice_index_or};
-ghost use Rattle.std.specs.List.{range_with_len};
-ghost use Rattle.name_meaning.specs.Froms.{named_columns, names_at, settled_columns, table_columns};
+ghost use Rattle.std.specs.Prelude.{◌≡◌, IfOk};
+ghost use Rattle.name_meaning.specs.Froms.{named_columns, settled_columns, table_columns};
 ghost use Rattle.perm_catalog.specs.Columns.{column_kinds};
 ghost use Rattle.name_seen_parts.specs.Columns.{columns_of};
 ghost use Rattle.name_seen_parts.specs.FromColumns.{known_names};
 
 use crate::clauses::ShownColumn;
+use name_meaning::settled;
 use perm_catalog::Column;
 use perm_values::{Chars, Copyable, Kind, List, NoMemory};
 use std::alloc::Global;
@@ -33,37 +33,6 @@ pub fn names_of(alloc: Global, columns: &[Column]) -> Result<List<Chars>, NoMemo
     Ok(names)
 }
 
-/// The names at these places; one out of range counts as empty.
-pub fn names_at(alloc: Global, names: &[Chars], places: &[usize]) -> Result<List<Chars>, NoMemory>
-    ensures { IfOk result (λ found. found ≡ names_at names.now places.now) }
-{
-    let mut found = List::new(alloc);
-    for place in places {
-        found.push(name_at(alloc, names, *place)?)?;
-    }
-    Ok(found)
-}
-
-fn name_at(alloc: Global, names: &[Chars], place: usize) -> Result<Chars, NoMemory>
-    ensures { IfOk result (λ name. name ≡ slice_index_or names.now place []) }
-{
-    match names.get(place) {
-        Some(name) => name.copy(alloc),
-        None => Chars::from_text(alloc, ""),
-    }
-}
-
-/// The places of as many columns.
-pub fn all_places(alloc: Global, count: usize) -> Result<List<usize>, NoMemory>
-    ensures { IfOk result (λ places. places ≡ range_with_len 0 count) }
-{
-    let mut places = List::new(alloc);
-    for place in 0..count {
-        places.push(place)?;
-    }
-    Ok(places)
-}
-
 /// The columns of these names and kinds, as many as there are of both.
 pub fn named_columns(
     alloc: Global,
@@ -86,12 +55,12 @@ pub fn named_columns(
 pub fn settled_columns(alloc: Global, columns: &[ShownColumn]) -> Result<List<Column>, NoMemory>
     ensures { IfOk result (λ settled. table_columns settled ≡ settled_columns (columns_of columns.now)) }
 {
-    let mut settled = List::new(alloc);
+    let mut found = List::new(alloc);
     for column in columns {
-        settled.push(Column {
+        found.push(Column {
             name: column.name.copy(alloc)?,
-            kind: column.kind.unwrap_or(Kind::Text),
+            kind: settled(column.kind, Kind::Text),
         })?;
     }
-    Ok(settled)
+    Ok(found)
 }

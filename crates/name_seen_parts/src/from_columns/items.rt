@@ -18,7 +18,8 @@ use std::alloc::Global;
 
 /// The table's or view's name, or the subquery's alias.
 pub fn label_of(alloc: Global, item: &FromItem) -> Result<Chars, NoMemory>
-    ensures { (c : Contents) → IfOk result (λ label. label ≡ label_of (source_of c item.now.source) item.now.alias) }
+    ensures { (c : Contents) → IfOk result (λ label. label
+        ≡ label_of (source_of c item.now.source) item.now.alias) }
 {
     match &item.source {
         FromSource::Named(name) => name.text.copy(alloc),
@@ -31,7 +32,8 @@ pub fn label_of(alloc: Global, item: &FromItem) -> Result<Chars, NoMemory>
 
 /// The alias, or else the table's or view's name.
 pub fn scope_name(alloc: Global, item: &FromItem) -> Result<Chars, NoMemory>
-    ensures { (c : Contents) → IfOk result (λ name. name ≡ scope_name (source_of c item.now.source) item.now.alias) }
+    ensures { (c : Contents) → IfOk result (λ name. name
+        ≡ scope_name (source_of c item.now.source) item.now.alias) }
 {
     match &item.alias {
         Some(alias) => alias.text.copy(alloc),
@@ -47,7 +49,9 @@ pub fn item_break(
     items: &[Chars],
     columns: &[Column],
 ) -> Result<(), Break>
-    ensures { result ≡ first_or (broken_if (list_any (named_so name.now) (earlier.now ++ items.now)) rule.RepeatedItem item.now.at
+    ensures { result
+        ≡ first_or (broken_if (list_any (named_so name.now) (earlier.now ++ items.now)) rule.RepeatedItem
+        item.now.at
         ++ mark_breaks item.now.mark (Some (known_names columns.now))) tt }
 {
     if is_among(name, earlier) || is_among(name, items) {

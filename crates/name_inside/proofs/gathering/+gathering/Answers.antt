@@ -1,10 +1,9 @@
-use Rattle.std.specs.Prelude.{List, None, map, flat_map}
+use Rattle.std.specs.Prelude.{List, None}
 use Rattle.std.proofs.Common.{ap, refl, subst, ◌∙◌}
 use Rattle.name_meaning.specs.Items.{SelectPart}
 use Rattle.name_meaning.specs.Meanings.{query_means_at}
 use Rattle.name_meaning.specs.Trees.{arm_of, from_of, item_of, join_of, part_of, query_of, set_step_of, step_of}
 use Rattle.name_meaning.specs.declared.scope.Scope.{Scope}
-use Rattle.name_seen_parts.specs.Named.{scopes_of}
 use Rattle.name_seen_parts.specs.Standing.{around_of, standing_in, surroundings}
 use Rattle.name_inside.specs.Held.{held_arm, held_at, held_operand, held_select, held_step}
 use Rattle.name_inside.specs.Passed.{HasWidth}
@@ -163,7 +162,7 @@ arms_inside-loop-arm-preserved t c =
 pub operands_inside-loop-step-preserved : goal.operands_inside-loop-step-preserved
 operands_inside-loop-step-preserved t c =
     mapped-more (held_operand (around_of c.args.around.now)) (set_step_of c.args.around.now.catalog.now) c.args.steps.now c.loop-step.step-index c.step-item.result c.loop-step-test.true c.step-item.is
-    c.loop-step.invariant (operand-adds c.args.around.now.catalog.now (around_of c.args.around.now) c.step-item.result (rw (c.unprovable-behind.ensures.catalog, c.unprovable-behind.ensures.place) at c.in_ok-set_inside.ensures))
+    c.loop-step.invariant (operand-adds c.args.around.now.catalog.now (around_of c.args.around.now) c.step-item.result (rw (c.operand-behind.ensures.catalog, c.operand-behind.ensures.place) at c.in_ok-set_inside.ensures))
 
 pub items_inside-loop-item-preserved : goal.items_inside-loop-item-preserved
 items_inside-loop-item-preserved t c =
@@ -205,7 +204,7 @@ set_inside-returns-in_ok-core_inside-in-Core t c =
 pub set_inside-returns-in_ok-query_inside-in-Paren : goal.set_inside-returns-in_ok-query_inside-in-Paren
 set_inside-returns-in_ok-query_inside-in-Paren t c =
     adds-alike (paren-stands c.args.around.now.catalog.now (around_of c.args.around.now) c.args.tree.now c.in-Paren.query c.in-Paren.is)
-    (rw (c.get-in-Paren.ensures, c.unprovable.ensures.catalog, c.unprovable.ensures.place) at c.in_ok-query_inside-in-Paren.ensures)
+    (rw (c.get-in-Paren.ensures, c.operand.ensures.catalog, c.operand.ensures.place) at c.in_ok-query_inside-in-Paren.ensures)
 
 pub set_inside-returns-in_ok-operands_inside-in-Chain : goal.set_inside-returns-in_ok-operands_inside-in-Chain
 set_inside-returns-in_ok-operands_inside-in-Chain t c =
@@ -214,27 +213,30 @@ set_inside-returns-in_ok-operands_inside-in-Chain t c =
 
 pub core_inside-returns-in-None : goal.core_inside-returns-in-None
 core_inside-returns-in-None t c =
-    core-broken c.args.around.now.catalog.now (around_of c.args.around.now) c.args.core.now (around_of c.around_parts-own.result) c.around_parts-own.result.catalog.now
-    c.around_parts-own.ensures.place c.around_parts-own.ensures.catalog _ _ c.in_ok-scope_of.ensures c.in-None.is
+    core-broken c.args.around.now.catalog.now (around_of c.args.around.now) c.args.core.now (around_of c.core-own.result) c.core-own.result.catalog.now
+    c.core-own.ensures.place c.core-own.ensures.catalog _ _ c.in_ok-scope_of.ensures c.in-None.is
 
 pub core_inside-returns-in_ok-clauses_inside-in-Some : goal.core_inside-returns-in_ok-clauses_inside-in-Some
 core_inside-returns-in_ok-clauses_inside-in-Some t c =
-    core-adds c.args.around.now.catalog.now (around_of c.args.around.now) c.args.core.now (around_of c.around_parts-own.result) c.around_parts-own.result.catalog.now
-    c.around_parts-own.ensures.place c.around_parts-own.ensures.catalog _ c.in-Some.scope _ _ c.in_ok-scope_of.ensures c.in-Some.is
+    core-adds c.args.around.now.catalog.now (around_of c.args.around.now) c.args.core.now (around_of c.core-own.result) c.core-own.result.catalog.now
+    c.core-own.ensures.place c.core-own.ensures.catalog _ c.in-Some.scope _ _ c.in_ok-scope_of.ensures c.in-Some.is
     c.in_ok-clauses_inside-in-Some.ensures
 
 pub clauses_inside-returns : goal.clauses_inside-returns
 clauses_inside-returns t c =
-    clauses-adds c.args.around.now.catalog.now (around_of c.args.around.now) c.args.scope.now c.args.core.now (standing_in (scopes_of c.in_ok-grouped.grouped) c.in_clause.result)
-    (standing_in (scopes_of c.in_ok-rows.rows) c.in_clause-2.result) c.as_slice.result.now c.as_slice-2.result.now _ _ _ _ _
-    (ap (λ (scopes : List Scope). standing_in scopes c.in_clause.result) c.in_ok-grouped.ensures ∙ c.in_clause.ensures c.args.scope.now (around_of c.args.around.now).outer)
-    (ap (λ (scopes : List Scope). standing_in scopes c.in_clause-2.result) c.in_ok-rows.ensures ∙ c.in_clause-2.ensures (record c.args.scope.now { groups = None }) (around_of c.args.around.now).outer)
-    c.as_slice.ensures c.as_slice-2.ensures c.in_ok-items_inside.ensures c.in_ok-sources_inside.ensures c.in_ok-condition_inside.ensures c.in_ok-condition_inside-2.ensures
+    clauses-adds c.args.around.now.catalog.now (around_of c.args.around.now) c.args.scope.now c.args.core.now (surroundings c.seeing-in_list.result)
+    (surroundings c.seeing-in_where.result) c.as_slice.result.now c.as_slice-2.result.now _ _ _ _ _
+    (c.seeing-in_list.ensures.place ∙ ap (λ (scopes : List Scope). standing_in scopes c.in_clause.result) c.in_ok-grouped.ensures
+    ∙ c.in_clause.ensures c.args.scope.now (around_of c.args.around.now).outer)
+    (c.seeing-in_where.ensures.place ∙ ap (λ (scopes : List Scope). standing_in scopes c.in_clause-2.result) c.in_ok-rows.ensures
+    ∙ c.in_clause-2.ensures (record c.args.scope.now { groups = None }) (around_of c.args.around.now).outer)
+    c.as_slice.ensures c.as_slice-2.ensures (rw c.seeing-in_list.ensures.catalog at c.in_ok-items_inside.ensures) c.in_ok-sources_inside.ensures
+    (rw c.seeing-in_where.ensures.catalog at c.in_ok-condition_inside.ensures) (rw c.seeing-in_list.ensures.catalog at c.in_ok-condition_inside-2.ensures)
 
 pub query_inside-returns-in_ok-set_inside-in-Some : goal.query_inside-returns-in_ok-set_inside-in-Some
 query_inside-returns-in_ok-set_inside-in-Some t c =
     query-adds c.args.around.now.catalog.now (around_of c.args.around.now) c.args.tree.now c.in-Some.width _ _ _ (subst (HasWidth (query_means_at (query_of c.args.around.now.catalog.now c.args.tree.now) (around_of c.args.around.now))) c.in-Some.is c.in_ok-width_of.ensures)
-    c.in_ok-add_query-in-Some.ensures (rw (c.around_body.ensures.catalog, c.around_body.ensures.place) at c.in_ok-set_inside-in-Some.ensures)
+    c.in_ok-add_query-in-Some.ensures (rw (c.body.ensures.catalog, c.body.ensures.place, c.is_proving-proving.ensures c.args.around.now.catalog.now) at c.in_ok-set_inside-in-Some.ensures)
 
 pub source_inside-returns-in_ok-name_inside-in-Named : goal.source_inside-returns-in_ok-name_inside-in-Named
 source_inside-returns-in_ok-name_inside-in-Named t c =
@@ -243,4 +245,4 @@ source_inside-returns-in_ok-name_inside-in-Named t c =
 pub source_inside-returns-in_ok-query_inside-in-Inner : goal.source_inside-returns-in_ok-query_inside-in-Inner
 source_inside-returns-in_ok-query_inside-in-Inner t c =
     λ names. inner-adds c.args.around.now.catalog.now (around_of c.args.around.now).outer c.args.around.now.trace names c.args.item.now _ _ _ _ c.in-Inner.is c.get.ensures
-    (rw (c.around_inner.ensures.catalog, c.around_inner.ensures.place) at c.in_ok-query_inside-in-Inner.ensures)
+    (rw (c.under.ensures.catalog, c.under.ensures.place) at c.in_ok-query_inside-in-Inner.ensures)

@@ -1,7 +1,8 @@
 use Rattle.std.proofs.Common.{◌≡◌, ◌++◌, take}
 use Rattle.std.specs.Prelude.{map, filter}
 use Rattle.name_seen_parts.specs.Columns.{columns_of}
-use Rattle.name_seen_cores.specs.Shown.{is_of, shown}
+use Rattle.name_seen_cores.specs.Shown.{shown}
+use Rattle.name_seen_parts.specs.Stars.{is_of}
 use Rattle.name_seen_cores.proofs.listing.add_columns.Given as goal
 
 -- the columns so far

@@ -11,12 +11,12 @@ use Rattle.name_seen_cores.proofs.places.add_places.Goals as goal
 pub returns-clause-shown : goal.returns-clause-shown
 returns-clause-shown c =
     let kinds_are = c.in_ok-kinds.ensures ∙ ap place_kinds c.as_slice.ensures in
-    holds-on c.places_from.result
+    holds-on c.range.result
     (c.in_ok-add_named.ensures
     ∙ (λ i. columns_of c.args.columns.now ++ map out_column (named_columns ((c.as_slice-2.ensures ∙ c.in_ok-names.ensures) i) ((c.as_slice-3.ensures ∙ kinds_are) i))))
 
 pub returns-clause-places : goal.returns-clause-places
 returns-clause-places c =
     let kinds_are = c.in_ok-kinds.ensures ∙ ap place_kinds c.as_slice.ensures in
-    turned-ok c.places_from.result c.places_from.ensures
+    turned-ok c.range.result c.range.ensures
     (λ places is. is ∙ (λ i. range_with_len (c.len-own.ensures.value i) ((c.len.ensures.value ∙ ap length kinds_are) i)))

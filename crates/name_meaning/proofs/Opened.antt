@@ -1,5 +1,5 @@
 -- What a tree means, opened by one level.
-use Rattle.std.specs.Prelude.{◌≡◌}
+use Rattle.std.specs.Prelude.{◌≡◌, ℕ, Bool, List, map, Option, Some, None, option_map}
 use Rattle.std.proofs.Common.{sym, ap, ◌∙◌}
 use Rattle.perm_catalog.specs.Contents.{Contents}
 use Rattle.sql_tree.specs.declared.expression.ExprBody.{ExprBody, out-ExprBody}
@@ -9,16 +9,16 @@ use Rattle.sql_tree.specs.declared.source.FromSource.{FromSource, out-FromSource
 use Rattle.sql_tree.specs.declared.expression.ArmTree.{ArmTree}
 use Rattle.sql_tree.specs.declared.expression.ExprStep.{ExprStep}
 use Rattle.sql_tree.specs.declared.expression.ExprTree.{ExprTree}
-use Rattle.sql_tree.specs.declared.query.Core.{Core, out-Core}
+use Rattle.sql_tree.specs.declared.query.Core.{Core, out-Core, roll-Core}
 use Rattle.sql_tree.specs.declared.query.QueryTree.{QueryTree}
 use Rattle.sql_tree.specs.declared.query.SetStep.{SetStep}
 use Rattle.sql_tree.specs.declared.source.FromItem.{FromItem}
 use Rattle.sql_tree.specs.declared.source.FromTree.{FromTree, out-FromTree}
-use Rattle.sql_tree.specs.declared.source.JoinStep.{JoinStep, out-JoinStep}
-use Rattle.sql_tree.specs.declared.expression.ExprBody.TheFolds.{map-ExprBody, map-SelectItem, map-SetTree, map-FromSource, map-Core, map-FromTree, map-JoinStep, fold-roll-ExprBody, fold-roll-SelectItem, fold-roll-SetTree, fold-roll-FromSource, fold-roll-ArmTree, fold-roll-ExprStep, fold-roll-ExprTree, fold-roll-Core, fold-roll-QueryTree, fold-roll-SetStep, fold-roll-FromItem, fold-roll-FromTree, fold-roll-JoinStep}
+use Rattle.sql_tree.specs.declared.source.JoinStep.{JoinStep, out-JoinStep, roll-JoinStep}
+use Rattle.sql_tree.specs.declared.expression.ExprBody.TheFolds.{map-ExprBody, map-SelectItem, map-SetTree, map-FromSource, map-Core, map-FromTree, map-JoinStep, fold-roll-ExprBody, fold-roll-SelectItem, fold-roll-SetTree, fold-roll-FromSource, fold-roll-ArmTree, fold-roll-ExprStep, fold-roll-ExprTree, fold-roll-Core, fold-roll-QueryTree, fold-roll-SetStep, fold-roll-FromItem, fold-roll-FromTree, fold-roll-JoinStep, map-ArmTree, map-ExprStep, map-ExprTree, map-QueryTree, map-SetStep, map-FromItem}
 use Rattle.sql_tree.specs.declared.expression.ExprBody.TheOpen.{ExprBody-F, SelectItem-F, SetTree-F, FromSource-F, ArmTree-F, ExprStep-F, ExprTree-F, Core-F, QueryTree-F, SetStep-F, FromItem-F, FromTree-F, JoinStep-F}
 use Rattle.sql_tree.specs.declared.expression.ExprBody.TheViews.{roll-out-ExprBody, roll-out-SelectItem, roll-out-SetTree, roll-out-FromSource, roll-out-Core, roll-out-FromTree, roll-out-JoinStep}
-use Rattle.name_meaning.proofs.Equations.{ExprBodyFrame, SelectItemFrame, SetTreeFrame, FromSourceFrame, ArmTreeFrame, ExprStepFrame, ExprTreeFrame, CoreFrame, QueryTreeFrame, SetStepFrame, FromItemFrame, FromTreeFrame, JoinStepFrame}
+use Rattle.name_meaning.proofs.Equations.{ExprBodyFrame, SelectItemFrame, SetTreeFrame, FromSourceFrame, ArmTreeFrame, ExprStepFrame, ExprTreeFrame, CoreFrame, QueryTreeFrame, SetStepFrame, FromItemFrame, FromTreeFrame, JoinStepFrame, token, core-record-none-none, core-record-none-some, core-record-some-none, core-record-some-some, joinstep-record-none, joinstep-record-some}
 use Rattle.name_meaning.specs.Cores.{BodyPart, core_step}
 use Rattle.name_meaning.specs.Expressions.{Body, StepPart, ArmPart, body_step, arm_step, step_step, expr_step}
 use Rattle.name_meaning.specs.Froms.{SourcePart, FromItemPart, FromPart, JoinPart, source_step, from_item_step, from_step, join_step}
@@ -26,6 +26,8 @@ use Rattle.name_meaning.specs.Items.{SelectPart, item_step}
 use Rattle.name_meaning.specs.Meanings.{Part, QueryPart}
 use Rattle.name_meaning.specs.Queries.{SetStepPart, set_step, set_step_step, query_step}
 use Rattle.name_meaning.specs.Trees.{body_of, item_of, set_of_tree, source_of, arm_of, step_of, part_of, core_of, query_of, set_step_of, from_item_of, from_of, join_of}
+use Rattle.sql_tree.specs.declared.name.ColRef.{ColRef}
+use Rattle.sql_tree.specs.declared.source.JoinWord.{JoinWord}
 
 abbrev pub Layer_body : Type 0
 Layer_body = ExprBody-F ExprBody SelectItem SetTree FromSource ArmTree ExprStep ExprTree Core QueryTree SetStep FromItem FromTree JoinStep
@@ -118,6 +120,54 @@ unfolding body_of item_of set_of_tree source_of arm_of step_of part_of core_of q
 opened_join c tree = ap (join_of c) (sym (roll-out-JoinStep tree)) ∙ fold-roll-JoinStep Body SelectPart BodyPart SourcePart ArmPart StepPart Part BodyPart QueryPart SetStepPart FromItemPart FromPart JoinPart
     body_step item_step set_step source_step arm_step step_step expr_step core_step query_step set_step_step (from_item_step c) from_step join_step (out-JoinStep tree)
 
+abbrev pub Layer_arm : Type 0
+Layer_arm = ArmTree-F ExprBody SelectItem SetTree FromSource ArmTree ExprStep ExprTree Core QueryTree SetStep FromItem FromTree JoinStep
+
+abbrev pub shown_arm : Contents → Layer_arm → ArmTreeFrame
+shown_arm c layer = map-ArmTree ExprBody SelectItem SetTree FromSource ArmTree ExprStep ExprTree Core QueryTree SetStep FromItem FromTree JoinStep
+    Body SelectPart BodyPart SourcePart ArmPart StepPart Part BodyPart QueryPart SetStepPart FromItemPart FromPart JoinPart
+    (body_of c) (item_of c) (set_of_tree c) (source_of c) (arm_of c) (step_of c) (part_of c) (core_of c) (query_of c) (set_step_of c) (from_item_of c) (from_of c) (join_of c) layer
+
+abbrev pub Layer_step : Type 0
+Layer_step = ExprStep-F ExprBody SelectItem SetTree FromSource ArmTree ExprStep ExprTree Core QueryTree SetStep FromItem FromTree JoinStep
+
+abbrev pub shown_step : Contents → Layer_step → ExprStepFrame
+shown_step c layer = map-ExprStep ExprBody SelectItem SetTree FromSource ArmTree ExprStep ExprTree Core QueryTree SetStep FromItem FromTree JoinStep
+    Body SelectPart BodyPart SourcePart ArmPart StepPart Part BodyPart QueryPart SetStepPart FromItemPart FromPart JoinPart
+    (body_of c) (item_of c) (set_of_tree c) (source_of c) (arm_of c) (step_of c) (part_of c) (core_of c) (query_of c) (set_step_of c) (from_item_of c) (from_of c) (join_of c) layer
+
+abbrev pub Layer_part : Type 0
+Layer_part = ExprTree-F ExprBody SelectItem SetTree FromSource ArmTree ExprStep ExprTree Core QueryTree SetStep FromItem FromTree JoinStep
+
+abbrev pub shown_part : Contents → Layer_part → ExprTreeFrame
+shown_part c layer = map-ExprTree ExprBody SelectItem SetTree FromSource ArmTree ExprStep ExprTree Core QueryTree SetStep FromItem FromTree JoinStep
+    Body SelectPart BodyPart SourcePart ArmPart StepPart Part BodyPart QueryPart SetStepPart FromItemPart FromPart JoinPart
+    (body_of c) (item_of c) (set_of_tree c) (source_of c) (arm_of c) (step_of c) (part_of c) (core_of c) (query_of c) (set_step_of c) (from_item_of c) (from_of c) (join_of c) layer
+
+abbrev pub Layer_query : Type 0
+Layer_query = QueryTree-F ExprBody SelectItem SetTree FromSource ArmTree ExprStep ExprTree Core QueryTree SetStep FromItem FromTree JoinStep
+
+abbrev pub shown_query : Contents → Layer_query → QueryTreeFrame
+shown_query c layer = map-QueryTree ExprBody SelectItem SetTree FromSource ArmTree ExprStep ExprTree Core QueryTree SetStep FromItem FromTree JoinStep
+    Body SelectPart BodyPart SourcePart ArmPart StepPart Part BodyPart QueryPart SetStepPart FromItemPart FromPart JoinPart
+    (body_of c) (item_of c) (set_of_tree c) (source_of c) (arm_of c) (step_of c) (part_of c) (core_of c) (query_of c) (set_step_of c) (from_item_of c) (from_of c) (join_of c) layer
+
+abbrev pub Layer_set_step : Type 0
+Layer_set_step = SetStep-F ExprBody SelectItem SetTree FromSource ArmTree ExprStep ExprTree Core QueryTree SetStep FromItem FromTree JoinStep
+
+abbrev pub shown_set_step : Contents → Layer_set_step → SetStepFrame
+shown_set_step c layer = map-SetStep ExprBody SelectItem SetTree FromSource ArmTree ExprStep ExprTree Core QueryTree SetStep FromItem FromTree JoinStep
+    Body SelectPart BodyPart SourcePart ArmPart StepPart Part BodyPart QueryPart SetStepPart FromItemPart FromPart JoinPart
+    (body_of c) (item_of c) (set_of_tree c) (source_of c) (arm_of c) (step_of c) (part_of c) (core_of c) (query_of c) (set_step_of c) (from_item_of c) (from_of c) (join_of c) layer
+
+abbrev pub Layer_from_item : Type 0
+Layer_from_item = FromItem-F ExprBody SelectItem SetTree FromSource ArmTree ExprStep ExprTree Core QueryTree SetStep FromItem FromTree JoinStep
+
+abbrev pub shown_from_item : Contents → Layer_from_item → FromItemFrame
+shown_from_item c layer = map-FromItem ExprBody SelectItem SetTree FromSource ArmTree ExprStep ExprTree Core QueryTree SetStep FromItem FromTree JoinStep
+    Body SelectPart BodyPart SourcePart ArmPart StepPart Part BodyPart QueryPart SetStepPart FromItemPart FromPart JoinPart
+    (body_of c) (item_of c) (set_of_tree c) (source_of c) (arm_of c) (step_of c) (part_of c) (core_of c) (query_of c) (set_step_of c) (from_item_of c) (from_of c) (join_of c) layer
+
 abbrev pub frame_expr : Contents → ExprTree → ExprTreeFrame
 frame_expr c tree = record { at = tree.at; body = body_of c tree.body }
 
@@ -165,3 +215,50 @@ pub opened_from_item : (c : Contents) (tree : FromItem) → from_item_of c tree 
 unfolding body_of item_of set_of_tree source_of arm_of step_of part_of core_of query_of set_step_of from_item_of from_of join_of
 opened_from_item c tree = fold-roll-FromItem Body SelectPart BodyPart SourcePart ArmPart StepPart Part BodyPart QueryPart SetStepPart FromItemPart FromPart JoinPart
     body_step item_step set_step source_step arm_step step_step expr_step core_step query_step set_step_step (from_item_step c) from_step join_step (record { at = tree.at; source = tree.source; alias = tree.alias; mark = tree.mark })
+
+-- ---- cores and joins, with what their conditions mean
+
+abbrev frame_of_core : Contents → ℕ → Option ℕ → Bool → List SelectItem → List FromTree → Option ExprTree → List ColRef → Option ExprTree → CoreFrame
+frame_of_core c at provenance distinct items sources condition groups having = record {
+  at = at;
+  provenance = provenance;
+  distinct = distinct;
+  items = map (item_of c) items;
+  sources = map (from_of c) sources;
+  condition = option_map (part_of c) condition;
+  groups = groups;
+  having = option_map (part_of c) having;
+}
+
+core-record : (c : Contents) (at : ℕ) (provenance : Option ℕ) (distinct : Bool) (items : List SelectItem) (sources : List FromTree) (condition : Option ExprTree)
+    (groups : List ColRef) (having : Option ExprTree)
+    → core_of c (roll-Core (record { at = at; provenance = provenance; distinct = distinct; items = items; sources = sources; condition = condition; groups = groups; having = having }))
+    ≡ core_step (frame_of_core c at provenance distinct items sources condition groups having)
+unfolding token
+core-record c at provenance distinct items sources None groups None = core-record-none-none c at provenance distinct items sources groups
+core-record c at provenance distinct items sources None groups (Some having) = core-record-none-some c at provenance distinct items sources groups having
+core-record c at provenance distinct items sources (Some condition) groups None = core-record-some-none c at provenance distinct items sources condition groups
+core-record c at provenance distinct items sources (Some condition) groups (Some having) =
+    core-record-some-some c at provenance distinct items sources condition groups having
+
+abbrev pub frame_core : Contents → Core → CoreFrame
+frame_core c tree = frame_of_core c (out-Core tree).at (out-Core tree).provenance (out-Core tree).distinct (out-Core tree).items (out-Core tree).sources (out-Core tree).condition
+    (out-Core tree).groups (out-Core tree).having
+
+pub core-is : (c : Contents) (tree : Core) → core_of c tree ≡ core_step (frame_core c tree)
+core-is c tree =
+    ap (core_of c) (sym (roll-out-Core tree))
+    ∙ core-record c (out-Core tree).at (out-Core tree).provenance (out-Core tree).distinct (out-Core tree).items (out-Core tree).sources (out-Core tree).condition
+    (out-Core tree).groups (out-Core tree).having
+
+abbrev pub frame_join : Contents → JoinWord → FromItem → Option ExprTree → JoinStepFrame
+frame_join c word item condition = record { word = word; item = from_item_of c item; condition = option_map (part_of c) condition }
+
+join-record : (c : Contents) (word : JoinWord) (item : FromItem) (condition : Option ExprTree)
+    → join_of c (roll-JoinStep (record { word = word; item = item; condition = condition })) ≡ join_step (frame_join c word item condition)
+unfolding token
+join-record c word item None = joinstep-record-none c word item
+join-record c word item (Some condition) = joinstep-record-some c word item condition
+
+pub join-is : (c : Contents) (step : JoinStep) → join_of c step ≡ join_step (frame_join c (out-JoinStep step).word (out-JoinStep step).item (out-JoinStep step).condition)
+join-is c step = ap (join_of c) (sym (roll-out-JoinStep step)) ∙ join-record c (out-JoinStep step).word (out-JoinStep step).item (out-JoinStep step).condition
