@@ -2,7 +2,6 @@ pub mod BesideLists
 pub mod Faults
 pub mod FlatRows
 pub mod Itself
-pub mod JoinSublinks
 pub mod JoinedOutcomes
 pub mod JoinedRows
 pub mod KeptRewriting

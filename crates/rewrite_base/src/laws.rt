@@ -1,12 +1,9 @@
 //! Each law is the contract of a function that does nothing.
-ghost use Rattle.std.specs.Prelude.{◌≡◌, List, [], IsTrue};
+ghost use Rattle.std.specs.Prelude.{◌≡◌, [], IsTrue};
 ghost use Rattle.bag_algebra.specs.Kinds.{shape};
 ghost use Rattle.bag_algebra.specs.Rewriting.{is_plain, IsRewrite, Stands};
-ghost use Rattle.bag_algebra.specs.declared.expr.Expr.{Expr};
-ghost use Rattle.bag_algebra.specs.declared.query.JoinKind.{JoinKind};
-ghost use Rattle.bag_algebra.specs.declared.query.Query.TheVariants.{Distinct, Join, Prov};
+ghost use Rattle.bag_algebra.specs.declared.query.Query.TheVariants.{Distinct, Prov};
 ghost use Rattle.bag_algebra.specs.declared.query.Query.{Query};
-ghost use Rattle.bag_algebra.specs.declared.query.Sublink.{Sublink};
 
 /// A plain query stands for itself; and what stands for what stands for a query stands for that query.
 pub fn standing_is_reflexive_and_transitive()
@@ -25,10 +22,4 @@ pub fn distinct_rows_of_rewritings_stand_for_provenance()
 /// is a rewriting of it.
 pub fn queries_without_places_rewrite_as_what_stands()
     ensures { (q b : Query) → shape q ≡ [] → Stands q b → IsRewrite q b }
-{}
-
-/// A join in a well formed query has no sublinks, so of a join with some each rewriting of the join without them is one.
-pub fn joins_rewrite_as_without_sublinks()
-    ensures { (kind : JoinKind) (left right p : Query) (condition : Expr) (subs : List Sublink) →
-        IsRewrite (Join kind left right condition []) p → IsRewrite (Join kind left right condition subs) p }
 {}

@@ -11,7 +11,7 @@ pub use kept::{
     differs_from_first, exact_width, join_kept, join_on_first_columns, same_as_first, sum,
 };
 pub use laws::{
-    distinct_rows_of_rewritings_stand_for_provenance, joins_rewrite_as_without_sublinks,
+    distinct_rows_of_rewritings_stand_for_provenance,
     queries_without_places_rewrite_as_what_stands, standing_is_reflexive_and_transitive,
 };
 pub use unions::{UnionSide, before_nulls};

@@ -1,10 +1,10 @@
 -- What a test of a query says of its parts.
-use Rattle.std.proofs.Common.{◌≡◌, ℕ, ◌<◌, zero, suc, arith, Bool, ◌&&◌, IsTrue, List, [], ◌∷◌, length, get_or, refl, sym, ap, ◌∙◌}
+use Rattle.std.proofs.Common.{◌≡◌, ℕ, ◌<◌, zero, suc, arith, Bool, ◌&&◌, IsTrue, List, [], ◌∷◌, length, get_or, refl, sym, ap, ◌∙◌, true≢false}
 use Rattle.bag_algebra.proofs.Truths.{both-true, left-true, right-true}
 use Rattle.bag_algebra.specs.Scoped.{over_tables, traceable}
 use Rattle.bag_algebra.specs.declared.query.Query.{Query}
 use Rattle.bag_algebra.specs.declared.query.Sublink.{Sublink}
-use Rattle.bag_algebra.specs.BuiltScopes.{all_over_tables, all_traceable}
+use Rattle.bag_algebra.specs.BuiltScopes.{all_over_tables, all_traceable, without_subs}
 
 module _ (test : Query → Bool) (query node : Query) (holds : IsTrue (test query)) (is : query ≡ node) where
   pub one_of : (a : Bool) → test node ≡ a → IsTrue a
@@ -23,6 +23,10 @@ module _ (test : Sublink → Bool) (every : List Sublink → Bool) (opens : (sub
   at_each (first ∷ subs) zero sub holds low e = ap test e ∙ left-true (test first) (every subs) (sym (opens first subs) ∙ holds)
   at_each (first ∷ subs) (suc i) sub holds low e =
       at_each subs i sub (right-true (test first) (every subs) (sym (opens first subs) ∙ holds)) (omega arith) e
+
+pub subs-none : (subs : List Sublink) → IsTrue (without_subs subs) → subs ≡ []
+subs-none [] holds = refl
+subs-none (sub ∷ subs) holds = absurd (true≢false (sym holds))
 
 -- the sources of sublinks that are traceable are tables
 pub subs-sourced : (subs : List Sublink) → IsTrue (all_traceable subs) → IsTrue (all_over_tables subs)

@@ -15,8 +15,9 @@ use crate::rules::{
     limit_rule, project_rule, union_rule,
 };
 use crate::standing::{
-    aggregate_standing, distinct_standing, except_standing, filter_standing, intersect_standing,
-    join_standing, limit_standing, project_standing, provenance_standing, table, union_standing,
+    aggregate_standing, apply_standing, distinct_standing, except_standing, filter_standing,
+    intersect_standing, join_standing, limit_standing, project_standing, provenance_standing,
+    table, union_standing,
 };
 use crate::sublinks::{add_rewriting, add_standing};
 use bag_algebra::{Query, Sublink};
@@ -100,6 +101,11 @@ fn stand(alloc: Global, query: &Query) -> Result<Query, NoMemory>
         Query::Limit { input, keys, count } => {
             let rows = stand(alloc, input.get());
             limit_standing(alloc, rows, keys, *count)
+        }
+        Query::Apply { kind, left, right } => {
+            let lefts = stand(alloc, left.get());
+            let rights = stand(alloc, right.get());
+            apply_standing(alloc, *kind, lefts, rights)
         }
         Query::Prov { input } => provenance_standing(alloc, rewriting(alloc, input.get())),
     }
@@ -240,6 +246,7 @@ fn by_rule(alloc: Global, query: &Query) -> Result<Query, NoMemory>
             let rows = rewriting(alloc, input.get());
             limit_rule(alloc, plain_rows, rows, keys.as_slice(), *count)
         }
+        Query::Apply { .. } => unreachable!(),
         Query::Prov { .. } => stand(alloc, query),
     }
 }

@@ -2,7 +2,7 @@
 //! these, so that no query is at hand where one of those calls fails.
 ghost use Rattle.std.specs.Prelude.{◌≡◌, List, IfOk};
 ghost use Rattle.bag_algebra.specs.Rewriting.{IsRewrite, Stands};
-ghost use Rattle.bag_algebra.specs.declared.query.Query.TheVariants.{Table, Filter, Project, Join, Union, Intersect, Except, Distinct, Aggregate, Limit, Prov};
+ghost use Rattle.bag_algebra.specs.declared.query.Query.TheVariants.{Table, Filter, Project, Join, Apply, Union, Intersect, Except, Distinct, Aggregate, Limit, Prov};
 ghost use Rattle.bag_algebra.specs.declared.query.Query.{Query};
 ghost use Rattle.bag_algebra.specs.declared.query.Sublink.{Sublink};
 ghost use Rattle.query_laws.specs.Standing.{SubsStand};
@@ -79,6 +79,20 @@ pub(crate) fn union_standing(
 {
     let (left, right) = both(left, right)?;
     Query::union(alloc, all, left, right)
+}
+
+/// What stands for a dependent join over what stands for its sides. It fails where one of these failed, and for want of memory.
+pub(crate) fn apply_standing(
+    alloc: Global,
+    kind: JoinKind,
+    left: Result<Query, NoMemory>,
+    right: Result<Query, NoMemory>,
+) -> Result<Query, NoMemory>
+    ensures { (q r : Query) → IfOk left (λ b. Stands q b) → IfOk right (λ d. Stands r d) →
+        IfOk result (λ p. Stands (Apply kind q r) p) }
+{
+    let (left, right) = both(left, right)?;
+    Query::apply(alloc, kind, left, right)
 }
 
 /// What stands for an INTERSECT over what stands for its inputs. It fails where one of these failed, and for want of memory.

@@ -1,18 +1,17 @@
-use Rattle.std.proofs.Common.{◌&&◌, take, refl, sym, ap, ◌∙◌, subst, rules}
+use Rattle.std.proofs.Common.{true≢false, ◌&&◌, take, refl, sym, ap, ◌∙◌, subst, rules}
 use Rattle.bag_algebra.proofs.Truths.{left-true, right-true}
 use Rattle.bag_algebra.specs.Built.{shape-Prov}
-use Rattle.bag_algebra.specs.Rewriting.{Stands}
+use Rattle.bag_algebra.specs.Rewriting.{IsRewrite, Stands}
 use Rattle.bag_algebra.specs.Scoped.{is_scoped, over_tables, traceable}
 use Rattle.bag_algebra.specs.declared.query.Query.{the_lemmas}
-use Rattle.bag_algebra.specs.declared.query.Query.TheVariants.{Single}
+use Rattle.bag_algebra.specs.declared.query.Query.TheVariants.{Single, Join}
 use Rattle.contribution.proofs.Added.{one_more}
 use Rattle.query_laws.proofs.StandingNodes.{stands-Base}
 use Rattle.query_laws.specs.Standing.{SubsStand}
-use Rattle.bag_algebra.specs.BuiltScopes.{all_scoped, all_traceable, is_scoped-Base, is_scoped-Filter, is_scoped-Project, is_scoped-Join, is_scoped-Union, is_scoped-Intersect, is_scoped-Except, is_scoped-Distinct, is_scoped-Aggregate, is_scoped-Limit, is_scoped-Prov, traceable-Filter, traceable-Project, traceable-Join, traceable-Union, traceable-Intersect, traceable-Except, traceable-Distinct, traceable-Aggregate, traceable-Limit}
+use Rattle.bag_algebra.specs.BuiltScopes.{all_scoped, all_traceable, is_scoped-Base, is_scoped-Filter, is_scoped-Project, is_scoped-Join, is_scoped-Apply, is_scoped-Union, is_scoped-Intersect, is_scoped-Except, is_scoped-Distinct, is_scoped-Aggregate, is_scoped-Limit, is_scoped-Prov, traceable-Filter, traceable-Project, traceable-Join, traceable-Apply, traceable-Union, traceable-Intersect, traceable-Except, traceable-Distinct, traceable-Aggregate, traceable-Limit}
 use Rattle.rewrite_base.proofs.Itself.{stands-Table, stands-Single}
-use Rattle.rewrite_base.proofs.JoinSublinks.{rewrite-Join}
 use Rattle.rewrite_driver.proofs.MadeQueries.{stands_made, stands_where, rewrites_where, rewrites_without_places}
-use Rattle.rewrite_driver.proofs.Scopes.{one_of, first_of, second_of, at_each, subs-sourced}
+use Rattle.rewrite_driver.proofs.Scopes.{one_of, first_of, second_of, at_each, subs-none, subs-sourced}
 use Rattle.rewrite_driver.proofs.driver.+stand.Goals as goal
 use Rattle.rewrite_driver.specs.Places.{is_some_place, has_places}
 use Rattle.rewrite_sublink.specs.SubRewritings.{SubsRewritten}
@@ -138,6 +137,22 @@ pub stand-rewriting-requires : goal.stand-rewriting-requires
 stand-rewriting-requires t c =
     (search (rules, the_lemmas), (rw c.get-in-Prov.ensures (second_of is_scoped _ _ c.requires c.in-Prov.is _ _ (is_scoped-Prov c.in-Prov.input)), rw c.get-in-Prov.ensures (first_of is_scoped _ _ c.requires c.in-Prov.is _ _ (is_scoped-Prov c.in-Prov.input))))
 
+pub stand-stand-lefts-requires-in-Apply : goal.stand-stand-lefts-requires-in-Apply
+stand-stand-lefts-requires-in-Apply t c =
+    (search (rules, the_lemmas), rw c.get-in-Apply.ensures (first_of is_scoped _ _ c.requires c.in-Apply.is _ _ (is_scoped-Apply c.in-Apply.kind c.in-Apply.left c.in-Apply.right)))
+
+pub stand-stand-rights-requires-in-Apply : goal.stand-stand-rights-requires-in-Apply
+stand-stand-rights-requires-in-Apply t c =
+    (search (rules, the_lemmas), rw c.get-in-Apply-2.ensures (second_of is_scoped _ _ c.requires c.in-Apply.is _ _ (is_scoped-Apply c.in-Apply.kind c.in-Apply.left c.in-Apply.right)))
+
+pub stand-returns-in-Apply : goal.stand-returns-in-Apply
+stand-returns-in-Apply t c =
+    stands_where _ _ c.apply_standing.result c.in-Apply.is _ (λ p s. s) (c.apply_standing.ensures c.in-Apply.left c.in-Apply.right (rw c.get-in-Apply.ensures at c.stand-lefts-in-Apply.ensures) (rw c.get-in-Apply-2.ensures at c.stand-rights-in-Apply.ensures))
+
+pub by_rule-unreachable-requires : goal.by_rule-unreachable-requires
+by_rule-unreachable-requires t c =
+    absurd (true≢false (sym (one_of traceable _ _ c.requires.1 c.in-Apply.is _ (traceable-Apply c.in-Apply.kind c.in-Apply.left c.in-Apply.right))))
+
 pub stand-returns-in-Prov : goal.stand-returns-in-Prov
 stand-returns-in-Prov t c =
     stands_where _ _ c.provenance_standing.result c.in-Prov.is _ (λ p s. s) (c.provenance_standing.ensures c.in-Prov.input (rw c.get-in-Prov.ensures at c.rewriting.ensures))
@@ -258,7 +273,7 @@ by_rule-join_rule-requires-clause-right t c =
 
 pub by_rule-returns-in-Join : goal.by_rule-returns-in-Join
 by_rule-returns-in-Join t c =
-    rewrites_where _ _ c.join_rule.result c.in-Join.is _ (λ p r. rewrite-Join _ _ _ _ c.in-Join.subs p r) (rw (c.get-in-Join-3.ensures, c.get-in-Join-4.ensures) at c.join_rule.ensures)
+    rewrites_where _ _ c.join_rule.result c.in-Join.is _ (λ p r. subst (λ subs. IsRewrite (Join c.in-Join.kind c.in-Join.left c.in-Join.right c.in-Join.condition subs) p) (sym (subs-none c.in-Join.subs (second_of traceable _ _ c.requires.1 c.in-Join.is _ _ (traceable-Join c.in-Join.kind c.in-Join.left c.in-Join.right c.in-Join.condition c.in-Join.subs)))) r) (rw (c.get-in-Join-3.ensures, c.get-in-Join-4.ensures) at c.join_rule.ensures)
 
 pub by_rule-rewriting-lefts-requires-in-Union : goal.by_rule-rewriting-lefts-requires-in-Union
 by_rule-rewriting-lefts-requires-in-Union t c =
