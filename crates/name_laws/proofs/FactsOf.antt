@@ -66,16 +66,11 @@ facts-Project input items subs =
     facts-alike (shape-Project input items subs) (over_tables-Project input items subs) (traceable-Project input items subs)
     ∙ ap (both_facts (facts_of input)) (sub_facts-is subs)
 
-pub facts-Join : (kind : JoinKind) (left right : Query) (condition : Expr) (subs : List Sublink) →
-    facts_of (Join kind left right condition subs) ≡ both_facts (both_facts (facts_of left) (facts_of right)) (sub_facts subs)
-facts-Join kind left right condition subs =
-    facts-alike (shape-Join kind left right condition subs)
-    (over_tables-Join kind left right condition subs) (traceable-Join kind left right condition subs)
-    ∙ ap (both_facts (both_facts (facts_of left) (facts_of right))) (sub_facts-is subs)
-
 pub facts-Join_alone : (kind : JoinKind) (left right : Query) (condition : Expr) →
     facts_of (Join kind left right condition []) ≡ both_facts (facts_of left) (facts_of right)
-facts-Join_alone kind left right condition = facts-Join kind left right condition [] ∙ both_facts-none (both_facts (facts_of left) (facts_of right))
+facts-Join_alone kind left right condition =
+    facts-alike (shape-Join kind left right condition []) (over_tables-Join kind left right condition []) (traceable-Join kind left right condition [])
+    ∙ both_facts-none (both_facts (facts_of left) (facts_of right))
 
 pub facts-Union : (all : Bool) (left right : Query) → facts_of (Union all left right) ≡ both_facts (facts_of left) (facts_of right)
 facts-Union all left right = facts-alike (shape-Union all left right) (over_tables-Union all left right) (traceable-Union all left right)

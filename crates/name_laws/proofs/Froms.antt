@@ -287,7 +287,7 @@ on-holds outer trace items (Some part) row rows good whole is hold =
 joined-formed : (kind : JoinKind) (left right : Query) (condition : Expr) (rows : List (List Kind)) → WellFormed rows left → WellFormed rows right
     → HasKind ((kinds_of left ++ kinds_of right) ∷ rows) [] condition Boolean → WellFormed rows (Join kind left right condition [])
 joined-formed kind left right condition rows f g h =
-    by (sym (WellFormed-Join rows kind left right condition [])) (record { left = f; right = g; subs = tt; condition = h; without_subs = tt })
+    by (sym (WellFormed-Join rows kind left right condition [])) (record { left = f; right = g; subs = tt; condition = h })
 
 good-joined : (outer : List Scope) (trace : Trace) (left : FromMeant) (step : JoinPart) (m : ItemMeant) → GoodFrom outer left → GoodItemMeant outer m
     → GoodOptional step.condition → GoodFrom outer (join_item outer trace left step m)

@@ -4,7 +4,7 @@ use Rattle.std.proofs.Common.{refl, sym, ◌∙◌}
 use Rattle.std.proofs.lemmas.List.{length-append, length-map}
 use Rattle.perm_values.specs.declared.kind.Kind.{Kind}
 use Rattle.bag_algebra.specs.Kinds.{kinds_of, kinds_in, kind_in, shape, sub_shape, place_kinds}
-use Rattle.bag_algebra.specs.Patterns.{BaseOf, FilterOf, ProjectOf, JoinOf, UnionOf, IntersectOf, ExceptOf, DistinctOf, AggregateOf, LimitOf, ProvOf}
+use Rattle.bag_algebra.specs.Patterns.{BaseOf, FilterOf, ProjectOf, JoinOf, ApplyOf, UnionOf, IntersectOf, ExceptOf, DistinctOf, AggregateOf, LimitOf, ProvOf}
 use Rattle.bag_algebra.specs.PlaceNames.{label_names, names_behind, place_names, relations_of}
 use Rattle.bag_algebra.specs.WellFormed.{WellFormed, SubsForm, label_width}
 use Rattle.bag_algebra.specs.declared.place.Place.{Place}
@@ -52,6 +52,8 @@ mutual
       every-append IsNamed (shape left ++ shape right) (sub_shape subs)
       (every-append IsNamed (shape left) (shape right) (named-formed left outer f.left) (named-formed right outer f.right))
       (named-subs subs ((kinds_of left ++ kinds_of right) ∷ outer) f.subs)
+  named-formed (ApplyOf kind left right) outer f =
+      every-append IsNamed (shape left) (shape right) (named-formed left outer f.left) (named-formed right (kinds_of left ∷ outer) f.right)
   named-formed (UnionOf all left right) outer f =
       every-append IsNamed (shape left) (shape right) (named-formed left outer f.left_side) (named-formed right outer f.right_side)
   named-formed (IntersectOf all left right) outer f =
