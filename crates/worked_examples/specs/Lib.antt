@@ -1,6 +1,7 @@
 pub mod Catalogs
 pub mod Counts
 pub mod DataLines
+pub mod DependentRows
 pub mod FileRows
 pub mod Forms
 pub mod GroupRows
