@@ -1,12 +1,14 @@
 -- The measures and the tests of a query by the children of its topmost node.
-use Rattle.std.proofs.Common.{◌≡◌, ℕ, suc, ◌+◌, max, Bool, true, false, not, ◌&&◌, List, refl, sym, ap, arith}
+use Rattle.std.proofs.Common.{◌≡◌, ℕ, suc, ◌+◌, max, Bool, true, false, not, ◌&&◌, List, ◌++◌, append-nil, append_assoc, refl, sym, ap, arith}
 use Rattle.std.specs.List.{list_all}
 use Rattle.bag_algebra.specs.Built.{Base-is, Prov-is}
 use Rattle.bag_algebra.specs.BuiltFaultFree.{all_fault_free}
 use Rattle.bag_algebra.specs.BuiltMeasures.{inputs_height, subs_height, inputs_size, subs_size}
 use Rattle.bag_algebra.specs.BuiltScopes.{all_plain, all_over_tables, all_traceable, all_scoped}
+use Rattle.bag_algebra.specs.Children.{inputs_shape, subs_shape}
 use Rattle.bag_algebra.specs.FaultFree.{option_faultless, is_scalar, own_faultless, fault_free, subs_fault_free}
 use Rattle.bag_algebra.specs.Inputs.{inputs_of, sublinks_of}
+use Rattle.bag_algebra.specs.Kinds.{shape, sub_shape}
 use Rattle.bag_algebra.specs.Measures.{height_of, sub_height, size_of, sub_size}
 use Rattle.bag_algebra.specs.Patterns.{BaseOf, FilterOf, ProjectOf, JoinOf, ApplyOf, UnionOf, IntersectOf, ExceptOf, DistinctOf, AggregateOf, LimitOf, ProvOf}
 use Rattle.bag_algebra.specs.Rewriting.{is_plain, subs_plain}
@@ -59,6 +61,29 @@ size_of-node (DistinctOf input) = omega arith
 size_of-node (AggregateOf input groups aggregates) = omega arith
 size_of-node (LimitOf input keys count) = omega arith
 size_of-node (ProvOf input) = omega arith
+
+-- ---- places
+
+sub_shape-listed : {m : _} (subs : Row_of-Sublink m) → sub_shape subs ≡ subs_shape (items-the_row-Sublink _ subs)
+sub_shape-listed end_of-Sublink = refl
+sub_shape-listed (more_of-Sublink kind tested query subs) = ap (λ places. shape query ++ places) (sub_shape-listed subs)
+
+-- what neither is a source nor asks for provenance has the places of its children
+pub shape-node : (query : Query) → ((input : Query) (places : List ℕ) (label : Label) → query ≡ Base input places label → ⊥) → ((input : Query) → query ≡ Prov input → ⊥) → shape query ≡ inputs_shape (inputs_of query) ++ subs_shape (sublinks_of query)
+shape-node (Table id kinds) base prov = refl
+shape-node Single base prov = refl
+shape-node (BaseOf input places label) base prov = absurd (base input places label (sym (Base-is input places label)))
+shape-node (FilterOf input condition _ subs) base prov = simp (append-nil, sub_shape-listed subs)
+shape-node (ProjectOf input items _ subs) base prov = simp (append-nil, sub_shape-listed subs)
+shape-node (JoinOf kind left right condition _ subs) base prov = simp (append-nil, append_assoc, sub_shape-listed subs)
+shape-node (ApplyOf kind left right) base prov = simp append-nil
+shape-node (UnionOf all left right) base prov = simp append-nil
+shape-node (IntersectOf all left right) base prov = simp append-nil
+shape-node (ExceptOf all left right) base prov = simp append-nil
+shape-node (DistinctOf input) base prov = simp append-nil
+shape-node (AggregateOf input groups aggregates) base prov = simp append-nil
+shape-node (LimitOf input keys count) base prov = simp append-nil
+shape-node (ProvOf input) base prov = absurd (prov input (sym (Prov-is input)))
 
 -- ---- tests
 

@@ -17,3 +17,5 @@ pub sublink-smaller : (subs : List Sublink) (i : ℕ) (sub : Sublink) → i < le
 sublink-smaller [] i sub within is = absurd (omega arith)
 sublink-smaller (first ∷ subs) zero sub within is = omega (arith, ap (λ (s : Sublink). size_of s.query) is)
 sublink-smaller (first ∷ subs) (suc i) sub within is = omega (arith, sublink-smaller subs i sub (omega arith) is)
+
+pub ruleset smaller = (inputs-smaller, sublinks-smaller, sublink-smaller)

@@ -1,8 +1,9 @@
 -- How many columns a query and its places have, for what the constructors of code make.
-use Rattle.std.proofs.Common.{◌≡◌, ℕ, ◌+◌, Bool, List, [], ◌∷◌, ◌++◌, length, refl, sym, ap, ◌∙◌, arith, length-append, append_assoc}
+use Rattle.std.proofs.Common.{◌≡◌, ℕ, ◌+◌, List, [], ◌∷◌, ◌++◌, length, refl, sym, ap, ◌∙◌, arith, length-append, append_assoc}
 use Rattle.std.proofs.lemmas.List.{length-map}
-use Rattle.bag_algebra.specs.Built.{kinds_of-Project, kinds_of-Join, kinds_of-Apply, kinds_of-Aggregate, kinds_of-Prov, shape-Base, shape-Filter, shape-Project, shape-Join, shape-Apply, shape-Union, shape-Intersect, shape-Except}
-use Rattle.bag_algebra.specs.Children.{subs_shape}
+use Rattle.bag_algebra.specs.Built.{kinds_of-Project, kinds_of-Join, kinds_of-Apply, kinds_of-Aggregate, kinds_of-Prov, shape-Base}
+use Rattle.bag_algebra.specs.Children.{inputs_shape, subs_shape}
+use Rattle.bag_algebra.specs.Inputs.{inputs_of, sublinks_of}
 use Rattle.bag_algebra.specs.Kinds.{kinds_of, kind_in, kinds_in, width_of, shape, place_kinds}
 use Rattle.bag_algebra.specs.declared.expr.Expr.{Expr}
 use Rattle.bag_algebra.specs.declared.expr.Item.{Item}
@@ -11,8 +12,9 @@ use Rattle.bag_algebra.specs.declared.query.Aggr.{Aggr}
 use Rattle.bag_algebra.specs.declared.query.JoinKind.{JoinKind}
 use Rattle.bag_algebra.specs.declared.query.Label.{Label}
 use Rattle.bag_algebra.specs.declared.query.Query.{Query}
-use Rattle.bag_algebra.specs.declared.query.Query.TheVariants.{Base, Filter, Project, Join, Apply, Union, Intersect, Except, Aggregate, Prov}
+use Rattle.bag_algebra.specs.declared.query.Query.TheVariants.{Base, Project, Join, Apply, Aggregate, Prov}
 use Rattle.bag_algebra.specs.declared.query.Sublink.{Sublink}
+use Rattle.bag_algebra.proofs.ByChildren.{shape-node}
 
 -- the columns of all places together
 abbrev pub places_width : List Place → ℕ
@@ -58,27 +60,8 @@ shape_width-Base input places label =
     ∙ length-append (kinds_in (kinds_of input) places) []
     ∙ omega (arith, length-map places (kind_in (kinds_of input)))
 
-pub shape_width-Filter : (input : Query) (condition : Expr) (subs : List Sublink) →
-    shape_width (Filter input condition subs) ≡ shape_width input + places_width (subs_shape subs)
-shape_width-Filter input condition subs = ap places_width (shape-Filter input condition subs) ∙ places_width-append (shape input) (subs_shape subs)
-
-pub shape_width-Project : (input : Query) (items : List Item) (subs : List Sublink) →
-    shape_width (Project input items subs) ≡ shape_width input + places_width (subs_shape subs)
-shape_width-Project input items subs = ap places_width (shape-Project input items subs) ∙ places_width-append (shape input) (subs_shape subs)
-
-pub shape_width-Join : (kind : JoinKind) (left right : Query) (condition : Expr) (subs : List Sublink) →
-    shape_width (Join kind left right condition subs) ≡ shape_width left + shape_width right + places_width (subs_shape subs)
-shape_width-Join kind left right condition subs =
-    omega (arith, ap places_width (shape-Join kind left right condition subs), places_width-append (shape left ++ shape right) (subs_shape subs), places_width-append (shape left) (shape right))
-
-pub shape_width-Apply : (kind : JoinKind) (left right : Query) → shape_width (Apply kind left right) ≡ shape_width left + shape_width right
-shape_width-Apply kind left right = ap places_width (shape-Apply kind left right) ∙ places_width-append (shape left) (shape right)
-
-pub shape_width-Union : (all : Bool) (left right : Query) → shape_width (Union all left right) ≡ shape_width left + shape_width right
-shape_width-Union all left right = ap places_width (shape-Union all left right) ∙ places_width-append (shape left) (shape right)
-
-pub shape_width-Intersect : (all : Bool) (left right : Query) → shape_width (Intersect all left right) ≡ shape_width left + shape_width right
-shape_width-Intersect all left right = ap places_width (shape-Intersect all left right) ∙ places_width-append (shape left) (shape right)
-
-pub shape_width-Except : (all : Bool) (left right : Query) → shape_width (Except all left right) ≡ shape_width left + shape_width right
-shape_width-Except all left right = ap places_width (shape-Except all left right) ∙ places_width-append (shape left) (shape right)
+-- what neither is a source nor asks for provenance has those of its children
+pub shape_width-node : (query : Query) → ((input : Query) (places : List ℕ) (label : Label) → query ≡ Base input places label → ⊥) → ((input : Query) → query ≡ Prov input → ⊥) →
+    shape_width query ≡ places_width (inputs_shape (inputs_of query)) + places_width (subs_shape (sublinks_of query))
+shape_width-node query base prov =
+    ap places_width (shape-node query base prov) ∙ places_width-append (inputs_shape (inputs_of query)) (subs_shape (sublinks_of query))

@@ -11,6 +11,7 @@ use Rattle.bag_algebra.specs.declared.expr.Arm.{Arm}
 use Rattle.bag_algebra.specs.declared.expr.ChainStep.{ChainStep}
 use Rattle.bag_algebra.specs.declared.expr.Expr.{Expr}
 use Rattle.bag_algebra.specs.declared.place.Place.{Place}
+use Rattle.bag_algebra.specs.declared.query.Query.{Query}
 use Rattle.bag_algebra.specs.declared.query.Sublink.{Sublink}
 
 -- parts, each of which is evaluated
@@ -38,6 +39,11 @@ subs_denote (sub ∷ subs) db env =
 -- outer one
 abbrev pub sublink_value : Database → List Row → Row → Sublink → Outcome Value
 sublink_value db env u sub = both_then (optional_value sub.tested env u) (meaning sub.query db (u ∷ env)) (sub_value sub.kind)
+
+-- the places of the queries, one query after another
+abbrev pub inputs_shape : List Query → List Place
+inputs_shape [] = []
+inputs_shape (query ∷ queries) = shape query ++ inputs_shape queries
 
 -- the places of the sublinks' queries, in the order of their numbers
 abbrev pub subs_shape : List Sublink → List Place

@@ -1,4 +1,6 @@
 //! What in a query may fault.
+#![tactic(auto, using(crate::proofs::Smaller::smaller))]
+
 ghost use Rattle.std.specs.Prelude.{◌≡◌};
 ghost use Rattle.std.specs.List.{list_all};
 ghost use Rattle.bag_algebra.specs.BuiltFaultFree.{all_parts_faultless, all_arms_faultless, all_fault_free};

@@ -1,8 +1,12 @@
 //! How many columns a query has.
+#![tactic(auto, using(crate::proofs::Smaller::smaller))]
+
 ghost use Rattle.std.specs.Prelude.{◌≡◌, ◌-◌, ◌^◌, min, length};
-ghost use Rattle.bag_algebra.specs.Children.{subs_shape};
+ghost use Rattle.bag_algebra.specs.Children.{inputs_shape, subs_shape};
+ghost use Rattle.bag_algebra.specs.Inputs.{given};
 ghost use Rattle.bag_algebra.specs.Kinds.{width_of, place_kinds, shape};
 
+use crate::children::Inputs;
 use crate::query::{Query, Sublink};
 
 /// The number of columns. It stays at `usize::MAX` where it would be greater. It takes no memory.
@@ -37,45 +41,27 @@ fn places_width(query: &Query) -> usize
     ensures { result ≡ min (length (place_kinds (shape query.now))) (2 ^ 64 - 1) }
 {
     match query {
-        Query::Table { .. } => 0,
-        Query::Single => 0,
         Query::Base { places, .. } => places.len(),
-        Query::Filter { input, subs, .. } => {
-            places_width(input.get()).saturating_add(sub_places_width(subs.as_slice()))
-        }
-        Query::Project { input, subs, .. } => {
-            places_width(input.get()).saturating_add(sub_places_width(subs.as_slice()))
-        }
-        Query::Join {
-            left,
-            right,
-            subs,
-            ..
-        } => places_width(left.get())
-            .saturating_add(places_width(right.get()))
-            .saturating_add(sub_places_width(subs.as_slice())),
-        Query::Apply { left, right, .. } => {
-            places_width(left.get()).saturating_add(places_width(right.get()))
-        }
-        Query::Union { left, right, .. } => {
-            places_width(left.get()).saturating_add(places_width(right.get()))
-        }
-        Query::Intersect { left, right, .. } => {
-            places_width(left.get()).saturating_add(places_width(right.get()))
-        }
-        Query::Except { left, right, .. } => {
-            places_width(left.get()).saturating_add(places_width(right.get()))
-        }
-        Query::Distinct { input } => places_width(input.get()),
-        Query::Aggregate { input, .. } => places_width(input.get()),
-        Query::Limit { input, .. } => places_width(input.get()),
         Query::Prov { .. } => 0,
+        _ => inputs_places_width(query.inputs()).saturating_add(subs_places_width(
+            query.sublinks(),
+        )),
     }
 }
 
-/// The number of the columns of all places of the sublinks' queries.
 #[cycle(places_width)]
-fn sub_places_width(subs: &[Sublink]) -> usize
+fn inputs_places_width(inputs: Inputs<'_>) -> usize
+    ensures { result ≡ min (length (place_kinds (inputs_shape (given inputs.entry)))) (2 ^ 64 - 1) }
+{
+    match inputs {
+        Inputs::Zero => 0,
+        Inputs::One(input) => places_width(input),
+        Inputs::Two(left, right) => places_width(left).saturating_add(places_width(right)),
+    }
+}
+
+#[cycle(places_width)]
+fn subs_places_width(subs: &[Sublink]) -> usize
     ensures { result ≡ min (length (place_kinds (subs_shape subs.now))) (2 ^ 64 - 1) }
 {
     let mut total: usize = 0;

@@ -1,4 +1,6 @@
 //! Where PROVENANCE stands in a query, and what stands below it.
+#![tactic(auto, using(crate::proofs::Smaller::smaller))]
+
 ghost use Rattle.std.specs.Prelude.{◌≡◌};
 ghost use Rattle.std.specs.List.{list_all};
 ghost use Rattle.bag_algebra.specs.BuiltScopes.{all_plain, all_over_tables, all_traceable, all_scoped};

@@ -1,4 +1,6 @@
 //! How high and how large a query is.
+#![tactic(auto, using(crate::proofs::Smaller::smaller))]
+
 ghost use Rattle.std.specs.Prelude.{◌≡◌, ◌-◌, ◌^◌, min};
 ghost use Rattle.bag_algebra.specs.BuiltMeasures.{inputs_height, subs_height, inputs_size, subs_size};
 ghost use Rattle.bag_algebra.specs.Inputs.{given};

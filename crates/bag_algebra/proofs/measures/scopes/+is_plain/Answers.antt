@@ -1,20 +1,10 @@
-use Rattle.std.proofs.Common.{sym, ap, ◌∙◌, arith}
+use Rattle.std.proofs.Common.{sym, ap, ◌∙◌}
 use Rattle.std.specs.List.{list_all}
 use Rattle.bag_algebra.specs.BuiltScopes.{all_plain, is_plain-Prov}
-use Rattle.bag_algebra.specs.Inputs.{given}
 use Rattle.bag_algebra.specs.Rewriting.{is_plain}
 use Rattle.bag_algebra.proofs.ByChildren.{is_plain-node}
-use Rattle.bag_algebra.proofs.Smaller.{inputs-smaller, sublinks-smaller, sublink-smaller}
 use Rattle.bag_algebra.proofs.Truths.{second-decides, first-decides}
 use Rattle.bag_algebra.proofs.measures.scopes.+is_plain.Goals as goal
-
-pub is_plain-inputs_plain-requires : goal.is_plain-inputs_plain-requires
-is_plain-inputs_plain-requires t c =
-    omega (arith, inputs-smaller c.args.query.now (given c.inputs.result) c.inputs.ensures)
-
-pub is_plain-all_plain-requires : goal.is_plain-all_plain-requires
-is_plain-all_plain-requires t c =
-    omega (arith, sublinks-smaller c.args.query.now c.sublinks.result.now c.sublinks.ensures)
 
 pub is_plain-returns-in-Prov : goal.is_plain-returns-in-Prov
 is_plain-returns-in-Prov t c =
@@ -27,7 +17,3 @@ is_plain-returns-then-inputs_plain t c =
 pub is_plain-returns-else-inputs_plain : goal.is_plain-returns-else-inputs_plain
 is_plain-returns-else-inputs_plain t c =
     first-decides _ _ _ _ (is_plain-node c.args.query.now c.in_default.not-Prov) (c.inputs_plain.ensures ∙ ap (list_all is_plain) c.inputs.ensures) c.if-inputs_plain.false
-
-pub all_plain-is_plain-requires : goal.all_plain-is_plain-requires
-all_plain-is_plain-requires t c =
-    omega (arith, sublink-smaller c.args.subs.now c.loop-sub.sub-index c.sub-item.result c.loop-sub-test.true c.sub-item.is)

@@ -2,21 +2,11 @@ use Rattle.std.proofs.Common.{ap, ◌∙◌, arith}
 use Rattle.std.specs.List.{list_all}
 use Rattle.bag_algebra.specs.Built.{Prov-is}
 use Rattle.bag_algebra.specs.BuiltScopes.{all_scoped, is_scoped-Prov}
-use Rattle.bag_algebra.specs.Inputs.{given}
 use Rattle.bag_algebra.specs.Measures.{size_of}
 use Rattle.bag_algebra.specs.Scoped.{traceable, is_scoped}
 use Rattle.bag_algebra.proofs.ByChildren.{is_scoped-node}
-use Rattle.bag_algebra.proofs.Smaller.{inputs-smaller, sublinks-smaller, sublink-smaller}
 use Rattle.bag_algebra.proofs.Truths.{second-decides, first-decides}
 use Rattle.bag_algebra.proofs.measures.scopes.+is_scoped.Goals as goal
-
-pub is_scoped-inputs_scoped-requires : goal.is_scoped-inputs_scoped-requires
-is_scoped-inputs_scoped-requires t c =
-    omega (arith, inputs-smaller c.args.query.now (given c.inputs.result) c.inputs.ensures)
-
-pub is_scoped-all_scoped-requires : goal.is_scoped-all_scoped-requires
-is_scoped-all_scoped-requires t c =
-    omega (arith, sublinks-smaller c.args.query.now c.sublinks.result.now c.sublinks.ensures)
 
 pub is_scoped-returns-then-inputs_scoped : goal.is_scoped-returns-then-inputs_scoped
 is_scoped-returns-then-inputs_scoped t c =
@@ -25,10 +15,6 @@ is_scoped-returns-then-inputs_scoped t c =
 pub is_scoped-returns-else-inputs_scoped : goal.is_scoped-returns-else-inputs_scoped
 is_scoped-returns-else-inputs_scoped t c =
     first-decides _ _ _ _ (is_scoped-node c.args.query.now c.in_default.not-Prov) (c.inputs_scoped.ensures ∙ ap (list_all is_scoped) c.inputs.ensures) c.if-inputs_scoped.false
-
-pub all_scoped-is_scoped-requires : goal.all_scoped-is_scoped-requires
-all_scoped-is_scoped-requires t c =
-    omega (arith, sublink-smaller c.args.subs.now c.loop-sub.sub-index c.sub-item.result c.loop-sub-test.true c.sub-item.is)
 
 pub is_scoped-returns-then-traceable : goal.is_scoped-returns-then-traceable
 is_scoped-returns-then-traceable t c =

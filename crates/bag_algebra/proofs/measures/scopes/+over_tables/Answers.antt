@@ -1,20 +1,10 @@
-use Rattle.std.proofs.Common.{sym, ap, ◌∙◌, arith}
+use Rattle.std.proofs.Common.{sym, ap, ◌∙◌}
 use Rattle.std.specs.List.{list_all}
 use Rattle.bag_algebra.specs.BuiltScopes.{all_over_tables, over_tables-Base, over_tables-Prov}
-use Rattle.bag_algebra.specs.Inputs.{given}
 use Rattle.bag_algebra.specs.Scoped.{is_table, over_tables}
 use Rattle.bag_algebra.proofs.ByChildren.{over_tables-node}
-use Rattle.bag_algebra.proofs.Smaller.{inputs-smaller, sublinks-smaller, sublink-smaller}
 use Rattle.bag_algebra.proofs.Truths.{second-decides, first-decides}
 use Rattle.bag_algebra.proofs.measures.scopes.+over_tables.Goals as goal
-
-pub over_tables-inputs_over_tables-requires : goal.over_tables-inputs_over_tables-requires
-over_tables-inputs_over_tables-requires t c =
-    omega (arith, inputs-smaller c.args.query.now (given c.inputs.result) c.inputs.ensures)
-
-pub over_tables-all_over_tables-requires : goal.over_tables-all_over_tables-requires
-over_tables-all_over_tables-requires t c =
-    omega (arith, sublinks-smaller c.args.query.now c.sublinks.result.now c.sublinks.ensures)
 
 pub over_tables-returns-in-Prov : goal.over_tables-returns-in-Prov
 over_tables-returns-in-Prov t c =
@@ -27,10 +17,6 @@ over_tables-returns-then-inputs_over_tables t c =
 pub over_tables-returns-else-inputs_over_tables : goal.over_tables-returns-else-inputs_over_tables
 over_tables-returns-else-inputs_over_tables t c =
     first-decides _ _ _ _ (over_tables-node c.args.query.now c.in_default.not-Base c.in_default.not-Prov) (c.inputs_over_tables.ensures ∙ ap (list_all over_tables) c.inputs.ensures) c.if-inputs_over_tables.false
-
-pub all_over_tables-over_tables-requires : goal.all_over_tables-over_tables-requires
-all_over_tables-over_tables-requires t c =
-    omega (arith, sublink-smaller c.args.subs.now c.loop-sub.sub-index c.sub-item.result c.loop-sub-test.true c.sub-item.is)
 
 pub over_tables-returns-in-Base : goal.over_tables-returns-in-Base
 over_tables-returns-in-Base t c =

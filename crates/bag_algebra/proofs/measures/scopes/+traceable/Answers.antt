@@ -1,21 +1,12 @@
-use Rattle.std.proofs.Common.{◌≡◌, ◌&&◌, refl, sym, ap, ◌∙◌, arith}
+use Rattle.std.proofs.Common.{◌≡◌, ◌&&◌, refl, sym, ap, ◌∙◌}
 use Rattle.std.specs.List.{list_all}
 use Rattle.bag_algebra.specs.BuiltScopes.{all_traceable, traceable-Base}
-use Rattle.bag_algebra.specs.Inputs.{given, inputs_of}
+use Rattle.bag_algebra.specs.Inputs.{inputs_of}
 use Rattle.bag_algebra.specs.Scoped.{has_rule, traceable}
 use Rattle.bag_algebra.proofs.ByChildren.{traceable-node}
-use Rattle.bag_algebra.proofs.Smaller.{inputs-smaller, sublinks-smaller, sublink-smaller}
 use Rattle.bag_algebra.proofs.Truths.{second-decides, first-decides}
 use Rattle.bag_algebra.proofs.measures.scopes.+traceable.Goals as goal
 use Rattle.bag_algebra.proofs.measures.scopes.+traceable.Goals.{traceable-then-inputs_traceable, traceable-else-inputs_traceable}
-
-pub traceable-inputs_traceable-requires : goal.traceable-inputs_traceable-requires
-traceable-inputs_traceable-requires t c =
-    omega (arith, inputs-smaller c.args.query.now (given c.inputs.result) c.inputs.ensures)
-
-pub traceable-all_traceable-requires : goal.traceable-all_traceable-requires
-traceable-all_traceable-requires t c =
-    omega (arith, sublinks-smaller c.args.query.now c.sublinks.result.now c.sublinks.ensures)
 
 pub traceable-returns-in-Base : goal.traceable-returns-in-Base
 traceable-returns-in-Base t c =
@@ -40,7 +31,3 @@ traceable-returns-else-has_rule t c =
       | traceable-else-inputs_traceable w ↦ w.value-is ∙ first-decides _ _ _ _ refl inputs w.if-inputs_traceable.false
     ] in
     first-decides _ _ _ _ (traceable-node c.args.query.now c.in_default.not-Base) own c.if-has_rule.false
-
-pub all_traceable-traceable-requires : goal.all_traceable-traceable-requires
-all_traceable-traceable-requires t c =
-    omega (arith, sublink-smaller c.args.subs.now c.loop-sub.sub-index c.sub-item.result c.loop-sub-test.true c.sub-item.is)

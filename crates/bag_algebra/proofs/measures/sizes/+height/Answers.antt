@@ -1,21 +1,13 @@
 use Rattle.std.proofs.Common.{ap, arith}
 use Rattle.std.proofs.lemmas.List.{at_drop_all}
 use Rattle.bag_algebra.specs.BuiltMeasures.{inputs_height, subs_height}
-use Rattle.bag_algebra.specs.Inputs.{given}
 use Rattle.bag_algebra.proofs.ByChildren.{height_of-node}
 use Rattle.bag_algebra.proofs.Rest.{from_here}
-use Rattle.bag_algebra.proofs.Smaller.{inputs-smaller, sublinks-smaller, sublink-smaller}
 use Rattle.bag_algebra.proofs.measures.sizes.+height.Goals as goal
 
 pub height-returns : goal.height-returns
 height-returns t c =
     omega (arith, height_of-node c.args.query.now, ap inputs_height c.inputs.ensures, ap subs_height c.sublinks.ensures)
-
-pub height-inputs_height-requires : goal.height-inputs_height-requires
-height-inputs_height-requires t c = omega (arith, inputs-smaller c.args.query.now (given c.inputs.result) c.inputs.ensures)
-
-pub height-subs_height-requires : goal.height-subs_height-requires
-height-subs_height-requires t c = omega (arith, sublinks-smaller c.args.query.now c.sublinks.result.now c.sublinks.ensures)
 
 pub subs_height-loop-sub-preserved : goal.subs_height-loop-sub-preserved
 subs_height-loop-sub-preserved t c =
@@ -24,7 +16,3 @@ subs_height-loop-sub-preserved t c =
 pub subs_height-returns : goal.subs_height-returns
 subs_height-returns t c =
     omega (arith, c.loop-sub.invariant, at_drop_all subs_height c.args.subs.now c.loop-sub.sub-index (omega arith))
-
-pub subs_height-height-requires : goal.subs_height-height-requires
-subs_height-height-requires t c =
-    omega (arith, sublink-smaller c.args.subs.now c.loop-sub.sub-index c.sub-item.result c.loop-sub-test.true c.sub-item.is)

@@ -1,25 +1,13 @@
 use Rattle.std.proofs.Common.{ap, arith}
 use Rattle.std.proofs.lemmas.List.{at_drop_all}
 use Rattle.bag_algebra.specs.BuiltMeasures.{inputs_size, subs_size}
-use Rattle.bag_algebra.specs.Inputs.{given}
 use Rattle.bag_algebra.proofs.ByChildren.{size_of-node}
 use Rattle.bag_algebra.proofs.Rest.{from_here}
-use Rattle.bag_algebra.proofs.Smaller.{inputs-smaller, sublinks-smaller, sublink-smaller}
 use Rattle.bag_algebra.proofs.measures.sizes.+size.Goals as goal
 
 pub size-returns : goal.size-returns
 size-returns t c =
     omega (arith, size_of-node c.args.query.now, ap inputs_size c.inputs.ensures, ap subs_size c.sublinks.ensures)
-
-pub size-inputs_size-requires : goal.size-inputs_size-requires
-size-inputs_size-requires t c = omega (arith, inputs-smaller c.args.query.now (given c.inputs.result) c.inputs.ensures)
-
-pub size-subs_size-requires : goal.size-subs_size-requires
-size-subs_size-requires t c = omega (arith, sublinks-smaller c.args.query.now c.sublinks.result.now c.sublinks.ensures)
-
-pub subs_size-size-requires : goal.subs_size-size-requires
-subs_size-size-requires t c =
-    omega (arith, sublink-smaller c.args.subs.now c.loop-sub.sub-index c.sub-item.result c.loop-sub-test.true c.sub-item.is)
 
 pub subs_size-loop-sub-preserved : goal.subs_size-loop-sub-preserved
 subs_size-loop-sub-preserved t c =
