@@ -1,7 +1,6 @@
 pub mod AskedListing
 pub mod Coring
 pub mod Listing
-pub mod Opened
 pub mod Querying
 pub mod Segmented
 pub mod Settling

@@ -20,7 +20,7 @@ use Rattle.name_meaning.specs.declared.scope.Scope.{Scope}
 use Rattle.name_meaning.proofs.Equations.{SelectItemFrame}
 use Rattle.name_made_nodes.proofs.Parts.{none-first, none-second}
 use Rattle.name_made_parts.specs.Cored.{items_meant}
-use Rattle.name_made_parts.proofs.Opened.{shown_item, opened_item}
+use Rattle.name_meaning.proofs.Opened.{shown_item, opened_item}
 
 -- ---- columns at the wanted kinds
 
