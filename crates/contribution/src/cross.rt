@@ -191,7 +191,8 @@ fn source_query(alloc: Global, source: &TableSource) -> Result<Query, NoMemory>
 
 fn source_rows(alloc: Global, source: &TableSource) -> Result<Query, NoMemory>
     ensures { IfOk result (λ p. p ≡
-        ProjectOf (Table source.now.id source.now.kinds) (column_items source.now.kinds source.now.places) [] end_of-Sublink) }
+        ProjectOf (Table source.now.id source.now.kinds)
+        (column_items source.now.kinds source.now.places) [] end_of-Sublink) }
 {
     let items = column_items(alloc, source.kinds.as_slice(), source.places.as_slice())?;
     let kinds = source.kinds.copy(alloc)?;

@@ -52,14 +52,16 @@ pub fn base_has_its_inputs_rows()
 /// rows meet is met.
 pub fn filter_keeps_what_is_true()
     ensures { (input : Query) (condition : Expr) (subs : List Sublink) (db : Database) (env : List Row) →
-        IsFiltered (condition_on condition env (subs_denote subs db env)) (meaning input db env) (meaning (Filter input condition subs) db env) }
+        IsFiltered (condition_on condition env (subs_denote subs db env)) (meaning input db env)
+        (meaning (Filter input condition subs) db env) }
 {}
 
 /// A row has the sum of the counts of those input rows whose items, after their sublinks, give it. What the rows meet
 /// is met.
 pub fn project_adds_counts()
     ensures { (input : Query) (items : List Item) (subs : List Sublink) (db : Database) (env : List Row) →
-        IsProjected (items_on items env (subs_denote subs db env)) (meaning input db env) (meaning (Project input items subs) db env) }
+        IsProjected (items_on items env (subs_denote subs db env)) (meaning input db env)
+        (meaning (Project input items subs) db env) }
 {}
 
 /// A row has the sum, over the pairs that make it and whose condition is true, of the products of their counts, and the
@@ -67,7 +69,8 @@ pub fn project_adds_counts()
 pub fn join_multiplies_counts()
     ensures { (kind : JoinKind) (left right : Query) (condition : Expr) (subs : List Sublink) (db : Database)
         (env : List Row) →
-        IsJoined kind (condition_on condition env (subs_denote subs db env)) (width_of left) (width_of right) (meaning left db env) (meaning right db env) (meaning (Join kind left right condition subs) db env) }
+        IsJoined kind (condition_on condition env (subs_denote subs db env)) (width_of left) (width_of right)
+        (meaning left db env) (meaning right db env) (meaning (Join kind left right condition subs) db env) }
 {}
 
 /// A row has the sum, over the left rows, of their counts times how often it stands beside them: as often as a right row
@@ -82,19 +85,22 @@ pub fn dependent_join_multiplies_counts()
 /// UNION ALL gives the sum of the counts, UNION each row of either side once.
 pub fn union_adds_counts()
     ensures { (all : Bool) (left right : Query) (db : Database) (env : List Row) →
-        IsCombined ◌+◌ in_either all (meaning left db env) (meaning right db env) (meaning (Union all left right) db env) }
+        IsCombined ◌+◌ in_either all (meaning left db env) (meaning right db env)
+        (meaning (Union all left right) db env) }
 {}
 
 /// INTERSECT ALL gives the smaller of the counts, INTERSECT each row of both sides once.
 pub fn intersect_has_the_smaller_count()
     ensures { (all : Bool) (left right : Query) (db : Database) (env : List Row) →
-        IsCombined min in_both all (meaning left db env) (meaning right db env) (meaning (Intersect all left right) db env) }
+        IsCombined min in_both all (meaning left db env) (meaning right db env)
+        (meaning (Intersect all left right) db env) }
 {}
 
 /// EXCEPT ALL gives what the left count has beyond the right one, EXCEPT each row of the left side alone once.
 pub fn except_takes_counts_away()
     ensures { (all : Bool) (left right : Query) (db : Database) (env : List Row) →
-        IsCombined ◌-◌ in_left_alone all (meaning left db env) (meaning right db env) (meaning (Except all left right) db env) }
+        IsCombined ◌-◌ in_left_alone all (meaning left db env) (meaning right db env)
+        (meaning (Except all left right) db env) }
 {}
 
 /// DISTINCT gives each row of the input once.
@@ -203,7 +209,8 @@ pub fn aggregates_look_at_what_is_not_null()
     ensures greatest { (vs : List Value) →
         present vs ≢ [] → (v : Value) × IsGreatest v (present vs) × (aggregated Max vs ≡ Good v) }
     ensures any_order { (function : AggFn) (vs ws : List Value) →
-        ((v : Value) → occurrences v vs ≡ occurrences v ws) → aggregated function vs ≡ aggregated function ws }
+        ((v : Value) → occurrences v vs ≡ occurrences v ws) →
+        aggregated function vs ≡ aggregated function ws }
 {}
 
 /// What is bad meets a fault: the set is never empty.

@@ -104,7 +104,8 @@ fn over_rewritings(
     condition: &Expr,
 ) -> Result<Expr, NoMemory>
     ensures { IfOk result (λ made.
-        IsMoved (own_places (width_of left.now) (width_of left_rewriting.now) (width_of right.now)) condition.now made) }
+        IsMoved (own_places (width_of left.now) (width_of left_rewriting.now) (width_of right.now))
+        condition.now made) }
 {
     let own = own_columns(alloc, left, left_rewriting, right)?;
     moved(alloc, condition, own.as_slice())
@@ -136,7 +137,8 @@ fn all_columns(
 ) -> Result<List<usize>, NoMemory>
     ensures { IfOk result (λ order. order ≡
         own_places (width_of left.now) (width_of left_rewriting.now) (width_of right.now)
-        ++ added_places (width_of left.now) (width_of left_rewriting.now) (width_of right.now) (width_of right_rewriting.now)) }
+        ++ added_places (width_of left.now) (width_of left_rewriting.now) (width_of right.now)
+        (width_of right_rewriting.now)) }
 {
     let mut order = own_columns(alloc, left, left_rewriting, right)?;
     order.append(added_columns(alloc, left, left_rewriting, right, right_rewriting)?)?;

@@ -21,7 +21,8 @@ pub fn filters_over_candidates_rewrite()
         (rewritings : List Query) →
         IsTrue (all_over_tables subs) → IsRewrite q rewriting → SubsStand subs standing →
         SubsRewritten subs rewritings →
-        IsRewrite (Filter q condition subs) (all_contributed (Filter rewriting condition standing) subs standing rewritings) }
+        IsRewrite (Filter q condition subs)
+        (all_contributed (Filter rewriting condition standing) subs standing rewritings) }
 {}
 
 /// So is, of a Project, what its items make of its input's rewriting, beside that rewriting's provenance and the candidates.
@@ -31,6 +32,7 @@ pub fn projects_over_candidates_rewrite()
         IsTrue (all_over_tables subs) → IsRewrite q rewriting → SubsStand subs standing →
         SubsRewritten subs rewritings →
         IsRewrite (Project q items subs)
-        (answer_columns (all_contributed (Project rewriting (beside_row rewriting items) standing) subs standing rewritings)
+        (answer_columns
+        (all_contributed (Project rewriting (beside_row rewriting items) standing) subs standing rewritings)
         (width_of q) (width_of rewriting) (length items)) }
 {}

@@ -75,7 +75,9 @@ fn items_with(
     requires as_many { length subs.now ≡ length standing.now }
     requires rewritten { length subs.now ≡ length rewritings.now }
     ensures { IfOk result (λ p. p ≡
-        answer_columns (all_contributed (Project rewriting (beside_row rewriting items.now) standing.now) subs.now standing.now rewritings.now)
+        answer_columns
+        (all_contributed (Project rewriting (beside_row rewriting items.now) standing.now)
+        subs.now standing.now rewritings.now)
         (width_of input.now) (width_of rewriting) (length items.now)) }
 {
     let Ok(own) = exact_width(input) else {

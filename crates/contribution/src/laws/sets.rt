@@ -20,7 +20,8 @@ ghost use Rattle.bag_algebra.specs.declared.query.Sublink.{Sublink};
 pub fn sets_of_rows_decide()
     ensures filter { (db : Database) (env : List Row) (input other : Query) →
         SameSet (meaning input db env) (meaning other db env) → (condition : Expr) (subs : List Sublink) →
-        SameSet (meaning (Filter input condition subs) db env) (meaning (Filter other condition subs) db env) }
+        SameSet (meaning (Filter input condition subs) db env)
+        (meaning (Filter other condition subs) db env) }
     ensures project { (db : Database) (env : List Row) (input other : Query) →
         SameSet (meaning input db env) (meaning other db env) → (items : List Item) (subs : List Sublink) →
         SameSet (meaning (Project input items subs) db env) (meaning (Project other items subs) db env) }
@@ -29,7 +30,8 @@ pub fn sets_of_rows_decide()
         SameSet (meaning right db env) (meaning other_right db env) →
         (kind : JoinKind) (condition : Expr) (subs : List Sublink) → width_of left ≡ width_of other_left →
         width_of right ≡ width_of other_right →
-        SameSet (meaning (Join kind left right condition subs) db env) (meaning (Join kind other_left other_right condition subs) db env) }
+        SameSet (meaning (Join kind left right condition subs) db env)
+        (meaning (Join kind other_left other_right condition subs) db env) }
     ensures apply { (db : Database) (env : List Row) (left right other_left other_right : Query) →
         SameSet (meaning left db env) (meaning other_left db env) →
         ((us : Bag) (u : Row) → meaning left db env ≡ Good us → IsTrue (member u us) →
@@ -49,7 +51,8 @@ pub fn sets_of_rows_decide()
     ensures except { (db : Database) (env : List Row) (left right other_left other_right : Query) →
         SameSet (meaning left db env) (meaning other_left db env) →
         SameSet (meaning right db env) (meaning other_right db env) →
-        SameSet (meaning (Except false left right) db env) (meaning (Except false other_left other_right) db env) }
+        SameSet (meaning (Except false left right) db env)
+        (meaning (Except false other_left other_right) db env) }
     ensures distinct { (db : Database) (env : List Row) (input other : Query) →
         SameSet (meaning input db env) (meaning other db env) →
         SameSet (meaning (Distinct input) db env) (meaning (Distinct other) db env) }

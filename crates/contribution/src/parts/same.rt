@@ -37,7 +37,8 @@ pub fn same_columns(
         (kinds others : List Kind) (outer : List (List Kind)) (subs : List Kind) →
         slice_get (kinds ∷ outer) level ≡ Some others →
         PlacesIn (length others) theirs.now → PlacesIn (length kinds) own.now →
-        kinds_in others theirs.now ≡ kinds_in kinds own.now → HasKind (kinds ∷ outer) subs test kind.Boolean) }
+        kinds_in others theirs.now ≡ kinds_in kinds own.now →
+        HasKind (kinds ∷ outer) subs test kind.Boolean) }
     ensures faultless { IfOk result (λ test. IsTrue (faultless test)) }
 {
     let tests = same_tests(alloc, level, theirs, own)?;

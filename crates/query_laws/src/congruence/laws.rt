@@ -30,7 +30,8 @@ pub fn nodes_see_rows_alone()
         SameRows (meaning input db env) (meaning other db env) →
         ((us : Bag) (u : Row) → meaning input db env ≡ Good us → IsTrue (member u us) →
         SubsAgree db env u subs others) →
-        SameRows (meaning (Filter input condition subs) db env) (meaning (Filter other condition others) db env) }
+        SameRows (meaning (Filter input condition subs) db env)
+        (meaning (Filter other condition others) db env) }
     ensures project { (input other : Query) (items : List Item) (subs others : List Sublink) (db : Database)
         (env : List Row) →
         SameRows (meaning input db env) (meaning other db env) →
@@ -44,7 +45,8 @@ pub fn nodes_see_rows_alone()
         width_of left ≡ width_of other → width_of right ≡ width_of another →
         ((us vs : Bag) (u v : Row) → meaning left db env ≡ Good us → meaning right db env ≡ Good vs →
         IsTrue (member u us) → IsTrue (member v vs) → SubsAgree db env (u ++ v) subs others) →
-        SameRows (meaning (Join kind left right condition subs) db env) (meaning (Join kind other another condition others) db env) }
+        SameRows (meaning (Join kind left right condition subs) db env)
+        (meaning (Join kind other another condition others) db env) }
     ensures apply { (kind : JoinKind) (left right other another : Query) (db : Database) (env : List Row) →
         SameRows (meaning left db env) (meaning other db env) → width_of right ≡ width_of another →
         ((us : Bag) (u : Row) → meaning left db env ≡ Good us → IsTrue (member u us) →
@@ -68,7 +70,8 @@ pub fn nodes_see_rows_alone()
     ensures aggregate { (input other : Query) (groups : List ℕ) (aggregates : List Aggr) (db : Database)
         (env : List Row) →
         SameRows (meaning input db env) (meaning other db env) →
-        SameRows (meaning (Aggregate input groups aggregates) db env) (meaning (Aggregate other groups aggregates) db env) }
+        SameRows (meaning (Aggregate input groups aggregates) db env)
+        (meaning (Aggregate other groups aggregates) db env) }
     ensures limit { (input other : Query) (keys : List Key) (most : ℕ) (db : Database) (env : List Row) →
         SameRows (meaning input db env) (meaning other db env) →
         SameRows (meaning (Limit input keys most) db env) (meaning (Limit other keys most) db env) }
