@@ -1,4 +1,4 @@
-//! Rows from the bytes of a CSV file, and the text of an answer.
+//! Rows from the bytes of a CSV file, the text of an answer, and the lines that name why a run ends.
 #![tactic(auto)]
 
 mod answer;

@@ -1,4 +1,5 @@
-//! Laws of what a statement means: its kinds, the facts that its provenance rests on, and what of it may be traced.
+//! Laws of what a statement means: its kinds, the facts that its provenance rests on, and what of it may be traced; that
+//! what names make is well formed; and that it reads tables of the catalog alone.
 #![tactic(auto)]
 
 mod forms;

@@ -1,5 +1,5 @@
-//! What the second pass of name analysis makes without going down a tree and without asking the first: sources of FROM and
-//! what joins them, the scopes of some of their items, columns of stars, keys, and where aggregates stand.
+//! What the second pass of name analysis makes without going down a tree: sources of FROM and what joins them, the scopes
+//! of some of their items, columns of stars, keys, and where aggregates stand; and what it asks of the first.
 #![tactic(auto)]
 
 mod asked;

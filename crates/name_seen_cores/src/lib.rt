@@ -1,5 +1,5 @@
-//! The kinds of expressions, step by step over parts that were answered or refused, and what sublinks ask of their
-//! queries.
+//! The kinds of expressions, step by step over parts that were answered or refused, what sublinks ask of their queries,
+//! and what cores, SELECT lists and set operations show.
 #![tactic(auto)]
 
 mod expressions;

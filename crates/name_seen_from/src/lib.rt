@@ -1,4 +1,5 @@
-//! What a query shows before it is made: its columns, and the facts that its provenance rests on.
+//! What a query shows before it is made: its columns, and the facts that its provenance rests on; and what the items of
+//! FROM read.
 #![tactic(auto)]
 
 mod facts;

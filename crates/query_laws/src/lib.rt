@@ -1,4 +1,5 @@
-//! What each node of a query means, by the counts of rows.
+//! What each node of a query means, by the counts of rows; what it means over what has the same rows, or stands for its
+//! inputs; and which witness lists a row of it has, by membership.
 #![tactic(auto)]
 
 mod congruence;

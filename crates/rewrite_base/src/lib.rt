@@ -1,4 +1,4 @@
-//! Laws on rewritings and on what stands for a query: what one is of the other.
+//! What a rewriting is: laws on rewritings and on what stands for a query, and joins of a rewriting with other rows.
 #![tactic(auto)]
 
 mod beside;

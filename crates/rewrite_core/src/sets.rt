@@ -1,4 +1,4 @@
-//! The rules that rewrite a node to a plain query with the rows of their PROVENANCE.
+//! The rules that rewrite LIMIT, INTERSECT and EXCEPT to a plain query with the rows of its PROVENANCE.
 
 mod columns;
 mod others;

@@ -1,5 +1,5 @@
 //! How a node with sublinks is rewritten to a plain query with the rows of its PROVENANCE (the strategy Gen: Glavic and
-//! Alonso, EDBT 2009): the rewriting as a definition, and the laws by which it is one.
+//! Alonso, EDBT 2009): the rewriting as a definition, the laws by which it is one, and the rules that make it.
 #![tactic(auto)]
 
 mod candidates;

@@ -1,4 +1,5 @@
-//! The value of an expression on a row, and of a sublink over the rows of its query.
+//! The value of an expression on a row, and of a sublink over the rows of its query; and rows in classes, with their
+//! aggregates.
 #![tactic(auto)]
 
 mod error;

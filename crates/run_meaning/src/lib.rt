@@ -1,4 +1,5 @@
-//! Which script the bytes of a file are, what a run of it is, and how it ends: what is written then, and a status.
+//! Which script the bytes of a file are, what a run of it is, and how it ends: what is written then, and a status; the
+//! steps of a run, and laws of runs.
 #![tactic(auto)]
 
 mod laws;

@@ -1,4 +1,4 @@
-//! Laws of statements whose names are looked up.
+//! Laws of statements whose names are looked up, and of what queries answer, with PROVENANCE and without.
 #![tactic(auto)]
 
 mod answers;

@@ -1,4 +1,4 @@
-//! Carries out a statement whose names are looked up, over a catalog and files.
+//! Carries out a statement whose names are looked up, over a catalog and files; and what a query answers.
 #![tactic(auto)]
 
 mod answering;
