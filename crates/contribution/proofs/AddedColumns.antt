@@ -10,16 +10,15 @@ use Rattle.bag_algebra.specs.Children.{subs_denote}
 use Rattle.bag_algebra.specs.Expressions.{row_at}
 use Rattle.bag_algebra.specs.Fits.{row_begins}
 use Rattle.bag_algebra.specs.Kinds.{kinds_of, shape}
-use Rattle.bag_algebra.specs.Meaning.{Database, sub_denote, condition_on, items_on, arguments_on}
+use Rattle.bag_algebra.specs.Meaning.{Database, sub_denote, condition_on, items_on}
 use Rattle.bag_algebra.specs.Means.{all_empty, contribution_of, good_value, sub_value}
 use Rattle.bag_algebra.specs.Outcome.{and_then, both, both_then}
-use Rattle.bag_algebra.specs.WellFormed.{column_kind, HasKind, ItemsForm, AggregatesForm, SubsForm}
+use Rattle.bag_algebra.specs.WellFormed.{column_kind, HasKind, ItemsForm, SubsForm}
 use Rattle.bag_algebra.specs.declared.expr.Expr.{Expr}
 use Rattle.bag_algebra.specs.declared.expr.Item.{Item}
-use Rattle.bag_algebra.specs.declared.query.Aggr.{Aggr}
 use Rattle.bag_algebra.specs.declared.query.Query.{Row_of-Sublink, more_of-Sublink, end_of-Sublink}
 use Rattle.bag_algebra.specs.declared.query.Sublink.{Sublink}
-use Rattle.contribution.proofs.Growth.{value-same, items-same, arguments-same, tested-same, denote-same, value_at-longer}
+use Rattle.contribution.proofs.Growth.{value-same, items-same, tested-same, denote-same, value_at-longer}
 use Rattle.contribution.proofs.QueryKinds.{each-all}
 use Rattle.contribution.specs.SameColumns.{SameColumns}
 

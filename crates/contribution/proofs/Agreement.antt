@@ -1,6 +1,6 @@
 -- Outcomes with one set of faults, or with lists that are permutations of one another; and what keeps them so.
 use Rattle.std.proofs.Common.{◌≡◌, Bool, true, false, ◌||◌, List, [], ◌∷◌, ◌++◌, refl, ap, ◌∙◌, subst}
-use Rattle.bag_algebra.proofs.BagLaws.{Permuted, nothing, onward, turn, joined, permuted-refl, permuted-sym, permuted-append_left, permuted-append_right}
+use Rattle.bag_algebra.proofs.BagLaws.{Permuted, nothing, onward, turn, joined, permuted-refl, permuted-append_left, permuted-append_right}
 use Rattle.bag_algebra.specs.Outcome.{Faults, union, Outcome, Good, Bad, and_then, mapped, both, both_then, gather, each}
 use Rattle.bag_algebra.proofs.Truths.{or_turn}
 

@@ -1,12 +1,10 @@
 -- A query's meaning rests on the columns that its outer kinds name alone.
 use Rattle.std.proofs.Common.{◌≡◌, ℕ, zero, suc, true, List, [], ◌∷◌, ◌++◌, map, slice_get, Option, Some, None, refl, sym, ap, true≢false}
 use Rattle.null_logic.specs.Comparison.{is_null}
-use Rattle.null_logic.specs.declared.operator.Operator.{Operator}
-use Rattle.null_logic.specs.declared.operator.Operator.TheVariants as op
 use Rattle.perm_values.specs.Rows.{value_at}
 use Rattle.perm_values.specs.Values.{fits, same_value}
 use Rattle.perm_values.specs.declared.kind.Kind.{Kind}
-use Rattle.perm_values.specs.declared.kind.Kind.TheVariants.{Integer, Text, Boolean}
+use Rattle.perm_values.specs.declared.kind.Kind.TheVariants.{Integer, Boolean}
 use Rattle.perm_values.specs.declared.value.Value.{Value}
 use Rattle.perm_values.specs.declared.value.Value.TheVariants as value
 use Rattle.bag_algebra.specs.Bags.{Row}
@@ -17,7 +15,7 @@ use Rattle.bag_algebra.specs.Meaning.{Database, denote, sub_denote, optional_val
 use Rattle.bag_algebra.specs.Means.{SubMeans, with_sub, all_empty, base_means, filter_means, project_means, join_means, apply_means, union_means, intersect_means, except_means, distinct_means, aggregate_means, limit_means, provenance_means}
 use Rattle.bag_algebra.specs.Outcome.{Outcome, Good, and_then, mapped, both, both_then, each}
 use Rattle.bag_algebra.specs.Patterns.{OpOf, ChainOf, CaseOf, IsNullOf, IsTruthOf, SameOf, BaseOf, FilterOf, ProjectOf, JoinOf, ApplyOf, UnionOf, IntersectOf, ExceptOf, DistinctOf, AggregateOf, LimitOf, ProvOf}
-use Rattle.bag_algebra.specs.WellFormed.{column_kind, op_form, HasKind, PartsHave, StepsHave, ArmsHave, number_of_parts, ItemsForm, aggr_form, AggregatesForm, sub_form, sub_kinds, WellFormed, SubsForm}
+use Rattle.bag_algebra.specs.WellFormed.{column_kind, HasKind, PartsHave, StepsHave, ArmsHave, number_of_parts, ItemsForm, aggr_form, AggregatesForm, sub_form, sub_kinds, WellFormed, SubsForm}
 use Rattle.bag_algebra.specs.declared.expr.Expr.{Expr, Row_of-Expr, Row_of-Arm, Row_of-ChainStep, more_of-Expr, end_of-Expr, more_of-Arm, end_of-Arm, more_of-ChainStep, end_of-ChainStep}
 use Rattle.bag_algebra.specs.declared.expr.Expr.TheVariants.{Col, Lit, Sub}
 use Rattle.bag_algebra.specs.declared.expr.Item.{Item}

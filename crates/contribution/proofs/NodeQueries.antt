@@ -1,5 +1,5 @@
 -- Filters, projections and joins without sublinks: what the constructors of code make, and what it means.
-use Rattle.std.proofs.Common.{◌≡◌, Bool, true, ◌&&◌, ◌++◌, List, [], ◌∷◌, Result, Ok, Err, IfOk, refl, sym, subst, append-nil}
+use Rattle.std.proofs.Common.{◌≡◌, ◌&&◌, ◌++◌, List, [], ◌∷◌, Result, Ok, Err, IfOk, sym, subst, append-nil}
 use Rattle.perm_values.specs.declared.kind.Kind.{Kind}
 use Rattle.perm_values.specs.declared.kind.Kind.TheVariants.{Boolean}
 use Rattle.perm_values.specs.declared.no_memory.NoMemory.{NoMemory}
@@ -17,8 +17,6 @@ use Rattle.bag_algebra.specs.declared.expr.Expr.{Expr}
 use Rattle.bag_algebra.specs.declared.expr.Item.{Item}
 use Rattle.bag_algebra.specs.declared.query.JoinKind.{JoinKind}
 use Rattle.bag_algebra.specs.declared.query.Query.{Query, end_of-Sublink}
-use Rattle.bag_algebra.specs.declared.query.Query.TheBlock.{shape-the_row-Query-0, hidden-the_row-Query-0, shape-the_row-Sublink-1, hidden-the_row-Sublink-1}
-use Rattle.bag_algebra.specs.declared.query.Query.TheVariants.{Filter, Join}
 use Rattle.bag_algebra.proofs.Truths.{and_true}
 
 -- what holds of the value that a call makes

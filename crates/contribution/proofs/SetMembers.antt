@@ -1,10 +1,10 @@
 -- Which rows the bags of set operations have.
-use Rattle.std.proofs.Common.{◌≡◌, ◌⊎◌, ◌<◌, inl, inr, Bool, true, false, not, ◌++◌, filter, min, sym, ap, ◌∙◌, subst, arith, true≢false}
+use Rattle.std.proofs.Common.{◌⊎◌, ◌<◌, inl, inr, Bool, true, false, ◌++◌, min, sym, subst, arith}
 use Rattle.bag_algebra.proofs.BagLaws.{member_decides}
-use Rattle.bag_algebra.proofs.Members.{IsIn, in-append_left, in-append_right, in-filter, from-filter, in-member, member-in}
-use Rattle.bag_algebra.specs.Bags.{Row, Bag, member, count, in_both, beyond, union_of, intersect_of, except_of}
-use Rattle.contribution.proofs.BagMembers.{from-once, in-once}
-use Rattle.bag_algebra.proofs.SetCounts.{count-in_both, count-beyond}
+use Rattle.bag_algebra.proofs.Members.{IsIn, in-append_left, in-append_right, in-filter, in-member, member-in}
+use Rattle.bag_algebra.specs.Bags.{Row, Bag, member, count, in_both, union_of, intersect_of}
+use Rattle.contribution.proofs.BagMembers.{in-once}
+use Rattle.bag_algebra.proofs.SetCounts.{count-in_both}
 
 -- a row is in a bag exactly where it is counted
 pub in-counted : (t : Row) (us : Bag) → 0 < count t us → IsIn t us

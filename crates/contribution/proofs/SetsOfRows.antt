@@ -2,12 +2,12 @@
 -- is the least outcome above what each item gives, so it rests on the set of items alone.
 use Rattle.std.proofs.Common.{◌≡◌, inl, inr, Bool, true, false, ◌||◌, List, [], ◌∷◌, ◌++◌, refl, sym, ap, ◌∙◌, subst, subst₂, append_assoc}
 use Rattle.std.specs.List.{flat_map}
-use Rattle.bag_algebra.proofs.Members.{IsIn, in-flat_map, from-flat_map, in-append_left, in-append_right, from-append, in-member, member-in, same_members}
+use Rattle.bag_algebra.proofs.Members.{IsIn, in-append_left, in-append_right, from-append, in-member, member-in, same_members}
 use Rattle.bag_algebra.specs.Bags.{Row, Bag}
 use Rattle.bag_algebra.specs.Outcome.{Faults, union, Outcome, Good, Bad, and_then, mapped, both, both_then, gather, each}
 use Rattle.bag_algebra.specs.Rewriting.{SameSet}
 use Rattle.contribution.proofs.Agreement.{joined_lists, union-comm, each-gather}
-use Rattle.contribution.proofs.SharedMembers.{Within, Shared, shared-refl, shared-sym, shared-trans}
+use Rattle.contribution.proofs.SharedMembers.{Within, Shared, shared-refl, shared-sym}
 use Rattle.bag_algebra.proofs.Truths.{or_associates}
 
 -- ---- sets of faults
