@@ -100,7 +100,7 @@ module _ (c : Contents) (sound : IsSound c) where
       (front-none (words.taken c table ++ words.named_query_breaks query.at (words.query_meant c query))
       (broken_if (words.has_boolean (words.columns_of (words.query_meant c query))) rule.UnfitKind query.at) whole))
   body-stands (st.CreateView view query) regular whole = answer-stands query regular (query-whole query (words.taken c view) whole)
-  body-stands (st.Copy table file header mark) regular whole = tt
+  body-stands (st.Copy table file header null_field) regular whole = tt
   body-stands (st.Insert table rows) regular whole = tt
   body-stands (st.Delete table condition) regular whole = tt
   body-stands (st.DropTable table) regular whole = tt

@@ -42,7 +42,7 @@ abbrev pub answer_in : Resolved → Option Answer
 answer_in (r.CreateTable name columns) = None
 answer_in (r.CreateTableAs name columns answer places) = Some answer
 answer_in (r.CreateView name entry) = Some entry.answer
-answer_in (r.Copy name kinds file mark header) = None
+answer_in (r.Copy name kinds file null_field header) = None
 answer_in (r.Insert name rows) = None
 answer_in (r.Delete name condition) = None
 answer_in (r.DropTable name) = None
@@ -63,7 +63,7 @@ abbrev pub BodyStands : Contents → StatementBody → Resolved → Type 0
 BodyStands c (st.CreateTable table columns) made = ⊤
 BodyStands c (st.CreateTableAs table query) made = StandsFor c query made
 BodyStands c (st.CreateView view query) made = StandsFor c query made
-BodyStands c (st.Copy table file header mark) made = ⊤
+BodyStands c (st.Copy table file header null_field) made = ⊤
 BodyStands c (st.Insert table rows) made = ⊤
 BodyStands c (st.Delete table condition) made = ⊤
 BodyStands c (st.DropTable table) made = ⊤

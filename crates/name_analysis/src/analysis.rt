@@ -49,8 +49,8 @@ fn behind_names(alloc: Global, catalog: &Catalog, statement: Statement) -> Resul
             table,
             file,
             header,
-            mark,
-        } => copy(alloc, catalog, table, file, header, mark),
+            mark: null_field,
+        } => copy(alloc, catalog, table, file, header, null_field),
         StatementBody::Insert { table, rows } => insert(alloc, catalog, table, rows),
         StatementBody::Delete { table, condition } => delete(alloc, catalog, table, condition),
         StatementBody::DropTable { table } => Ok(Resolved::DropTable {

@@ -43,7 +43,8 @@ fn deleted(
     condition: &Option<ExprTree>,
 ) -> Result<Option<Expr>, Refusal>
     requires { IsSound catalog.now }
-    ensures { ResolvesBy catalog.now (asked.Delete table.now condition.now) (answered.Delete table.now.text) result }
+    ensures { ResolvesBy catalog.now (asked.Delete table.now condition.now) (answered.Delete table.now.text)
+        result }
 {
     match catalog.table(&table.text) {
         None => Err(Refusal::Break(Break {
@@ -63,7 +64,8 @@ fn condition_of(
     condition: &Option<ExprTree>,
 ) -> Result<Option<Expr>, Refusal>
     requires { IsSound catalog.now }
-    ensures { table_named catalog.now table.now.text ≡ Some entry.now → ConditionSeen catalog.now table.now condition.now entry.now result }
+    ensures { table_named catalog.now table.now.text ≡ Some entry.now
+        → ConditionSeen catalog.now table.now condition.now entry.now result }
 {
     delete_break(alloc, catalog, table, entry, condition)?;
     match condition {

@@ -98,7 +98,8 @@ pub(crate) fn create_view(
 /// What a view of the query is, whatever its name.
 fn view_made(alloc: Global, catalog: &Catalog, query: &QueryTree) -> Result<ViewEntry, Refusal>
     requires { IsSound catalog.now }
-    ensures { (view : Called) → words.taken catalog.now view ≡ [] → ResolvesBy catalog.now (asked.CreateView view query.now) (answered.CreateView view.text) result }
+    ensures { (view : Called) → words.taken catalog.now view ≡ []
+        → ResolvesBy catalog.now (asked.CreateView view query.now) (answered.CreateView view.text) result }
 {
     let outermost = Scopes::Outermost;
     let around = around_alone(alloc, catalog, &outermost);
@@ -149,8 +150,10 @@ fn table_made(
 /// A query that was seen to break nothing, made, or the first limit that it passes.
 fn whole_of(query: &QueryTree, around: &Around, shown: QueryShown) -> Result<Whole, Refusal>
     requires sound { IsSound around.now.catalog.now }
-    requires seen { QueryWhole (query_means_at (query_of around.now.catalog.now query.now) (around_of around.now)) shown }
-    ensures { WholeSeen query.now.at (query_means_at (query_of around.now.catalog.now query.now) (around_of around.now)) result }
+    requires seen { QueryWhole
+        (query_means_at (query_of around.now.catalog.now query.now) (around_of around.now)) shown }
+    ensures { WholeSeen query.now.at
+        (query_means_at (query_of around.now.catalog.now query.now) (around_of around.now)) result }
 {
     match gathered_within(query, around) {
         Ok(gathered) => {

@@ -46,7 +46,8 @@ fn inserted(
     rows: &[ValuesRow],
 ) -> Result<List<List<Expr>>, Refusal>
     requires { IsSound catalog.now }
-    ensures { ResolvesBy catalog.now (asked.Insert table.now rows.now) (answered.Insert table.now.text) result }
+    ensures { ResolvesBy catalog.now (asked.Insert table.now rows.now) (answered.Insert table.now.text)
+        result }
 {
     match catalog.table(&table.text) {
         None => Err(Refusal::Break(Break {
@@ -89,7 +90,8 @@ fn row_made(here: &Here, columns: &[Column], row: &ValuesRow) -> Result<List<Exp
     requires sound { IsSound here.now.catalog.now }
     requires alone { surroundings here.now ≡ words.bare [] }
     requires whole { words.row_breaks here.now.catalog.now (column_kinds columns.now) row.now ≡ [] }
-    ensures { IfOk result (λ made. made ≡ words.row_made here.now.catalog.now (column_kinds columns.now) row.now.values) }
+    ensures { IfOk result (λ made.
+        made ≡ words.row_made here.now.catalog.now (column_kinds columns.now) row.now.values) }
 {
     values_made(here, columns, row.values.as_slice())
 }
@@ -98,7 +100,8 @@ fn values_made(here: &Here, columns: &[Column], values: &[ExprTree]) -> Result<L
     requires sound { IsSound here.now.catalog.now }
     requires alone { surroundings here.now ≡ words.bare [] }
     requires whole { words.values_breaks here.now.catalog.now (column_kinds columns.now) values.now ≡ [] }
-    ensures { IfOk result (λ made. made ≡ words.row_made here.now.catalog.now (column_kinds columns.now) values.now) }
+    ensures { IfOk result (λ made.
+        made ≡ words.row_made here.now.catalog.now (column_kinds columns.now) values.now) }
 {
     let mut made = List::new(here.alloc);
     for at in 0..values.len().min(columns.len()) {
@@ -111,7 +114,8 @@ fn values_made(here: &Here, columns: &[Column], values: &[ExprTree]) -> Result<L
 fn value_made(here: &Here, column: &Column, tree: &ExprTree) -> Result<Expr, NoMemory>
     requires sound { IsSound here.now.catalog.now }
     requires whole { (means_at (part_of here.now.catalog.now tree.now) (surroundings here.now)).breaks ≡ [] }
-    ensures { IfOk result (λ e. e ≡ words.made_alone column.now.kind (means_at (part_of here.now.catalog.now tree.now) (surroundings here.now))) }
+    ensures { IfOk result (λ e. e ≡ words.made_alone column.now.kind
+        (means_at (part_of here.now.catalog.now tree.now) (surroundings here.now))) }
 {
     let mut found = Within::nothing(here.alloc);
     let value = made(tree, column.kind, here, &mut found);

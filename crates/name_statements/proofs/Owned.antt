@@ -36,7 +36,7 @@ own-first c (st.CreateTableAs table query) first e =
 own-first c (st.CreateView view query) first e =
     names-first (words.name_breaks c (st.CreateView view query)) (words.limit_breaks c (st.CreateView view query)) first
     (first-stays (words.taken c view) (words.named_query_breaks query.at (words.query_meant c query)) (tt {0}) (tt {0}) first e)
-own-first c (st.Copy table file header mark) first e = names-first (words.unknown_table c table) [] first e
+own-first c (st.Copy table file header null_field) first e = names-first (words.unknown_table c table) [] first e
 own-first c (st.Insert table rows) first e =
     names-first (words.name_breaks c (st.Insert table rows)) [] first
     (on-first (λ (entry : TableEntry). flat_map (words.row_breaks c (column_kinds entry.columns)) rows) table.at (table_named c table.text) first e)

@@ -103,10 +103,10 @@ module _ (c : Contents) (table : Name) where
       refused-by (words.on_table c table looked) wanted (Broken first)
       (ap (λ (held : Option TableEntry). first_or (option_map_or looked held (broken rule.UnknownRelation table.at ∷ [])) (tt {0})) unknown ∙ ap Err (sym is))
 
-  pub copy-none : (file mark : List ℕ) (header : Bool) (first : Break) → table_named c table.text ≡ None → first ≡ broken rule.UnknownRelation table.at
-      → ResolvesBody c (st.Copy table file header mark) (Err (Broken first))
-  copy-none file mark header first unknown is =
-      refused-by (words.unknown_table c table) (words.resolved_body c (st.Copy table file header mark)) (Broken first)
+  pub copy-none : (file null_field : List ℕ) (header : Bool) (first : Break) → table_named c table.text ≡ None → first ≡ broken rule.UnknownRelation table.at
+      → ResolvesBody c (st.Copy table file header null_field) (Err (Broken first))
+  copy-none file null_field header first unknown is =
+      refused-by (words.unknown_table c table) (words.resolved_body c (st.Copy table file header null_field)) (Broken first)
       (ap (λ (held : Option TableEntry). first_or (cond (is_none held) (broken rule.UnknownRelation table.at ∷ []) []) (tt {0})) unknown ∙ ap Err (sym is))
 
   pub insert-none : (rows : List ValuesRow) (first : Break) → table_named c table.text ≡ None → first ≡ broken rule.UnknownRelation table.at
@@ -127,12 +127,12 @@ module _ (c : Contents) (table : Name) where
     kinds-are : words.kinds_of_table c table ≡ column_kinds entry.columns
     kinds-are = ap (λ (held : Option TableEntry). option_map_or (λ (there : TableEntry). column_kinds there.columns) held []) known
 
-    pub copy-made : (file mark text : List ℕ) (header : Bool) (kinds : List Kind) → kinds ≡ column_kinds entry.columns → text ≡ table.text
-        → ResolvesBody c (st.Copy table file header mark) (Ok (r.Copy text kinds file mark header))
-    copy-made file mark text header kinds same called =
-        resolved-by (words.unknown_table c table) (words.resolved_body c (st.Copy table file header mark)) (r.Copy text kinds file mark header)
+    pub copy-made : (file null_field text : List ℕ) (header : Bool) (kinds : List Kind) → kinds ≡ column_kinds entry.columns → text ≡ table.text
+        → ResolvesBody c (st.Copy table file header null_field) (Ok (r.Copy text kinds file null_field header))
+    copy-made file null_field text header kinds same called =
+        resolved-by (words.unknown_table c table) (words.resolved_body c (st.Copy table file header null_field)) (r.Copy text kinds file null_field header)
         (ap (λ (held : Option TableEntry). cond (is_none held) (broken rule.UnknownRelation table.at ∷ []) []) known)
-        (λ i. r.Copy (called i) ((same ∙ sym kinds-are) i) file mark header)
+        (λ i. r.Copy (called i) ((same ∙ sym kinds-are) i) file null_field header)
 
     module _ (rows : List ValuesRow) where
       abbrev pub rows_broken : List Break

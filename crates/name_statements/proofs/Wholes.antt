@@ -1,10 +1,10 @@
 -- A whole query, made and within the limits.
-use Rattle.std.specs.Prelude.{◌≡◌, ℕ, List, [], map, IfOk, IsErrAnd, IsOkAnd, Option, Some, Result, Ok, Err}
-use Rattle.std.proofs.Common.{ap, sym, subst, ◌∙◌}
+use Rattle.std.specs.Prelude.{◌≡◌, ℕ, List, [], ◌∷◌, map, IfOk, IsErrAnd, IsOkAnd, Option, Some, Result, Ok, Err}
+use Rattle.std.proofs.Common.{ap, refl, sym, subst, ◌∙◌}
 use Rattle.bag_algebra.specs.declared.query.Query.{Query}
 use Rattle.name_seen_parts.proofs.Firsts.{both-none, first-behind, first-stays, none-broken}
 use Rattle.name_seen_parts.specs.Columns.{columns_of}
-use Rattle.name_meaning.specs.Froms.{names_of, settled_columns}
+use Rattle.name_meaning.specs.Froms.{names_of, settled_columns, table_columns}
 use Rattle.name_meaning.specs.Meanings.{Around, Inside, OutColumn, QueryMeant, query_means_at}
 use Rattle.name_meaning.specs.Queries.{key_of}
 use Rattle.name_meaning.specs.Statements.{query_limits, size_limit, stored_columns, width_limit}
@@ -15,6 +15,7 @@ use Rattle.name_meaning.specs.declared.answer.Break.{Break}
 use Rattle.name_made_nodes.specs.Makes.{MakesQuery}
 use Rattle.name_seen_parts.specs.Seen.{first_or}
 use Rattle.perm_catalog.specs.Contents.{Contents}
+use Rattle.perm_catalog.specs.declared.column.Column.{Column}
 use Rattle.name_inside.specs.Held.{inside_in}
 use Rattle.name_inside.specs.declared.gathered.Gathered.{Gathered}
 use Rattle.name_seen_from.specs.Queried.{QueryWhole}
@@ -27,6 +28,14 @@ use Rattle.perm_values.specs.declared.key.Key.{Key}
 use Rattle.name_statements.specs.Resolves.{IsInside, IsWhole, IsWithin, WithinSeen}
 use Rattle.name_statements.specs.declared.queries.Whole.{Whole}
 use Rattle.name_statements.proofs.Keys.{query-keys}
+
+-- a table's columns are those that it is made of
+stored-table : (columns : List Column) → stored_columns (table_columns columns) ≡ columns
+stored-table [] = refl
+stored-table (column ∷ columns) = ap (λ (rest : List Column). column ∷ rest) (stored-table columns)
+
+pub stored-settled : (columns : List Column) (shown : List OutColumn) → table_columns columns ≡ settled_columns shown → columns ≡ stored_columns (settled_columns shown)
+stored-settled columns shown same = sym (stored-table columns) ∙ ap stored_columns same
 
 widths-are : (m : QueryMeant) (found : Gathered) → inside_in found ≡ m.inside → width_limit found.queries ≡ width_limit m.inside.queries
 widths-are m found e = ap (λ (inside : Inside). width_limit inside.queries) e

@@ -16,7 +16,7 @@ abbrev pub own_breaks : Contents → StatementBody → List Break
 own_breaks c (st.CreateTable table columns) = body_breaks c (st.CreateTable table columns)
 own_breaks c (st.CreateTableAs table query) = taken c table
 own_breaks c (st.CreateView view query) = taken c view
-own_breaks c (st.Copy table file header mark) = unknown_table c table
+own_breaks c (st.Copy table file header null_field) = unknown_table c table
 own_breaks c (st.Insert table rows) = unknown_table c table
 own_breaks c (st.Delete table condition) = unknown_table c table
 own_breaks c (st.DropTable table) = unknown_table c table ++ used c table

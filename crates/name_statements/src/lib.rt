@@ -2,7 +2,6 @@
 //! and what a query answers.
 #![tactic(auto)]
 
-mod answers;
 mod letting_go;
 mod limits;
 mod made;

@@ -14,7 +14,8 @@ use sql_tree::Name;
 
 /// CREATE VIEW of what the view is.
 pub fn view_of(view: Name, entry: Result<ViewEntry, Refusal>) -> Result<Resolved, Refusal>
-    ensures made { IfOk result (λ statement. IsOkAnd entry (λ entry. statement ≡ made.CreateView view.text entry)) }
+    ensures made { IfOk result (λ statement. IsOkAnd entry (λ entry.
+        statement ≡ made.CreateView view.text entry)) }
     ensures refused { IfErr result (λ refusal. IsErrAnd entry (λ first. refusal ≡ first)) }
 {
     match entry {
@@ -70,7 +71,8 @@ pub fn with_row(
 
 /// INSERT of these rows.
 pub fn insert_of(table: Name, rows: Result<List<List<Expr>>, Refusal>) -> Result<Resolved, Refusal>
-    ensures made { IfOk result (λ statement. IsOkAnd rows (λ rows. statement ≡ made.Insert table.text rows)) }
+    ensures made { IfOk result (λ statement. IsOkAnd rows (λ rows.
+        statement ≡ made.Insert table.text rows)) }
     ensures refused { IfErr result (λ refusal. IsErrAnd rows (λ first. refusal ≡ first)) }
 {
     match rows {
@@ -84,7 +86,8 @@ pub fn insert_of(table: Name, rows: Result<List<List<Expr>>, Refusal>) -> Result
 
 /// DELETE of the rows that meet the condition.
 pub fn delete_of(table: Name, condition: Result<Option<Expr>, Refusal>) -> Result<Resolved, Refusal>
-    ensures made { IfOk result (λ statement. IsOkAnd condition (λ condition. statement ≡ made.Delete table.text condition)) }
+    ensures made { IfOk result (λ statement. IsOkAnd condition (λ condition.
+        statement ≡ made.Delete table.text condition)) }
     ensures refused { IfErr result (λ refusal. IsErrAnd condition (λ first. refusal ≡ first)) }
 {
     match condition {

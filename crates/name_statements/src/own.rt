@@ -40,14 +40,16 @@ fn table_break(catalog: &Catalog, table: &Name, columns: &[ColumnDef]) -> Result
 }
 
 fn drop_table_break(catalog: &Catalog, table: &Name) -> Result<(), Break>
-    ensures { result ≡ first_or (words.unknown_table catalog.now table.now ++ words.used catalog.now table.now) tt }
+    ensures { result ≡ first_or
+        (words.unknown_table catalog.now table.now ++ words.used catalog.now table.now) tt }
 {
     unknown_table(catalog, table)?;
     used(catalog, table)
 }
 
 fn drop_view_break(catalog: &Catalog, view: &Name) -> Result<(), Break>
-    ensures { result ≡ first_or (words.unknown_view catalog.now view.now ++ words.used catalog.now view.now) tt }
+    ensures { result ≡ first_or
+        (words.unknown_view catalog.now view.now ++ words.used catalog.now view.now) tt }
 {
     unknown_view(catalog, view)?;
     used(catalog, view)

@@ -57,7 +57,11 @@ pub fn answer_of(whole: Whole) -> Answer
 
 /// The view that it makes, with the names in it each once.
 pub fn entry_of(alloc: Global, whole: Whole) -> Result<ViewEntry, NoMemory>
-    ensures { IfOk result (λ entry. entry ≡ record { answer = whole.answer; places = whole.places; names_used = words.all_noted whole.names }) }
+    ensures { IfOk result (λ entry. entry ≡ record {
+      answer = whole.answer;
+      places = whole.places;
+      names_used = words.all_noted whole.names;
+    }) }
 {
     let Ok(names_used) = all_noted(alloc, whole.names.as_slice()) else {
         drop(whole);
@@ -98,7 +102,8 @@ pub fn around_alone<'a>(
 pub(crate) fn gathered_in(query: &QueryTree, around: &Around) -> Result<Gathered, NoMemory>
     requires sound { IsSound around.now.catalog.now }
     requires whole { (query_means_at (query_of around.now.catalog.now query.now) (around_of around.now)).breaks ≡ [] }
-    ensures { IfOk result (λ found. inside_in found ≡ (query_means_at (query_of around.now.catalog.now query.now) (around_of around.now)).inside) }
+    ensures { IfOk result (λ found. inside_in found
+        ≡ (query_means_at (query_of around.now.catalog.now query.now) (around_of around.now)).inside) }
 {
     let mut found = Gathered::nothing(around.alloc);
     query_inside(query, around, &mut found)?;

@@ -18,7 +18,8 @@ pub fn create_table(
     table: Name,
     columns: List<ColumnDef>,
 ) -> Result<Resolved, Refusal>
-    ensures { (c : Contents) → body_breaks c (asked.CreateTable table columns) ≡ [] → ResolvesBody c (asked.CreateTable table columns) result }
+    ensures { (c : Contents) → body_breaks c (asked.CreateTable table columns) ≡ []
+        → ResolvesBody c (asked.CreateTable table columns) result }
 {
     let columns = defined_columns(alloc, columns)?;
     Ok(Resolved::CreateTable {
@@ -62,9 +63,9 @@ pub fn copy(
     table: Name,
     file: Chars,
     header: bool,
-    mark: Chars,
+    null_field: Chars,
 ) -> Result<Resolved, Refusal>
-    ensures { ResolvesBody catalog.now (asked.Copy table file header mark) result }
+    ensures { ResolvesBody catalog.now (asked.Copy table file header null_field) result }
 {
     match catalog.table(&table.text) {
         None => Err(Refusal::Break(Break {
@@ -77,7 +78,7 @@ pub fn copy(
                 name: text_of(table),
                 kinds,
                 file,
-                mark,
+                mark: null_field,
                 header,
             })
         }

@@ -12,14 +12,13 @@ ghost use Rattle.perm_catalog.specs.Sound.{IsSound};
 ghost use Rattle.name_seen_from.specs.Queried.{QueryWhole};
 ghost use Rattle.name_statements.specs.Resolves.{InsideSeen, IsInside, WholeSeen, WithinSeen};
 
-use crate::answers::stored_columns;
 use crate::limits::{size_break, within};
 use crate::queries::{Whole, gathered_in, names_in, places_of};
 use bag_algebra::{Answer, Query};
 use name_inside::{Gathered, first_wide};
 use name_made_parts::column_names;
 use name_seen_from::QueryShown;
-use name_seen_parts::{Around, Refusal, ShownColumn};
+use name_seen_parts::{Around, Refusal, ShownColumn, settled_columns};
 use perm_catalog::Column;
 use perm_values::{Chars, Key, List, NoMemory};
 use sql_tree::QueryTree;
@@ -30,7 +29,8 @@ use std::alloc::Global;
 pub fn gathered_within(query: &QueryTree, around: &Around) -> Result<Gathered, Refusal>
     requires sound { IsSound around.now.catalog.now }
     requires whole { (query_means_at (query_of around.now.catalog.now query.now) (around_of around.now)).breaks ≡ [] }
-    ensures { InsideSeen query.now.at (query_means_at (query_of around.now.catalog.now query.now) (around_of around.now)) result }
+    ensures { InsideSeen query.now.at
+        (query_means_at (query_of around.now.catalog.now query.now) (around_of around.now)) result }
 {
     let gathered = gathered_in(query, around)?;
     let width = first_wide(gathered.queries.as_slice());
@@ -47,11 +47,15 @@ pub fn whole_with(
     made: Result<Query, NoMemory>,
     gathered: Gathered,
 ) -> Result<Whole, Refusal>
-    requires seen { QueryWhole (query_means_at (query_of around.now.catalog.now query.now) (around_of around.now)) shown }
-    requires inside { IsInside (query_means_at (query_of around.now.catalog.now query.now) (around_of around.now)) gathered }
+    requires seen { QueryWhole
+        (query_means_at (query_of around.now.catalog.now query.now) (around_of around.now)) shown }
+    requires inside { IsInside
+        (query_means_at (query_of around.now.catalog.now query.now) (around_of around.now)) gathered }
     ensures { IfOk keys (λ keys. keys ≡ map (key_of (columns_of shown.columns)) query.now.order)
-        → IfOk made (MakesQuery (query_means_at (query_of around.now.catalog.now query.now) (around_of around.now)) [])
-        → WholeSeen query.now.at (query_means_at (query_of around.now.catalog.now query.now) (around_of around.now)) result }
+        → IfOk made (MakesQuery
+        (query_means_at (query_of around.now.catalog.now query.now) (around_of around.now)) [])
+        → WholeSeen query.now.at
+        (query_means_at (query_of around.now.catalog.now query.now) (around_of around.now)) result }
 {
     match made_within(query.at, made, gathered) {
         Ok((made, gathered)) => Ok(with_shown(around.alloc, made, shown, keys, gathered)?),
@@ -69,7 +73,8 @@ fn made_within(
     made: Result<Query, NoMemory>,
     gathered: Gathered,
 ) -> Result<(Query, Gathered), Refusal>
-    ensures { (m : QueryMeant) → m.breaks ≡ [] → IsInside m gathered → IfOk made (MakesQuery m []) → WithinSeen at m result }
+    ensures { (m : QueryMeant) → m.breaks ≡ [] → IsInside m gathered
+        → IfOk made (MakesQuery m []) → WithinSeen at m result }
 {
     let Ok(made) = made else {
         drop(gathered);
@@ -88,7 +93,11 @@ fn with_shown(
     gathered: Gathered,
 ) -> Result<Whole, NoMemory>
     ensures { IfOk result (λ whole. IsOkAnd keys (λ keys. whole ≡ record {
-      answer = record { query = made; names = names_of (settled_columns (columns_of shown.columns)); keys = keys };
+      answer = record {
+        query = made;
+        names = names_of (settled_columns (columns_of shown.columns));
+        keys = keys;
+      };
       places = shown.places;
       columns = stored_columns (settled_columns (columns_of shown.columns));
       names = gathered.names;
@@ -118,11 +127,12 @@ fn shown_parts(
     columns: &[ShownColumn],
     keys: Result<List<Key>, NoMemory>,
 ) -> Result<(List<Column>, List<Chars>, List<Key>), NoMemory>
-    ensures columns { IfOk result (λ parts. parts.0 ≡ stored_columns (settled_columns (columns_of columns.now))) }
+    ensures columns { IfOk result (λ parts.
+        parts.0 ≡ stored_columns (settled_columns (columns_of columns.now))) }
     ensures names { IfOk result (λ parts. parts.1 ≡ names_of (settled_columns (columns_of columns.now))) }
     ensures keys { IfOk result (λ parts. keys ≡ Ok parts.2) }
 {
-    let stored = stored_columns(alloc, columns)?;
+    let stored = settled_columns(alloc, columns)?;
     let names = column_names(alloc, columns)?;
     let keys = keys?;
     Ok((stored, names, keys))

@@ -1,3 +1,17 @@
+//! A command line, from its words to the bytes that its statements answer. The steps in their order, each with the call that
+//! takes it and the definition by which that call is promised:
+//!
+//! | Step | Call | By |
+//! |---|---|---|
+//! | the bytes of the script's file | `read_all` in `perm` | `CanBe` |
+//! | their tree | `script_of` in `run_script` | `IsScriptOf`, `IsMisspelled` |
+//! | one statement after another | `Session::step` in `run_statements` | `RunsFrom`, `asked` |
+//! | what its names name | `resolve`, below `Session::step` | `breaks`, `resolved` |
+//! | what it does | `carried_out`, `step`, and of a query `select` | `asks`, `Turn` |
+//! | a query without PROVENANCE | `eliminate` in `select` | `Stands` |
+//! | its rows | `run_hashed`, below `Runner::run` | `meaning` |
+//! | their order and their text | `in_order`, and `answer_text` behind it | `answer_text` |
+//! | why the run ends | `finish`, `refuse`, `stop` | `Ends` |
 ghost use Rattle.std.specs.Prelude.{◌≡◌, ◌⊎◌, true, false};
 ghost use Rattle.perm_catalog.specs.Changes.{nothing_held};
 ghost use Rattle.perm_io.specs.Counts.{HasRisen};
@@ -5,7 +19,7 @@ ghost use Rattle.perm_io.specs.Found.{CanBe};
 ghost use Rattle.sql_tree.specs.Regular.{RegularStatement, Each};
 ghost use Rattle.statement_meaning.specs.Answers.{can_be, file_limit};
 ghost use Rattle.statement_meaning.specs.Answers.{over as seen};
-ghost use Rattle.run_meaning.specs.Ends.{Completes, EndsBroken, EndsFaulty, EndsOne, EndsSome, IsBadFile, IsBadScript, over};
+ghost use Rattle.run_meaning.specs.Ends.{Completes, EndsBroken, EndsFaulty, EndsOne, EndsSome, IsBadFile, IsBadScript, RunsOver, over};
 ghost use Rattle.run_meaning.specs.Run.{Runs, RunsFrom, RunsScript, is_one, IsWhole, IsSteady, IsOfScript};
 
 use crate::session::Session;
@@ -25,11 +39,12 @@ fn run_statements<F: Files, K: Sink>(
     out: &mut K,
 ) -> Status
     requires { Each RegularStatement statements }
-    ensures ends { EndsSome (can_be (seen (F.told files.old) (F.told files.new)))
-        (RunsFrom (can_be (seen (F.told files.old) (F.told files.new))) (nothing_held 1) statements)
-        (over (K.told out.old) (K.told out.new)) (seen (F.told files.old) (F.told files.new)) result }
+    ensures ends { let met = seen (F.told files.old) (F.told files.new) in
+        EndsSome (can_be met) (RunsFrom (can_be met) (nothing_held 1) statements)
+        (over (K.told out.old) (K.told out.new)) met result }
     ensures status { IsOfScript result }
-    ensures read_fault { result ≡ Status.ReadFault → HasRisen (F.told files.old).faults (F.told files.new).faults }
+    ensures read_fault { result ≡ Status.ReadFault
+        → HasRisen (F.told files.old).faults (F.told files.new).faults }
     ensures steady { IsSteady result → (F.told files.new).faults ≡ (F.told files.old).faults }
     ensures held { (F.told files.new).held ≡ (F.told files.old).held }
 {
@@ -60,11 +75,12 @@ fn run_statements<F: Files, K: Sink>(
 
 /// Runs the script that the bytes spell, or refuses it as a whole.
 fn run_script<F: Files, K: Sink>(alloc: Global, bytes: &[u8], files: &mut F, out: &mut K) -> Status
-    ensures ends { EndsOne 0 (can_be (seen (F.told files.old) (F.told files.new)))
-        (RunsScript (can_be (seen (F.told files.old) (F.told files.new))) bytes.now)
-        (over (K.told out.old) (K.told out.new)) (seen (F.told files.old) (F.told files.new)) result }
+    ensures ends { let met = seen (F.told files.old) (F.told files.new) in
+        EndsOne 0 (can_be met) (RunsScript (can_be met) bytes.now)
+        (over (K.told out.old) (K.told out.new)) met result }
     ensures status { IsOfScript result }
-    ensures read_fault { result ≡ Status.ReadFault → HasRisen (F.told files.old).faults (F.told files.new).faults }
+    ensures read_fault { result ≡ Status.ReadFault
+        → HasRisen (F.told files.old).faults (F.told files.new).faults }
     ensures steady { IsSteady result → (F.told files.new).faults ≡ (F.told files.old).faults }
     ensures held { (F.told files.new).held ≡ (F.told files.old).held }
 {
@@ -78,31 +94,32 @@ fn run_script<F: Files, K: Sink>(alloc: Global, bytes: &[u8], files: &mut F, out
 /// Runs `perm SCRIPT`: reads the script's file, runs it, and writes what its statements answer.
 pub fn perm<F: Files, K: Sink>(alloc: Global, words: &[Chars], files: &mut F, out: &mut K) -> Status
     // The run that the words and files stand for is what is written, and its status is answered.
-    ensures run { EndsOne 1 (can_be (seen (F.told files.old) (F.told files.new)))
-        (Runs words.now (F.told files.old).held (HasRisen (F.told files.old).faults (F.told files.new).faults))
-        (over (K.told out.old) (K.told out.new)) (seen (F.told files.old) (F.told files.new)) result }
+    ensures run { let met = seen (F.told files.old) (F.told files.new) in
+        EndsOne 1 (can_be met) (RunsOver words.now met) (over (K.told out.old) (K.told out.new)) met result }
 
     // Where no file and no write failed, it is a whole run in which none failed, unless memory was wanting.
-    ensures complete { (HasRisen (F.told files.old).faults (F.told files.new).faults → ⊥) → (HasRisen (K.told out.old).faults (K.told out.new).faults → ⊥)
+    ensures complete { (HasRisen (F.told files.old).faults (F.told files.new).faults → ⊥)
+        → (HasRisen (K.told out.old).faults (K.told out.new).faults → ⊥)
         → Completes (Runs words.now (F.told files.old).held ⊥) (over (K.told out.old) (K.told out.new))
         (seen (F.told files.old) (F.told files.new)) result }
 
     // When each status comes.
     ensures usage { result ≡ Status.Usage → is_one words.now ≡ false }
     ensures misused { is_one words.now ≡ false → (result ≡ Status.Usage) ⊎ (result ≡ Status.WriteFault) }
-    ensures refused { result ≡ Status.Refused → EndsBroken (can_be (seen (F.told files.old) (F.told files.new)))
-        (Runs words.now (F.told files.old).held (HasRisen (F.told files.old).faults (F.told files.new).faults))
-        (over (K.told out.old) (K.told out.new)) (seen (F.told files.old) (F.told files.new)) }
-    ensures run_fault { result ≡ Status.RunFault → EndsFaulty (can_be (seen (F.told files.old) (F.told files.new)))
-        (Runs words.now (F.told files.old).held (HasRisen (F.told files.old).faults (F.told files.new).faults))
-        (over (K.told out.old) (K.told out.new)) (seen (F.told files.old) (F.told files.new)) }
-    ensures bad_data { result ≡ Status.BadData → IsBadScript (seen (F.told files.old) (F.told files.new))
-        ⊎ IsBadFile 1 (can_be (seen (F.told files.old) (F.told files.new)))
-        (Runs words.now (F.told files.old).held (HasRisen (F.told files.old).faults (F.told files.new).faults))
-        (over (K.told out.old) (K.told out.new)) (seen (F.told files.old) (F.told files.new)) }
-    ensures read_fault { result ≡ Status.ReadFault → HasRisen (F.told files.old).faults (F.told files.new).faults }
-    ensures write_fault { result ≡ Status.WriteFault → HasRisen (K.told out.old).faults (K.told out.new).faults }
-    ensures steady { IsSteady result → ((F.told files.new).faults ≡ (F.told files.old).faults) × ((K.told out.new).faults ≡ (K.told out.old).faults) }
+    ensures refused { result ≡ Status.Refused → let met = seen (F.told files.old) (F.told files.new) in
+        EndsBroken (can_be met) (RunsOver words.now met) (over (K.told out.old) (K.told out.new)) met }
+    ensures run_fault { result ≡ Status.RunFault → let met = seen (F.told files.old) (F.told files.new) in
+        EndsFaulty (can_be met) (RunsOver words.now met) (over (K.told out.old) (K.told out.new)) met }
+    ensures bad_data { result ≡ Status.BadData → let met = seen (F.told files.old) (F.told files.new) in
+        IsBadScript met
+        ⊎ IsBadFile 1 (can_be met) (RunsOver words.now met) (over (K.told out.old) (K.told out.new)) met }
+    ensures read_fault { result ≡ Status.ReadFault
+        → HasRisen (F.told files.old).faults (F.told files.new).faults }
+    ensures write_fault { result ≡ Status.WriteFault
+        → HasRisen (K.told out.old).faults (K.told out.new).faults }
+    ensures steady { IsSteady result
+        → ((F.told files.new).faults ≡ (F.told files.old).faults)
+        × ((K.told out.new).faults ≡ (K.told out.old).faults) }
     ensures flushed { IsWhole result → (K.told out.new).unflushed ≡ false }
 
     // No file is begun without a script's name, and no file is changed.

@@ -1,10 +1,11 @@
 ghost use Rattle.std.specs.Prelude.{◌≡◌, ◌⊎◌, Err, IsTrue, true, false};
 ghost use Rattle.perm_catalog.specs.Changes.{nothing_held};
 ghost use Rattle.perm_catalog.specs.Sound.{IsSound};
-ghost use Rattle.perm_io.specs.Counts.{next_count, CountsFault};
+ghost use Rattle.perm_io.specs.Counts.{next_count};
 ghost use Rattle.sql_tree.specs.Regular.{RegularStatement};
-ghost use Rattle.statement_meaning.specs.Answers.{begins, can_be, has_failed, over, IsBacked, TakesTurn};
+ghost use Rattle.statement_meaning.specs.Answers.{begins, over};
 ghost use Rattle.statement_meaning.specs.Asking.{asked};
+ghost use Rattle.statement_meaning.specs.Carrying.{IsCarriedOut};
 ghost use Rattle.statement_meaning.specs.declared.refusal.StepRefusal.TheVariants.{NoMemory as OutOfMemory};
 ghost use Rattle.name_statements.specs.Own.{own_breaks};
 ghost use Rattle.name_meaning.specs.Statements.{resolved};
@@ -50,7 +51,8 @@ impl Model for Session {
 
     ghost Value = { SessionState };
 
-    ghost coded = { session_code (contents_code table.the_row.coded view_entry.the_row.coded cell.the_row.coded)
+    ghost coded = { session_code
+        (contents_code table.the_row.coded view_entry.the_row.coded cell.the_row.coded)
         (coded_option run.the_row.coded) };
 
     ghost view = { λ s. record { contents = s.catalog; last = s.runner } };
@@ -112,25 +114,23 @@ impl Session {
         files: &mut F,
     ) -> Result<Bytes, StepRefusal>
         requires regular { RegularStatement statement }
-        ensures turn { TakesTurn (can_be (over (F.told files.old) (F.told files.new)))
-            (asked self.old.contents statement) self.old.contents self.new.contents result }
+        // What it asks for has become of it.
+        ensures done { IsCarriedOut (asked self.old.contents statement) self.old.contents self.new.contents
+            result (over (F.told files.old) (F.told files.new)) }
         ensures sound { IsSound self.new.contents }
 
         // What its form or its own names break is answered however little memory there is.
         ensures due { IsDue (due_breaks self.old.contents statement) result }
 
-        // When the refusals come that files decide.
-        ensures backed { IsBacked result (over (F.told files.old) (F.told files.new)) }
-        ensures faults { CountsFault (F.told files.old).faults (F.told files.new).faults (has_failed result) }
-
         // The file is begun, unless memory was wanting before.
-        ensures begun { IsTrue (begins (asked self.old.contents statement)) →
-            ((F.told files.new).begun ≡ next_count (F.told files.old).begun) ⊎ ((result ≡ Err OutOfMemory) × ((F.told files.new).begun ≡ (F.told files.old).begun)) }
+        ensures begun { IsTrue (begins (asked self.old.contents statement))
+            → ((F.told files.new).begun ≡ next_count (F.told files.old).begun)
+            ⊎ ((result ≡ Err OutOfMemory) × ((F.told files.new).begun ≡ (F.told files.old).begun)) }
         ensures unbegun { begins (asked self.old.contents statement) ≡ false → files.new ≡ files.old }
-        ensures held { (F.told files.new).held ≡ (F.told files.old).held }
 
         // The run that gave a query's rows.
-        ensures ran { KeepsRun self.old.contents (resolved self.old.contents statement) result self.old.last self.new.last }
+        ensures ran { KeepsRun self.old.contents (resolved self.old.contents statement) result
+            self.old.last self.new.last }
     {
         let at = statement.at;
         let resolved = resolved_statement(self.alloc, &self.catalog, statement)?;

@@ -1,5 +1,5 @@
 -- Every turn that is refused has a refusal that names why.
-use Rattle.std.proofs.Common.{◌≡◌, ◌≢◌, ◌∙◌, ℕ, Bool, true, false, true≢false, cond, nat_eq, List, [], ◌∷◌, length, Option, Some, None, Result, Ok, Err, codes, refl, sym, ap}
+use Rattle.std.proofs.Common.{◌≡◌, ◌≢◌, ◌∙◌, ℕ, Bool, true, false, true≢false, cond, nat_eq, List, [], ◌∷◌, length, Option, Some, None, Result, Err, codes, refl, sym, ap}
 use Rattle.std.specs.List.{count_by}
 use Rattle.perm_values.specs.Numbers.{last_number}
 use Rattle.perm_values.specs.declared.kind.Kind.{Kind}
@@ -12,7 +12,6 @@ use Rattle.bag_algebra.specs.TableRows.{rows_in}
 use Rattle.bag_algebra.specs.declared.expr.Expr.{Expr}
 use Rattle.csv_tables.specs.Loading.{broken_rules, spelled_rows}
 use Rattle.csv_tables.specs.declared.data_error.DataError.{DataError}
-use Rattle.null_logic.specs.declared.run_fault.RunFault.{RunFault}
 use Rattle.perm_catalog.specs.Changes.{rows_at, with_table, with_fewer_rows}
 use Rattle.perm_catalog.specs.Contents.{Contents}
 use Rattle.perm_io.specs.Found.{Found}
@@ -25,7 +24,7 @@ use Rattle.name_meaning.specs.declared.answer.Resolved.{Resolved}
 use Rattle.name_meaning.specs.declared.answer.Resolved.TheVariants as r
 use Rattle.statement_meaning.specs.Answers.{Names}
 use Rattle.statement_meaning.specs.Asking.{Asked, Settled, Begins, all_breaks, asked, asks, unbuilt, unless_broken}
-use Rattle.statement_meaning.specs.Turns.{Turn, Cause, Stands, Refused, Broken, Meets, Missing, TooLarge, Unfit, Failed, on_good, drawing, counting, identity_of, add_rows, add_unbroken, answered, copy, goes, row_value, rows_deleted, with_added}
+use Rattle.statement_meaning.specs.Turns.{Turn, Accepted, Refused, Broken, on_good, drawing, counting, identity_of, add_rows, add_unbroken, answered, copy, goes, row_value, rows_deleted, with_added}
 use Rattle.statement_meaning.specs.declared.refusal.StepRefusal.{StepRefusal}
 use Rattle.statement_meaning.specs.declared.refusal.StepRefusal.TheVariants as refusal
 use Rattle.bag_algebra.proofs.Outcomes.{union-first}
@@ -56,7 +55,7 @@ told-answer refused told e = told (same refused e) where
 
 -- a refusal names the cause
 abbrev pub HasName : Turn → Type 0
-HasName (Stands text c) = Unit {0}
+HasName (Accepted text c) = Unit {0}
 HasName (Refused cause) = (refused : StepRefusal) × Names (Refused cause) refused × (refused ≢ refusal.NoMemory)
 
 broken-named : (b : Break) → HasName (Refused (Broken b))
@@ -66,9 +65,9 @@ on_good-named : {X : Type 0} (at : ℕ) (o : Outcome X) (next : X → Turn) → 
 on_good-named at (Good x) next c h = h x
 on_good-named at (Bad faults) next c h = (refusal.Run c.0 at, (faults, refl, c.1), told≢ (refusal.Run c.0 at) refl)
 
-drawing-named : (c : Contents) (at : ℕ) (text : List ℕ) (new : Contents) → HasName (drawing c at (Stands text new))
+drawing-named : (c : Contents) (at : ℕ) (text : List ℕ) (new : Contents) → HasName (drawing c at (Accepted text new))
 drawing-named c at text new = chosen (nat_eq c.next last_number) where
-  chosen : (spent : Bool) → HasName (cond spent (Refused (Broken (broken rule.NumbersSpent at))) (Stands text new))
+  chosen : (spent : Bool) → HasName (cond spent (Refused (Broken (broken rule.NumbersSpent at))) (Accepted text new))
   chosen true = broken-named (broken rule.NumbersSpent at)
   chosen false = tt
 
@@ -93,11 +92,11 @@ unbroken-named : (c : Contents) (at : ℕ) (name : List ℕ) (rules : List DataE
 unbroken-named c at name [] rows = drawing-named c at (counting (codes "COPY ") (length rows)) (with_added c name rows)
 unbroken-named c at name (first ∷ more) rows = (refusal.Unfit first, refl, told≢ (refusal.Unfit first) refl)
 
-copy-named : (c : Contents) (at : ℕ) (name : List ℕ) (kinds : List Kind) (mark : List ℕ) (header : Bool) (file : Found) → HasName (copy c at name kinds mark header file)
-copy-named c at name kinds mark header (found.Read bytes) = unbroken-named c at name (broken_rules mark kinds header bytes) (spelled_rows mark kinds header bytes)
-copy-named c at name kinds mark header found.Missing = (refusal.Missing at, refl, told≢ (refusal.Missing at) refl)
-copy-named c at name kinds mark header found.TooLong = (refusal.TooLarge at, refl, told≢ (refusal.TooLarge at) refl)
-copy-named c at name kinds mark header found.Failed = (refusal.ReadFault, refl, told≢ refusal.ReadFault refl)
+copy-named : (c : Contents) (at : ℕ) (name : List ℕ) (kinds : List Kind) (null_field : List ℕ) (header : Bool) (file : Found) → HasName (copy c at name kinds null_field header file)
+copy-named c at name kinds null_field header (found.Read bytes) = unbroken-named c at name (broken_rules null_field kinds header bytes) (spelled_rows null_field kinds header bytes)
+copy-named c at name kinds null_field header found.Missing = (refusal.Missing at, refl, told≢ (refusal.Missing at) refl)
+copy-named c at name kinds null_field header found.TooLong = (refusal.TooLarge at, refl, told≢ (refusal.TooLarge at) refl)
+copy-named c at name kinds null_field header found.Failed = (refusal.ReadFault, refl, told≢ refusal.ReadFault refl)
 
 -- whatever became of the file
 abbrev pub AsksNamed : Asked → Type 0
@@ -108,7 +107,7 @@ asks-named : (c : Contents) (at : ℕ) (statement : Resolved) → AsksNamed (ask
 asks-named c at (r.CreateTable name columns) = drawing-named c at (codes "CREATE TABLE\n") (with_table c name columns [] None)
 asks-named c at (r.CreateTableAs name columns answer places) = broken-named (unbuilt at)
 asks-named c at (r.CreateView name entry) = tt
-asks-named c at (r.Copy name kinds file mark header) = copy-named c at name kinds mark header
+asks-named c at (r.Copy name kinds file null_field header) = copy-named c at name kinds null_field header
 asks-named c at (r.Insert name rows) =
     on_good-named at (each row_value rows) (add_rows (codes "INSERT ") c at name)
     (caused-each row_value rows (λ exprs. caused-each (λ (expr : Expr). value expr [] [] []) exprs (λ expr. caused-value [] [] [] expr)))

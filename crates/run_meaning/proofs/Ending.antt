@@ -1,12 +1,10 @@
 -- How the end of what is left of a run is the end of the whole run.
-use Rattle.std.proofs.Common.{◌≡◌, ◌≢◌, ◌⊎◌, ◌∙◌, ℕ, zero, IsTrue, true, false, ◌+◌, ◌≤◌, Bool, List, [], ◌∷◌, ◌++◌, length, take, Option, refl, sym, ap, append_assoc, arith, length-append, append-nil, zero-add, suc, drop, slice_get, ◌<◌, Some, Result, Ok, Err, subst}
-use Rattle.std.proofs.Math.Seq.{drop-cons}
-use Rattle.std.proofs.lemmas.List.{take-append-le, drop_all}
-use Rattle.std.proofs.lemmas.Option.{get_or_from_slice_get, slice_get_within}
+use Rattle.std.proofs.Common.{◌≡◌, ◌≢◌, ◌⊎◌, ◌∙◌, ℕ, zero, IsTrue, false, ◌+◌, ◌≤◌, Bool, List, [], ◌∷◌, ◌++◌, length, take, Option, refl, sym, ap, append_assoc, arith, length-append, append-nil, zero-add, suc, ◌<◌, Ok, Err, subst}
+use Rattle.std.proofs.lemmas.List.{take-append-le}
 use Rattle.std.specs.Io.KnownBytes.{append_known}
 use Rattle.perm_io.proofs.Known.{append_known-append_known, append_known-nil}
 use Rattle.perm_io.specs.Counts.{HasRisen, next_count}
-use Rattle.perm_io.specs.Found.{Found, CanBe}
+use Rattle.perm_io.specs.Found.{CanBe}
 use Rattle.perm_io.specs.declared.named_file.NamedFile.{NamedFile}
 use Rattle.perm_values.specs.Numbers.{last_number}
 use Rattle.perm_catalog.specs.Contents.{Contents}
@@ -19,7 +17,7 @@ use Rattle.run_meaning.specs.declared.status.Status.{Status}
 use Rattle.run_meaning.specs.declared.status.Status.TheVariants as status
 use Rattle.run_meaning.specs.Ends.{Written, IsSaid, IsSilent, Ends, EndsSome, EndsStopped, Opens, joined, opened}
 use Rattle.run_meaning.specs.Run.{Ran, RunsFrom, text_of, ended, after_text, after_files, IsWhole}
-use Rattle.run_meaning.specs.Stops.{Stop, ToTheEnd, At, Backs, line_of}
+use Rattle.run_meaning.specs.Stops.{ToTheEnd, At, Backs, line_of}
 use Rattle.run_meaning.proofs.Causes.{told≢, told-answer, refuses_with}
 use Rattle.run_meaning.proofs.Firsts.{stops-first, refused-turn}
 use Rattle.run_meaning.proofs.Widening.{CanBe-wider}

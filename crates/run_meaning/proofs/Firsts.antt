@@ -1,6 +1,6 @@
 -- A statement is refused by the first rule that it breaks. It draws one number at most, and wants the last one only where
 -- that is the next.
-use Rattle.std.proofs.Common.{◌≡◌, ◌≢◌, ◌∙◌, ℕ, ◌+◌, ◌≤◌, ◌<◌, Bool, true, false, cond, nat_eq, List, [], ◌∷◌, length, None, Result, Ok, Err, codes, refl, sym, ap, subst, arith}
+use Rattle.std.proofs.Common.{◌≡◌, ◌≢◌, ◌∙◌, ℕ, ◌+◌, ◌≤◌, ◌<◌, Bool, true, false, cond, nat_eq, List, [], ◌∷◌, length, None, Ok, Err, codes, refl, ap, subst, arith}
 use Rattle.std.proofs.lemmas.Bool.Decides.{nat_tests}
 use Rattle.std.specs.List.{count_by}
 use Rattle.perm_values.specs.Numbers.{last_number}
@@ -23,9 +23,9 @@ use Rattle.name_seen_parts.specs.Seen.{first_or}
 use Rattle.name_meaning.specs.Meanings.{broken}
 use Rattle.name_meaning.specs.Statements.{answer_of, breaks, defined_columns, delete_made, kinds_of_table, query_meant, resolved, resolved_body, rows_made}
 use Rattle.name_meaning.specs.declared.answer.Break.{Break}
-use Rattle.statement_meaning.specs.Answers.{Names, TakesTurn}
+use Rattle.statement_meaning.specs.Answers.{TakesTurn}
 use Rattle.statement_meaning.specs.Asking.{Asked, Settled, Begins, all_breaks, asked, asks, is_unbuilt, unbuilt, unless_broken}
-use Rattle.statement_meaning.specs.Turns.{Turn, Cause, Stands, Refused, Broken, Meets, Missing, TooLarge, Unfit, Failed, on_good, drawing, counting, identity_of, add_rows, add_unbroken, answered, copy, goes, row_value, rows_deleted, with_added}
+use Rattle.statement_meaning.specs.Turns.{Turn, Accepted, Refused, Broken, Meets, Missing, TooLarge, Unfit, Failed, on_good, drawing, counting, identity_of, add_rows, add_unbroken, answered, copy, goes, row_value, rows_deleted, with_added}
 use Rattle.statement_meaning.specs.declared.refusal.StepRefusal.{StepRefusal}
 use Rattle.statement_meaning.specs.declared.refusal.StepRefusal.TheVariants as refusal
 use Rattle.run_meaning.specs.Run.{StopsBy, StopsAsked, StopsAt}
@@ -39,7 +39,7 @@ refused-turn Can (Begins name after) old new refused (found, can, h) = (found, c
 
 -- one number is drawn at most, and only the want of the last one breaks a rule
 abbrev IsFrugal : Contents → Turn → Type 0
-IsFrugal c (Stands text after) = after.next ≤ c.next + 1
+IsFrugal c (Accepted text after) = after.next ≤ c.next + 1
 IsFrugal c (Refused (Broken b)) = c.next ≡ last_number
 IsFrugal c (Refused (Meets faults at)) = Unit {0}
 IsFrugal c (Refused (Missing at)) = Unit {0}
@@ -55,9 +55,9 @@ same_number : (a b : ℕ) → nat_eq a b ≡ true → a ≡ b
 same_number a b h = grind (arith, nat_tests)
 
 module _ (c : Contents) where
-  frugal-drawing : (at : ℕ) (text : List ℕ) (new : Contents) → new.next ≡ c.next + 1 → IsFrugal c (drawing c at (Stands text new))
+  frugal-drawing : (at : ℕ) (text : List ℕ) (new : Contents) → new.next ≡ c.next + 1 → IsFrugal c (drawing c at (Accepted text new))
   frugal-drawing at text new h = chosen (nat_eq c.next last_number) refl where
-    chosen : (spent : Bool) → nat_eq c.next last_number ≡ spent → IsFrugal c (cond spent (Refused (Broken (broken rule.NumbersSpent at))) (Stands text new))
+    chosen : (spent : Bool) → nat_eq c.next last_number ≡ spent → IsFrugal c (cond spent (Refused (Broken (broken rule.NumbersSpent at))) (Accepted text new))
     chosen true e = same_number c.next last_number e
     chosen false e = omega (arith, h)
 
@@ -69,11 +69,11 @@ module _ (c : Contents) where
   frugal-unbroken at name [] rows = frugal-drawing at (counting (codes "COPY ") (length rows)) (with_added c name rows) refl
   frugal-unbroken at name (first ∷ more) rows = tt
 
-  frugal-copy : (at : ℕ) (name : List ℕ) (kinds : List Kind) (mark : List ℕ) (header : Bool) (file : Found) → IsFrugal c (copy c at name kinds mark header file)
-  frugal-copy at name kinds mark header (found.Read bytes) = frugal-unbroken at name (broken_rules mark kinds header bytes) (spelled_rows mark kinds header bytes)
-  frugal-copy at name kinds mark header found.Missing = tt
-  frugal-copy at name kinds mark header found.TooLong = tt
-  frugal-copy at name kinds mark header found.Failed = tt
+  frugal-copy : (at : ℕ) (name : List ℕ) (kinds : List Kind) (null_field : List ℕ) (header : Bool) (file : Found) → IsFrugal c (copy c at name kinds null_field header file)
+  frugal-copy at name kinds null_field header (found.Read bytes) = frugal-unbroken at name (broken_rules null_field kinds header bytes) (spelled_rows null_field kinds header bytes)
+  frugal-copy at name kinds null_field header found.Missing = tt
+  frugal-copy at name kinds null_field header found.TooLong = tt
+  frugal-copy at name kinds null_field header found.Failed = tt
 
   true_false : {X : Type 0} → true ≡ false → X
   true_false e = absurd cc
@@ -83,7 +83,7 @@ module _ (c : Contents) where
   thrifty-asks at (st.CreateTable table columns) e = frugal-drawing at (codes "CREATE TABLE\n") (with_table c table.text (defined_columns columns) [] None) refl
   thrifty-asks at (st.CreateTableAs table query) e = true_false e
   thrifty-asks at (st.CreateView view query) e = omega arith
-  thrifty-asks at (st.Copy table file header mark) e = frugal-copy at table.text (kinds_of_table c table) mark header
+  thrifty-asks at (st.Copy table file header null_field) e = frugal-copy at table.text (kinds_of_table c table) null_field header
   thrifty-asks at (st.Insert table rows) e =
       frugal-on_good at (each row_value (rows_made c (kinds_of_table c table) rows)) (add_rows (codes "INSERT ") c at table.text)
       (λ made. frugal-drawing at (counting (codes "INSERT ") (length made)) (with_added c table.text made) refl)
@@ -105,10 +105,13 @@ module _ (c : Contents) where
     by_form true e some = absurd cc
     by_form false e some = thrifty-asks statement.at statement.body e
 
+  unbuilt≢spent : rule.UnbuiltForm ≡ rule.NumbersSpent → ⊥
+  unbuilt≢spent e = cc
+
   all-unspent : (statement : Statement) → Every IsUnspent (all_breaks c statement)
   all-unspent statement = by_form (is_unbuilt statement.body) where
     by_form : (unbuilt_form : Bool) → Every IsUnspent (cond unbuilt_form (unbuilt statement.at ∷ []) (breaks c statement))
-    by_form true = ((λ e. omega (arith, e)), tt)
+    by_form true = (unbuilt≢spent, tt)
     by_form false = breaks-unspent c statement
 
   -- ---- which break refuses it
@@ -131,10 +134,10 @@ module _ (c : Contents) where
 
   -- ---- what is drawn
 
-  stood-turn : (turn : Turn) (text : List ℕ) (next : Contents) → IsFrugal c turn → turn ≡ Stands text next → next.next ≤ c.next + 1
+  stood-turn : (turn : Turn) (text : List ℕ) (next : Contents) → IsFrugal c turn → turn ≡ Accepted text next → next.next ≤ c.next + 1
   stood-turn turn text next frugal e = subst (IsFrugal c) e frugal
 
-  not_refused : (b : Break) (text : List ℕ) (next : Contents) → Refused (Broken b) ≡ Stands text next → ⊥
+  not_refused : (b : Break) (text : List ℕ) (next : Contents) → Refused (Broken b) ≡ Accepted text next → ⊥
   not_refused b text next e = cc
 
   stood : (Can : List ℕ → Found → Type 0) (a : Asked) (all : List Break) (text : List ℕ) (next : Contents) → (all ≡ [] → IsThrifty c a) →
@@ -145,7 +148,7 @@ module _ (c : Contents) where
 
   stops-turn : (turn : Turn) (statements : List Statement) (b : Break) → IsFrugal c turn → StopsBy turn (λ after. StopsAt after statements b) b →
       ((after : Contents) → StopsAt after statements b → last_number ≤ after.next + length statements) → last_number ≤ c.next + (length statements + 1)
-  stops-turn (Stands text after) statements b frugal stops later = let l = later after stops in omega (arith, frugal, l)
+  stops-turn (Accepted text after) statements b frugal stops later = let l = later after stops in omega (arith, frugal, l)
   stops-turn (Refused cause) statements b frugal stops later = let spent = subst (IsFrugal c) stops frugal in omega (arith, spent)
 
   stops-asked : (a : Asked) (all : List Break) (statements : List Statement) (b : Break) → Every IsUnspent all → (all ≡ [] → IsThrifty c a) → b.rule ≡ rule.NumbersSpent →

@@ -1,5 +1,5 @@
 -- Why a run ends with a status.
-use Rattle.std.proofs.Common.{◌≡◌, ◌≢◌, ◌∙◌, ◌⊎◌, ℕ, ◌+◌, ◌≤◌, ◌<◌, Bool, true, false, true≢false, List, [], ◌∷◌, Option, refl, sym, ap, subst, inl, inr, arith}
+use Rattle.std.proofs.Common.{◌≡◌, ◌∙◌, ◌⊎◌, ℕ, ◌≤◌, ◌<◌, Bool, true, false, true≢false, List, [], ◌∷◌, Option, refl, sym, ap, subst, inl, inr, arith}
 use Rattle.std.specs.Io.KnownBytes.{append_known}
 use Rattle.perm_catalog.specs.Changes.{nothing_held}
 use Rattle.perm_catalog.specs.Contents.{Contents}
@@ -12,10 +12,10 @@ use Rattle.name_meaning.specs.declared.answer.Break.{Break}
 use Rattle.statement_steps.proofs.Unfiled.{of_file, Unfiled, asks-unfiled}
 use Rattle.statement_meaning.specs.Answers.{Files, Names, file_limit}
 use Rattle.statement_meaning.specs.Asking.{Asked, Settled, Begins, all_breaks, asked, asks, unless_broken}
-use Rattle.statement_meaning.specs.Turns.{Turn, Stands, Refused}
+use Rattle.statement_meaning.specs.Turns.{Turn, Accepted, Refused}
 use Rattle.statement_meaning.specs.declared.refusal.StepRefusal.{StepRefusal}
 use Rattle.statement_meaning.specs.declared.refusal.StepRefusal.TheVariants as refusal
-use Rattle.run_meaning.specs.Ends.{Written, Ends, EndsAt, EndsOne, EndsSome, EndsBroken, EndsFaulty, IsBadFile, IsBadScript, Opens, is_of_data, opened}
+use Rattle.run_meaning.specs.Ends.{Written, Ends, EndsAt, EndsOne, EndsBroken, EndsFaulty, IsBadFile, IsBadScript, is_of_data, opened}
 use Rattle.run_meaning.specs.Run.{Ran, GoesOn, Asks, Runs, RunsFrom, RunsScript, RunsFile, IsWhole, text_of}
 use Rattle.run_meaning.specs.Stops.{Stop, ToTheEnd, Misused, NoFile, LongFile, FailedFile, NoScript, At, Backs, refusal_status, status_of}
 use Rattle.run_meaning.specs.declared.status.Status.{Status}
@@ -142,7 +142,7 @@ module _ (Can : List ℕ → Found → Type 0) where
   goes-begun : (c : Contents) (statement : Statement) (turn : Turn) (Next : Contents → Ran → Type 0) → of_file turn ≡ false → ((after : Contents) (ran : Ran) → Next after ran → HasBegun ran) → (ran : Ran) →
       GoesOn c statement turn Next ran → HasBegun ran
   goes-begun c statement (Refused cause) Next none on ran (refused, names, told, is) = subst HasBegun (sym is) (λ data_is. absurd (true≢false (sym (filed (Refused cause) refused data_is names) ∙ none)))
-  goes-begun c statement (Stands text after) Next none on ran (rest, next, is) = subst HasBegun (sym is) (on after rest next)
+  goes-begun c statement (Accepted text after) Next none on ran (rest, next, is) = subst HasBegun (sym is) (on after rest next)
 
   asks-begun : (c : Contents) (statement : Statement) (a : Asked) (Next : Contents → Ran → Type 0) → Unfiled a → ((after : Contents) (ran : Ran) → Next after ran → HasBegun ran) → (ran : Ran) →
       Asks Can c statement a Next ran → HasBegun ran

@@ -1,5 +1,5 @@
 -- Which run a command line and its script's file stand for.
-use Rattle.std.proofs.Common.{◌≡◌, ◌∙◌, ◌⊎◌, ℕ, ◌+◌, false, List, [], ◌∷◌, length, Option, Ok, Err, get_or, refl, sym, ap, inl, inr, subst, arith}
+use Rattle.std.proofs.Common.{◌≡◌, ◌∙◌, ◌⊎◌, ℕ, ◌+◌, false, List, [], ◌∷◌, length, Option, Err, get_or, refl, sym, ap, inl, inr, subst, arith}
 use Rattle.perm_io.specs.Counts.{HasRisen, next_count}
 use Rattle.perm_io.specs.Found.{Found, Read, CanBe}
 use Rattle.perm_io.specs.declared.named_file.NamedFile.{NamedFile}

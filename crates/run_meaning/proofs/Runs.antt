@@ -1,5 +1,5 @@
 -- Over told files of which none fails there is one run, but for which fault is named.
-use Rattle.std.proofs.Common.{◌≡◌, ◌≢◌, ◌∙◌, ◌⊎◌, ℕ, ◌+◌, ◌≤◌, ◌<◌, true, List, [], ◌∷◌, length, Option, Some, None, IsSomeAnd, refl, sym, ap, subst, inl, inr, arith}
+use Rattle.std.proofs.Common.{◌≡◌, ◌≢◌, ◌∙◌, ℕ, ◌+◌, ◌≤◌, ◌<◌, true, List, [], ◌∷◌, length, Option, Some, None, IsSomeAnd, refl, sym, ap, subst, inl, inr, arith}
 use Rattle.null_logic.specs.declared.run_fault.RunFault.{RunFault}
 use Rattle.bag_algebra.specs.Outcome.{Faults, has}
 use Rattle.perm_catalog.specs.Changes.{nothing_held}
@@ -12,7 +12,7 @@ use Rattle.sql_tree.specs.declared.statement.Statement.{Statement}
 use Rattle.name_meaning.specs.declared.answer.Break.{Break}
 use Rattle.statement_meaning.specs.Answers.{Names, file_limit}
 use Rattle.statement_meaning.specs.Asking.{Asked, Settled, Begins, asked}
-use Rattle.statement_meaning.specs.Turns.{Turn, Stands, Refused, Cause, Broken, Meets, Unfit}
+use Rattle.statement_meaning.specs.Turns.{Turn, Accepted, Refused, Cause, Broken, Meets, Unfit}
 use Rattle.statement_meaning.specs.Turns as cause
 use Rattle.statement_meaning.specs.declared.refusal.StepRefusal.{StepRefusal}
 use Rattle.statement_meaning.specs.declared.refusal.StepRefusal.TheVariants as refusal
@@ -126,7 +126,7 @@ same_goes c statement (Refused why) meets Next one a b (r, names, some, is) (s, 
     moved a b (ended (At c statement r)) (ended (At c statement s)) is is'
     (same_ended (At c statement r) (At c statement s)
     (same_stop c statement why (λ met at e. meets met at (ap Refused e)) r s some more (named why r names some) (named why s names' more)))
-same_goes c statement (Stands text after) meets Next one a b (rest, next, is) (rest', next', is') =
+same_goes c statement (Accepted text after) meets Next one a b (rest, next, is) (rest', next', is') =
     moved a b (after_text text rest) (after_text text rest') is is' (same_text text rest rest' (one after rest rest' next next'))
 
 module _ (held : List NamedFile) where

@@ -1,10 +1,9 @@
 -- A step of a run: by the statement's breaks, and by what carries it out.
-use Rattle.std.proofs.Common.{◌≡◌, ◌⊎◌, ◌∙◌, ℕ, Bool, true, false, true≢false, cond, List, [], ◌∷◌, Option, Result, Ok, Err, refl, sym, ap, subst, inl, inr, IsTrue}
+use Rattle.std.proofs.Common.{◌≡◌, ◌⊎◌, ◌∙◌, ℕ, true, false, true≢false, cond, List, [], ◌∷◌, Option, Result, Ok, Err, refl, sym, ap, subst, inr, IsTrue}
 use Rattle.perm_catalog.specs.Contents.{Contents}
 use Rattle.perm_catalog.specs.Sound.{IsSound}
 use Rattle.perm_io.specs.Counts.{HasRisen, CountsFault, next_count}
-use Rattle.perm_io.specs.Found.{Found, CanBe}
-use Rattle.perm_io.specs.declared.named_file.NamedFile.{NamedFile}
+use Rattle.perm_io.specs.Found.{Found}
 use Rattle.sql_tree.specs.declared.statement.Statement.{Statement}
 use Rattle.statement_changes.proofs.SomeFound.{some_found}
 use Rattle.name_seen_parts.specs.Seen.{first_or}
@@ -18,10 +17,10 @@ use Rattle.statement_laws.specs.Sounder.{StandsSound, KeepsSound}
 use Rattle.statement_meaning.specs.Answers.{Files, TakesTurn, IsTurn, IsBacked, begins, can_be, has_failed, file_limit}
 use Rattle.statement_meaning.specs.Asking.{Asked, Settled, Begins, all_breaks, asked, asks, is_unbuilt, unbuilt, unless_broken}
 use Rattle.statement_meaning.specs.Ready.{IsReady}
-use Rattle.statement_meaning.specs.Turns.{Turn, Stands, Refused, Broken}
+use Rattle.statement_meaning.specs.Turns.{Turn, Refused, Broken}
 use Rattle.statement_meaning.specs.declared.refusal.StepRefusal.{StepRefusal}
 use Rattle.statement_meaning.specs.declared.refusal.StepRefusal.TheVariants as refusal
-use Rattle.run_meaning.specs.Carrying.{IsCarriedOut}
+use Rattle.statement_meaning.specs.Carrying.{IsCarriedOut}
 use Rattle.run_meaning.specs.Resolving.{IsDue, IsMade, Resolves, ResolvesBuilt, ResolvesBy}
 use Rattle.run_meaning.proofs.Causes.{refuses_with}
 
@@ -137,10 +136,15 @@ made-whole c statement made whole is ready sound =
     record { whole = whole; is = is; ready = subst (IsReady c) (sym is) ready; sound = subst (λ m. KeepsSound (asks c statement.at m)) (sym is) sound }
 
 -- what was asked for has become of the statement
-pub asked-carried : (c new : Contents) (statement : Statement) (made : Resolved) (result : Result (List ℕ) StepRefusal) (files : Files) (Untouched : Type 0) →
-    IsMade (all_breaks c statement) c statement made → IsCarriedOut (asks c statement.at made) c new result files Untouched → IsCarriedOut (asked c statement) c new result files Untouched
-asked-carried c new statement made result files Untouched m h =
-    subst (λ a. IsCarriedOut a c new result files Untouched) (sym (asked-made c statement made m)) h
+pub asked-carried : (c new : Contents) (statement : Statement) (made : Resolved) (result : Result (List ℕ) StepRefusal) (files : Files) →
+    IsMade (all_breaks c statement) c statement made → IsCarriedOut (asks c statement.at made) c new result files → IsCarriedOut (asked c statement) c new result files
+asked-carried c new statement made result files m h =
+    subst (λ a. IsCarriedOut a c new result files) (sym (asked-made c statement made m)) h
+
+-- what was asked for begins a file where the statement does, and there alone
+pub begins-made : (c : Contents) (statement : Statement) (made : Resolved) → IsMade (all_breaks c statement) c statement made
+    → begins (asks c statement.at made) ≡ begins (asked c statement)
+begins-made c statement made m = ap begins (sym (asked-made c statement made m))
 
 -- ---- the last run
 
@@ -149,7 +153,7 @@ pub refused-ran : (c : Contents) (made : Resolved) (refused : StepRefusal) (last
 refused-ran c (r.CreateTable name columns) refused last = refl
 refused-ran c (r.CreateTableAs name columns answer places) refused last = refl
 refused-ran c (r.CreateView name entry) refused last = refl
-refused-ran c (r.Copy name kinds file mark header) refused last = refl
+refused-ran c (r.Copy name kinds file null_field header) refused last = refl
 refused-ran c (r.Insert name rows) refused last = refl
 refused-ran c (r.Delete name condition) refused last = refl
 refused-ran c (r.DropTable name) refused last = refl

@@ -1,5 +1,5 @@
 -- What a statement that ran makes of the runs behind it, and that every start has some run.
-use Rattle.std.proofs.Common.{◌≡◌, ◌≢◌, ◌⊎◌, ℕ, ◌+◌, ◌≤◌, Bool, true, false, true≢false, List, [], ◌∷◌, Option, Result, Ok, Err, refl, sym, subst, inl, inr, arith, IsTrue}
+use Rattle.std.proofs.Common.{◌≡◌, ◌≢◌, ◌⊎◌, ℕ, ◌+◌, ◌≤◌, Bool, true, false, List, [], ◌∷◌, Option, Ok, Err, refl, sym, subst, inl, inr, arith, IsTrue}
 use Rattle.perm_catalog.specs.Contents.{Contents}
 use Rattle.perm_io.specs.Counts.{HasRisen, CountsFault, next_count}
 use Rattle.perm_io.specs.Found.{Found, CanBe}
@@ -8,12 +8,12 @@ use Rattle.sql_tree.specs.declared.statement.Statement.{Statement}
 use Rattle.statement_changes.proofs.SomeFound.{some_found}
 use Rattle.statement_meaning.specs.Answers.{Names, TakesTurn, begins, file_limit}
 use Rattle.statement_meaning.specs.Asking.{Asked, Settled, Begins, asked}
-use Rattle.statement_meaning.specs.Turns.{Turn, Stands, Refused, Broken, Meets, Missing, TooLarge, Unfit, Failed}
+use Rattle.statement_meaning.specs.Turns.{Turn, Accepted, Refused}
 use Rattle.statement_meaning.specs.declared.refusal.StepRefusal.{StepRefusal}
 use Rattle.statement_meaning.specs.declared.refusal.StepRefusal.TheVariants as r
 use Rattle.run_meaning.specs.Ends.{opened}
 use Rattle.run_meaning.specs.Run.{Ran, ended, after_text, after_files, GoesOn, Asks, RunsFrom}
-use Rattle.run_meaning.specs.Stops.{Stop, ToTheEnd, At}
+use Rattle.run_meaning.specs.Stops.{ToTheEnd, At}
 use Rattle.run_meaning.proofs.Causes.{HasName, AsksNamed, asked-named}
 
 -- how many files it begins
@@ -24,7 +24,7 @@ files_of (Begins name after) = 1
 after_none : (ran : Ran) → after_files 0 ran ≡ ran
 after_none ran = let e : ran.begun + 0 ≡ ran.begun = omega arith in (λ i. record ran { begun = e i })
 
-pub stands-unnamed : (text : List ℕ) (c : Contents) (refused : StepRefusal) → refused ≢ r.NoMemory → Names (Stands text c) refused → ⊥
+pub stands-unnamed : (text : List ℕ) (c : Contents) (refused : StepRefusal) → refused ≢ r.NoMemory → Names (Accepted text c) refused → ⊥
 stands-unnamed text c (r.Break b) told h = cc
 stands-unnamed text c (r.Run fault at) told h = let e = h.1 in cc
 stands-unnamed text c (r.Missing at) told h = cc
@@ -35,7 +35,7 @@ stands-unnamed text c r.NoMemory told h = told refl
 
 goes-stops : (c : Contents) (statement : Statement) (turn : Turn) (refused : StepRefusal) (Next : Contents → Ran → Type 0) → refused ≢ r.NoMemory → Names turn refused →
     GoesOn c statement turn Next (ended (At c statement refused))
-goes-stops c statement (Stands text after) refused Next told h = absurd (stands-unnamed text after refused told h)
+goes-stops c statement (Accepted text after) refused Next told h = absurd (stands-unnamed text after refused told h)
 goes-stops c statement (Refused cause) refused Next told h = (refused, h, told, refl)
 
 module _ (Can : List ℕ → Found → Type 0) (CanStep : List ℕ → Found → Type 0) (widen : (name : List ℕ) (found : Found) → CanStep name found → Can name found) where
@@ -61,7 +61,7 @@ module _ (held : Option (List NamedFile)) (fault : Type 0) where
   some_goes : (c : Contents) (statement : Statement) (turn : Turn) (Next : Contents → Ran → Type 0) → HasName turn → ((after : Contents) → (ran : Ran) × Next after ran) →
       (ran : Ran) × GoesOn c statement turn Next ran
   some_goes c statement (Refused cause) Next named later = (ended (At c statement named.0), (named.0, named.1, named.2, refl))
-  some_goes c statement (Stands text next) Next named later = let rest = later next in (after_text text rest.0, (rest.0, rest.1, refl))
+  some_goes c statement (Accepted text next) Next named later = let rest = later next in (after_text text rest.0, (rest.0, rest.1, refl))
 
   some_asks : (c : Contents) (statement : Statement) (a : Asked) (Next : Contents → Ran → Type 0) → AsksNamed a → ((after : Contents) → (ran : Ran) × Next after ran) →
       (ran : Ran) × Asks (CanBe file_limit held fault) c statement a Next ran × (files_of a ≤ ran.begun)

@@ -9,7 +9,7 @@ use Rattle.csv_tables.specs.declared.data_error.DataError.TheVariants as broken_
 use Rattle.sql_tree.specs.declared.statement.Statement.{Statement}
 use Rattle.statement_meaning.specs.Answers.{Files, RestsOn, TakesTurn}
 use Rattle.statement_meaning.specs.Asking.{Asked, Settled, Begins, asked}
-use Rattle.statement_meaning.specs.Turns.{Turn, Stands, Refused}
+use Rattle.statement_meaning.specs.Turns.{Turn, Accepted, Refused}
 use Rattle.statement_meaning.specs.declared.refusal.StepRefusal.{StepRefusal}
 use Rattle.statement_meaning.specs.declared.refusal.StepRefusal.TheVariants as refusal
 use Rattle.run_meaning.specs.Run.{Ran, GoesOn, Asks, RunsFrom, RunsScript, RunsFile}
@@ -62,7 +62,7 @@ module _ (Can Could : List ℕ → Found → Type 0) (widen : (name : List ℕ) 
   goes-wider : (c : Contents) (statement : Statement) (turn : Turn) (P Q : Contents → Ran → Type 0) → ((after : Contents) (ran : Ran) → P after ran → Q after ran) → (ran : Ran) →
       GoesOn c statement turn P ran → GoesOn c statement turn Q ran
   goes-wider c statement (Refused cause) P Q on ran h = h
-  goes-wider c statement (Stands text after) P Q on ran (rest, next, is) = (rest, on after rest next, is)
+  goes-wider c statement (Accepted text after) P Q on ran (rest, next, is) = (rest, on after rest next, is)
 
   asks-wider : (c : Contents) (statement : Statement) (a : Asked) (P Q : Contents → Ran → Type 0) → ((after : Contents) (ran : Ran) → P after ran → Q after ran) → (ran : Ran) →
       Asks Can c statement a P ran → Asks Could c statement a Q ran
@@ -102,7 +102,7 @@ module _ (Can : List ℕ → Found → Type 0) where
   goes-of_script : (c : Contents) (statement : Statement) (turn : Turn) (Next : Contents → Ran → Type 0) → ((after : Contents) (ran : Ran) → Next after ran → OfScript ran.stop) → (ran : Ran) →
       GoesOn c statement turn Next ran → OfScript ran.stop
   goes-of_script c statement (Refused cause) Next on ran (refused, names, told, is) = subst (λ (r : Ran). OfScript r.stop) (sym is) tt
-  goes-of_script c statement (Stands text after) Next on ran (rest, next, is) = subst (λ (r : Ran). OfScript r.stop) (sym is) (on after rest next)
+  goes-of_script c statement (Accepted text after) Next on ran (rest, next, is) = subst (λ (r : Ran). OfScript r.stop) (sym is) (on after rest next)
 
   asks-of_script : (c : Contents) (statement : Statement) (a : Asked) (Next : Contents → Ran → Type 0) → ((after : Contents) (ran : Ran) → Next after ran → OfScript ran.stop) → (ran : Ran) →
       Asks Can c statement a Next ran → OfScript ran.stop

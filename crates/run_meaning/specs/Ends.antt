@@ -14,7 +14,7 @@ use Rattle.null_logic.specs.declared.run_fault.RunFault.{RunFault}
 use Rattle.statement_meaning.specs.Answers.{Files}
 use Rattle.statement_meaning.specs.declared.refusal.StepRefusal.{StepRefusal}
 use Rattle.statement_meaning.specs.declared.refusal.StepRefusal.TheVariants as step
-use Rattle.run_meaning.specs.Run.{Ran, text_of, ended, IsWhole}
+use Rattle.run_meaning.specs.Run.{Ran, Runs, text_of, ended, IsWhole}
 use Rattle.run_meaning.specs.Stops.{NoScript, At, Backs, IsStopped, script_limit, status_of}
 use Rattle.run_meaning.specs.declared.status.Status.{Status}
 use Rattle.run_meaning.specs.declared.status.Status.TheVariants as status
@@ -113,6 +113,10 @@ pub record EndsSome (Can : List ℕ → Found → Type 0) (IsRun : Ran → Type 
   pub ends : Ends ran w s
   pub opens : Opens ran files.begun files.begun_after s
   pub backed : IsWhole s → Backs Can ran.stop files
+
+-- the runs of a command line over files, which may fail where their count of faults rose
+abbrev pub RunsOver : List (List ℕ) → Files → Ran → Type 0
+RunsOver words files = Runs words files.held (HasRisen files.faults files.faults_after)
 
 -- that, or memory was wanting before anything was written, when so many files were begun
 abbrev pub EndsOne : ℕ → (List ℕ → Found → Type 0) → (Ran → Type 0) → Written → Files → Status → Type 0

@@ -1,4 +1,3 @@
-pub mod Carrying
 pub mod Ends
 pub mod Resolving
 pub mod Run

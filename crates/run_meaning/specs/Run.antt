@@ -10,7 +10,7 @@ use Rattle.sql_tree.specs.declared.statement.Statement.{Statement}
 use Rattle.name_meaning.specs.declared.answer.Break.{Break}
 use Rattle.statement_meaning.specs.Answers.{Names, file_limit}
 use Rattle.statement_meaning.specs.Asking.{Asked, Settled, Begins, asked}
-use Rattle.statement_meaning.specs.Turns.{Turn, Stands, Refused}
+use Rattle.statement_meaning.specs.Turns.{Turn, Accepted, Refused}
 use Rattle.statement_meaning.specs.declared.refusal.StepRefusal.{StepRefusal}
 use Rattle.statement_meaning.specs.declared.refusal.StepRefusal.TheVariants as refusal
 use Rattle.run_meaning.specs.Scripts.{IsScriptOf, IsMisspelled}
@@ -43,7 +43,7 @@ after_files files ran = record ran { begun = ran.begun + files }
 abbrev pub GoesOn : Contents → Statement → Turn → (Contents → Ran → Type 0) → Ran → Type 0
 GoesOn c statement (Refused cause) Next ran =
     (refused : StepRefusal) × Names (Refused cause) refused × (refused ≢ refusal.NoMemory) × (ran ≡ ended (At c statement refused))
-GoesOn c statement (Stands text after) Next ran = (rest : Ran) × Next after rest × (ran ≡ after_text text rest)
+GoesOn c statement (Accepted text after) Next ran = (rest : Ran) × Next after rest × (ran ≡ after_text text rest)
 
 -- a file that is begun is found to be what it can be
 abbrev pub Asks : (List ℕ → Found → Type 0) → Contents → Statement → Asked → (Contents → Ran → Type 0) → Ran → Type 0
@@ -83,7 +83,7 @@ Runs (name ∷ other ∷ words) held fault ran = ran ≡ ended Misused
 -- a run of the statements can stop at this break
 abbrev pub StopsBy : Turn → (Contents → Type 0) → Break → Type 0
 StopsBy (Refused cause) next b = Names (Refused cause) (refusal.Break b)
-StopsBy (Stands text after) next b = next after
+StopsBy (Accepted text after) next b = next after
 
 abbrev pub StopsAsked : Asked → (Contents → Type 0) → Break → Type 0
 StopsAsked (Settled turn) next b = StopsBy turn next b

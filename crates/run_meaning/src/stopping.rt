@@ -46,7 +46,8 @@ pub fn refuse<K: Sink>(refusal: Refusal, out: &mut K) -> Status
 
 /// Ends the output with what the refusal of a statement says.
 pub fn stop<K: Sink>(refusal: StepRefusal, out: &mut K) -> Status
-    ensures ends { (c : Contents) (statement : Statement) → EndsStopped c statement refusal (over (K.told out.old) (K.told out.new)) result }
+    ensures ends { (c : Contents) (statement : Statement)
+        → EndsStopped c statement refusal (over (K.told out.old) (K.told out.new)) result }
     ensures status { (result ≡ refusal_status refusal) ⊎ (result ≡ Status.WriteFault) }
 {
     match refusal {

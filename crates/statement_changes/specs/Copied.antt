@@ -10,11 +10,11 @@ use Rattle.statement_meaning.specs.declared.refusal.StepRefusal.{StepRefusal}
 
 -- whatever the catalog holds, the file that was found gives the statement these rows to add, or this refusal
 abbrev pub GivesRows : ℕ → List Kind → List ℕ → Bool → Result Bag StepRefusal → Found → Type 0
-GivesRows at kinds mark header (Ok rows) found =
-    (c : Contents) (name : List ℕ) → copy c at name kinds mark header found ≡ add_rows (codes "COPY ") c at name rows
-GivesRows at kinds mark header (Err refusal) found =
-    (c : Contents) (name : List ℕ) → Names (copy c at name kinds mark header found) refusal
+GivesRows at kinds null_field header (Ok rows) found =
+    (c : Contents) (name : List ℕ) → copy c at name kinds null_field header found ≡ add_rows (codes "COPY ") c at name rows
+GivesRows at kinds null_field header (Err refusal) found =
+    (c : Contents) (name : List ℕ) → Names (copy c at name kinds null_field header found) refusal
 
 -- the file was found to be something that gives this
 abbrev pub IsLoaded : (Found → Type 0) → ℕ → List Kind → List ℕ → Bool → Result Bag StepRefusal → Type 0
-IsLoaded Can at kinds mark header answer = (found : Found) × Can found × GivesRows at kinds mark header answer found
+IsLoaded Can at kinds null_field header answer = (found : Found) × Can found × GivesRows at kinds null_field header answer found

@@ -3,9 +3,9 @@ ghost use Rattle.perm_catalog.specs.Changes.{table_named};
 ghost use Rattle.statement_meaning.specs.Answers.{IsTurn};
 ghost use Rattle.statement_meaning.specs.Turns.{add_rows};
 
+use crate::refusing::refused;
 use crate::text::counting;
-use name_meaning::{Break, Rule};
-use perm_catalog::{Catalog, CatalogRefusal};
+use perm_catalog::Catalog;
 use perm_values::{Bytes, Chars, Rows};
 use statement_meaning::StepRefusal;
 use std::alloc::Global;
@@ -25,10 +25,6 @@ pub(crate) fn add_rows(
     let text = counting(alloc, word, rows.len())?;
     match catalog.insert_rows(name, rows) {
         Ok(()) => Ok(text),
-        Err(CatalogRefusal::VersionsSpent) => Err(StepRefusal::Break(Break {
-            rule: Rule::NumbersSpent,
-            at,
-        })),
-        Err(CatalogRefusal::NoMemory) => Err(StepRefusal::NoMemory),
+        Err(refusal) => Err(refused(refusal, at)),
     }
 }

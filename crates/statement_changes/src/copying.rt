@@ -24,7 +24,9 @@ pub fn copy<F: Files>(
 ) -> Result<Bytes, StepRefusal>
     requires { IsSome (table_named catalog.old name.now) }
     ensures turn { TakesTurn (can_be (over (F.told files.old) (F.told files.new)))
-        (Begins file.now.name.now (copy catalog.old at name.now file.now.kinds.now file.now.mark.now file.now.header)) catalog.old catalog.new result }
+        (Begins file.now.name.now
+        (copy catalog.old at name.now file.now.kinds.now file.now.null_field.now file.now.header))
+        catalog.old catalog.new result }
     ensures backed { IsBacked result (over (F.told files.old) (F.told files.new)) }
     ensures faults { CountsFault (F.told files.old).faults (F.told files.new).faults (has_failed result) }
     ensures begun { (F.told files.new).begun ≡ next_count (F.told files.old).begun }

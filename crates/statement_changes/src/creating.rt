@@ -3,9 +3,9 @@ ghost use Rattle.perm_catalog.specs.Changes.{is_free};
 ghost use Rattle.statement_meaning.specs.Answers.{IsTurn};
 ghost use Rattle.statement_meaning.specs.Turns.{create_table, view_created};
 
+use crate::refusing::refused;
 use crate::text::text_of;
-use name_meaning::{Break, Rule};
-use perm_catalog::{Catalog, CatalogRefusal, Column, ViewEntry};
+use perm_catalog::{Catalog, Column, ViewEntry};
 use perm_values::{Bytes, Chars, Copyable, List};
 use statement_meaning::StepRefusal;
 use std::alloc::Global;
@@ -26,11 +26,7 @@ pub fn create_table(
     let made = columns.copy(alloc)?;
     match catalog.create(alloc, name, made, List::new(alloc), None) {
         Ok(()) => Ok(text),
-        Err(CatalogRefusal::VersionsSpent) => Err(StepRefusal::Break(Break {
-            rule: Rule::NumbersSpent,
-            at,
-        })),
-        Err(CatalogRefusal::NoMemory) => Err(StepRefusal::NoMemory),
+        Err(refusal) => Err(refused(refusal, at)),
     }
 }
 

@@ -7,10 +7,10 @@ ghost use Rattle.perm_catalog.specs.Changes.{table_named, rows_at};
 ghost use Rattle.statement_meaning.specs.Answers.{IsTurn};
 ghost use Rattle.statement_meaning.specs.Turns.{delete, drawing, goes, identity_of, rows_deleted};
 
+use crate::refusing::refused;
 use crate::text::counting;
 use bag_algebra::{Env, Expr, Tables};
-use name_meaning::{Break, Rule};
-use perm_catalog::{Catalog, CatalogRefusal};
+use perm_catalog::Catalog;
 use perm_values::{Bytes, Chars, List, Row, Value};
 use row_values::{ExecError, eval, holds};
 use statement_meaning::StepRefusal;
@@ -101,16 +101,13 @@ fn remove(
 ) -> Result<Bytes, StepRefusal>
     requires known { IsSome (table_named catalog.old name.now) }
     requires flags { length doomed.now ≡ length (rows_at catalog.old (identity_of catalog.old name.now)) }
-    ensures { IsTurn (drawing catalog.old at (rows_deleted catalog.old name.now doomed.now)) catalog.old catalog.new result }
+    ensures { IsTurn (drawing catalog.old at (rows_deleted catalog.old name.now doomed.now))
+        catalog.old catalog.new result }
 {
     let text = counting(alloc, b"DELETE ", flagged(doomed))?;
     match catalog.delete_rows(name, doomed) {
         Ok(_) => Ok(text),
-        Err(CatalogRefusal::VersionsSpent) => Err(StepRefusal::Break(Break {
-            rule: Rule::NumbersSpent,
-            at,
-        })),
-        Err(CatalogRefusal::NoMemory) => Err(StepRefusal::NoMemory),
+        Err(refusal) => Err(refused(refusal, at)),
     }
 }
 

@@ -8,6 +8,7 @@ mod deleting;
 mod dropping;
 mod inserting;
 mod loading;
+mod refusing;
 mod text;
 
 pub use copying::copy;

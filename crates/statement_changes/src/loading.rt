@@ -16,7 +16,7 @@ use std::alloc::Global;
 pub struct RowFile<'a> {
     pub name: &'a Chars,
     pub kinds: &'a [Kind],
-    pub mark: &'a Chars,
+    pub null_field: &'a Chars,
     pub header: bool,
 }
 
@@ -30,7 +30,7 @@ pub(crate) fn file_rows<F: Files>(
     file: &RowFile,
 ) -> Result<Rows, StepRefusal>
     ensures loaded { IsLoaded (can_be (over (F.told files.old) (F.told files.new)) file.now.name.now)
-        at file.now.kinds.now file.now.mark.now file.now.header result }
+        at file.now.kinds.now file.now.null_field.now file.now.header result }
     ensures backed { IsBacked result (over (F.told files.old) (F.told files.new)) }
     ensures faults { CountsFault (F.told files.old).faults (F.told files.new).faults (has_failed result) }
     ensures begun { (F.told files.new).begun ≡ next_count (F.told files.old).begun }
@@ -47,11 +47,18 @@ pub(crate) fn file_rows<F: Files>(
 
 /// The rows that the bytes of a file spell.
 fn loaded(alloc: Global, bytes: &[u8], file: &RowFile) -> Result<Rows, StepRefusal>
-    ensures given { (at : ℕ) → GivesRows at file.now.kinds.now file.now.mark.now file.now.header result (Read bytes.now) }
+    ensures given { (at : ℕ)
+        → GivesRows at file.now.kinds.now file.now.null_field.now file.now.header result (Read bytes.now) }
     ensures backed { (seen : Seen) → IsBacked result seen }
     ensures unfailed { has_failed result ≡ false }
 {
-    match load(alloc, bytes, file.kinds, file.mark.bytes(), file.header) {
+    match load(
+        alloc,
+        bytes,
+        file.kinds,
+        file.null_field.bytes(),
+        file.header,
+    ) {
         Ok(rows) => Ok(rows),
         Err(DataError::NoMemory) => Err(StepRefusal::NoMemory),
         Err(rule) => Err(StepRefusal::Unfit(rule)),

@@ -200,7 +200,7 @@ module _ (c : Contents) (sound : IsSound c) where
       let more : List Break = named_query_breaks query.at (query_meant c query) in
       view-sound query regular
       (front-none (query_meant c query).breaks (broken_if (repeats (names_of (columns_of (query_meant c query)))) rule.RepeatedColumn query.at) (back-none (taken c name) more whole))
-  body-adds (st.Copy table file header mark) regular whole = copy-adds (table_named c table.text)
+  body-adds (st.Copy table file header null_field) regular whole = copy-adds (table_named c table.text)
   body-adds (st.Insert table rows) regular whole = insert-adds table rows (all-of RegularRow rows regular.1) whole
   body-adds (st.Delete table condition) regular whole = tt
   body-adds (st.DropTable table) regular whole = tt

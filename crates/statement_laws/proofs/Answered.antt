@@ -19,7 +19,7 @@ use Rattle.name_meaning.specs.Statements.{answer_of, query_meant, resolved_body}
 use Rattle.name_meaning.specs.declared.answer.Resolved.TheVariants as r
 use Rattle.statement_meaning.proofs.Asked.{asked-by_breaks}
 use Rattle.statement_meaning.specs.Asking.{Settled, asked, asks, is_unbuilt}
-use Rattle.statement_meaning.specs.Turns.{Stands, Refused, Meets, answer_text, answered, on_good, select}
+use Rattle.statement_meaning.specs.Turns.{Accepted, Refused, Meets, answer_text, answered, on_good, select}
 use Rattle.statement_laws.specs.Asks.{AsksFor}
 use Rattle.statement_laws.specs.Printed.{IsTextOf, ListsBag}
 
@@ -32,7 +32,7 @@ pub query-of : (c : Contents) (body : StatementBody) (answer : Answer) → resol
 query-of c (st.CreateTable table columns) answer e = absurd (cc e)
 query-of c (st.CreateTableAs table query) answer e = absurd (cc e)
 query-of c (st.CreateView view query) answer e = absurd (cc e)
-query-of c (st.Copy table file header mark) answer e = absurd (cc e)
+query-of c (st.Copy table file header null_field) answer e = absurd (cc e)
 query-of c (st.Insert table rows) answer e = absurd (cc e)
 query-of c (st.Delete table condition) answer e = absurd (cc e)
 query-of c (st.DropTable table) answer e = absurd (cc e)
@@ -51,7 +51,7 @@ module _ (c : Contents) (statement : Statement) (answer : Answer) (asked_for : A
   pub asked-meaning : (o : Outcome Bag) → meaning answer.query (rows_in c.rows) [] ≡ o → asked c statement ≡ Settled (on_good statement.at o (answered c answer))
   asked-meaning o e = asked-select ∙ ap (λ (found : Outcome Bag). Settled (on_good statement.at found (answered c answer))) e
 
-  pub asked-good : (bag : Bag) → meaning answer.query (rows_in c.rows) [] ≡ Good bag → asked c statement ≡ Settled (Stands (answer_text answer bag) c)
+  pub asked-good : (bag : Bag) → meaning answer.query (rows_in c.rows) [] ≡ Good bag → asked c statement ≡ Settled (Accepted (answer_text answer bag) c)
   asked-good bag e = asked-meaning (Good bag) e
 
   pub asked-bad : (faults : Faults) → meaning answer.query (rows_in c.rows) [] ≡ Bad faults → asked c statement ≡ Settled (Refused (Meets faults statement.at))
@@ -70,7 +70,7 @@ lists-bag answer bag = record {
 
 pub good-answer : (c : Contents) (statement : Statement) (answer : Answer) (bag : Bag) → AsksFor c statement answer
     → meaning answer.query (rows_in c.rows) [] ≡ Good bag
-    → (text : List ℕ) × ListsBag answer bag text × (asked c statement ≡ Settled (Stands text c))
+    → (text : List ℕ) × ListsBag answer bag text × (asked c statement ≡ Settled (Accepted text c))
 good-answer c statement answer bag asked_for good =
     (answer_text answer bag, lists-bag answer bag, asked-good c statement answer asked_for bag good)
 

@@ -13,7 +13,7 @@ use Rattle.sql_tree.specs.declared.statement.Statement.{Statement}
 use Rattle.sql_tree.specs.declared.statement.StatementBody.TheVariants as st
 use Rattle.name_meaning.specs.Statements.{resolved_body}
 use Rattle.statement_meaning.specs.Asking.{Settled, asked}
-use Rattle.statement_meaning.specs.Turns.{Stands}
+use Rattle.statement_meaning.specs.Turns.{Accepted}
 use Rattle.statement_laws.proofs.Answered.{good-answer, same_answer}
 use Rattle.statement_laws.proofs.Provenance.{good-provenance}
 use Rattle.statement_laws.proofs.Words.{word-proves}
@@ -31,8 +31,8 @@ module _ (c : Contents) (statement plainly : Statement) (answer plain : Answer) 
 
   pub both-answer : (bag : Bag) → meaning plain.query (rows_in c.rows) [] ≡ Good bag
       → (text : List ℕ) × (provenance : List ℕ)
-      × ListsBag plain bag text × (asked c plainly ≡ Settled (Stands text c))
-      × ListsBeside answer plain.query (rows_in c.rows) bag provenance × (asked c statement ≡ Settled (Stands provenance c))
+      × ListsBag plain bag text × (asked c plainly ≡ Settled (Accepted text c))
+      × ListsBeside answer plain.query (rows_in c.rows) bag provenance × (asked c statement ≡ Settled (Accepted provenance c))
   both-answer bag good =
       let rows = good-answer c plainly plain bag asked_plainly good in
       let beside = good-provenance c statement answer plain.query bag asked_for of_plain good in

@@ -27,7 +27,7 @@ use Rattle.sql_tree.specs.declared.statement.Statement.{Statement}
 use Rattle.statement_laws.proofs.Ready.{whole-ready}
 use Rattle.statement_meaning.specs.Asking.{Settled, asked}
 use Rattle.statement_meaning.specs.Ready.{CanRun, IsReady}
-use Rattle.statement_meaning.specs.Turns.{Stands, Refused, Meets, answer_text}
+use Rattle.statement_meaning.specs.Turns.{Accepted, Refused, Meets, answer_text}
 use Rattle.statement_laws.proofs.Answered.{asked-good, asked-bad, listed-text, same_text}
 use Rattle.statement_laws.proofs.Nested.{found_beside, found-beside, meaning-good, nested-bad}
 use Rattle.statement_laws.specs.Asks.{AsksFor}
@@ -52,7 +52,7 @@ lists-beside answer q db bag =
 
 pub good-provenance : (c : Contents) (statement : Statement) (answer : Answer) (q : Query) (bag : Bag) → AsksFor c statement answer
     → answer.query ≡ Prov q → meaning q (rows_in c.rows) [] ≡ Good bag
-    → (text : List ℕ) × ListsBeside answer q (rows_in c.rows) bag text × (asked c statement ≡ Settled (Stands text c))
+    → (text : List ℕ) × ListsBeside answer q (rows_in c.rows) bag text × (asked c statement ≡ Settled (Accepted text c))
 good-provenance c statement answer q bag asked_for is good =
     let db = rows_in c.rows in
     let found = found_beside q db [] bag in (

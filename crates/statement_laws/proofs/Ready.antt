@@ -81,7 +81,7 @@ module _ (c : Contents) where
   body-ready (st.CreateTableAs table query) sound regular whole = tt
   body-ready (st.CreateView view query) sound regular whole =
       free view (front-none (taken c view) (named_query_breaks query.at (query_meant c query)) whole)
-  body-ready (st.Copy table file header mark) sound regular whole = known table whole
+  body-ready (st.Copy table file header null_field) sound regular whole = known table whole
   body-ready (st.Insert table rows) sound regular whole = looked-at table _ whole
   body-ready (st.Delete table condition) sound regular whole = looked-at table _ whole
   body-ready (st.DropTable table) sound regular whole =

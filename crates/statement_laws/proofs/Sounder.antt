@@ -31,15 +31,15 @@ use Rattle.name_meaning.specs.declared.answer.Resolved.{Resolved}
 use Rattle.name_meaning.specs.declared.answer.Resolved.TheVariants as r
 use Rattle.statement_meaning.specs.Asking.{asks}
 use Rattle.statement_meaning.specs.Ready.{IsReady}
-use Rattle.statement_meaning.specs.Turns.{Turn, Stands, Refused, Broken, on_good, drawing, counting, identity_of, with_added, add_rows, add_unbroken, answered, copy, goes, row_value, rows_deleted}
+use Rattle.statement_meaning.specs.Turns.{Turn, Accepted, Refused, Broken, on_good, drawing, counting, identity_of, with_added, add_rows, add_unbroken, answered, copy, goes, row_value, rows_deleted}
 use Rattle.statement_laws.specs.Sounder.{HaveKinds, RowsHaveKinds, AddsSoundly, StandsSound, KeepsSound}
 use Rattle.name_meaning.specs.declared.rule.Rule.TheVariants as rule
 
 -- ---- turns
 
-drawn-sound : (c : Contents) (at : ℕ) (text : List ℕ) (new : Contents) → IsSound new → StandsSound (drawing c at (Stands text new))
+drawn-sound : (c : Contents) (at : ℕ) (text : List ℕ) (new : Contents) → IsSound new → StandsSound (drawing c at (Accepted text new))
 drawn-sound c at text new sound = chosen (nat_eq c.next last_number) where
-  chosen : (spent : Bool) → StandsSound (cond spent (Refused (Broken (broken rule.NumbersSpent at))) (Stands text new))
+  chosen : (spent : Bool) → StandsSound (cond spent (Refused (Broken (broken rule.NumbersSpent at))) (Accepted text new))
   chosen true = tt
   chosen false = sound
 
@@ -94,17 +94,17 @@ module _ (c : Contents) (sound : IsSound c) where
       → RowsFit (column_kinds table.columns) rows → StandsSound (add_rows word c at name rows)
   added-turn word at name table rows e fit = drawn-sound c at (counting word (length rows)) (with_added c name rows) (added-sound name table rows e fit)
 
-  copy-sound : (at : ℕ) (name : List ℕ) (table : TableEntry) (kinds : List Kind) (mark : List ℕ) (header : Bool) → table_named c name ≡ Some table
-      → kinds ≡ column_kinds table.columns → (found : Found) → StandsSound (copy c at name kinds mark header found)
-  copy-sound at name table kinds mark header e same (Read bytes) = chosen (broken_rules mark kinds header bytes) refl where
-    chosen : (rules : List DataError) → broken_rules mark kinds header bytes ≡ rules
-        → StandsSound (add_unbroken c at name rules (spelled_rows mark kinds header bytes))
-    chosen [] none = added-turn (codes "COPY ") at name table (spelled_rows mark kinds header bytes) e
-        (subst (λ (ks : List Kind). RowsFit ks (spelled_rows mark kinds header bytes)) same (bag_fits-spelled mark kinds header bytes none))
+  copy-sound : (at : ℕ) (name : List ℕ) (table : TableEntry) (kinds : List Kind) (null_field : List ℕ) (header : Bool) → table_named c name ≡ Some table
+      → kinds ≡ column_kinds table.columns → (found : Found) → StandsSound (copy c at name kinds null_field header found)
+  copy-sound at name table kinds null_field header e same (Read bytes) = chosen (broken_rules null_field kinds header bytes) refl where
+    chosen : (rules : List DataError) → broken_rules null_field kinds header bytes ≡ rules
+        → StandsSound (add_unbroken c at name rules (spelled_rows null_field kinds header bytes))
+    chosen [] none = added-turn (codes "COPY ") at name table (spelled_rows null_field kinds header bytes) e
+        (subst (λ (ks : List Kind). RowsFit ks (spelled_rows null_field kinds header bytes)) same (bag_fits-spelled null_field kinds header bytes none))
     chosen (first ∷ more) some = tt
-  copy-sound at name table kinds mark header e same Missing = tt
-  copy-sound at name table kinds mark header e same TooLong = tt
-  copy-sound at name table kinds mark header e same Failed = tt
+  copy-sound at name table kinds null_field header e same Missing = tt
+  copy-sound at name table kinds null_field header e same TooLong = tt
+  copy-sound at name table kinds null_field header e same Failed = tt
 
   fewer-sound : (name : List ℕ) (table : TableEntry) (doomed : List Bool) → table_named c name ≡ Some table
       → IsSound (with_fewer_rows c name (identity_of c name) doomed)
@@ -117,9 +117,9 @@ module _ (c : Contents) (sound : IsSound c) where
       (sound-created c name columns [] sound free (record { columns_are = adds; fitting = refl }))
   keeps-sound at (r.CreateTableAs name columns answer places) ready adds = tt
   keeps-sound at (r.CreateView name entry) free adds = sound-more_views c name entry sound free adds
-  keeps-sound at (r.Copy name kinds file mark header) some adds =
+  keeps-sound at (r.Copy name kinds file null_field header) some adds =
       let table = known (table_named c name) some in
-      copy-sound at name table.0 kinds mark header table.1 (if-some (λ (t : TableEntry). kinds ≡ column_kinds t.columns) (table_named c name) table.0 table.1 adds)
+      copy-sound at name table.0 kinds null_field header table.1 (if-some (λ (t : TableEntry). kinds ≡ column_kinds t.columns) (table_named c name) table.0 table.1 adds)
   keeps-sound at (r.Insert name rows) some adds =
       let table = known (table_named c name) some in
       let kinds : List Kind = column_kinds table.0.columns in

@@ -498,7 +498,7 @@ module _ (c : Contents) where
   unspent-names (st.CreateTableAs table query) =
       three _ _ _ (unspent-taken table) (unspent-named_query query) (one_if (has_boolean (columns_of (query_meant c query))) rule.UnfitKind query.at refl)
   unspent-names (st.CreateView view query) = both _ _ (unspent-taken view) (unspent-named_query query)
-  unspent-names (st.Copy table file header mark) = unspent-unknown table
+  unspent-names (st.Copy table file header null_field) = unspent-unknown table
   unspent-names (st.Insert table rows) =
       if_there (λ (entry : TableEntry). flat_map (row_breaks c (column_kinds entry.columns)) rows) (table_named c table.text) (broken rule.UnknownRelation table.at ∷ [])
       (λ entry. all (row_breaks c (column_kinds entry.columns)) rows (unspent-row (column_kinds entry.columns))) (one rule.UnknownRelation table.at refl)
@@ -524,7 +524,7 @@ module _ (c : Contents) where
   unspent-limits (st.CreateTableAs table query) =
       both _ _ (one_if (nat_lt most_table_columns (length (columns_of (query_meant c query)))) rule.TooManyColumns table.at refl) (unspent-query_limits query.at (query_meant c query))
   unspent-limits (st.CreateView view query) = unspent-query_limits query.at (query_meant c query)
-  unspent-limits (st.Copy table file header mark) = tt
+  unspent-limits (st.Copy table file header null_field) = tt
   unspent-limits (st.Insert table rows) = tt
   unspent-limits (st.Delete table condition) = tt
   unspent-limits (st.DropTable table) = tt

@@ -12,7 +12,7 @@ use Rattle.perm_io.specs.Found.{Found}
 use Rattle.name_meaning.specs.declared.answer.Resolved.{Resolved}
 use Rattle.name_meaning.specs.declared.answer.Resolved.TheVariants as r
 use Rattle.statement_meaning.specs.Asking.{Asked, Settled, Begins}
-use Rattle.statement_meaning.specs.Turns.{Turn, Stands, Refused}
+use Rattle.statement_meaning.specs.Turns.{Turn, Accepted, Refused}
 
 -- an expression for each of the kinds, which has it where no column is seen
 abbrev pub HaveKinds : List Expr → List Kind → Type 0
@@ -30,7 +30,7 @@ abbrev pub AddsSoundly : Contents → Resolved → Type 0
 AddsSoundly c (r.CreateTable name columns) = AreTableColumns columns
 AddsSoundly c (r.CreateTableAs name columns answer places) = ⊤
 AddsSoundly c (r.CreateView name entry) = IsSoundView c entry
-AddsSoundly c (r.Copy name kinds file mark header) = IfSome (table_named c name) (λ (table : TableEntry). kinds ≡ column_kinds table.columns)
+AddsSoundly c (r.Copy name kinds file null_field header) = IfSome (table_named c name) (λ (table : TableEntry). kinds ≡ column_kinds table.columns)
 AddsSoundly c (r.Insert name rows) = IfSome (table_named c name) (λ (table : TableEntry). RowsHaveKinds rows (column_kinds table.columns))
 AddsSoundly c (r.Delete name condition) = ⊤
 AddsSoundly c (r.DropTable name) = ⊤
@@ -41,7 +41,7 @@ AddsSoundly c (r.ShowFresh name) = ⊤
 
 -- where the statement stands, the catalog is sound then
 abbrev pub StandsSound : Turn → Type 0
-StandsSound (Stands text c) = IsSound c
+StandsSound (Accepted text c) = IsSound c
 StandsSound (Refused cause) = ⊤
 
 -- whatever became of the file that it begins

@@ -27,14 +27,14 @@ pub fn whole_statements_are_ready()
 /// Where the condition of a DELETE meets no fault on any row, the rows that it doesn't flag are those of which the condition
 /// isn't true, as often and in the order in which they stood.
 pub fn delete_leaves_the_other_rows()
-    ensures { (condition : Option Expr) (rows : Bag) (doomed : List Bool) → each (goes condition) rows ≡ Good doomed
-        → unmarked doomed rows ≡ rows_left condition rows }
+    ensures { (condition : Option Expr) (rows : Bag) (doomed : List Bool)
+        → each (goes condition) rows ≡ Good doomed → unmarked doomed rows ≡ rows_left condition rows }
 {}
 
 /// A statement that can be carried out, and adds what is sound, keeps a sound catalog sound, whatever became of its file.
 pub fn statements_keep_catalogs_sound()
-    ensures { (c : Contents) → IsSound c → (at : ℕ) (statement : Resolved) → IsReady c statement → AddsSoundly c statement
-        → KeepsSound (asks c at statement) }
+    ensures { (c : Contents) → IsSound c → (at : ℕ) (statement : Resolved)
+        → IsReady c statement → AddsSoundly c statement → KeepsSound (asks c at statement) }
 {}
 
 /// Over a sound catalog, a statement that breaks no rule adds columns of a table, rows of the kinds of their table's columns,
@@ -46,5 +46,6 @@ pub fn whole_statements_add_soundly()
 
 /// No rule of names and kinds is the want of a number to draw.
 pub fn no_rule_wants_a_number()
-    ensures { (c : Contents) (statement : Statement) (b : Break) → Contains (breaks c statement) b → b.rule ≢ NumbersSpent }
+    ensures { (c : Contents) (statement : Statement) (b : Break)
+        → Contains (breaks c statement) b → b.rule ≢ NumbersSpent }
 {}

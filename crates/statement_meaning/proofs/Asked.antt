@@ -4,8 +4,7 @@ use Rattle.perm_catalog.specs.Contents.{Contents}
 use Rattle.sql_tree.specs.declared.statement.Statement.{Statement}
 use Rattle.name_meaning.specs.Statements.{breaks, resolved}
 use Rattle.name_meaning.specs.declared.answer.Break.{Break}
-use Rattle.statement_meaning.specs.Asking.{Settled, all_breaks, asked, asks, is_unbuilt, unbuilt, unbuilt_turn, unless_broken}
-use Rattle.statement_meaning.specs.Turns.{Refused, Broken}
+use Rattle.statement_meaning.specs.Asking.{Settled, asked, asks, is_unbuilt, unbuilt, unbuilt_turn, unless_broken}
 
 module _ (c : Contents) (statement : Statement) where
   pub asked-unbuilt : is_unbuilt statement.body ≡ true → asked c statement ≡ Settled (unbuilt_turn statement.at)

@@ -1,16 +1,16 @@
 -- What a call answers that carries a statement out.
-use Rattle.std.specs.Prelude.{◌≡◌, ◌⊎◌, ℕ, ◌<◌, Bool, true, false, List, Option, Result, Ok, Err, IsTrue}
+use Rattle.std.specs.Prelude.{◌≡◌, ℕ, ◌<◌, Bool, true, false, List, Option, Result, Ok, Err, IsTrue}
 use Rattle.bag_algebra.specs.Outcome.{Faults, has}
 use Rattle.csv_tables.specs.declared.data_error.DataError.TheVariants as broken_rule
 use Rattle.perm_catalog.specs.Contents.{Contents}
-use Rattle.perm_io.specs.Counts.{HasRisen, CountsFault, next_count}
+use Rattle.perm_io.specs.Counts.{HasRisen}
 use Rattle.perm_io.specs.Found.{Found, CanBe}
 use Rattle.perm_io.specs.Told.{FilesTold}
 use Rattle.perm_io.specs.declared.named_file.NamedFile.{NamedFile}
 use Rattle.row_values.specs.declared.error.ExecError.{ExecError}
 use Rattle.row_values.specs.declared.error.ExecError.TheVariants as exec
 use Rattle.statement_meaning.specs.Asking.{Asked, Settled, Begins}
-use Rattle.statement_meaning.specs.Turns.{Turn, Stands, Refused, Broken, Meets, Missing, TooLarge, Unfit, Failed}
+use Rattle.statement_meaning.specs.Turns.{Turn, Accepted, Refused, Broken, Meets, Missing, TooLarge, Unfit, Failed}
 use Rattle.statement_meaning.specs.declared.limits.TheConstants.{FILE_LIMIT}
 use Rattle.statement_meaning.specs.declared.refusal.StepRefusal.{StepRefusal}
 use Rattle.statement_meaning.specs.declared.refusal.StepRefusal.TheVariants as refusal
@@ -27,12 +27,12 @@ Names turn refusal.NoMemory = Unit {0}
 
 -- the turn's text, and the catalog holds what it says; or a refusal that the turn has, after which it holds what it held
 abbrev pub IsTurn : Turn → Contents → Contents → Result (List ℕ) StepRefusal → Type 0
-IsTurn turn old new (Ok text) = turn ≡ Stands text new
+IsTurn turn old new (Ok text) = turn ≡ Accepted text new
 IsTurn turn old new (Err refusal) = Names turn refusal × (new ≡ old)
 
 -- the same of a call that leaves the catalog as it is
 abbrev pub IsText : Turn → Contents → Result (List ℕ) StepRefusal → Type 0
-IsText turn c (Ok text) = turn ≡ Stands text c
+IsText turn c (Ok text) = turn ≡ Accepted text c
 IsText turn c (Err refusal) = Names turn refusal
 
 -- the refusal of a statement at an offset, of which an evaluation names a fault

@@ -30,7 +30,7 @@ abbrev pub asks : Contents → ℕ → Resolved → Asked
 asks c at (r.CreateTable name columns) = Settled (create_table c at name columns)
 asks c at (r.CreateTableAs name columns answer places) = Settled (unbuilt_turn at)
 asks c at (r.CreateView name entry) = Settled (view_created c name entry)
-asks c at (r.Copy name kinds file mark header) = Begins file (copy c at name kinds mark header)
+asks c at (r.Copy name kinds file null_field header) = Begins file (copy c at name kinds null_field header)
 asks c at (r.Insert name rows) = Settled (insert c at name rows)
 asks c at (r.Delete name condition) = Settled (delete c at name condition)
 asks c at (r.DropTable name) = Settled (table_dropped c name)
@@ -44,7 +44,7 @@ abbrev pub is_unbuilt : StatementBody → Bool
 is_unbuilt (st.CreateTable table columns) = false
 is_unbuilt (st.CreateTableAs table query) = true
 is_unbuilt (st.CreateView view query) = false
-is_unbuilt (st.Copy table file header mark) = false
+is_unbuilt (st.Copy table file header null_field) = false
 is_unbuilt (st.Insert table rows) = false
 is_unbuilt (st.Delete table condition) = false
 is_unbuilt (st.DropTable table) = false

@@ -1,4 +1,5 @@
 pub mod Answers
 pub mod Asking
+pub mod Carrying
 pub mod Ready
 pub mod Turns

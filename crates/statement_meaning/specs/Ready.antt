@@ -1,5 +1,5 @@
 -- When a resolved statement can be carried out: what its names name is there, and its query is one that can run.
-use Rattle.std.specs.Prelude.{◌≡◌, true, List, [], None, IsSome}
+use Rattle.std.specs.Prelude.{◌≡◌, true, [], None, IsSome}
 use Rattle.bag_algebra.specs.Fits.{TablesFit}
 use Rattle.bag_algebra.specs.Scoped.{is_scoped}
 use Rattle.bag_algebra.specs.TableRows.{rows_in}
@@ -21,7 +21,7 @@ abbrev pub IsReady : Contents → Resolved → Type 0
 IsReady c (r.CreateTable name columns) = is_free c name ≡ true
 IsReady c (r.CreateTableAs name columns answer places) = Unit {0}
 IsReady c (r.CreateView name entry) = is_free c name ≡ true
-IsReady c (r.Copy name kinds file mark header) = IsSome (table_named c name)
+IsReady c (r.Copy name kinds file null_field header) = IsSome (table_named c name)
 IsReady c (r.Insert name rows) = IsSome (table_named c name)
 IsReady c (r.Delete name condition) = IsSome (table_named c name)
 IsReady c (r.DropTable name) = IsSome (table_named c name) × (first_user c name ≡ None)

@@ -41,7 +41,7 @@ pub data Cause : Type 0 where
 
 -- the statement's text with what the catalog holds then; where it is refused the catalog holds what it held
 pub data Turn : Type 0 where
-  Stands : List ℕ → Contents → Turn
+  Accepted : List ℕ → Contents → Turn
   Refused : Cause → Turn
 
 -- a bad value refuses the statement with the whole set of its faults, of which any may be named
@@ -64,19 +64,19 @@ identity_of c name = option_map_or (λ (entry : TableEntry). entry.id) (table_na
 -- ---- CREATE and DROP
 
 abbrev pub table_created : Contents → List ℕ → List Column → Turn
-table_created c name columns = Stands (codes "CREATE TABLE\n") (with_table c name columns [] None)
+table_created c name columns = Accepted (codes "CREATE TABLE\n") (with_table c name columns [] None)
 
 abbrev pub create_table : Contents → ℕ → List ℕ → List Column → Turn
 create_table c at name columns = drawing c at (table_created c name columns)
 
 abbrev pub view_created : Contents → List ℕ → ViewEntry → Turn
-view_created c name entry = Stands (codes "CREATE VIEW\n") (with_view c name entry)
+view_created c name entry = Accepted (codes "CREATE VIEW\n") (with_view c name entry)
 
 abbrev pub table_dropped : Contents → List ℕ → Turn
-table_dropped c name = Stands (codes "DROP TABLE\n") (without_table c name (identity_of c name))
+table_dropped c name = Accepted (codes "DROP TABLE\n") (without_table c name (identity_of c name))
 
 abbrev pub view_dropped : Contents → List ℕ → Turn
-view_dropped c name = Stands (codes "DROP VIEW\n") (without_view c name)
+view_dropped c name = Accepted (codes "DROP VIEW\n") (without_view c name)
 
 -- ---- rows that are added: by INSERT or COPY, at the end of the table
 
@@ -84,7 +84,7 @@ abbrev pub with_added : Contents → List ℕ → Bag → Contents
 with_added c name rows = with_more_rows c name (identity_of c name) rows
 
 abbrev pub rows_added : List ℕ → Contents → List ℕ → Bag → Turn
-rows_added word c name rows = Stands (counting word (length rows)) (with_added c name rows)
+rows_added word c name rows = Accepted (counting word (length rows)) (with_added c name rows)
 
 abbrev pub add_rows : List ℕ → Contents → ℕ → List ℕ → Bag → Turn
 add_rows word c at name rows = drawing c at (rows_added word c name rows)
@@ -104,11 +104,11 @@ add_unbroken c at name (first ∷ more) rows = Refused (Unfit first)
 
 -- by what became of the file; columns of these kinds are filled
 abbrev pub copy : Contents → ℕ → List ℕ → List Kind → List ℕ → Bool → Found → Turn
-copy c at name kinds mark header (found.Read bytes) =
-    add_unbroken c at name (broken_rules mark kinds header bytes) (spelled_rows mark kinds header bytes)
-copy c at name kinds mark header found.Missing = Refused (Missing at)
-copy c at name kinds mark header found.TooLong = Refused (TooLarge at)
-copy c at name kinds mark header found.Failed = Refused Failed
+copy c at name kinds null_field header (found.Read bytes) =
+    add_unbroken c at name (broken_rules null_field kinds header bytes) (spelled_rows null_field kinds header bytes)
+copy c at name kinds null_field header found.Missing = Refused (Missing at)
+copy c at name kinds null_field header found.TooLong = Refused (TooLarge at)
+copy c at name kinds null_field header found.Failed = Refused Failed
 
 -- ---- DELETE: the rows of which the condition is true, or all
 
@@ -119,7 +119,7 @@ goes (Some condition) row = mapped holds_of (value condition row [] [])
 
 abbrev pub rows_deleted : Contents → List ℕ → List Bool → Turn
 rows_deleted c name doomed =
-    Stands (counting (codes "DELETE ") (count_by (λ flag. flag) doomed)) (with_fewer_rows c name (identity_of c name) doomed)
+    Accepted (counting (codes "DELETE ") (count_by (λ flag. flag) doomed)) (with_fewer_rows c name (identity_of c name) doomed)
 
 -- the condition is looked at on every row
 abbrev pub delete : Contents → ℕ → List ℕ → Option Expr → Turn
@@ -132,7 +132,7 @@ abbrev pub answer_text : Answer → Bag → List ℕ
 answer_text answer rows = answer_bytes answer.names (sorted (printed_cmp answer.keys) rows)
 
 abbrev pub answered : Contents → Answer → Bag → Turn
-answered c answer rows = Stands (answer_text answer rows) c
+answered c answer rows = Accepted (answer_text answer rows) c
 
 abbrev pub select : Contents → ℕ → Answer → Turn
 select c at answer = on_good at (meaning answer.query (rows_in c.rows) []) (answered c answer)

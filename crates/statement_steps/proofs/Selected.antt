@@ -20,7 +20,7 @@ use Rattle.row_values.specs.declared.error.ExecError.TheVariants.{Fault, NoMemor
 use Rattle.perm_catalog.specs.Contents.{Contents}
 use Rattle.statement_meaning.specs.Answers.{IsText, Names, met}
 use Rattle.statement_meaning.specs.Ready.{CanRun}
-use Rattle.statement_meaning.specs.Turns.{Stands as stands, answered, on_good, select}
+use Rattle.statement_meaning.specs.Turns.{Accepted, answered, on_good, select}
 use Rattle.statement_meaning.specs.declared.refusal.StepRefusal.{StepRefusal}
 use Rattle.statement_steps.specs.Printed.{IsPrinted}
 use Rattle.statement_steps.specs.Runs.{AnswersBy, IsAnswered, Keeps, run_of}
@@ -39,10 +39,10 @@ module _ (c : Contents) (at : ℕ) (answer : Answer) (plain : Query) where
   kept o = mapped (λ rows. made plain (sorted cmp rows)) o
 
   good-answer : (o other : Outcome Bag) (ran : Ran) → SameRows o other → kept other ≡ Good ran →
-      on_good at o (answered c answer) ≡ stands (answer_bytes answer.names ran.rows) c
+      on_good at o (answered c answer) ≡ Accepted (answer_bytes answer.names ran.rows) c
   good-answer (Good us) (Good vs) ran same e =
       let is : made plain (sorted cmp vs) ≡ ran = cc in
-      ap (λ (ordered : Bag). stands (answer_bytes answer.names ordered) c) (printed_unique answer.keys us vs same ∙ ap (λ r. r.rows) is)
+      ap (λ (ordered : Bag). Accepted (answer_bytes answer.names ordered) c) (printed_unique answer.keys us vs same ∙ ap (λ r. r.rows) is)
   good-answer (Good us) (Bad g) ran same e = absurd same
   good-answer (Bad f) (Good vs) ran same e = absurd same
   good-answer (Bad f) (Bad g) ran same e = absurd (cc e)
@@ -58,7 +58,7 @@ module _ (c : Contents) (at : ℕ) (answer : Answer) (plain : Query) where
   by_rows : (o other : Outcome Bag) (told : Result Unit ExecError) (last : Option Ran) (result : Result (List ℕ) StepRefusal) →
       SameRows o other → Keeps (kept other) told last → IsPrinted at answer.names told last result → IsText (on_good at o (answered c answer)) c result
   by_rows o other (Ok done) (Some ran) (Ok text) same keeps printed =
-      good-answer o other ran same keeps ∙ ap (λ (t : List ℕ). stands t c) (sym printed)
+      good-answer o other ran same keeps ∙ ap (λ (t : List ℕ). Accepted t c) (sym printed)
   by_rows o other (Ok done) (Some ran) (Err refusal) same keeps printed = subst (Names (on_good at o (answered c answer))) (sym printed) tt
   by_rows o other (Ok done) None result same keeps printed = absurd keeps
   by_rows o other (Err error) (Some ran) result same keeps printed = absurd keeps

@@ -1,6 +1,6 @@
 -- A statement that begins no file is refused for no cause that lies in a file.
 use mathlib.Core.Bool.{true≢false}
-use Rattle.std.proofs.Common.{◌≡◌, ◌∙◌, ℕ, Bool, true, false, cond, nat_eq, List, [], length, None, Result, Ok, Err, codes, refl, sym, ap}
+use Rattle.std.proofs.Common.{◌≡◌, ◌∙◌, ℕ, Bool, true, false, cond, nat_eq, List, [], length, None, Result, Ok, Err, codes, refl, sym, ap, subst}
 use Rattle.std.specs.List.{count_by}
 use Rattle.perm_values.specs.Numbers.{last_number}
 use Rattle.bag_algebra.specs.Meaning.{meaning}
@@ -9,19 +9,23 @@ use Rattle.bag_algebra.specs.TableRows.{rows_in}
 use Rattle.csv_tables.specs.declared.data_error.DataError.TheVariants as rule
 use Rattle.perm_catalog.specs.Changes.{rows_at, with_table, with_fewer_rows}
 use Rattle.perm_catalog.specs.Contents.{Contents}
+use Rattle.perm_io.specs.Counts.{CountsFault}
+use Rattle.perm_io.specs.Found.{Found}
+use Rattle.perm_io.specs.Told.{FilesTold}
 use Rattle.name_meaning.specs.Meanings.{broken}
 use Rattle.name_meaning.specs.declared.answer.Resolved.{Resolved}
 use Rattle.name_meaning.specs.declared.answer.Resolved.TheVariants as r
-use Rattle.statement_meaning.specs.Answers.{Files, Names, IsTurn, IsText, IsBacked, RestsOn, failed, has_failed}
+use Rattle.statement_meaning.specs.Answers.{Files, Names, IsTurn, IsText, IsBacked, RestsOn, TakesTurn, can_be, failed, has_failed, over}
 use Rattle.statement_meaning.specs.Asking.{Asked, Settled, Begins, asks}
-use Rattle.statement_meaning.specs.Turns.{Turn, Stands, Refused, Broken, Meets, Missing, TooLarge, Unfit, Failed, on_good, drawing, counting, identity_of, add_rows, answered, goes, row_value, rows_deleted, with_added}
+use Rattle.statement_meaning.specs.Carrying.{IsCarriedOut}
+use Rattle.statement_meaning.specs.Turns.{Turn, Accepted, Refused, Broken, Meets, Missing, TooLarge, Unfit, Failed, on_good, drawing, counting, identity_of, add_rows, answered, goes, row_value, rows_deleted, with_added}
 use Rattle.statement_meaning.specs.declared.refusal.StepRefusal.{StepRefusal}
 use Rattle.statement_meaning.specs.declared.refusal.StepRefusal.TheVariants as refusal
 use Rattle.statement_steps.specs.Settling.{IsSettled}
 use Rattle.name_meaning.specs.declared.rule.Rule.TheVariants.{NumbersSpent}
 
 abbrev pub of_file : Turn → Bool
-of_file (Stands text c) = false
+of_file (Accepted text c) = false
 of_file (Refused (Broken b)) = false
 of_file (Refused (Meets faults at)) = false
 of_file (Refused (Missing at)) = true
@@ -29,9 +33,9 @@ of_file (Refused (TooLarge at)) = true
 of_file (Refused (Unfit rule)) = true
 of_file (Refused Failed) = true
 
-drawn : (c : Contents) (at : ℕ) (text : List ℕ) (new : Contents) → of_file (drawing c at (Stands text new)) ≡ false
+drawn : (c : Contents) (at : ℕ) (text : List ℕ) (new : Contents) → of_file (drawing c at (Accepted text new)) ≡ false
 drawn c at text new = chosen (nat_eq c.next last_number) where
-  chosen : (spent : Bool) → of_file (cond spent (Refused (Broken (broken NumbersSpent at))) (Stands text new)) ≡ false
+  chosen : (spent : Bool) → of_file (cond spent (Refused (Broken (broken NumbersSpent at))) (Accepted text new)) ≡ false
   chosen true = refl
   chosen false = refl
 
@@ -47,7 +51,7 @@ pub asks-unfiled : (c : Contents) (at : ℕ) (statement : Resolved) → Unfiled 
 asks-unfiled c at (r.CreateTable name columns) = drawn c at (codes "CREATE TABLE\n") (with_table c name columns [] None)
 asks-unfiled c at (r.CreateTableAs name columns answer places) = refl
 asks-unfiled c at (r.CreateView name entry) = refl
-asks-unfiled c at (r.Copy name kinds file mark header) = tt
+asks-unfiled c at (r.Copy name kinds file null_field header) = tt
 asks-unfiled c at (r.Insert name rows) = waited at (each row_value rows) (add_rows (codes "INSERT ") c at name)
     (λ made. drawn c at (counting (codes "INSERT ") (length made)) (with_added c name made))
 asks-unfiled c at (r.Delete name condition) =
@@ -83,16 +87,30 @@ stands_still turn (refusal.Unfit rule) none names = refl
 stands_still turn refusal.ReadFault none names = absurd (no_file names none refl)
 stands_still turn refusal.NoMemory none names = refl
 
-pub settled-backed : (asked : Asked) (old new : Contents) (result : Result (List ℕ) StepRefusal) → Unfiled asked → IsSettled asked old new result
+settled-backed : (asked : Asked) (old new : Contents) (result : Result (List ℕ) StepRefusal) → Unfiled asked → IsSettled asked old new result
     → (seen : Files) → IsBacked result seen
 settled-backed (Settled turn) old new (Ok text) none takes seen = tt
 settled-backed (Settled turn) old new (Err refused) none takes seen = rests turn refused none takes.0 seen
 settled-backed (Begins name after) old new result none takes seen = absurd takes
 
-pub settled-unfailed : (asked : Asked) (old new : Contents) (result : Result (List ℕ) StepRefusal) → Unfiled asked → IsSettled asked old new result → has_failed result ≡ false
+settled-unfailed : (asked : Asked) (old new : Contents) (result : Result (List ℕ) StepRefusal) → Unfiled asked → IsSettled asked old new result → has_failed result ≡ false
 settled-unfailed (Settled turn) old new (Ok text) none takes = refl
 settled-unfailed (Settled turn) old new (Err refused) none takes = stands_still turn refused none takes.0
 settled-unfailed (Begins name after) old new result none takes = absurd takes
+
+settled-takes : (Can : List ℕ → Found → Type 0) (asked : Asked) (old new : Contents) (result : Result (List ℕ) StepRefusal) → IsSettled asked old new result
+    → TakesTurn Can asked old new result
+settled-takes Can (Settled turn) old new result takes = takes
+settled-takes Can (Begins name after) old new result takes = absurd takes
+
+pub settled-carried : (asked : Asked) (old new : Contents) (result : Result (List ℕ) StepRefusal) → Unfiled asked → IsSettled asked old new result
+    → (told : FilesTold) → IsCarriedOut asked old new result (over told told)
+settled-carried asked old new result none takes told = record {
+  turn = settled-takes (can_be (over told told)) asked old new result takes;
+  backed = settled-backed asked old new result none takes (over told told);
+  faults = subst (CountsFault told.faults told.faults) (sym (settled-unfailed asked old new result none takes)) refl;
+  held = refl;
+}
 
 -- what leaves the catalog as it is takes the turn there
 pub text-turn : (turn : Turn) (c : Contents) (result : Result (List ℕ) StepRefusal) → IsText turn c result → IsTurn turn c c result

@@ -12,7 +12,7 @@ abbrev pub KeepsRun : Contents → Resolved → Result (List ℕ) StepRefusal �
 KeepsRun c (r.CreateTable name columns) result before after = after ≡ before
 KeepsRun c (r.CreateTableAs name columns answer places) result before after = after ≡ before
 KeepsRun c (r.CreateView name entry) result before after = after ≡ before
-KeepsRun c (r.Copy name kinds file mark header) result before after = after ≡ before
+KeepsRun c (r.Copy name kinds file null_field header) result before after = after ≡ before
 KeepsRun c (r.Insert name rows) result before after = after ≡ before
 KeepsRun c (r.Delete name condition) result before after = after ≡ before
 KeepsRun c (r.DropTable name) result before after = after ≡ before

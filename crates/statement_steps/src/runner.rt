@@ -100,7 +100,8 @@ fn ordered_rows(
     tables: &Tables,
 ) -> Result<Rows, ExecError>
     requires { IsTrue (is_plain query.now) }
-    ensures { Gives (mapped (sorted (printed_cmp keys.now)) (meaning query.now (rows_in tables.now) [])) result }
+    ensures { Gives (mapped (sorted (printed_cmp keys.now)) (meaning query.now (rows_in tables.now) []))
+        result }
 {
     let env = Env::new(alloc);
     let rows = run_hashed(alloc, query, tables, &env)?;

@@ -1,7 +1,9 @@
 ghost use Rattle.std.specs.Prelude.{◌≡◌, IsTrue, false};
-ghost use Rattle.perm_io.specs.Counts.{next_count, CountsFault};
-ghost use Rattle.statement_meaning.specs.Answers.{Files as Seen, begins, over, can_be, has_failed, IsBacked, TakesTurn};
+ghost use Rattle.perm_io.specs.Counts.{next_count};
+ghost use Rattle.perm_io.specs.Told.{FilesTold};
+ghost use Rattle.statement_meaning.specs.Answers.{begins, over};
 ghost use Rattle.statement_meaning.specs.Asking.{asks};
+ghost use Rattle.statement_meaning.specs.Carrying.{IsCarriedOut};
 ghost use Rattle.statement_meaning.specs.Ready.{IsReady};
 ghost use Rattle.statement_steps.specs.Running.{KeepsRun};
 ghost use Rattle.statement_steps.specs.Settling.{IsSettled};
@@ -30,13 +32,11 @@ pub fn step<F: Files>(
     runner: &mut Runner,
 ) -> Result<Bytes, StepRefusal>
     requires { IsReady catalog.old statement.now }
-    ensures turn { TakesTurn (can_be (over (F.told files.old) (F.told files.new)))
-        (asks catalog.old at statement.now) catalog.old catalog.new result }
-    ensures backed { IsBacked result (over (F.told files.old) (F.told files.new)) }
-    ensures faults { CountsFault (F.told files.old).faults (F.told files.new).faults (has_failed result) }
-    ensures begun { IsTrue (begins (asks catalog.old at statement.now)) → (F.told files.new).begun ≡ next_count (F.told files.old).begun }
+    ensures done { IsCarriedOut (asks catalog.old at statement.now) catalog.old catalog.new result
+        (over (F.told files.old) (F.told files.new)) }
+    ensures begun { IsTrue (begins (asks catalog.old at statement.now))
+        → (F.told files.new).begun ≡ next_count (F.told files.old).begun }
     ensures unbegun { begins (asks catalog.old at statement.now) ≡ false → files.new ≡ files.old }
-    ensures held { (F.told files.new).held ≡ (F.told files.old).held }
     ensures ran { KeepsRun catalog.old statement.now result runner.old runner.new }
 {
     match statement {
@@ -44,13 +44,13 @@ pub fn step<F: Files>(
             name,
             kinds,
             file,
-            mark,
+            mark: null_field,
             header,
         } => {
             let file = RowFile {
                 name: file,
                 kinds: kinds.as_slice(),
-                mark,
+                null_field,
                 header: *header,
             };
             copy(alloc, catalog, files, at, name, &file)
@@ -68,7 +68,8 @@ pub fn step<F: Files>(
     }
 }
 
-/// Carries out a resolved statement that begins no file, and is refused for no cause that lies in one.
+/// Carries out a resolved statement that begins no file, and is refused for no cause that lies in one: over any files,
+/// which stay as they are.
 fn settle(
     alloc: Global,
     catalog: &mut Catalog,
@@ -78,14 +79,14 @@ fn settle(
 ) -> Result<Bytes, StepRefusal>
     requires ready { IsReady catalog.old statement.now }
     requires unasked { begins (asks catalog.old at statement.now) ≡ false }
-    ensures turn { IsSettled (asks catalog.old at statement.now) catalog.old catalog.new result }
-    ensures backed { (seen : Seen) → IsBacked result seen }
-    ensures unfailed { has_failed result ≡ false }
+    ensures done { (told : FilesTold) → IsCarriedOut (asks catalog.old at statement.now)
+        catalog.old catalog.new result (over told told) }
     ensures ran { KeepsRun catalog.old statement.now result runner.old runner.new }
 {
     settled(alloc, catalog, at, statement, runner)
 }
 
+/// The same by what each statement does.
 fn settled(
     alloc: Global,
     catalog: &mut Catalog,

@@ -11,7 +11,7 @@ use Rattle.null_logic.specs.declared.operator.Operator.TheVariants as op
 use Rattle.bag_algebra.specs.declared.expr.Expr.{more_of-Expr, end_of-Expr}
 use Rattle.name_meaning.specs.declared.answer.Resolved.TheVariants as r
 use Rattle.statement_meaning.specs.Asking.{Settled, asks}
-use Rattle.statement_meaning.specs.Turns.{Stands}
+use Rattle.statement_meaning.specs.Turns.{Accepted}
 use Rattle.worked_examples.specs.HeldRows.{answering, column, holding, item, number, reckoned, select, selected, source_r, source_s, whole, word}
 
 abbrev select_a : Query
@@ -20,7 +20,7 @@ select_a = select (item kind.Integer (column 0) ∷ []) source_r
 -- rows stand as often as they are there: SELECT a FROM r
 pub twice :
     asks (holding ((whole 1 ∷ word (codes "x") ∷ []) ∷ (whole 1 ∷ word (codes "x") ∷ []) ∷ []) []) 0 (r.Select (answering select_a (codes "a" ∷ []) []))
-    ≡ Settled (Stands (codes "\"a\"\n1\n1\n(2 rows)\n") (holding ((whole 1 ∷ word (codes "x") ∷ []) ∷ (whole 1 ∷ word (codes "x") ∷ []) ∷ []) []))
+    ≡ Settled (Accepted (codes "\"a\"\n1\n1\n(2 rows)\n") (holding ((whole 1 ∷ word (codes "x") ∷ []) ∷ (whole 1 ∷ word (codes "x") ∷ []) ∷ []) []))
 unfolding digits
 twice =
     selected ((whole 1 ∷ word (codes "x") ∷ []) ∷ (whole 1 ∷ word (codes "x") ∷ []) ∷ []) [] 0 (answering select_a (codes "a" ∷ []) [])
@@ -29,7 +29,7 @@ twice =
 pub once :
     asks (holding ((whole 1 ∷ word (codes "x") ∷ []) ∷ (whole 1 ∷ word (codes "x") ∷ []) ∷ []) []) 0
     (r.Select (answering (ProvOf select_a) (codes "a" ∷ codes "prov_r_a" ∷ codes "prov_r_b" ∷ []) []))
-    ≡ Settled (Stands (codes "\"a\",\"prov_r_a\",\"prov_r_b\"\n1,1,\"x\"\n(1 rows)\n") (holding ((whole 1 ∷ word (codes "x") ∷ []) ∷ (whole 1 ∷ word (codes "x") ∷ []) ∷ []) []))
+    ≡ Settled (Accepted (codes "\"a\",\"prov_r_a\",\"prov_r_b\"\n1,1,\"x\"\n(1 rows)\n") (holding ((whole 1 ∷ word (codes "x") ∷ []) ∷ (whole 1 ∷ word (codes "x") ∷ []) ∷ []) []))
 unfolding digits
 once =
     selected ((whole 1 ∷ word (codes "x") ∷ []) ∷ (whole 1 ∷ word (codes "x") ∷ []) ∷ []) [] 0 (answering (ProvOf select_a) (codes "a" ∷ codes "prov_r_a" ∷ codes "prov_r_b" ∷ []) [])
@@ -39,7 +39,7 @@ pub in_order :
     asks (holding ((whole 1 ∷ word (codes "x") ∷ []) ∷ (whole 2 ∷ word (codes "y") ∷ []) ∷ (whole 3 ∷ Null ∷ []) ∷ []) []) 0
     (r.Select (answering (select (item kind.Integer (column 0) ∷ item kind.Text (column 1) ∷ []) source_r) (codes "a" ∷ codes "b" ∷ [])
     (record { place = 1; descending = true } ∷ record { place = 0; descending = false } ∷ [])))
-    ≡ Settled (Stands (codes "\"a\",\"b\"\n3,\n2,\"y\"\n1,\"x\"\n(3 rows)\n")
+    ≡ Settled (Accepted (codes "\"a\",\"b\"\n3,\n2,\"y\"\n1,\"x\"\n(3 rows)\n")
     (holding ((whole 1 ∷ word (codes "x") ∷ []) ∷ (whole 2 ∷ word (codes "y") ∷ []) ∷ (whole 3 ∷ Null ∷ []) ∷ []) []))
 unfolding digits
 in_order =
@@ -50,7 +50,7 @@ in_order =
 pub by_columns :
     asks (holding [] ((whole 10 ∷ []) ∷ (Null ∷ []) ∷ (whole 9 ∷ []) ∷ [])) 0
     (r.Select (answering (select (item kind.Integer (column 0) ∷ []) source_s) (codes "c" ∷ []) []))
-    ≡ Settled (Stands (codes "\"c\"\n9\n10\n\n(3 rows)\n") (holding [] ((whole 10 ∷ []) ∷ (Null ∷ []) ∷ (whole 9 ∷ []) ∷ [])))
+    ≡ Settled (Accepted (codes "\"c\"\n9\n10\n\n(3 rows)\n") (holding [] ((whole 10 ∷ []) ∷ (Null ∷ []) ∷ (whole 9 ∷ []) ∷ [])))
 unfolding digits
 by_columns =
     selected [] ((whole 10 ∷ []) ∷ (Null ∷ []) ∷ (whole 9 ∷ []) ∷ []) 0 (answering (select (item kind.Integer (column 0) ∷ []) source_s) (codes "c" ∷ []) [])
@@ -59,7 +59,7 @@ by_columns =
 pub counted :
     asks (holding [] []) 0 (r.Select (answering (select (item kind.Integer (column 0) ∷ [])
     (AggregateOf source_s [] (record { function = CountRows; argument = None; kind = kind.Integer } ∷ []))) (codes "count" ∷ []) []))
-    ≡ Settled (Stands (codes "\"count\"\n0\n(1 rows)\n") (holding [] []))
+    ≡ Settled (Accepted (codes "\"count\"\n0\n(1 rows)\n") (holding [] []))
 unfolding digits
 counted =
     selected [] [] 0 (answering (select (item kind.Integer (column 0) ∷ [])
@@ -69,7 +69,7 @@ counted =
 pub null_quotient :
     asks (holding [] ((whole 6 ∷ []) ∷ [])) 0 (r.Select (answering (select (item kind.Integer
     (reckoned Divide (column 0) (OpOf op.NullIf (tt ∷ tt ∷ []) (more_of-Expr (number 0) (more_of-Expr (number 0) end_of-Expr)))) ∷ []) source_s) (codes "q" ∷ []) []))
-    ≡ Settled (Stands (codes "\"q\"\n\n(1 rows)\n") (holding [] ((whole 6 ∷ []) ∷ [])))
+    ≡ Settled (Accepted (codes "\"q\"\n\n(1 rows)\n") (holding [] ((whole 6 ∷ []) ∷ [])))
 unfolding digits
 null_quotient =
     selected [] ((whole 6 ∷ []) ∷ []) 0 (answering (select (item kind.Integer

@@ -15,7 +15,7 @@ use Rattle.bag_algebra.specs.declared.query.Query.{Query, more_of-Sublink, end_o
 use Rattle.bag_algebra.specs.declared.query.SubKind.TheVariants.{Any}
 use Rattle.name_meaning.specs.declared.answer.Resolved.TheVariants as r
 use Rattle.statement_meaning.specs.Asking.{Settled, asks}
-use Rattle.statement_meaning.specs.Turns.{Stands}
+use Rattle.statement_meaning.specs.Turns.{Accepted}
 use Rattle.worked_examples.specs.HeldRows.{answering, column, compared, holding, item, select, selected, source_r, source_s, whole, word}
 
 abbrev one_two : Bag
@@ -39,7 +39,7 @@ self_join = answering (ProvOf (select (item kind.Integer (column 0) ∷ [])
 
 pub self_joined :
     asks (holding [] one_two) 0 (r.Select self_join)
-    ≡ Settled (Stands (codes "\"c\",\"prov_s_c\",\"prov_s_1_c\"\n1,1,1\n1,1,2\n2,2,1\n2,2,2\n(4 rows)\n") (holding [] one_two))
+    ≡ Settled (Accepted (codes "\"c\",\"prov_s_c\",\"prov_s_1_c\"\n1,1,1\n1,1,2\n2,2,1\n2,2,2\n(4 rows)\n") (holding [] one_two))
 unfolding digits
 self_joined = selected [] one_two 0 self_join
 
@@ -51,7 +51,7 @@ left_join = answering (ProvOf (select (item kind.Integer (column 0) ∷ item kin
 
 pub unmatched :
     asks (holding one_x []) 0 (r.Select left_join)
-    ≡ Settled (Stands (codes "\"a\",\"b\",\"c\",\"prov_r_a\",\"prov_r_b\",\"prov_s_c\"\n1,\"x\",,1,\"x\",\n(1 rows)\n") (holding one_x []))
+    ≡ Settled (Accepted (codes "\"a\",\"b\",\"c\",\"prov_r_a\",\"prov_r_b\",\"prov_s_c\"\n1,\"x\",,1,\"x\",\n(1 rows)\n") (holding one_x []))
 unfolding digits
 unmatched = selected one_x [] 0 left_join
 
@@ -69,7 +69,7 @@ with_in = answering (ProvOf (select (item kind.Integer (column 0) ∷ [])
 
 pub matched :
     asks (holding one_x_two_y one_or_null) 0 (r.Select with_in)
-    ≡ Settled (Stands (codes "\"a\",\"prov_r_a\",\"prov_r_b\",\"prov_s_c\"\n1,1,\"x\",1\n(1 rows)\n") (holding one_x_two_y one_or_null))
+    ≡ Settled (Accepted (codes "\"a\",\"prov_r_a\",\"prov_r_b\",\"prov_s_c\"\n1,1,\"x\",1\n(1 rows)\n") (holding one_x_two_y one_or_null))
 unfolding digits
 matched = selected one_x_two_y one_or_null 0 with_in
 
@@ -81,6 +81,6 @@ nested = answering (ProvOf (select (item kind.Integer (column 0) ∷ [])
 
 pub once_inside :
     asks (holding one_x []) 0 (r.Select nested)
-    ≡ Settled (Stands (codes "\"a\",\"prov_r_a\",\"prov_r_b\"\n1,1,\"x\"\n(1 rows)\n") (holding one_x []))
+    ≡ Settled (Accepted (codes "\"a\",\"prov_r_a\",\"prov_r_b\"\n1,1,\"x\"\n(1 rows)\n") (holding one_x []))
 unfolding digits
 once_inside = selected one_x [] 0 nested

@@ -24,7 +24,7 @@ use Rattle.sql_tree.specs.declared.statement.StatementBody.TheVariants as st
 use Rattle.name_meaning.specs.Meanings.{broken}
 use Rattle.name_meaning.specs.declared.answer.Resolved.TheVariants as r
 use Rattle.statement_meaning.specs.Asking.{Asked, Settled, asked, asks}
-use Rattle.statement_meaning.specs.Turns.{Cause, Stands, Refused, Broken, Meets, Missing, TooLarge, Unfit, Failed, copy}
+use Rattle.statement_meaning.specs.Turns.{Cause, Accepted, Refused, Broken, Meets, Missing, TooLarge, Unfit, Failed, copy}
 use Rattle.worked_examples.specs.NamedTrees.{name, statement, defined, values, query, core, from, table}
 use Rattle.worked_examples.specs.NamedTrees as tree
 use Rattle.worked_examples.specs.HeldRows.{answering, column, compared, drawing_next, holding, item, number, reckoned, rows-r, rows-s, select, selected, source_s, text, whole, with_v}
@@ -98,7 +98,7 @@ fault_of_condition = rw rows-s refl
 -- over no row nothing is met: SELECT 1 / 0 FROM s
 pub no_fault_over_none :
     asks (holding [] []) 5 (r.Select (answering (select (item kind.Integer divided ∷ []) source_s) (codes "column1" ∷ []) []))
-    ≡ Settled (Stands (codes "\"column1\"\n(0 rows)\n") (holding [] []))
+    ≡ Settled (Accepted (codes "\"column1\"\n(0 rows)\n") (holding [] []))
 unfolding digits
 no_fault_over_none = selected [] [] 5 (answering (select (item kind.Integer divided ∷ []) source_s) (codes "column1" ∷ []) [])
 

@@ -62,7 +62,8 @@ fn condition_break(
 
 /// The scope of a table's columns under its name.
 pub fn table_scope(alloc: Global, name: &Chars, columns: &[Column]) -> Result<Scope, NoMemory>
-    ensures { IfOk result (λ scope. scope ≡ scope_of (record { name = name.now; columns = table_columns columns.now } ∷ [])) }
+    ensures { IfOk result (λ scope.
+        scope ≡ scope_of (record { name = name.now; columns = table_columns columns.now } ∷ [])) }
 {
     let mut items = List::new(alloc);
     items.push(name.copy(alloc)?)?;

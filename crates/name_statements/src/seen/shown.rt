@@ -14,7 +14,8 @@ use perm_values::Kind;
 
 /// That two columns of the query at this offset have one name.
 pub fn repeats_break(at: usize, columns: &[ShownColumn]) -> Result<(), Break>
-    ensures { result ≡ first_or (broken_if (repeats (names_of (settled_columns (columns_of columns.now)))) 14 at) tt }
+    ensures { result ≡ first_or (broken_if
+        (repeats (names_of (settled_columns (columns_of columns.now)))) Rule.RepeatedColumn at) tt }
 {
     if do_repeat(columns) {
         return Err(Break {
@@ -45,7 +46,8 @@ fn is_among(columns: &[ShownColumn], column: &ShownColumn) -> bool
 
 /// That a column of the query at this offset holds truths.
 pub fn boolean_break(at: usize, columns: &[ShownColumn]) -> Result<(), Break>
-    ensures { result ≡ first_or (broken_if (has_boolean (settled_columns (columns_of columns.now))) 20 at) tt }
+    ensures { result ≡ first_or
+        (broken_if (has_boolean (settled_columns (columns_of columns.now))) Rule.UnfitKind at) tt }
 {
     if has_boolean(columns) {
         return Err(Break {

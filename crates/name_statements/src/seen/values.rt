@@ -26,7 +26,8 @@ pub fn rows_break(
     rows: &[ValuesRow],
 ) -> Result<(), Refusal>
     requires { IsSound catalog.now }
-    ensures { Tells (first_or (flat_map (words.row_breaks catalog.now (column_kinds columns.now)) rows.now) tt) result }
+    ensures { Tells (first_or
+        (flat_map (words.row_breaks catalog.now (column_kinds columns.now)) rows.now) tt) result }
 {
     let outermost = Scopes::Outermost;
     let here = Here {
@@ -44,7 +45,8 @@ pub fn rows_break(
 fn row_break(here: &Here, columns: &[Column], row: &ValuesRow) -> Result<(), Refusal>
     requires sound { IsSound here.now.catalog.now }
     requires alone { surroundings here.now ≡ words.bare [] }
-    ensures { Tells (first_or (words.row_breaks here.now.catalog.now (column_kinds columns.now) row.now) tt) result }
+    ensures { Tells (first_or
+        (words.row_breaks here.now.catalog.now (column_kinds columns.now) row.now) tt) result }
 {
     let values = row.values.as_slice();
     if values.len() != columns.len() {
@@ -61,7 +63,8 @@ fn values_break(here: &Here, columns: &[Column], values: &[ExprTree]) -> Result<
     requires sound { IsSound here.now.catalog.now }
     requires alone { surroundings here.now ≡ words.bare [] }
     requires even { length values.now ≡ length columns.now }
-    ensures { Tells (first_or (words.values_breaks here.now.catalog.now (column_kinds columns.now) values.now) tt) result }
+    ensures { Tells (first_or
+        (words.values_breaks here.now.catalog.now (column_kinds columns.now) values.now) tt) result }
 {
     for at in 0..values.len() {
         match value_break(here, &columns[at], &values[at]) {
@@ -75,14 +78,16 @@ fn values_break(here: &Here, columns: &[Column], values: &[ExprTree]) -> Result<
 /// The first break of a value of this column.
 fn value_break(here: &Here, column: &Column, tree: &ExprTree) -> Result<(), Refusal>
     requires { IsSound here.now.catalog.now }
-    ensures { Tells (first_or (words.value_breaks column.now.kind tree.now.at (means_at (part_of here.now.catalog.now tree.now) (surroundings here.now))) tt) result }
+    ensures { Tells (first_or (words.value_breaks column.now.kind tree.now.at
+        (means_at (part_of here.now.catalog.now tree.now) (surroundings here.now))) tt) result }
 {
     value_over(column.kind, tree.at, kind_of(tree, here))
 }
 
 /// That a value at this offset, whose kind was answered or refused, breaks a rule or doesn't fit a column of this kind.
 fn value_over(kind: Kind, at: usize, answer: Result<Option<Kind>, Refusal>) -> Result<(), Refusal>
-    ensures { (meant : Meant) → Tells (seen meant) answer → Tells (first_or (words.value_breaks kind at meant) tt) result }
+    ensures { (meant : Meant) → Tells (seen meant) answer
+        → Tells (first_or (words.value_breaks kind at meant) tt) result }
 {
     match answer {
         Ok(found) => {

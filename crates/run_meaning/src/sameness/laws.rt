@@ -14,7 +14,8 @@ use sql_parser::{an_unexpected_token_has_one_offset, tokens_spell_a_script_or_on
 /// Bytes are a script, or misspelled by one break.
 pub fn a_misspelling_has_one_break()
     ensures one_break { (bytes : List ℕ) (a b : Break) → IsMisspelled bytes a → IsMisspelled bytes b → a ≡ b }
-    ensures either { (bytes : List ℕ) → ((script : Script) × IsScriptOf bytes script) ⊎ ((b : Break) × IsMisspelled bytes b) }
+    ensures either { (bytes : List ℕ)
+        → ((script : Script) × IsScriptOf bytes script) ⊎ ((b : Break) × IsMisspelled bytes b) }
 {
     lexing_is_unique();
     an_unexpected_token_has_one_offset();
@@ -24,8 +25,10 @@ pub fn a_misspelling_has_one_break()
 /// A command line has a run over files whose bytes are told and of which none fails, and no two, but for which of the faults is
 /// named that a statement meets.
 pub fn told_files_have_one_run()
-    ensures some { (words : List (List ℕ)) (held : List NamedFile) → (ran : Ran) × Runs words (Some held) ⊥ ran }
-    ensures one { (words : List (List ℕ)) (held : List NamedFile) (a b : Ran) → Runs words (Some held) ⊥ a → Runs words (Some held) ⊥ b → SameRun a b }
+    ensures some { (words : List (List ℕ)) (held : List NamedFile)
+        → (ran : Ran) × Runs words (Some held) ⊥ ran }
+    ensures one { (words : List (List ℕ)) (held : List NamedFile) (a b : Ran)
+        → Runs words (Some held) ⊥ a → Runs words (Some held) ⊥ b → SameRun a b }
 {
     a_misspelling_has_one_break();
     bytes_are_one_script();

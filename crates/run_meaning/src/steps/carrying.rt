@@ -1,11 +1,12 @@
-ghost use Rattle.std.specs.Prelude.{◌≡◌};
+ghost use Rattle.std.specs.Prelude.{◌≡◌, IsTrue, false};
 ghost use Rattle.perm_catalog.specs.Sound.{IsSound};
-ghost use Rattle.statement_meaning.specs.Answers.{over};
+ghost use Rattle.perm_io.specs.Counts.{next_count};
+ghost use Rattle.statement_meaning.specs.Answers.{begins, over};
 ghost use Rattle.statement_laws.specs.Sounder.{KeepsSound};
 ghost use Rattle.statement_meaning.specs.Asking.{asks};
+ghost use Rattle.statement_meaning.specs.Carrying.{IsCarriedOut};
 ghost use Rattle.statement_meaning.specs.Ready.{IsReady};
 ghost use Rattle.statement_steps.specs.Running.{KeepsRun};
-ghost use Rattle.run_meaning.specs.Carrying.{IsCarriedOut};
 
 use name_meaning::Resolved;
 use perm_catalog::Catalog;
@@ -27,8 +28,12 @@ pub fn carried_out<F: Files>(
     requires before { IsSound catalog.old }
     requires ready { IsReady catalog.old resolved.now }
     requires sound { KeepsSound (asks catalog.old at resolved.now) }
-    ensures done { IsCarriedOut (asks catalog.old at resolved.now) catalog.old catalog.new result (over (F.told files.old) (F.told files.new))
-        (files.new ≡ files.old) }
+    ensures done { IsCarriedOut (asks catalog.old at resolved.now) catalog.old catalog.new result
+        (over (F.told files.old) (F.told files.new)) }
+    ensures sound { IsSound catalog.new }
+    ensures begun { IsTrue (begins (asks catalog.old at resolved.now))
+        → (F.told files.new).begun ≡ next_count (F.told files.old).begun }
+    ensures unbegun { begins (asks catalog.old at resolved.now) ≡ false → files.new ≡ files.old }
     ensures ran { KeepsRun catalog.old resolved.now result runner.old runner.new }
 {
     step(alloc, catalog, files, at, resolved, runner)

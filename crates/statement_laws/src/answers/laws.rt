@@ -19,7 +19,7 @@ ghost use Rattle.sql_tree.specs.declared.statement.Statement.{Statement};
 ghost use Rattle.sql_tree.specs.declared.statement.StatementBody.TheVariants as st;
 ghost use Rattle.statement_meaning.specs.Answers.{Files, IsTurn, TakesTurn, can_be};
 ghost use Rattle.statement_meaning.specs.Asking.{Asked, Settled, asked};
-ghost use Rattle.statement_meaning.specs.Turns.{Turn, Cause, Stands, Refused, Meets};
+ghost use Rattle.statement_meaning.specs.Turns.{Turn, Cause, Accepted, Refused, Meets};
 ghost use Rattle.statement_meaning.specs.declared.refusal.StepRefusal.{StepRefusal};
 ghost use Rattle.statement_laws.specs.Asks.{AsksFor, HasWord, IsResolved, WithoutWord, shown_names, with_body};
 ghost use Rattle.statement_laws.specs.Beside.{IsBeside};
@@ -29,23 +29,24 @@ ghost use Rattle.statement_laws.specs.Printed.{ListsBag, ListsBeside};
 /// text that lists each row as often as the bag counts it, in the printed order, and the catalog is as before. Where it is bad,
 /// it is refused with exactly the faults that it meets.
 pub fn a_plain_answer_is_its_rows()
-    ensures good { (c : Contents) (statement : Statement) (answer : Answer) (bag : Bag) → AsksFor c statement answer
-        → meaning answer.query (rows_in c.rows) [] ≡ Good bag
-        → (text : List ℕ) × ListsBag answer bag text × (asked c statement ≡ Settled (Stands text c)) }
-    ensures bad { (c : Contents) (statement : Statement) (answer : Answer) (faults : Faults) → AsksFor c statement answer
-        → meaning answer.query (rows_in c.rows) [] ≡ Bad faults
+    ensures good { (c : Contents) (statement : Statement) (answer : Answer) (bag : Bag)
+        → AsksFor c statement answer → meaning answer.query (rows_in c.rows) [] ≡ Good bag
+        → (text : List ℕ) × ListsBag answer bag text × (asked c statement ≡ Settled (Accepted text c)) }
+    ensures bad { (c : Contents) (statement : Statement) (answer : Answer) (faults : Faults)
+        → AsksFor c statement answer → meaning answer.query (rows_in c.rows) [] ≡ Bad faults
         → asked c statement ≡ Settled (Refused (Meets faults statement.at)) }
-    ensures one_text { (answer : Answer) (bag : Bag) (text other : List ℕ) → ListsBag answer bag text → ListsBag answer bag other
-        → text ≡ other }
+    ensures one_text { (answer : Answer) (bag : Bag) (text other : List ℕ)
+        → ListsBag answer bag text → ListsBag answer bag other → text ≡ other }
 {}
 
 /// Such a query that is resolved to the PROVENANCE of q: where q means a bag, it stands with the one text that lists, once each,
 /// every row of the bag beside every witness list of that row, written out flat, and nothing else; and the catalog is as before.
 /// Where q is bad, it is refused with exactly the faults that q meets.
 pub fn provenance_answers_are_rows_beside_witness_lists()
-    ensures good { (c : Contents) (statement : Statement) (answer : Answer) (q : Query) (bag : Bag) → AsksFor c statement answer
-        → answer.query ≡ Prov q → meaning q (rows_in c.rows) [] ≡ Good bag
-        → (text : List ℕ) × ListsBeside answer q (rows_in c.rows) bag text × (asked c statement ≡ Settled (Stands text c)) }
+    ensures good { (c : Contents) (statement : Statement) (answer : Answer) (q : Query) (bag : Bag)
+        → AsksFor c statement answer → answer.query ≡ Prov q → meaning q (rows_in c.rows) [] ≡ Good bag
+        → (text : List ℕ) × ListsBeside answer q (rows_in c.rows) bag text
+        × (asked c statement ≡ Settled (Accepted text c)) }
     ensures bad { (c : Contents) (statement : Statement) (answer : Answer) (q : Query) (faults : Faults)
         → AsksFor c statement answer → answer.query ≡ Prov q → meaning q (rows_in c.rows) [] ≡ Bad faults
         → asked c statement ≡ Settled (Refused (Meets faults statement.at)) }
@@ -66,12 +67,16 @@ pub fn no_answered_row_is_lost()
 /// the word is resolved to, which breaks no rule of names and kinds either, limits aside. Its rows are printed by the same keys,
 /// and over a sound catalog its columns have the names of the other's and then those of the places' columns.
 pub fn the_word_asks_for_provenance()
-    ensures without { (tree : SetTree) (at : ℕ) → HasWord at tree → (plain : SetTree) × WithoutWord tree plain }
-    ensures query { (c : Contents) (statement : Statement) (answer : Answer) (tree : QueryTree) (at : ℕ) (body : SetTree)
-        → AsksFor c statement answer → statement.body ≡ st.Select tree → HasWord at tree.body → WithoutWord tree.body body
+    ensures without { (tree : SetTree) (at : ℕ) → HasWord at tree
+        → (plain : SetTree) × WithoutWord tree plain }
+    ensures query { (c : Contents) (statement : Statement) (answer : Answer)
+        (tree : QueryTree) (at : ℕ) (body : SetTree)
+        → AsksFor c statement answer → statement.body ≡ st.Select tree → HasWord at tree.body
+        → WithoutWord tree.body body
         → (plain : Answer) × IsResolved c (with_body tree body) plain
         × (answer.query ≡ Prov plain.query) × (answer.keys ≡ plain.keys) }
-    ensures names { (c : Contents) (statement : Statement) (answer plain : Answer) (tree : QueryTree) (at : ℕ) (body : SetTree)
+    ensures names { (c : Contents) (statement : Statement) (answer plain : Answer)
+        (tree : QueryTree) (at : ℕ) (body : SetTree)
         → IsSound c → AsksFor c statement answer → statement.body ≡ st.Select tree → HasWord at tree.body
         → WithoutWord tree.body body → IsResolved c (with_body tree body) plain
         → answer.names ≡ plain.names ++ shown_names (provenance_columns plain.query) }
@@ -81,13 +86,16 @@ pub fn the_word_asks_for_provenance()
 /// answers each row as often as the bag counts it, and the other one, once each, every row of that bag beside every witness list
 /// that the row has in the plain query, and nothing else.
 pub fn provenance_stands_beside_the_plain_answer()
-    ensures { (c : Contents) (statement plainly : Statement) (answer plain : Answer) (tree : QueryTree) (at : ℕ) (body : SetTree)
+    ensures { (c : Contents) (statement plainly : Statement) (answer plain : Answer)
+        (tree : QueryTree) (at : ℕ) (body : SetTree)
         → (bag : Bag) → AsksFor c statement answer → statement.body ≡ st.Select tree → HasWord at tree.body
-        → WithoutWord tree.body body → AsksFor c plainly plain → plainly.body ≡ st.Select (with_body tree body)
+        → WithoutWord tree.body body → AsksFor c plainly plain
+        → plainly.body ≡ st.Select (with_body tree body)
         → meaning plain.query (rows_in c.rows) [] ≡ Good bag
         → (text : List ℕ) × (provenance : List ℕ)
-        × ListsBag plain bag text × (asked c plainly ≡ Settled (Stands text c))
-        × ListsBeside answer plain.query (rows_in c.rows) bag provenance × (asked c statement ≡ Settled (Stands provenance c)) }
+        × ListsBag plain bag text × (asked c plainly ≡ Settled (Accepted text c))
+        × ListsBeside answer plain.query (rows_in c.rows) bag provenance
+        × (asked c statement ≡ Settled (Accepted provenance c)) }
 {}
 
 /// PROVENANCE inside another query, in its FROM or in a sublink, means the same there, on every database and under all outer
@@ -98,8 +106,8 @@ pub fn nested_provenance_means_the_same()
         → (rows : Bag) × (meaning (Prov q) db env ≡ Good rows) × HoldsOnce (IsBeside q db env bag) rows }
     ensures bad { (q : Query) (db : Database) (env : List Row) (faults : Faults)
         → (meaning (Prov q) db env ≡ Bad faults) ↔ (meaning q db env ≡ Bad faults) }
-    ensures lists { (q : Query) (db : Database) (env : List Row) (rows : Bag) (x : Row) → meaning (Prov q) db env ≡ Good rows
-        → InBag x rows → witnesses (Prov q) db env x ≡ [] ∷ [] }
+    ensures lists { (q : Query) (db : Database) (env : List Row) (rows : Bag) (x : Row)
+        → meaning (Prov q) db env ≡ Good rows → InBag x rows → witnesses (Prov q) db env x ≡ [] ∷ [] }
 {}
 
 /// Over a sound catalog each row of a query that breaks no rule has as many values as its header has names.
@@ -114,13 +122,15 @@ pub fn answers_are_as_wide_as_their_headers()
 pub fn a_refused_statement_changes_nothing()
     ensures refused { (cause : Cause) (old new : Contents) (answer : Result (List ℕ) StepRefusal)
         → IsTurn (Refused cause) old new answer → new ≡ old }
-    ensures refusal { (turn : Turn) (old new : Contents) (refusal : StepRefusal) → IsTurn turn old new (Err refusal) → new ≡ old }
+    ensures refusal { (turn : Turn) (old new : Contents) (refusal : StepRefusal)
+        → IsTurn turn old new (Err refusal) → new ≡ old }
     ensures over_files { (files : Files) (asks : Asked) (old new : Contents) (refusal : StepRefusal)
         → TakesTurn (can_be files) asks old new (Err refusal) → new ≡ old }
 {}
 
 /// A query that breaks no rule leaves it too, whatever such a call answers.
 pub fn a_query_changes_nothing()
-    ensures { (files : Files) (c new : Contents) (statement : Statement) (answer : Answer) (text : Result (List ℕ) StepRefusal)
+    ensures { (files : Files) (c new : Contents) (statement : Statement) (answer : Answer)
+        (text : Result (List ℕ) StepRefusal)
         → AsksFor c statement answer → TakesTurn (can_be files) (asked c statement) c new text → new ≡ c }
 {}

@@ -61,12 +61,12 @@ returns-in-Err-write_all g c =
     let files = over (g.F.Files.told c.args.files.now) (g.F.Files.told c.step.new.files) in
     let met = over (g.F.Files.told was) (g.F.Files.told c.step.new.files) in
     let quiet = record files { faults_after = files.faults } in
-    let still = c.in-Ok.ensures.faults ∙ kept.calm in
+    let still = c.in-Ok.ensures.done.faults ∙ kept.calm in
     let has_run = subst (λ ss. HasRun files.held files.faults c.args.statements (nothing_held 1) ss now (g.K.Sink.told before).written (g.K.Sink.told old).written
     (g.K.Sink.told before).faults (g.K.Sink.told old).faults files.begun met.begun) taken kept.has_run in
     let turn = takes-wider (can_be met) (can_be quiet)
-    (CanBe-moved file_limit met.held files.held met.faults files.faults met.faults_after files.faults kept.held kept.calm still) (asked now statement) now next (Ok text) c.in-Ok.ensures.turn in
-    let counted = begun-told (asked now statement) met.begun files.begun_after _ c.in-Ok.ensures.begun (λ e. ap (g.F.Files.told (c.in-Ok.ensures.unbegun e)).begun) (text≢memory text) in
+    (CanBe-moved file_limit met.held files.held met.faults files.faults met.faults_after files.faults kept.held kept.calm still) (asked now statement) now next (Ok text) c.in-Ok.ensures.done.turn in
+    let counted = begun-told (asked now statement) met.begun files.begun_after _ c.in-Ok.ensures.begun (λ e. ap (λ f. (g.F.Files.told f).begun) (c.in-Ok.ensures.unbegun e)) (text≢memory text) in
     let count = c.in-Err-write_all.ensures.prefix.0 in record {
       ends = HasRun-cut c.args.statements (nothing_held 1) statement left now (g.K.Sink.told before).written (g.K.Sink.told old).written (g.K.Sink.told before).faults (g.K.Sink.told old).faults met.begun files has_run
           (still_risen files.faults files.faults_after false still) text next (g.K.Sink.told new).written (g.K.Sink.told new).faults count (g.K.Sink.told new).unflushed turn counted
@@ -75,7 +75,7 @@ returns-in-Err-write_all g c =
       status = tt;
       read_fault = λ e. absurd cc;
       steady = λ w. absurd w;
-      held = c.in-Ok.ensures.held ∙ kept.held;
+      held = c.in-Ok.ensures.done.held ∙ kept.held;
     }
 
 pub returns-in-Err : goal.returns-in-Err
@@ -93,19 +93,19 @@ returns-in-Err g c =
     let before = c.args.out.now in
     let files = over (g.F.Files.told c.args.files.now) (g.F.Files.told c.step.new.files) in
     let met = over (g.F.Files.told was) (g.F.Files.told c.step.new.files) in
-    let counts = subst (λ n. CountsFault n files.faults_after (has_failed {X = List ℕ} (Err refused))) kept.calm c.in-Err.ensures.faults in
+    let counts = subst (λ n. CountsFault n files.faults_after (has_failed {X = List ℕ} (Err refused))) kept.calm c.in-Err.ensures.done.faults in
     let has_run = subst (λ ss. HasRun files.held files.faults c.args.statements (nothing_held 1) ss now (g.K.Sink.told before).written (g.K.Sink.told old).written
     (g.K.Sink.told before).faults (g.K.Sink.told old).faults files.begun met.begun) taken kept.has_run in
     let turn = takes-wider (can_be met) (can_be files)
-    (CanBe-moved file_limit met.held files.held met.faults files.faults met.faults_after files.faults_after kept.held kept.calm refl) (asked now statement) now next (Err refused) c.in-Err.ensures.turn in record {
+    (CanBe-moved file_limit met.held files.held met.faults files.faults met.faults_after files.faults_after kept.held kept.calm refl) (asked now statement) now next (Err refused) c.in-Err.ensures.done.turn in record {
       ends = HasRun-stopped c.args.statements (nothing_held 1) statement left now (g.K.Sink.told before).written (g.K.Sink.told old).written (g.K.Sink.told before).faults (g.K.Sink.told old).faults met.begun files has_run
           (still_risen files.faults files.faults_after (has_failed {X = List ℕ} (Err refused)) counts) refused next (g.K.Sink.told new).written (g.K.Sink.told new).faults (g.K.Sink.told new).unflushed c.stop.result
-          (omega (arith, kept.drawn, kept.few, ap length taken)) turn c.in-Err.ensures.begun (λ e. ap (g.F.Files.told (c.in-Err.ensures.unbegun e)).begun)
-          (rests-moved refused met files refl refl c.in-Err.ensures.backed) (c.stop.ensures.ends now statement);
+          (omega (arith, kept.drawn, kept.few, ap length taken)) turn c.in-Err.ensures.begun (λ e. ap (λ f. (g.F.Files.told f).begun) (c.in-Err.ensures.unbegun e))
+          (rests-moved refused met files refl refl c.in-Err.ensures.done.backed) (c.stop.ensures.ends now statement);
       status = stopped-of_script refused c.stop.result c.stop.ensures.status;
       read_fault = stopped-read_fault refused c.stop.result c.stop.ensures.status files.faults files.faults_after counts;
       steady = stopped-steady refused c.stop.result c.stop.ensures.status files.faults files.faults_after counts;
-      held = c.in-Err.ensures.held ∙ kept.held;
+      held = c.in-Err.ensures.done.held ∙ kept.held;
     }
 
 pub loop-statement-preserved : goal.loop-statement-preserved
@@ -124,17 +124,17 @@ loop-statement-preserved g c =
     let files = over (g.F.Files.told c.args.files.now) (g.F.Files.told c.step.new.files) in
     let met = over (g.F.Files.told was) (g.F.Files.told c.step.new.files) in
     let quiet = record files { faults_after = files.faults } in
-    let still = c.in-Ok.ensures.faults ∙ kept.calm in
+    let still = c.in-Ok.ensures.done.faults ∙ kept.calm in
     let has_run = subst (λ ss. HasRun files.held files.faults c.args.statements (nothing_held 1) ss now (g.K.Sink.told before).written (g.K.Sink.told old).written
     (g.K.Sink.told before).faults (g.K.Sink.told old).faults files.begun met.begun) taken kept.has_run in
     let turn = takes-wider (can_be met) (can_be quiet)
-    (CanBe-moved file_limit met.held files.held met.faults files.faults met.faults_after files.faults kept.held kept.calm still) (asked now statement) now next (Ok text) c.in-Ok.ensures.turn in
-    let counted = begun-told (asked now statement) met.begun files.begun_after _ c.in-Ok.ensures.begun (λ e. ap (g.F.Files.told (c.in-Ok.ensures.unbegun e)).begun) (text≢memory text) in record {
+    (CanBe-moved file_limit met.held files.held met.faults files.faults met.faults_after files.faults kept.held kept.calm still) (asked now statement) now next (Ok text) c.in-Ok.ensures.done.turn in
+    let counted = begun-told (asked now statement) met.begun files.begun_after _ c.in-Ok.ensures.begun (λ e. ap (λ f. (g.F.Files.told f).begun) (c.in-Ok.ensures.unbegun e)) (text≢memory text) in record {
       has_run = HasRun-more files.held files.faults c.args.statements (nothing_held 1) statement left now (g.K.Sink.told before).written (g.K.Sink.told old).written (g.K.Sink.told before).faults (g.K.Sink.told old).faults
           files.begun met.begun has_run text next (g.K.Sink.told new).written (g.K.Sink.told new).faults files.begun_after turn counted
           (c.in-Ok-write_all.ensures.whole ∙ ap (append_known (g.K.Sink.told old).written) c.as_slice.ensures) c.in-Ok-write_all.ensures.faults;
       calm = still;
-      held = c.in-Ok.ensures.held ∙ kept.held;
+      held = c.in-Ok.ensures.done.held ∙ kept.held;
       regular = left-regular statement left (subst (Each RegularStatement) taken kept.regular);
       drawn = omega (arith, next-after (can_be quiet) now next statement text turn, kept.drawn, ap length taken);
       few = kept.few;

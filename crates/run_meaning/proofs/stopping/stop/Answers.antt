@@ -5,7 +5,8 @@ use Rattle.run_meaning.specs.Stops.{At}
 use Rattle.run_meaning.proofs.stopping.stop.Goals as goal
 
 pub returns-in-Break-clause-ends : goal.returns-in-Break-clause-ends
-returns-in-Break-clause-ends g c = λ contents statement. rw c.in-Break.is (c.end.ensures.ends (At contents statement (refusal.Break c.in-Break.found)) (sym c.error_line.ensures) refl)
+returns-in-Break-clause-ends g c = λ contents statement. rw c.in-Break.is (c.end.ensures.ends (At contents statement (refusal.Break c.in-Break.found))
+    (ap (λ n. error_line n c.in-Break.found.at) (sym c.code.ensures) ∙ sym c.error_line.ensures) refl)
 
 pub returns-in-Run-clause-ends : goal.returns-in-Run-clause-ends
 returns-in-Run-clause-ends g c = λ contents statement. rw c.in-Run.is (c.end-in-Run.ensures.ends (At contents statement (refusal.Run c.in-Run.fault c.in-Run.at)) (ap (λ n. error_line n c.in-Run.at) (sym c.fault_code.ensures) ∙ sym c.error_line-in-Run.ensures) refl)

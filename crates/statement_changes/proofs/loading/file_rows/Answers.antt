@@ -10,7 +10,7 @@ returns-in-Ok-clause-loaded g c =
     let same : c.as_slice.result.now ≡ c.in-Ok.bytes = c.as_slice.ensures in (
       Read c.in-Ok.bytes,
       (c.in-Ok.ensures.whole, c.in-Ok.ensures.within),
-      subst (λ (bytes : List ℕ). GivesRows c.args.at c.args.file.now.kinds.now c.args.file.now.mark.now c.args.file.now.header c.loaded.result (Read bytes)) same (c.loaded.ensures.given c.args.at),
+      subst (λ (bytes : List ℕ). GivesRows c.args.at c.args.file.now.kinds.now c.args.file.now.null_field.now c.args.file.now.header c.loaded.result (Read bytes)) same (c.loaded.ensures.given c.args.at),
     )
 
 pub returns-in-Err-NoMemory-clause-loaded : goal.returns-in-Err-NoMemory-clause-loaded

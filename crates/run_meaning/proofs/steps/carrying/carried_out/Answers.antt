@@ -6,15 +6,7 @@ use Rattle.run_meaning.proofs.steps.carrying.carried_out.Goals as goal
 pub step-requires : goal.step-requires
 step-requires g c = c.requires.ready
 
-pub returns-clause-done : goal.returns-clause-done
-returns-clause-done g c = record {
-  turn = c.step.ensures.turn;
-  sound =
-      taken-sound (can_be (over (g.F.Files.told c.args.files.now) (g.F.Files.told c.step.new.files)))
-      (asks c.args.catalog.now c.args.at c.args.resolved.now) c.args.catalog.now c.step.new.catalog c.step.result c.requires.before c.requires.sound c.step.ensures.turn;
-  backed = c.step.ensures.backed;
-  faults = c.step.ensures.faults;
-  begun = c.step.ensures.begun;
-  unbegun = c.step.ensures.unbegun;
-  held = c.step.ensures.held;
-}
+pub returns-clause-sound : goal.returns-clause-sound
+returns-clause-sound g c =
+    taken-sound (can_be (over (g.F.Files.told c.args.files.now) (g.F.Files.told c.step.new.files)))
+    (asks c.args.catalog.now c.args.at c.args.resolved.now) c.args.catalog.now c.step.new.catalog c.step.result c.requires.before c.requires.sound c.step.ensures.done.turn
