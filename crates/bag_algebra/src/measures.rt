@@ -13,5 +13,5 @@ pub use laws::{
     faultless_expressions_meet_no_fault, more_sublinks_change_nothing,
     well_formed_queries_read_their_outer_rows_alone,
 };
-pub use scopes::{is_plain, is_scoped, over_tables, traceable};
+pub use scopes::{is_plain, is_scoped, is_table, over_tables, traceable};
 pub use sizes::{height, size};

@@ -13,8 +13,8 @@ ghost use Rattle.name_seen_from.specs.Readings.{IsRead, ReadSeen, external_facts
 
 use crate::facts::Facts;
 use crate::shown::QueryShown;
-use crate::viewed::{facts_of, is_table, kinds_at};
-use bag_algebra::{Label, Place};
+use crate::viewed::{facts_of, kinds_at};
+use bag_algebra::{Label, Place, is_table};
 use contribution::kinds;
 use name_meaning::{Break, Rule, names_at};
 use name_seen_parts::{Refusal, kinds_of_columns, named_columns, names_of, settled_columns};

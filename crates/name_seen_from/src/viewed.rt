@@ -1,7 +1,6 @@
 //! The facts of a query that is made.
 ghost use Rattle.std.specs.Prelude.{◌≡◌, IfOk};
 ghost use Rattle.bag_algebra.specs.Kinds.{kinds_in};
-ghost use Rattle.bag_algebra.specs.Scoped.{is_table};
 ghost use Rattle.name_laws.specs.Facts.{facts_of};
 ghost use Rattle.name_seen_from.specs.Added.{facts_in};
 
@@ -32,11 +31,4 @@ pub fn kinds_at(alloc: Global, kinds: &[Kind], places: &[usize]) -> Result<List<
         found.push(kind_or_text(kinds, *place))?;
     }
     Ok(found)
-}
-
-/// Whether the query is a table.
-pub fn is_table(query: &Query) -> bool
-    ensures { result ≡ is_table query.now }
-{
-    matches!(query, Query::Table { .. })
 }

@@ -178,7 +178,8 @@ fn all_over_tables(subs: &[Sublink]) -> bool
     true
 }
 
-fn is_table(query: &Query) -> bool
+/// Whether the query is a table. It takes no memory.
+pub fn is_table(query: &Query) -> bool
     ensures { result ≡ is_table query.now }
 {
     matches!(query, Query::Table { .. })
