@@ -7,12 +7,12 @@ ghost use Rattle.name_meaning.specs.Items.{column_item, star_meant, table_star_m
 ghost use Rattle.name_meaning.specs.Sublinks.{null_at};
 ghost use Rattle.name_made_nodes.specs.Listed.{MakesItems};
 ghost use Rattle.name_made_nodes.specs.declared.within.Within.{Within};
-ghost use Rattle.name_seen_parts.specs.Stars.{columns_of, is_in_item};
+ghost use Rattle.name_seen_parts.specs.Stars.{columns_of, is_of};
 
 use bag_algebra::{Expr, Item};
 use name_made_nodes::null_at;
 use name_meaning::{Scope, ScopeColumn};
-use name_seen_parts::{item_number, place_among};
+use name_seen_parts::{is_of, item_number, place_among};
 use perm_values::{Kind, List, NoMemory};
 use sql_tree::Name;
 
@@ -55,22 +55,13 @@ fn add_column(
     items: &mut List<Item>,
 ) -> Result<(), NoMemory>
     ensures { OnOk result (items.new ≡ items.old ++ map (column_item scope.now)
-        (cond (is_in_item item (place, column.now)) ((place, column.now) ∷ []) [])) }
+        (cond (is_of item column.now) ((place, column.now) ∷ []) [])) }
 {
-    if !is_in_item(item, column) {
+    if !is_of(item, column) {
         return Ok(());
     }
     items.push(column_item(scope, column, place))?;
     Ok(())
-}
-
-fn is_in_item(item: Option<usize>, column: &ScopeColumn) -> bool
-    ensures { (place : ℕ) → result ≡ is_in_item item (place, column.now) }
-{
-    match item {
-        None => true,
-        Some(number) => number == column.item,
-    }
 }
 
 /// The column where it stands in the core's rows.
