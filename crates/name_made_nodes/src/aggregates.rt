@@ -3,12 +3,12 @@ ghost use Rattle.std.specs.Prelude.{◌≡◌, ℕ, Bool, ◌<◌, ◌^◌, Some
 ghost use Rattle.perm_values.specs.declared.kind.Kind.{Kind};
 ghost use Rattle.name_meaning.specs.Meanings.{Surroundings};
 ghost use Rattle.name_meaning.specs.Scopes.{group_count};
-ghost use Rattle.name_meaning.specs.Sublinks.{aggregate_kind, aggregate_made, argument_wanted, function_of, rows_counted};
+ghost use Rattle.name_meaning.specs.Sublinks.{aggregate_made, argument_wanted, function_of, rows_counted};
 ghost use Rattle.name_made_nodes.specs.Makes.{before_of, IsBuilt, Makes};
 
-use crate::wanted::settled;
 use crate::within::Within;
 use bag_algebra::{AggFn, Aggr, Expr};
+use name_meaning::aggregate_kind;
 use perm_values::{Kind, NoMemory};
 use sql_tree::AggWord;
 
@@ -36,20 +36,6 @@ pub fn argument_wanted(word: AggWord) -> Kind
         AggWord::Sum => Kind::Integer,
         AggWord::Min => Kind::Text,
         AggWord::Max => Kind::Text,
-    }
-}
-
-/// The kind of an aggregate of such an argument.
-fn aggregate_kind(word: AggWord, argument: Option<Kind>) -> Kind
-    ensures { result ≡ aggregate_kind word argument }
-{
-    match word {
-        AggWord::CountRows => Kind::Integer,
-        AggWord::Count => Kind::Integer,
-        AggWord::CountDistinct => Kind::Integer,
-        AggWord::Sum => Kind::Integer,
-        AggWord::Min => settled(argument, Kind::Text),
-        AggWord::Max => settled(argument, Kind::Text),
     }
 }
 

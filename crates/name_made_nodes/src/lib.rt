@@ -24,5 +24,5 @@ pub use marks::{attributes_of, column_names, external, table_plain, table_rows, 
 pub use nodes::{finished_of, with_operand};
 pub use sublinks::{in_kind, in_list_kind, sublink_of};
 pub use together::{beside, with_more};
-pub use wanted::{alike_wanted, chain_start, settled, wanted_of};
+pub use wanted::{alike_wanted, chain_start, wanted_of};
 pub use within::Within;

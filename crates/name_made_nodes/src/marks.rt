@@ -1,12 +1,13 @@
 //! Sources of provenance: what an item of FROM reads, with the columns to which it is followed.
-ghost use Rattle.std.specs.Prelude.{◌≡◌, [], map, slice_index_or, position, IfOk};
+ghost use Rattle.std.specs.Prelude.{◌≡◌, [], map, position, IfOk};
 ghost use Rattle.bag_algebra.specs.declared.query.Label.TheVariants.{External, Relation};
 ghost use Rattle.bag_algebra.specs.declared.query.Query.TheVariants.{Base, Table};
 ghost use Rattle.perm_catalog.specs.Columns.{column_kinds};
-ghost use Rattle.name_meaning.specs.Froms.{all_places, external, named_so, names_at, names_of, place_of, table_columns, table_plain, texts_of};
+ghost use Rattle.name_meaning.specs.Froms.{all_places, external, named_so, names_of, place_of, table_columns, table_plain, texts_of};
 
 use crate::together::beside;
 use bag_algebra::{Label, Query};
+use name_meaning::names_at;
 use perm_catalog::{Column, TableEntry};
 use perm_values::{Chars, Copyable, Kind, List, NoMemory, both};
 use sql_tree::Name;
@@ -31,26 +32,6 @@ pub fn column_names(alloc: Global, columns: &[Column]) -> Result<List<Chars>, No
         names.push(column.name.copy(alloc)?)?;
     }
     Ok(names)
-}
-
-/// The name at a place; none there is empty.
-fn name_at(alloc: Global, names: &[Chars], place: usize) -> Result<Chars, NoMemory>
-    ensures { IfOk result (λ name. name ≡ slice_index_or names.now place []) }
-{
-    if place < names.len() {
-        return names[place].copy(alloc);
-    }
-    Chars::from_text(alloc, "")
-}
-
-fn names_at(alloc: Global, names: &[Chars], places: &[usize]) -> Result<List<Chars>, NoMemory>
-    ensures { IfOk result (λ found. found ≡ names_at names.now places.now) }
-{
-    let mut found = List::new(alloc);
-    for place in places {
-        found.push(name_at(alloc, names, *place)?)?;
-    }
-    Ok(found)
 }
 
 /// The query as a source of its columns at these places, under their names.

@@ -3,23 +3,12 @@ ghost use Rattle.std.specs.Prelude.{◌≡◌, map};
 ghost use Rattle.perm_catalog.specs.Contents.{Contents};
 ghost use Rattle.perm_values.specs.declared.kind.Kind.{Kind};
 ghost use Rattle.name_meaning.specs.Expressions.{first_need};
-ghost use Rattle.name_meaning.specs.Meanings.{settled};
 ghost use Rattle.name_meaning.specs.Operands.{alike_wanted, wanted_of};
 ghost use Rattle.name_meaning.specs.Trees.{step_of};
 
 use name_meaning::{Gives, Need};
 use perm_values::Kind;
 use sql_tree::ExprStep;
-
-/// The kind itself, or the wanted one for any. It takes no memory.
-pub fn settled(kind: Option<Kind>, wanted: Kind) -> Kind
-    ensures { result ≡ settled kind wanted }
-{
-    match kind {
-        None => wanted,
-        Some(kind) => kind,
-    }
-}
 
 /// The kind that is wanted of operands which are to be alike: the one that is wanted of the whole, if they give it.
 pub fn alike_wanted(gives: Gives, wanted: Kind) -> Kind

@@ -7,7 +7,7 @@ ghost use Rattle.name_meaning.specs.Items.{column_item, star_meant, table_star_m
 ghost use Rattle.name_meaning.specs.Sublinks.{null_at};
 ghost use Rattle.name_made_nodes.specs.Listed.{MakesItems};
 ghost use Rattle.name_made_nodes.specs.declared.within.Within.{Within};
-ghost use Rattle.name_seen_parts.specs.Stars.{columns_of, is_in_item};
+ghost use Rattle.name_seen_parts.specs.Stars.{columns_of, is_of};
 
 use bag_algebra::{Expr, Item};
 use name_made_nodes::null_at;
@@ -55,7 +55,7 @@ fn add_column(
     items: &mut List<Item>,
 ) -> Result<(), NoMemory>
     ensures { OnOk result (items.new ≡ items.old ++ map (column_item scope.now)
-        (cond (is_in_item item (place, column.now)) ((place, column.now) ∷ []) [])) }
+        (cond (is_of item column.now) ((place, column.now) ∷ []) [])) }
 {
     if !is_of(item, column) {
         return Ok(());

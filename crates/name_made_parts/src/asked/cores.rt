@@ -14,9 +14,9 @@ use bag_algebra::{Aggr, Expr, Item};
 use name_made_nodes::{Clauses, Condition, Listed, Within, beside};
 use name_meaning::{Scope, Trace};
 use name_seen::from_scope;
-use name_seen_cores::is_grouped;
+use name_seen_cores::places_of_groups;
 use name_seen_from::Facts;
-use name_seen_parts::{Around, Refusal, group_places, grouped};
+use name_seen_parts::{Around, Refusal, grouped};
 use perm_values::{Copyable, List, NoMemory, both};
 use sql_tree::{Core, FromTree};
 use std::alloc::Global;
@@ -146,18 +146,7 @@ pub fn scope_grouped(alloc: Global, own: Scope, core: &Core) -> Result<Scope, No
           (group_scope own (core_groups core.now) (having_part c core.now) (select_parts c core.now)).groups;
     }) }
 {
-    let groups = groups_made(alloc, &own, core);
+    let groups = places_of_groups(alloc, core, &own);
     let (own, groups) = beside(own, groups)?;
     Ok(grouped(own, groups))
-}
-
-/// The places of the GROUP BY columns, where the core's rows stand for groups.
-fn groups_made(alloc: Global, scope: &Scope, core: &Core) -> Result<Option<List<usize>>, NoMemory>
-    ensures { IfOk result (λ places. (c : Contents) → places ≡ (group_scope scope.now
-        (core_groups core.now) (having_part c core.now) (select_parts c core.now)).groups) }
-{
-    if !is_grouped(core) {
-        return Ok(None);
-    }
-    Ok(Some(group_places(alloc, scope, core.groups.as_slice())?))
 }

@@ -8,7 +8,7 @@ ghost use Rattle.name_seen_parts.specs.Standing.{surroundings};
 
 use crate::asked::queries::wanted_at;
 use crate::asked::united::kind_or_any;
-use name_made_nodes::settled;
+use name_meaning::settled;
 use name_seen_parts::Here;
 use perm_values::{Kind, NoMemory};
 use sql_tree::ExprTree;

@@ -13,7 +13,7 @@ ghost use Rattle.name_seen_parts.specs.Columns.{columns_of};
 ghost use Rattle.name_made_parts.specs.AskedColumns.{Settles};
 
 use crate::keys::keys_of;
-use name_meaning::Trace;
+use name_meaning::{Trace, settled};
 use name_seen::set_seen;
 use name_seen_from::Facts;
 use name_seen_parts::{Around, Refusal, ShownColumn};
@@ -94,10 +94,7 @@ fn settled_kinds(
 fn settled_kind(column: &ShownColumn, wanted: &[Kind], place: usize) -> Kind
     ensures { result ≡ settled column.now.kind (slice_index_or wanted.now place Text) }
 {
-    match column.kind {
-        Some(kind) => kind,
-        None => wanted_at(wanted, place),
-    }
+    settled(column.kind, wanted_at(wanted, place))
 }
 
 /// The kind that is wanted of the column at a place; Text where none is.

@@ -11,11 +11,11 @@ ghost use Rattle.name_seen_parts.specs.Standing.{surroundings};
 ghost use Rattle.name_made_parts.specs.AskedColumns.{kind_of_first};
 ghost use Rattle.perm_catalog.specs.Sound.{IsSound};
 
-use name_made_nodes::{alike_wanted, settled};
-use name_meaning::{Gives, Need};
+use name_made_nodes::alike_wanted;
+use name_meaning::{Gives, Need, settled};
 use name_seen::{kind_of, query_seen};
 use name_seen_cores::in_tested;
-use name_seen_parts::{Around, Here, Refusal, ShownColumn, trace_below};
+use name_seen_parts::{Here, Refusal, ShownColumn};
 use perm_values::{Kind, NoMemory};
 use sql_tree::{ArmTree, ExprTree, QueryTree};
 
@@ -189,14 +189,7 @@ fn first_kind(query: &QueryTree, here: &Here) -> Result<Option<Kind>, NoMemory>
     ensures { IfOk result (λ kind. kind ≡ first_kind
         (query_means_at (query_of here.now.catalog.now query.now) (around_of (surroundings here.now)))) }
 {
-    let around = Around {
-        alloc: here.alloc,
-        catalog: &*here.catalog,
-        outer: &*here.scopes,
-        trace: trace_below(here.standing.trace),
-        provable: false,
-    };
-    match query_seen(query, &around) {
+    match query_seen(query, &here.below()) {
         Ok(shown) => Ok(kind_of_first(shown.columns.as_slice())),
         Err(Refusal::Break(_)) => Ok(None),
         Err(Refusal::NoMemory) => Err(NoMemory),

@@ -1,6 +1,0 @@
-use Rattle.std.proofs.Common.{◌≡◌, take}
-use Rattle.name_meaning.specs.Froms.{names_at}
-use Rattle.name_made_nodes.proofs.marks.names_at.Given as goal
-
-abbrev pub invariant-loop-place : goal.invariant-loop-place
-invariant-loop-place l = l.found ≡ names_at l.names (take l.place-index l.places)
