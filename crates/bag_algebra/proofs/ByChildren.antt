@@ -1,16 +1,16 @@
 -- The measures and the tests of a query by the children of its topmost node.
 use Rattle.std.proofs.Common.{◌≡◌, ℕ, suc, ◌+◌, max, Bool, true, false, not, ◌&&◌, List, ◌++◌, append-nil, append_assoc, refl, sym, ap, arith}
 use Rattle.std.specs.List.{list_all}
-use Rattle.bag_algebra.specs.Built.{Base-is, Prov-is}
-use Rattle.bag_algebra.specs.BuiltFaultFree.{all_fault_free}
-use Rattle.bag_algebra.specs.BuiltMeasures.{inputs_height, subs_height, inputs_size, subs_size}
-use Rattle.bag_algebra.specs.BuiltScopes.{all_plain, all_over_tables, all_traceable, all_scoped}
+use Rattle.bag_algebra.specs.built.Openings.{Base-is, Prov-is}
+use Rattle.bag_algebra.specs.built.FaultFree.{all_fault_free}
+use Rattle.bag_algebra.specs.built.Measures.{inputs_height, subs_height, inputs_size, subs_size}
+use Rattle.bag_algebra.specs.built.Scopes.{all_plain, all_over_tables, all_traceable, all_scoped}
 use Rattle.bag_algebra.specs.Children.{inputs_shape, subs_shape}
 use Rattle.bag_algebra.specs.FaultFree.{option_faultless, is_scalar, own_faultless, fault_free, subs_fault_free}
 use Rattle.bag_algebra.specs.Inputs.{inputs_of, sublinks_of}
 use Rattle.bag_algebra.specs.Kinds.{shape, sub_shape}
 use Rattle.bag_algebra.specs.Measures.{height_of, sub_height, size_of, sub_size}
-use Rattle.bag_algebra.specs.Patterns.{BaseOf, FilterOf, ProjectOf, JoinOf, ApplyOf, UnionOf, IntersectOf, ExceptOf, DistinctOf, AggregateOf, LimitOf, ProvOf}
+use Rattle.bag_algebra.specs.built.Patterns.{BaseOf, FilterOf, ProjectOf, JoinOf, ApplyOf, UnionOf, IntersectOf, ExceptOf, DistinctOf, AggregateOf, LimitOf, ProvOf}
 use Rattle.bag_algebra.specs.Rewriting.{is_plain, subs_plain}
 use Rattle.bag_algebra.specs.Scoped.{over_tables, subs_over_tables, no_subs, has_rule, traceable, subs_traceable, is_scoped, subs_scoped}
 use Rattle.bag_algebra.specs.declared.query.Label.{Label}

@@ -1,6 +1,6 @@
 -- What a recursion over queries goes by: the children of a node have fewer operators than the node.
 use Rattle.std.proofs.Common.{◌≡◌, ℕ, zero, suc, ◌<◌, ◌≤◌, List, [], ◌∷◌, length, get_or, ap, arith}
-use Rattle.bag_algebra.specs.BuiltMeasures.{inputs_size, subs_size}
+use Rattle.bag_algebra.specs.built.Measures.{inputs_size, subs_size}
 use Rattle.bag_algebra.specs.Inputs.{inputs_of, sublinks_of}
 use Rattle.bag_algebra.specs.Measures.{size_of}
 use Rattle.bag_algebra.specs.declared.query.Query.{Query}

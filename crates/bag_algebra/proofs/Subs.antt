@@ -1,7 +1,7 @@
 -- A list of sublinks that code finds empty has none.
 use Rattle.std.proofs.Common.{◌≡◌, Bool, true, false, List, [], ◌∷◌, refl, sym}
 use Rattle.std.specs.Prelude.{◌↔◌, IsTrue}
-use Rattle.bag_algebra.specs.BuiltScopes.{without_subs}
+use Rattle.bag_algebra.specs.built.Scopes.{without_subs}
 use Rattle.bag_algebra.specs.declared.query.Sublink.{Sublink}
 
 pub found_none : (found : Bool) (subs : List Sublink) → (IsTrue found ↔ (subs ≡ [])) → found ≡ without_subs subs

@@ -1,7 +1,7 @@
 -- How many columns a query and its places have, for what the constructors of code make.
 use Rattle.std.proofs.Common.{◌≡◌, ℕ, ◌+◌, List, [], ◌∷◌, ◌++◌, length, refl, sym, ap, ◌∙◌, arith, length-append, append_assoc}
 use Rattle.std.proofs.lemmas.List.{length-map}
-use Rattle.bag_algebra.specs.Built.{kinds_of-Project, kinds_of-Join, kinds_of-Apply, kinds_of-Aggregate, kinds_of-Prov, shape-Base}
+use Rattle.bag_algebra.specs.built.Openings.{kinds_of-Project, kinds_of-Join, kinds_of-Apply, kinds_of-Aggregate, kinds_of-Prov, shape-Base}
 use Rattle.bag_algebra.specs.Children.{inputs_shape, subs_shape}
 use Rattle.bag_algebra.specs.Inputs.{inputs_of, sublinks_of}
 use Rattle.bag_algebra.specs.Kinds.{kinds_of, kind_in, kinds_in, width_of, shape, place_kinds}

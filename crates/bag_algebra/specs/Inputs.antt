@@ -1,7 +1,7 @@
 -- The children of the topmost node of a query: its inputs and its sublinks.
 use Rattle.std.specs.Prelude.{◌≡◌, List, [], ◌∷◌}
-use Rattle.bag_algebra.specs.Built.{row_of_subs}
-use Rattle.bag_algebra.specs.Patterns.{BaseOf, FilterOf, ProjectOf, JoinOf, ApplyOf, UnionOf, IntersectOf, ExceptOf, DistinctOf, AggregateOf, LimitOf, ProvOf}
+use Rattle.bag_algebra.specs.built.Openings.{row_of_subs}
+use Rattle.bag_algebra.specs.built.Patterns.{BaseOf, FilterOf, ProjectOf, JoinOf, ApplyOf, UnionOf, IntersectOf, ExceptOf, DistinctOf, AggregateOf, LimitOf, ProvOf}
 use Rattle.bag_algebra.specs.declared.children.Inputs.{Inputs}
 use Rattle.bag_algebra.specs.declared.children.Inputs.TheVariants.{Zero, One, Two}
 use Rattle.bag_algebra.specs.declared.query.Query.{Query, items-the_row-Sublink}

@@ -1,9 +1,4 @@
 pub mod Bags
-pub mod Built
-pub mod BuiltFaultFree
-pub mod BuiltForms
-pub mod BuiltMeasures
-pub mod BuiltScopes
 pub mod Children
 pub mod Closed
 pub mod ColumnItems
@@ -16,10 +11,10 @@ pub mod Meaning
 pub mod Means
 pub mod Measures
 pub mod Outcome
-pub mod Patterns
 pub mod PlaceNames
 pub mod Rewriting
 pub mod Scoped
 pub mod TableRows
 pub mod TablesRead
 pub mod WellFormed
+pub mod built

@@ -8,7 +8,7 @@ use Rattle.bag_algebra.specs.Expressions.{value}
 use Rattle.bag_algebra.specs.Kinds.{shape, width_of}
 use Rattle.bag_algebra.specs.Means.{Means, Witness, SubMeans, no_subs, with_sub, all_empty, unlisted_means, base_means, filter_means, project_means, join_means, apply_means, union_means, intersect_means, except_means, distinct_means, limit_means, aggregate_means, provenance_means}
 use Rattle.bag_algebra.specs.Outcome.{Outcome, Good, and_then, each}
-use Rattle.bag_algebra.specs.Patterns.{BaseOf, FilterOf, ProjectOf, JoinOf, ApplyOf, UnionOf, IntersectOf, ExceptOf, DistinctOf, AggregateOf, LimitOf, ProvOf}
+use Rattle.bag_algebra.specs.built.Patterns.{BaseOf, FilterOf, ProjectOf, JoinOf, ApplyOf, UnionOf, IntersectOf, ExceptOf, DistinctOf, AggregateOf, LimitOf, ProvOf}
 use Rattle.bag_algebra.specs.declared.expr.Expr.{Expr}
 use Rattle.bag_algebra.specs.declared.expr.Item.{Item}
 use Rattle.bag_algebra.specs.declared.query.Aggr.{Aggr}

@@ -5,7 +5,7 @@ use Rattle.perm_values.specs.Rows.{value_at}
 use Rattle.perm_values.specs.declared.kind.Kind.{Kind}
 use Rattle.perm_values.specs.declared.kind.Kind.TheVariants.{Boolean}
 use Rattle.bag_algebra.specs.Bags.{Row}
-use Rattle.bag_algebra.specs.Built.{row_of_subs, sub_denote-row_of_subs}
+use Rattle.bag_algebra.specs.built.Openings.{row_of_subs, sub_denote-row_of_subs}
 use Rattle.bag_algebra.specs.Children.{subs_denote}
 use Rattle.bag_algebra.specs.Expressions.{row_at}
 use Rattle.bag_algebra.specs.Fits.{row_begins}

@@ -1,7 +1,7 @@
 -- The sources over tables of what the constructors of code make.
 use Rattle.std.proofs.Common.{◌≡◌, ℕ, ◌+◌, ◌<◌, Bool, List, [], ◌∷◌, ◌++◌, length, get_or, take, refl, sym, ap, ◌∙◌, append_assoc, append-nil}
 use Rattle.perm_values.specs.declared.key.Key.{Key}
-use Rattle.bag_algebra.specs.Built.{row_of_subs, Base-is, Filter-is, Project_with-is, Join-is, Apply-is, Union-is, Intersect-is, Except-is, Distinct-is, Aggregate-is, Limit-is, Prov-is}
+use Rattle.bag_algebra.specs.built.Openings.{row_of_subs, Base-is, Filter-is, Project_with-is, Join-is, Apply-is, Union-is, Intersect-is, Except-is, Distinct-is, Aggregate-is, Limit-is, Prov-is}
 use Rattle.bag_algebra.specs.declared.expr.Expr.{Expr}
 use Rattle.bag_algebra.specs.declared.expr.Item.{Item}
 use Rattle.bag_algebra.specs.declared.query.Aggr.{Aggr}
@@ -12,7 +12,7 @@ use Rattle.bag_algebra.specs.declared.query.Query.{Query, end_of-Sublink}
 use Rattle.bag_algebra.specs.declared.query.Query.TheBlock.{shape-the_row-Sublink-1, hidden-the_row-Sublink-1}
 use Rattle.bag_algebra.specs.declared.query.Query.TheVariants.{Base, Filter, Project, Join, Apply, Union, Intersect, Except, Distinct, Aggregate, Limit, Prov}
 use Rattle.bag_algebra.specs.declared.query.Sublink.{Sublink}
-use Rattle.bag_algebra.specs.Patterns.{JoinOf}
+use Rattle.bag_algebra.specs.built.Patterns.{JoinOf}
 use Rattle.contribution.proofs.Added.{one_more}
 use Rattle.contribution.specs.CrossBase.{base_source, table_sources, sub_table_sources, subs_table_sources, source_query, crossed}
 use Rattle.contribution.specs.Conjunctions.{always}

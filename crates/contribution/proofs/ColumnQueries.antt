@@ -10,12 +10,12 @@ use Rattle.bag_algebra.specs.Kinds.{kinds_of, kinds_in, kind_in, width_of}
 use Rattle.bag_algebra.specs.Meaning.{Database, meaning, items_on}
 use Rattle.bag_algebra.specs.Means.{no_subs}
 use Rattle.bag_algebra.specs.Outcome.{Outcome, Good, Bad, and_then, mapped, each}
-use Rattle.bag_algebra.specs.Patterns.{ProjectOf}
+use Rattle.bag_algebra.specs.built.Patterns.{ProjectOf}
 use Rattle.bag_algebra.specs.WellFormed.{WellFormed, PlacesIn, ItemsForm, HasKind}
 use Rattle.bag_algebra.specs.declared.expr.Item.{Item}
 use Rattle.bag_algebra.specs.declared.query.Query.{Query, end_of-Sublink}
 use Rattle.contribution.specs.ItemKinds.{item_kinds}
-use Rattle.bag_algebra.specs.Built.{rows-with_lists}
+use Rattle.bag_algebra.specs.built.Openings.{rows-with_lists}
 
 pub all-nothing : {X : Type 0} (P : X → Type 0) → All P []
 all-nothing P k d within = absurd (omega arith)

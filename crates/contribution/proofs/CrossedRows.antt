@@ -20,7 +20,7 @@ use Rattle.contribution.specs.CrossBase.{source_query, crossed}
 use Rattle.contribution.specs.Conjunctions.{always}
 use Rattle.contribution.specs.HeldRows.{StandAt}
 use Rattle.contribution.specs.declared.cross.TableSource.{TableSource}
-use Rattle.bag_algebra.specs.Built.{rows-with_lists}
+use Rattle.bag_algebra.specs.built.Openings.{rows-with_lists}
 
 -- what a source holds, restricted to its places
 abbrev pub held_by : Database → TableSource → Bag

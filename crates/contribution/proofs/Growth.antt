@@ -14,7 +14,7 @@ use Rattle.bag_algebra.specs.Kinds.{kinds_of, shape, width_of}
 use Rattle.bag_algebra.specs.Meaning.{Database, denote, sub_denote, optional_value, condition_on, items_on, arguments_on}
 use Rattle.bag_algebra.specs.Means.{SubMeans, with_sub, all_empty, base_means, filter_means, project_means, join_means, apply_means, union_means, intersect_means, except_means, distinct_means, aggregate_means, limit_means, provenance_means}
 use Rattle.bag_algebra.specs.Outcome.{Outcome, Good, and_then, mapped, both, both_then, each}
-use Rattle.bag_algebra.specs.Patterns.{OpOf, ChainOf, CaseOf, IsNullOf, IsTruthOf, SameOf, BaseOf, FilterOf, ProjectOf, JoinOf, ApplyOf, UnionOf, IntersectOf, ExceptOf, DistinctOf, AggregateOf, LimitOf, ProvOf}
+use Rattle.bag_algebra.specs.built.Patterns.{OpOf, ChainOf, CaseOf, IsNullOf, IsTruthOf, SameOf, BaseOf, FilterOf, ProjectOf, JoinOf, ApplyOf, UnionOf, IntersectOf, ExceptOf, DistinctOf, AggregateOf, LimitOf, ProvOf}
 use Rattle.bag_algebra.specs.WellFormed.{column_kind, HasKind, PartsHave, StepsHave, ArmsHave, number_of_parts, ItemsForm, aggr_form, AggregatesForm, sub_form, sub_kinds, WellFormed, SubsForm}
 use Rattle.bag_algebra.specs.declared.expr.Expr.{Expr, Row_of-Expr, Row_of-Arm, Row_of-ChainStep, more_of-Expr, end_of-Expr, more_of-Arm, end_of-Arm, more_of-ChainStep, end_of-ChainStep}
 use Rattle.bag_algebra.specs.declared.expr.Expr.TheVariants.{Col, Lit, Sub}

@@ -4,12 +4,12 @@ use Rattle.std.specs.List.{flat_map}
 use Rattle.bag_algebra.proofs.BagLaws.{count-once}
 use Rattle.bag_algebra.proofs.Members.{IsIn, in-map, from-map, in-flat_map, from-flat_map, in-member, member-in}
 use Rattle.bag_algebra.specs.Bags.{Row, Bag, member, count, once}
-use Rattle.bag_algebra.specs.Built.{rows-with_lists}
+use Rattle.bag_algebra.specs.built.Openings.{rows-with_lists}
 use Rattle.bag_algebra.specs.Children.{subs_denote, sublink_value}
 use Rattle.bag_algebra.specs.Meaning.{Database, denote, meaning, witnesses, optional_value}
 use Rattle.bag_algebra.specs.Means.{Means, Witness, with_lists, good_rows, flat, with_witnesses}
 use Rattle.bag_algebra.specs.Outcome.{Outcome, Good, Bad, Faults, mapped, both_then, both, each}
-use Rattle.bag_algebra.specs.Patterns.{BaseOf, FilterOf, ProjectOf, JoinOf, ApplyOf, UnionOf, IntersectOf, ExceptOf, DistinctOf, AggregateOf, LimitOf, ProvOf}
+use Rattle.bag_algebra.specs.built.Patterns.{BaseOf, FilterOf, ProjectOf, JoinOf, ApplyOf, UnionOf, IntersectOf, ExceptOf, DistinctOf, AggregateOf, LimitOf, ProvOf}
 use Rattle.bag_algebra.specs.declared.query.Query.{Query}
 use Rattle.bag_algebra.specs.declared.query.Query.TheVariants.{Table, Single}
 use Rattle.bag_algebra.specs.declared.query.Sublink.{Sublink}

@@ -13,7 +13,7 @@ use Rattle.bag_algebra.specs.Means.{Means, Witness, Held, Blanks, with_lists, pa
 use Rattle.bag_algebra.specs.Outcome.{Outcome, Good, Bad, mapped, gather, each}
 use Rattle.bag_algebra.specs.Kinds.{shape, width_of}
 use Rattle.bag_algebra.specs.Meaning.{Database, denote, sub_denote, optional_value, condition_on, arguments_on}
-use Rattle.bag_algebra.specs.Patterns.{BaseOf, FilterOf, ProjectOf, JoinOf, ApplyOf, UnionOf, IntersectOf, ExceptOf, DistinctOf, AggregateOf, LimitOf, ProvOf}
+use Rattle.bag_algebra.specs.built.Patterns.{BaseOf, FilterOf, ProjectOf, JoinOf, ApplyOf, UnionOf, IntersectOf, ExceptOf, DistinctOf, AggregateOf, LimitOf, ProvOf}
 use Rattle.bag_algebra.specs.declared.query.AggFn.{AggFn}
 use Rattle.bag_algebra.specs.declared.query.Aggr.{Aggr}
 use Rattle.bag_algebra.specs.declared.query.JoinKind.{JoinKind}

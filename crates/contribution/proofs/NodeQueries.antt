@@ -4,12 +4,12 @@ use Rattle.perm_values.specs.declared.kind.Kind.{Kind}
 use Rattle.perm_values.specs.declared.kind.Kind.TheVariants.{Boolean}
 use Rattle.perm_values.specs.declared.no_memory.NoMemory.{NoMemory}
 use Rattle.bag_algebra.specs.Bags.{Row}
-use Rattle.bag_algebra.specs.Built.{rows-with_lists}
+use Rattle.bag_algebra.specs.built.Openings.{rows-with_lists}
 use Rattle.bag_algebra.specs.Kinds.{kinds_of, width_of}
 use Rattle.bag_algebra.specs.Meaning.{Database, meaning, condition_on, items_on}
 use Rattle.bag_algebra.specs.Means.{no_subs, kept, joined_rows}
 use Rattle.bag_algebra.specs.Outcome.{and_then, both_then, each, gather}
-use Rattle.bag_algebra.specs.Patterns.{FilterOf, JoinOf, ProjectOf}
+use Rattle.bag_algebra.specs.built.Patterns.{FilterOf, JoinOf, ProjectOf}
 use Rattle.bag_algebra.specs.Rewriting.{is_plain}
 use Rattle.bag_algebra.specs.TablesRead.{tables_read}
 use Rattle.bag_algebra.specs.WellFormed.{WellFormed, HasKind, ItemsForm}

@@ -8,7 +8,7 @@ use Rattle.bag_algebra.specs.Outcome.{Good, both}
 use Rattle.bag_algebra.specs.WellFormed.{WellFormed}
 use Rattle.contribution.proofs.Padding.{null_items-kinds, null_items-give, null_items-formed}
 use Rattle.contribution.specs.NullRow.{null_row_of}
-use Rattle.bag_algebra.specs.Built.{rows-with_lists}
+use Rattle.bag_algebra.specs.built.Openings.{rows-with_lists}
 
 pub kinds_of-null_row : (kinds : List Kind) → kinds_of (null_row_of kinds) ≡ kinds
 kinds_of-null_row kinds = null_items-kinds kinds

@@ -14,7 +14,7 @@ use Rattle.bag_algebra.specs.Kinds.{shape, width_of}
 use Rattle.bag_algebra.specs.Meaning.{Database, denote, sub_denote, optional_value, condition_on, items_on, arguments_on}
 use Rattle.bag_algebra.specs.Means.{Means, Witness, SubMeans, no_subs, with_sub, some_of, all_of, cell, comparisons, is_some_row, scalar, sub_value, chosen, contribution_of, good_value, all_empty, filter_means, project_means, join_means}
 use Rattle.bag_algebra.specs.Outcome.{Outcome, Good, Bad, and_then, both, both_then, each}
-use Rattle.bag_algebra.specs.Patterns.{BaseOf, FilterOf, ProjectOf, JoinOf, ApplyOf, UnionOf, IntersectOf, ExceptOf, DistinctOf, AggregateOf, LimitOf, ProvOf}
+use Rattle.bag_algebra.specs.built.Patterns.{BaseOf, FilterOf, ProjectOf, JoinOf, ApplyOf, UnionOf, IntersectOf, ExceptOf, DistinctOf, AggregateOf, LimitOf, ProvOf}
 use Rattle.bag_algebra.specs.declared.expr.Expr.{Expr}
 use Rattle.bag_algebra.specs.declared.expr.Item.{Item}
 use Rattle.bag_algebra.specs.declared.query.Aggr.{Aggr}

@@ -12,14 +12,14 @@ use Rattle.bag_algebra.specs.Kinds.{kinds_of, kinds_in, width_of}
 use Rattle.bag_algebra.specs.Meaning.{Database, meaning, items_on}
 use Rattle.bag_algebra.specs.Means.{no_subs}
 use Rattle.bag_algebra.specs.Outcome.{Outcome, Good, Bad, and_then, mapped, both, each}
-use Rattle.bag_algebra.specs.Patterns.{ProjectOf}
+use Rattle.bag_algebra.specs.built.Patterns.{ProjectOf}
 use Rattle.bag_algebra.specs.WellFormed.{WellFormed, PlacesIn, ItemsForm, HasKind}
 use Rattle.bag_algebra.specs.declared.expr.Item.{Item}
 use Rattle.bag_algebra.specs.declared.query.Query.{Query, end_of-Sublink}
 use Rattle.contribution.proofs.ColumnQueries.{all-nothing, all-first, all-rest, column_items-kinds, column_items-formed}
 use Rattle.contribution.specs.ItemKinds.{item_kinds}
 use Rattle.contribution.specs.NullItems.{null_item, padded_items, padded_row}
-use Rattle.bag_algebra.specs.Built.{rows-with_lists}
+use Rattle.bag_algebra.specs.built.Openings.{rows-with_lists}
 
 -- ---- NULLs
 

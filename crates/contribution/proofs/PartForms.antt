@@ -1,7 +1,7 @@
 -- Kinds and values of expressions that the constructors of code make, in words on plain lists of parts.
 use Rattle.std.proofs.Common.{List, [], ◌∷◌}
 use Rattle.perm_values.specs.declared.kind.Kind.{Kind}
-use Rattle.bag_algebra.specs.Built.{row_of_parts}
+use Rattle.bag_algebra.specs.built.Openings.{row_of_parts}
 use Rattle.bag_algebra.specs.WellFormed.{HasKind, PartsHave}
 use Rattle.bag_algebra.specs.declared.expr.Expr.{Expr}
 use Rattle.bag_algebra.specs.declared.expr.Expr.TheBlock.{shape-the_row-Expr-0, hidden-the_row-Expr-0}

@@ -13,7 +13,7 @@ use Rattle.bag_algebra.specs.Kinds.{kind_in, kinds_of, shape, sub_shape, width_o
 use Rattle.bag_algebra.specs.Meaning.{Database, denote, sub_denote, meaning, witnesses, optional_value, condition_on, items_on, arguments_on}
 use Rattle.bag_algebra.specs.Means.{Witness, Means, SubMeans, no_subs, with_sub, all_empty, good_rows, good_value, scalar, sub_value, chosen, contribution_of, is_some_row, some_of, all_of, comparisons, filter_means, join_means}
 use Rattle.bag_algebra.specs.Outcome.{Outcome, Good, both_then, each}
-use Rattle.bag_algebra.specs.Patterns.{BaseOf, FilterOf, ProjectOf, JoinOf, ApplyOf, UnionOf, IntersectOf, ExceptOf, DistinctOf, AggregateOf, LimitOf, ProvOf}
+use Rattle.bag_algebra.specs.built.Patterns.{BaseOf, FilterOf, ProjectOf, JoinOf, ApplyOf, UnionOf, IntersectOf, ExceptOf, DistinctOf, AggregateOf, LimitOf, ProvOf}
 use Rattle.bag_algebra.specs.WellFormed.{HasKind, ItemsForm, aggr_form, AggregatesForm, sub_kind, sub_kinds, WellFormed, SubsForm}
 use Rattle.bag_algebra.specs.declared.expr.Expr.{Expr}
 use Rattle.bag_algebra.specs.declared.expr.Item.{Item}

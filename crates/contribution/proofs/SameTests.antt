@@ -10,8 +10,8 @@ use Rattle.perm_values.specs.declared.kind.Kind.TheVariants as kind
 use Rattle.perm_values.specs.declared.value.Value.{Value}
 use Rattle.perm_values.specs.declared.value.Value.TheVariants.{Boolean}
 use Rattle.bag_algebra.specs.Bags.{Row}
-use Rattle.bag_algebra.specs.Built.{Same-is, value-Op, value-Same, row_of_parts}
-use Rattle.bag_algebra.specs.BuiltFaultFree.{faultless-Op, faultless-Same, all_parts_faultless}
+use Rattle.bag_algebra.specs.built.Openings.{Same-is, value-Op, value-Same, row_of_parts}
+use Rattle.bag_algebra.specs.built.FaultFree.{faultless-Op, faultless-Same, all_parts_faultless}
 use Rattle.bag_algebra.specs.Children.{part_values}
 use Rattle.bag_algebra.specs.Expressions.{value, all_true, operate, row_at}
 use Rattle.bag_algebra.specs.FaultFree.{faultless}
@@ -23,7 +23,7 @@ use Rattle.bag_algebra.specs.declared.expr.Expr.TheVariants.{Col}
 use Rattle.contribution.proofs.ColumnQueries.{all-rest, kind_there}
 use Rattle.contribution.proofs.PartForms.{no_parts-have, more_parts-have}
 use Rattle.contribution.specs.Conjunctions.{all_hold, same_test, same_tests}
-use Rattle.bag_algebra.specs.BuiltForms.{number_of_parts-built}
+use Rattle.bag_algebra.specs.built.Forms.{number_of_parts-built}
 use Rattle.bag_algebra.proofs.Truths.{and_true}
 
 -- ---- one more test

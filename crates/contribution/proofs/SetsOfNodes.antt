@@ -5,7 +5,7 @@ use Rattle.std.specs.Cmp.{both_ways}
 use Rattle.perm_values.specs.declared.value.Value.{Value}
 use Rattle.bag_algebra.proofs.Members.{IsIn, in-filter, from-filter, one_of, or-first, in-member, member-in}
 use Rattle.bag_algebra.specs.Bags.{Row, Bag, member, once, union_of, intersect_of, except_of, nulls}
-use Rattle.bag_algebra.specs.Built.{meaning-Filter, meaning-Project, meaning-Join, meaning-Apply, meaning-Union, meaning-Intersect, meaning-Except, meaning-Distinct}
+use Rattle.bag_algebra.specs.built.Openings.{meaning-Filter, meaning-Project, meaning-Join, meaning-Apply, meaning-Union, meaning-Intersect, meaning-Except, meaning-Distinct}
 use Rattle.bag_algebra.specs.Children.{subs_denote}
 use Rattle.bag_algebra.specs.Kinds.{width_of}
 use Rattle.bag_algebra.specs.Meaning.{Database, meaning, condition_on, items_on}

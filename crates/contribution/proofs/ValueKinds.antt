@@ -21,7 +21,7 @@ use Rattle.bag_algebra.specs.Bags.{Row}
 use Rattle.bag_algebra.specs.Expressions.{row_at, with_one, with_two, with_three, all_true, some_true, coalesce, null_if, arith_values, negate_value, like_values, operate, Step, chain, has_truth, chosen_arm, value, values, step_values, arm_value}
 use Rattle.bag_algebra.specs.Fits.{row_begins, env_fits}
 use Rattle.bag_algebra.specs.Outcome.{Outcome, Good, Bad, of_result, and_then, mapped, both, both_then}
-use Rattle.bag_algebra.specs.Patterns.{OpOf, ChainOf, CaseOf, IsNullOf, IsTruthOf, SameOf}
+use Rattle.bag_algebra.specs.built.Patterns.{OpOf, ChainOf, CaseOf, IsNullOf, IsTruthOf, SameOf}
 use Rattle.bag_algebra.specs.WellFormed.{column_kind, OpForm, op_form, HasKind, PartsHave, ArmsHave, number_of_parts}
 use Rattle.bag_algebra.specs.declared.expr.Expr.{Expr, Row_of-Expr, Row_of-Arm, more_of-Expr, end_of-Expr, more_of-Arm, end_of-Arm}
 use Rattle.bag_algebra.specs.declared.expr.Expr.TheVariants.{Col, Lit, Sub}

@@ -5,7 +5,7 @@ ghost use Rattle.bag_algebra.specs.Kinds.{kinds_of, kinds_in, shape, place_kinds
 ghost use Rattle.bag_algebra.specs.Meaning.{Database, meaning, witnesses};
 ghost use Rattle.bag_algebra.specs.Means.{Witness, flat};
 ghost use Rattle.bag_algebra.specs.Outcome.{Good};
-ghost use Rattle.bag_algebra.specs.Patterns.{JoinOf, ProjectOf, UnionOf};
+ghost use Rattle.bag_algebra.specs.built.Patterns.{JoinOf, ProjectOf, UnionOf};
 ghost use Rattle.bag_algebra.specs.Rewriting.{is_plain};
 ghost use Rattle.bag_algebra.specs.Scoped.{over_tables};
 ghost use Rattle.bag_algebra.specs.TablesRead.{ReadsAmong};

@@ -25,7 +25,7 @@ use Rattle.name_meaning.specs.Cores.{BodyPart, Clauses, clause_breaks, core_clau
 use Rattle.name_meaning.specs.Froms.{FromMeant, FromPart, ItemMeant, JoinPart, Read, SourcePart, beside_from, both_known, first_item, from_all, from_more, in_on, item_meant, join_all, join_item, label_of, on_breaks, on_meant, read_named, read_of, scope_items, scope_name, trace_under}
 use Rattle.name_meaning.specs.Items.{SelectPart, columns_meant, items_breaks, items_inside, no_columns, star_meant, table_star_meant}
 use Rattle.name_meaning.specs.Meanings.{Around, Inside, Meant, Part, QueryMeant, Surroundings, both_inside, is_whole, means_at, nothing_inside, query_means_at}
-use Rattle.name_meaning.specs.Queries.{SetStepPart, count_columns, is_proving, keys_breaks, keys_of, limited, operand_breaks, plain_query, proved_query, query_seen, set_chain, set_joined, unprovable}
+use Rattle.name_meaning.specs.Queries.{SetStepPart, count_columns, asks_provenance, keys_breaks, keys_of, limited, operand_breaks, plain_query, query_with_provenance, query_seen, set_chain, set_joined, may_not_ask}
 use Rattle.name_meaning.specs.Scopes.{Placed, ScopeItem, item_columns, scope_of}
 use Rattle.name_meaning.specs.Trees.{core_of, from_item_of, from_of, item_of, join_of, part_of, query_of, set_of_tree, set_step_of, source_of}
 use Rattle.name_meaning.specs.declared.answer.Break.{Break}
@@ -53,7 +53,7 @@ chain-over : (around : Around) (left : QueryMeant) (steps : List SetStepPart)
     → IsOver (held_query (set_chain around left steps)) (held_query left ∷ map (held_operand around) steps)
 chain-over around left [] = over-self (held_query left)
 chain-over around left (step ∷ steps) =
-    let right = step.operand.means (unprovable around) in
+    let right = step.operand.means (may_not_ask around) in
     over-front (held_query left ∷ held_query right ∷ []) (map (held_operand around) steps)
     (chain-over around (set_joined left step right) steps) (joined-over left step right)
 
@@ -62,7 +62,7 @@ module _ (c : Contents) (around : Around) (tree : SetTree) where
   core-stands core is = ap (λ (body : BodyPart). held_query (body.means around)) (set-is c tree core is)
 
   pub paren-stands : (query : QueryTree) → tree ≡ set.Paren query
-      → held_query ((set_of_tree c tree).means around) ≡ held_query (query_means_at (query_of c query) (unprovable around))
+      → held_query ((set_of_tree c tree).means around) ≡ held_query (query_means_at (query_of c query) (may_not_ask around))
   paren-stands query is = ap held_query (paren-means c tree query around is)
 
   pub chain-stands : (first : SetTree) (steps : List SetStep) → tree ≡ set.Chain first steps
@@ -71,11 +71,11 @@ module _ (c : Contents) (around : Around) (tree : SetTree) where
       (chain-over around ((set_of_tree c first).means around) (map (set_step_of c) steps))
 
 operand-stands : (c : Contents) (around : Around) (step : SetStep)
-    → held_operand around (set_step_of c step) ≡ held_query ((set_of_tree c step.operand).means (unprovable around))
-operand-stands c around step = ap (λ (body : BodyPart). held_query (body.means (unprovable around))) (step-operand c step)
+    → held_operand around (set_step_of c step) ≡ held_query ((set_of_tree c step.operand).means (may_not_ask around))
+operand-stands c around step = ap (λ (body : BodyPart). held_query (body.means (may_not_ask around))) (step-operand c step)
 
 pub operand-adds : (c : Contents) (around : Around) (step : SetStep) {old new : Gathered}
-    → Adds (held_query ((set_of_tree c step.operand).means (unprovable around)) ∷ []) old new → Adds (held_operand around (set_step_of c step) ∷ []) old new
+    → Adds (held_query ((set_of_tree c step.operand).means (may_not_ask around)) ∷ []) old new → Adds (held_operand around (set_step_of c step) ∷ []) old new
 operand-adds c around step {old = old} {new = new} added = subst (λ (h : Held). Adds (h ∷ []) old new) (sym (operand-stands c around step)) added
 
 -- ---- a query
@@ -92,20 +92,20 @@ plain-over at m order limit =
     (λ none. (λ i. none i ++ front-none m.breaks (keys_breaks m.columns order) none i)) (λ none. refl)
 
 proved-over : (at : ℕ) (m : QueryMeant) (order : List OrderTree) (limit : Option ℤ) (query : Query)
-    → IsOver (held_query (proved_query at m order limit query)) (held_alone at (proved_query at m order limit query) ∷ held_query m ∷ [])
+    → IsOver (held_query (query_with_provenance at m order limit query)) (held_alone at (query_with_provenance at m order limit query) ∷ held_query m ∷ [])
 proved-over at m order limit query =
-    let whole = proved_query at m order limit query in
+    let whole = query_with_provenance at m order limit query in
     over-pair (held_query whole) (held_alone at whole) (held_query m)
     (λ none. (λ i. none i ++ front-none m.breaks (keys_breaks m.columns order) none i)) (λ none. refl)
 
 seen-over : (around : Around) (at : ℕ) (body : BodyPart) (order : List OrderTree) (limit : Option ℤ)
-    → IsOver (held_query (query_seen around at body order limit)) (held_alone at (query_seen around at body order limit) ∷ held_query (body.means (around_body (is_proving around body) around)) ∷ [])
-seen-over around at body order limit = chosen (is_proving around body) where
+    → IsOver (held_query (query_seen around at body order limit)) (held_alone at (query_seen around at body order limit) ∷ held_query (body.means (around_body (asks_provenance around body) around)) ∷ [])
+seen-over around at body order limit = chosen (asks_provenance around body) where
   chosen : (b : Bool) → IsOver (held_query (cond b
-      (let m = body.means (record around { trace = in_provenance }) in proved_query at m order limit (limited limit (keys_of m.columns order) (m.make [])))
+      (let m = body.means (record around { trace = in_provenance }) in query_with_provenance at m order limit (limited limit (keys_of m.columns order) (m.make [])))
       (plain_query at (body.means around) order limit)))
       (held_alone at (cond b
-      (let m = body.means (record around { trace = in_provenance }) in proved_query at m order limit (limited limit (keys_of m.columns order) (m.make [])))
+      (let m = body.means (record around { trace = in_provenance }) in query_with_provenance at m order limit (limited limit (keys_of m.columns order) (m.make [])))
       (plain_query at (body.means around) order limit))
       ∷ held_query (body.means (around_body b around)) ∷ [])
   chosen true =
@@ -115,10 +115,10 @@ seen-over around at body order limit = chosen (is_proving around body) where
 
 pub query-adds : (c : Contents) (around : Around) (tree : QueryTree) (width : ℕ) (old middle new : Gathered)
     → HasWidth (query_means_at (query_of c tree) around) (Some width) → inside_in middle ≡ both_inside (inside_in old) (query_alone tree.at width)
-    → Adds (held_query ((set_of_tree c tree.body).means (around_body (is_proving around (set_of_tree c tree.body)) around)) ∷ []) middle new
+    → Adds (held_query ((set_of_tree c tree.body).means (around_body (asks_provenance around (set_of_tree c tree.body)) around)) ∷ []) middle new
     → Adds (held_query (query_means_at (query_of c tree) around) ∷ []) old new
 query-adds c around tree width old middle new wide first body = adds-over
-    (subst (λ (m : QueryMeant). IsOver (held_query m) (held_alone tree.at m ∷ held_query ((set_of_tree c tree.body).means (around_body (is_proving around (set_of_tree c tree.body)) around)) ∷ []))
+    (subst (λ (m : QueryMeant). IsOver (held_query m) (held_alone tree.at m ∷ held_query ((set_of_tree c tree.body).means (around_body (asks_provenance around (set_of_tree c tree.body)) around)) ∷ []))
     (sym (query-means c tree around)) (seen-over around tree.at (set_of_tree c tree.body) tree.order tree.limit))
     (adds-both (adds-this (λ none. first ∙ ap (λ n. both_inside (inside_in old) (query_alone tree.at n)) (sym (wide none)))) body)
 
@@ -235,12 +235,12 @@ module _ (c : Contents) where
         (ap (read_named c) same ∙ sym (ap (read_of c item.mark outer trace) (ap (source_of c) is ∙ fromsource-named c name))) added)
 
     pub inner-adds : (query read : QueryTree) (old new : Gathered) → item.source ≡ source.Inner query → read ≡ query
-        → Adds (held_query (query_means_at (query_of c read) (record { outer = outer; trace = trace_under item.mark trace; provable = true })) ∷ []) old new
+        → Adds (held_query (query_means_at (query_of c read) (record { outer = outer; trace = trace_under item.mark trace; may_ask = true })) ∷ []) old new
         → Adds (held_item ((from_item_of c item).means outer trace names) ∷ []) old new
     unfolding token query_means_at
     inner-adds query read old new is same added = adds-over item-stands
         (subst (λ (h : Held). Adds (h ∷ []) old new)
-        (ap (λ (q : QueryTree). held_query (query_means_at (query_of c q) (record { outer = outer; trace = trace_under item.mark trace; provable = true }))) same
+        (ap (λ (q : QueryTree). held_query (query_means_at (query_of c q) (record { outer = outer; trace = trace_under item.mark trace; may_ask = true }))) same
         ∙ sym (ap (λ (part : SourcePart). held_read (read_of c item.mark outer trace part)) (ap (source_of c) is ∙ fromsource-inner c query))) added)
 
 -- ---- the SELECT list

@@ -7,7 +7,7 @@ use Rattle.name_meaning.specs.Expressions.{ArmPart, StepPart}
 use Rattle.name_meaning.specs.Froms.{FromMeant, FromPart, ItemMeant, JoinPart, Read}
 use Rattle.name_meaning.specs.Items.{SelectMeant, SelectPart}
 use Rattle.name_meaning.specs.Meanings.{Around, Inside, Meant, Part, QueryMeant, Surroundings, both_inside, nothing_inside, means_at}
-use Rattle.name_meaning.specs.Queries.{SetStepPart, unprovable}
+use Rattle.name_meaning.specs.Queries.{SetStepPart, may_not_ask}
 use Rattle.name_meaning.specs.Statements.{most_query_columns}
 use Rattle.name_meaning.specs.Trees.{from_of, item_of, part_of}
 use Rattle.name_meaning.specs.declared.answer.Break.{Break}
@@ -82,7 +82,7 @@ pub record Adds (parts : List Held) (old new : Gathered) : Type 0 where
 -- ---- what FROM, set operations and cores are made of
 
 abbrev pub held_operand : Around → SetStepPart → Held
-held_operand around step = held_query (step.operand.means (unprovable around))
+held_operand around step = held_query (step.operand.means (may_not_ask around))
 
 -- each item behind those of these names
 abbrev pub held_joins : List Scope → Trace → List (List ℕ) → List JoinPart → List Held

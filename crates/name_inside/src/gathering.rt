@@ -12,7 +12,7 @@ ghost use Rattle.name_meaning.specs.Sublinks.{around_of as below};
 use crate::first_pass::{scope_of, width_of};
 use crate::gathered::Gathered;
 use name_meaning::Scope;
-use name_seen_cores::{in_clause, is_proving};
+use name_seen_cores::{asks_provenance, in_clause};
 use name_seen_parts::{Around, Here, inside};
 use perm_values::{Boxed, NoMemory};
 use sql_tree::{
@@ -32,8 +32,8 @@ pub fn query_inside(tree: &QueryTree, around: &Around, found: &mut Gathered) -> 
         None => Ok(()),
         Some(width) => {
             found.add_query(tree.at, width)?;
-            let proving = is_proving(&tree.body, around);
-            set_inside(&tree.body, &around.body(proving), found)?;
+            let asking = asks_provenance(&tree.body, around);
+            set_inside(&tree.body, &around.body(asking), found)?;
             Ok(())
         }
     }

@@ -6,7 +6,7 @@ use mathlib.Core.Bool.{beq}
 use Rattle.null_logic.specs.declared.operator.Operator.TheVariants as x
 use Rattle.perm_values.specs.declared.kind.Kind.{Kind}
 use Rattle.perm_values.specs.declared.kind.Kind.TheVariants.{Integer, Text, Boolean}
-use Rattle.bag_algebra.specs.BuiltForms.{AllStepsHave, AllArmsHave}
+use Rattle.bag_algebra.specs.built.Forms.{AllStepsHave, AllArmsHave}
 use Rattle.bag_algebra.specs.WellFormed.{HasKind, is_additive}
 use Rattle.bag_algebra.specs.declared.expr.Expr.{Expr}
 use Rattle.sql_tree.specs.Regular.{IsFilled, level_of}

@@ -5,8 +5,8 @@ use Rattle.std.proofs.lemmas.List.Elements.{All-append}
 use Rattle.std.specs.List.{list_any, AllByRecursion as Every}
 use Rattle.perm_values.specs.declared.kind.Kind.{Kind}
 use Rattle.perm_values.specs.declared.kind.Kind.TheVariants.{Boolean}
-use Rattle.bag_algebra.specs.Built.{kinds_of-Filter, kinds_of-Aggregate}
-use Rattle.bag_algebra.specs.BuiltForms.{subs_kinds, WellFormed-Filter, WellFormed-Project, WellFormed-Distinct, WellFormed-Aggregate}
+use Rattle.bag_algebra.specs.built.Openings.{kinds_of-Filter, kinds_of-Aggregate}
+use Rattle.bag_algebra.specs.built.Forms.{subs_kinds, WellFormed-Filter, WellFormed-Project, WellFormed-Distinct, WellFormed-Aggregate}
 use Rattle.bag_algebra.specs.Kinds.{kinds_of, kinds_in, width_of}
 use Rattle.bag_algebra.specs.WellFormed.{WellFormed, PlacesIn, AggregatesForm, aggr_form}
 use Rattle.bag_algebra.specs.declared.query.Aggr.{Aggr}

@@ -11,7 +11,7 @@ use Rattle.null_logic.specs.declared.operator.Operator.TheVariants as x
 use Rattle.null_logic.specs.declared.truth.Truth.{Truth}
 use Rattle.perm_values.specs.declared.kind.Kind.{Kind}
 use Rattle.perm_values.specs.declared.kind.Kind.TheVariants.{Integer, Text, Boolean}
-use Rattle.bag_algebra.specs.BuiltForms.{AllHave}
+use Rattle.bag_algebra.specs.built.Forms.{AllHave}
 use Rattle.bag_algebra.specs.WellFormed.{HasKind, is_additive}
 use Rattle.bag_algebra.specs.declared.expr.Expr.{Expr}
 use Rattle.bag_algebra.specs.declared.expr.Expr.TheVariants.{Op, IsNull, IsTruth, Same}

@@ -3,11 +3,11 @@ use Rattle.std.specs.Prelude.{◌≡◌, ℕ, Bool, List, [], ◌∷◌, ◌++�
 use Rattle.std.proofs.Common.{refl, ap, sym, ◌∙◌, append_assoc, append-nil}
 use Rattle.std.proofs.Math.Bool.{and-true, and_assoc}
 use Rattle.perm_values.specs.declared.key.Key.{Key}
-use Rattle.bag_algebra.specs.Built.{shape-Base, shape-Filter, shape-Project, shape-Join, shape-Union, shape-Intersect, shape-Except, shape-Distinct, shape-Aggregate, shape-Limit, shape-Prov}
+use Rattle.bag_algebra.specs.built.Openings.{shape-Base, shape-Filter, shape-Project, shape-Join, shape-Union, shape-Intersect, shape-Except, shape-Distinct, shape-Aggregate, shape-Limit, shape-Prov}
 use Rattle.bag_algebra.specs.Children.{subs_shape}
 use Rattle.bag_algebra.specs.Kinds.{kinds_of, kinds_in}
 use Rattle.bag_algebra.specs.Scoped.{is_table}
-use Rattle.bag_algebra.specs.BuiltScopes.{all_over_tables, all_traceable, over_tables-Base, over_tables-Filter, over_tables-Project, over_tables-Join, over_tables-Union, over_tables-Intersect, over_tables-Except, over_tables-Distinct, over_tables-Aggregate, over_tables-Limit, over_tables-Prov, traceable-Base, traceable-Filter, traceable-Project, traceable-Join, traceable-Union, traceable-Intersect, traceable-Except, traceable-Distinct, traceable-Aggregate, traceable-Limit, traceable-Prov}
+use Rattle.bag_algebra.specs.built.Scopes.{all_over_tables, all_traceable, over_tables-Base, over_tables-Filter, over_tables-Project, over_tables-Join, over_tables-Union, over_tables-Intersect, over_tables-Except, over_tables-Distinct, over_tables-Aggregate, over_tables-Limit, over_tables-Prov, traceable-Base, traceable-Filter, traceable-Project, traceable-Join, traceable-Union, traceable-Intersect, traceable-Except, traceable-Distinct, traceable-Aggregate, traceable-Limit, traceable-Prov}
 use Rattle.bag_algebra.specs.declared.expr.Expr.{Expr}
 use Rattle.bag_algebra.specs.declared.expr.Item.{Item}
 use Rattle.bag_algebra.specs.declared.place.Place.{Place}
@@ -17,7 +17,7 @@ use Rattle.bag_algebra.specs.declared.query.Label.{Label}
 use Rattle.bag_algebra.specs.declared.query.Query.{Query}
 use Rattle.bag_algebra.specs.declared.query.Query.TheVariants.{Base, Filter, Project, Join, Union, Intersect, Except, Distinct, Aggregate, Limit, Prov}
 use Rattle.bag_algebra.specs.declared.query.Sublink.{Sublink}
-use Rattle.name_laws.specs.Facts.{Facts, facts_of, no_facts, both_facts, as_sublink, sub_facts, source_facts, proved_facts}
+use Rattle.name_laws.specs.Facts.{Facts, facts_of, no_facts, both_facts, as_sublink, sub_facts, source_facts, provenance_facts}
 use Rattle.sql_tree.specs.declared.query.SetWord.{SetWord}
 use Rattle.sql_tree.specs.declared.query.SetWord.TheVariants as word
 use Rattle.name_meaning.specs.Cores.{aggregated_input, distinct_if}
@@ -93,7 +93,7 @@ facts-Aggregate input groups aggregates =
 pub facts-Limit : (input : Query) (keys : List Key) (count : ℕ) → facts_of (Limit input keys count) ≡ facts_of input
 facts-Limit input keys count = facts-alike (shape-Limit input keys count) (over_tables-Limit input keys count) (traceable-Limit input keys count)
 
-pub facts-Prov : (input : Query) → facts_of (Prov input) ≡ proved_facts (facts_of input)
+pub facts-Prov : (input : Query) → facts_of (Prov input) ≡ provenance_facts (facts_of input)
 facts-Prov input = facts-alike (shape-Prov input) (over_tables-Prov input) (traceable-Prov input)
 
 -- ---- queries that clauses make

@@ -27,7 +27,7 @@ use Rattle.name_meaning.specs.Cores.{BodyPart, core_over, core_unlooked, core_se
 use Rattle.name_meaning.specs.Froms.{FromItemPart, FromMeant, FromPart, ItemMeant, JoinPart, SourcePart, named as named_source, inner as inner_source, beside_from, both_known, first_item, from_all, from_more, join_all, join_item, named_columns, read_named, read_nothing, read_of, read_table, read_view, settled_columns, trace_under}
 use Rattle.name_meaning.specs.Items.{SelectMeant, SelectPart, Titled, all_known, columns_meant, item_step, named_from, no_columns, titled}
 use Rattle.name_meaning.specs.Meanings.{Around, OutColumn, Part, QueryMeant, Surroundings, is_whole}
-use Rattle.name_meaning.specs.Queries.{SetStepPart, columns_so_far, is_proving, keys_of, limited, plain_query, proved_columns, proved_query, provenance_columns, query_seen, set_chain, set_joined, united_columns, unprovable}
+use Rattle.name_meaning.specs.Queries.{SetStepPart, columns_so_far, asks_provenance, keys_of, limited, plain_query, columns_with_provenance, query_with_provenance, provenance_columns, query_seen, set_chain, set_joined, united_columns, may_not_ask}
 use Rattle.name_meaning.specs.Scopes.{KnownColumn, Placed, ScopeItem, columns_from, is_of_item, item_columns, item_number, numbered_columns, placed, scope_of}
 use Rattle.name_meaning.specs.declared.answer.Break.{Break}
 use Rattle.name_meaning.specs.declared.scope.Scope.{Scope}
@@ -104,7 +104,7 @@ module _ (c : Contents) (sound : IsSound c) where
       → Shown (read_of c m outer trace source).columns
   shown-read_of m outer trace (named_source name) h = shown-named name
   shown-read_of m outer trace (inner_source query) h =
-      let around : Around = record { outer = outer; trace = trace_under m trace; provable = true } in
+      let around : Around = record { outer = outer; trace = trace_under m trace; may_ask = true } in
       shown-under settled_columns settled-filled (query.means around).columns (h around)
 
 -- ---- FROM
@@ -300,10 +300,10 @@ shown-so_far (Some left) (Some right) h = united-filled left right h
 pub shown-chain : (around : Around) (left : QueryMeant) (steps : List SetStepPart) → Shown left.columns → Shown (set_chain around left steps).columns
 shown-chain around left [] h = h
 shown-chain around left (step ∷ steps) h =
-    let right : QueryMeant = step.operand.means (unprovable around) in
+    let right : QueryMeant = step.operand.means (may_not_ask around) in
     shown-chain around (set_joined left step right) steps (shown-so_far left.columns right.columns h)
 
-shown-proved : (body : QueryMeant) (query : Query) → Shown body.columns → Shown (proved_columns body query)
+shown-proved : (body : QueryMeant) (query : Query) → Shown body.columns → Shown (columns_with_provenance body query)
 shown-proved body query h = chosen (is_whole body.breaks) where
   chosen : (b : Bool) → Shown (cond b (option_map (λ columns. columns ++ provenance_columns query) body.columns) body.columns)
   chosen true =
@@ -312,9 +312,9 @@ shown-proved body query h = chosen (is_whole body.breaks) where
 
 pub shown-query_seen : (around : Around) (at : ℕ) (body : BodyPart) (order : List OrderTree) (limit : Option ℤ) → FilledBody body
     → Shown (query_seen around at body order limit).columns
-shown-query_seen around at body order limit h = chosen (is_proving around body) where
+shown-query_seen around at body order limit h = chosen (asks_provenance around body) where
   chosen : (b : Bool) → Shown (cond b
-      (proved_query at (body.means (record around { trace = in_provenance })) order limit
+      (query_with_provenance at (body.means (record around { trace = in_provenance })) order limit
       (limited limit (keys_of (body.means (record around { trace = in_provenance })).columns order) ((body.means (record around { trace = in_provenance })).make [])))
       (plain_query at (body.means around) order limit)).columns
   chosen true =

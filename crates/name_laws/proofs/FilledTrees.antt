@@ -15,7 +15,7 @@ use Rattle.sql_tree.specs.declared.source.JoinStep.{JoinStep}
 use Rattle.name_meaning.specs.Cores.{BodyPart, core_trace, has_some}
 use Rattle.name_meaning.specs.Froms.{JoinPart, first_item, from_all, source_step}
 use Rattle.name_meaning.specs.Meanings.{Around, QueryPart}
-use Rattle.name_meaning.specs.Queries.{set_step, unprovable}
+use Rattle.name_meaning.specs.Queries.{set_step, may_not_ask}
 use Rattle.name_meaning.specs.Trees.{core_of, from_item_of, from_of, item_of, join_of, query_of, set_of_tree, set_step_of, source_of}
 use Rattle.name_laws.proofs.Every.{whole-none}
 use Rattle.name_laws.proofs.Filled.{FilledBody, FilledFrom, FilledItem, FilledSelect, FilledSource, Shown, filled-item_step, filled-map, shown-chain, shown-core_seen, shown-first, shown-from_all, shown-join_all, shown-query_seen, shown-read_of}
@@ -60,7 +60,7 @@ module _ (c : Contents) (sound : IsSound c) where
 
     filled-set : {layer : SetLayer} → RegularSetLayer layer → FilledBody (set_step (shown_set c layer))
     filled-set (regular_set_core core) around = filled-core core around
-    filled-set (regular_set_paren {query = query} q) around = filled-query q (unprovable around)
+    filled-set (regular_set_paren {query = query} q) around = filled-query q (may_not_ask around)
     filled-set (regular_set_chain {first = first} {steps = steps} regular filled each) around =
         shown-chain around ((set_of_tree c first).means around) (map (set_step_of c) steps)
         (subst FilledBody (sym (opened_set c first)) (filled-set regular) around)

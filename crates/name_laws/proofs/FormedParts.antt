@@ -4,7 +4,7 @@ use Rattle.std.proofs.Common.{refl, ap, subst}
 use Rattle.std.proofs.lemmas.List.{length-map, map-append}
 use Rattle.std.proofs.lemmas.List.Elements.{All-nil, All-append}
 use Rattle.perm_values.specs.declared.kind.Kind.{Kind}
-use Rattle.bag_algebra.specs.BuiltForms.{AllSubsForm, subs_kinds}
+use Rattle.bag_algebra.specs.built.Forms.{AllSubsForm, subs_kinds}
 use Rattle.bag_algebra.specs.Kinds.{kinds_of}
 use Rattle.bag_algebra.specs.WellFormed.{AggregatesForm, aggr_form, sub_kind}
 use Rattle.bag_algebra.specs.declared.query.Aggr.{Aggr}

@@ -23,7 +23,7 @@ use Rattle.name_meaning.specs.Expressions.{Body}
 use Rattle.name_meaning.specs.Froms.{from_all, first_item, source_step, scope_name, label_of, read_of}
 use Rattle.name_meaning.specs.Items.{item_step, title}
 use Rattle.name_meaning.specs.Meanings.{Surroundings, Part, Around, QueryPart, query_means_at}
-use Rattle.name_meaning.specs.Queries.{SetStepPart, set_step, unprovable}
+use Rattle.name_meaning.specs.Queries.{SetStepPart, set_step, may_not_ask}
 use Rattle.name_meaning.specs.Trees.{body_of, item_of, set_of_tree, source_of, arm_of, step_of, part_of, core_of, query_of, set_step_of, from_item_of, from_of, join_of}
 use Rattle.name_laws.proofs.Trees.{query-known, core-known}
 use Rattle.name_laws.proofs.Arms.{GoodStep, GoodArm, GoodOptional}
@@ -101,10 +101,10 @@ module _ (c : Contents) (sound : IsSound c) where
             (good-from_all around.outer (core_trace around frame.provenance) frame.sources sources) items condition having);
       }
 
-  paren-body : (query : QueryTree) (around : Around) → GoodQueryMeant (unprovable around) ((query_of c query).means (unprovable around))
-      → GoodBodyMeant around ((query_of c query).means (unprovable around))
+  paren-body : (query : QueryTree) (around : Around) → GoodQueryMeant (may_not_ask around) ((query_of c query).means (may_not_ask around))
+      → GoodBodyMeant around ((query_of c query).means (may_not_ask around))
   unfolding query_means_at
-  paren-body query around good = record { known = query-known c query (unprovable around) sound; formed = good.formed }
+  paren-body query around good = record { known = query-known c query (may_not_ask around) sound; formed = good.formed }
 
   abbrev value_frame : Option Name → Part → SelectItemFrame
   value_frame name part = SelectItem-F.Value part name
@@ -197,7 +197,7 @@ module _ (c : Contents) (sound : IsSound c) where
 
     good-set : {layer : SetLayer} → RegularSetLayer layer → GoodBody (set_step (shown_set c layer))
     good-set (regular_set_core core) around = good-core core around
-    good-set (regular_set_paren {query = query} q) around = paren-body query around (good-query q (unprovable around))
+    good-set (regular_set_paren {query = query} q) around = paren-body query around (good-query q (may_not_ask around))
     good-set (regular_set_chain {first = first} {steps = steps} regular filled each) around =
         good-chain around ((set_of_tree c first).means around) (map (set_step_of c) steps)
         (subst GoodBody (sym (opened_set c first)) (good-set regular) around)

@@ -10,8 +10,8 @@ use Rattle.std.specs.List.{list_any, count_by, range_with_len, AllByRecursion as
 use Rattle.std.specs.Option.{option_map_or}
 use Rattle.perm_values.specs.declared.kind.Kind.{Kind}
 use Rattle.perm_values.specs.declared.kind.Kind.TheVariants.{Boolean}
-use Rattle.bag_algebra.specs.Built.{kinds_of-Join}
-use Rattle.bag_algebra.specs.BuiltForms.{subs_kinds, WellFormed-Base, WellFormed-Join}
+use Rattle.bag_algebra.specs.built.Openings.{kinds_of-Join}
+use Rattle.bag_algebra.specs.built.Forms.{subs_kinds, WellFormed-Base, WellFormed-Join}
 use Rattle.bag_algebra.specs.Kinds.{kinds_of, width_of}
 use Rattle.bag_algebra.specs.WellFormed.{HasKind, WellFormed, PlacesIn, label_width}
 use Rattle.bag_algebra.specs.declared.expr.Expr.{Expr}
@@ -191,7 +191,7 @@ module _ (c : Contents) (sound : IsSound c) where
   pub good-read_of : (m : ScopeMark) (outer : List Scope) (trace : Trace) (source : SourcePart) → GoodSource source → GoodRead outer (read_of c m outer trace source)
   good-read_of m outer trace (named_source name) good = good-read_named outer name
   good-read_of m outer trace (inner_source query) good =
-      let around : Around = record { outer = outer; trace = trace_under m trace; provable = true } in
+      let around : Around = record { outer = outer; trace = trace_under m trace; may_ask = true } in
       good-read_query around (query.means around) (good around)
 
 -- ---- items

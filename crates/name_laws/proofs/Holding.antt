@@ -8,8 +8,8 @@ use Rattle.null_logic.specs.declared.operator.Operator.TheVariants as x
 use Rattle.null_logic.specs.declared.truth.Truth.{Truth}
 use Rattle.perm_values.specs.declared.kind.Kind.{Kind}
 use Rattle.perm_values.specs.declared.kind.Kind.TheVariants.{Integer, Text, Boolean}
-use Rattle.bag_algebra.specs.Built.{row_of_parts, row_of_steps, Chain-is, Case-is, IsNull-is, IsTruth-is, Same-is}
-use Rattle.bag_algebra.specs.BuiltForms.{AllHave, AllStepsHave, AllArmsHave, parts_have-built, steps_have-built, arms_have-built, number_of_parts-built, number_of_steps-built, number_of_arms-built}
+use Rattle.bag_algebra.specs.built.Openings.{row_of_parts, row_of_steps, Chain-is, Case-is, IsNull-is, IsTruth-is, Same-is}
+use Rattle.bag_algebra.specs.built.Forms.{AllHave, AllStepsHave, AllArmsHave, parts_have-built, steps_have-built, arms_have-built, number_of_parts-built, number_of_steps-built, number_of_arms-built}
 use Rattle.bag_algebra.specs.WellFormed.{HasKind, PartsHave, op_form, is_additive, steps_are}
 use Rattle.bag_algebra.specs.declared.expr.Arm.{Arm}
 use Rattle.bag_algebra.specs.declared.expr.ChainStep.{ChainStep}

@@ -6,7 +6,7 @@ use Rattle.std.proofs.lemmas.List.FromFn.{length-range_with_len}
 use Rattle.std.specs.List.{list_any}
 use Rattle.std.specs.Option.{option_map_or}
 use Rattle.perm_values.specs.declared.kind.Kind.TheVariants as kind
-use Rattle.bag_algebra.specs.Built.{kinds_of-Join, shape-Base}
+use Rattle.bag_algebra.specs.built.Openings.{kinds_of-Join, shape-Base}
 use Rattle.bag_algebra.specs.Kinds.{kinds_of, shape}
 use Rattle.bag_algebra.specs.WellFormed.{label_width}
 use Rattle.bag_algebra.specs.declared.query.JoinKind.TheVariants as join
@@ -135,8 +135,8 @@ module _ (c : Contents) where
   pub good-read_of : (m : ScopeMark) (outer : List Scope) (trace : Trace) (source : SourcePart) → GoodSource source → GoodRead (read_of c m outer trace source)
   good-read_of m outer trace (named_source name) good = good-read_named name
   good-read_of m outer trace (inner_source query) good =
-      good-read_query (query.means (record { outer = outer; trace = trace_under m trace; provable = true }))
-      (good (record { outer = outer; trace = trace_under m trace; provable = true }))
+      good-read_query (query.means (record { outer = outer; trace = trace_under m trace; may_ask = true }))
+      (good (record { outer = outer; trace = trace_under m trace; may_ask = true }))
 
   -- ---- items
 

@@ -3,7 +3,7 @@ use Rattle.std.specs.Prelude.{◌≡◌, ℕ, ℤ, Bool, true, false, cond, List
 use Rattle.std.proofs.Common.{ap, sym, ◌∙◌, subst}
 use Rattle.perm_values.specs.declared.key.Key.{Key}
 use Rattle.perm_values.specs.declared.kind.Kind.{Kind}
-use Rattle.bag_algebra.specs.Built.{kinds_of-Prov}
+use Rattle.bag_algebra.specs.built.Openings.{kinds_of-Prov}
 use Rattle.bag_algebra.specs.Kinds.{kinds_of, shape, place_kinds}
 use Rattle.bag_algebra.specs.PlaceNames.{place_names}
 use Rattle.bag_algebra.specs.declared.place.Place.{Place}
@@ -13,9 +13,9 @@ use Rattle.sql_tree.specs.declared.query.SetWord.TheVariants as word
 use Rattle.name_meaning.specs.Cores.{BodyPart, settle, settle_known}
 use Rattle.name_meaning.specs.Froms.{named_columns}
 use Rattle.name_meaning.specs.Meanings.{Around, OutColumn, QueryMeant}
-use Rattle.name_meaning.specs.Queries.{SetStepPart, united_columns, columns_so_far, operand_breaks, set_joined, unprovable, set_chain, keys_of, keys_breaks, limited, out_column, provenance_columns, plain_query, proved_query, is_proving, query_seen}
+use Rattle.name_meaning.specs.Queries.{SetStepPart, united_columns, columns_so_far, operand_breaks, set_joined, may_not_ask, set_chain, keys_of, keys_breaks, limited, out_column, provenance_columns, plain_query, query_with_provenance, asks_provenance, query_seen}
 use Rattle.name_meaning.specs.declared.trace.Trace.TheVariants.{InProvenance as in_provenance}
-use Rattle.name_laws.specs.Facts.{Facts, facts_of, both_facts, proved_facts}
+use Rattle.name_laws.specs.Facts.{Facts, facts_of, both_facts, provenance_facts}
 use Rattle.name_laws.specs.Known.{HasItsKinds}
 use Rattle.name_laws.proofs.Every.{Every, every-append, front-none, back-none}
 use Rattle.name_laws.proofs.FactsOf.{facts-Prov, facts-set, facts-limited}
@@ -71,8 +71,8 @@ module _ (Sound : Type 0) where
   pub good-chain : (around : Around) (left : QueryMeant) (steps : List SetStepPart) → GoodQuery Sound left → Every GoodOperand steps → GoodQuery Sound (set_chain around left steps)
   good-chain around left [] l h = l
   good-chain around left (step ∷ steps) l h =
-      let right : QueryMeant = step.operand.means (unprovable around) in
-      good-chain around (set_joined left step right) steps (good-joined left right step l (h.0 (unprovable around))) h.1
+      let right : QueryMeant = step.operand.means (may_not_ask around) in
+      good-chain around (set_joined left step right) steps (good-joined left right step l (h.0 (may_not_ask around))) h.1
 
   -- ---- ORDER BY and LIMIT
 
@@ -96,9 +96,9 @@ module _ (Sound : Type 0) where
       settle-known columns (named_columns (place_names places) (place_kinds places)) wanted
       ∙ ap (λ (kinds : List Kind). settle columns wanted ++ kinds) (kinds-named_columns (place_names places) (place_kinds places) (length-place_names places named))
 
-  pub good-proved_query : (at : ℕ) (body : QueryMeant) (order : List OrderTree) (limit : Option ℤ) → GoodQuery Sound body
-      → GoodQuery Sound (proved_query at body order limit (limited limit (keys_of body.columns order) (body.make [])))
-  good-proved_query at body order limit good =
+  pub good-query_with_provenance : (at : ℕ) (body : QueryMeant) (order : List OrderTree) (limit : Option ℤ) → GoodQuery Sound body
+      → GoodQuery Sound (query_with_provenance at body order limit (limited limit (keys_of body.columns order) (body.make [])))
+  good-query_with_provenance at body order limit good =
       let keys : List Key = keys_of body.columns order in
       let query : List Kind → Query = λ w. limited limit keys (body.make w) in
       let steady : (w v : List Kind) → facts_of (query w) ≡ facts_of (query v) =
@@ -117,16 +117,16 @@ module _ (Sound : Type 0) where
                   ∙ (λ i. (kinds-limited limit keys (body.make wanted) ∙ inner.kinds wanted) i ++ place_kinds (steady wanted [] i).places)
                   ∙ sym (kinds-proved inner.columns (shape (query [])) wanted (named sound));
             };
-        steady = λ w v. facts-Prov (query w) ∙ ap proved_facts (steady w v) ∙ sym (facts-Prov (query v));
+        steady = λ w v. facts-Prov (query w) ∙ ap provenance_facts (steady w v) ∙ sym (facts-Prov (query v));
         named = λ sound w. subst (λ (facts : Facts). AreNamed facts.places) (sym (facts-Prov (query w))) tt;
       }
 
   pub good-query_seen : (around : Around) (at : ℕ) (body : BodyPart) (order : List OrderTree) (limit : Option ℤ) → GoodBody body
       → GoodQuery Sound (query_seen around at body order limit)
-  good-query_seen around at body order limit good = chosen (is_proving around body) where
+  good-query_seen around at body order limit good = chosen (asks_provenance around body) where
     chosen : (b : Bool) → GoodQuery Sound (cond b
-        (proved_query at (body.means (record around { trace = in_provenance })) order limit
+        (query_with_provenance at (body.means (record around { trace = in_provenance })) order limit
         (limited limit (keys_of (body.means (record around { trace = in_provenance })).columns order) ((body.means (record around { trace = in_provenance })).make [])))
         (plain_query at (body.means around) order limit))
-    chosen true = good-proved_query at (body.means (record around { trace = in_provenance })) order limit (good (record around { trace = in_provenance }))
+    chosen true = good-query_with_provenance at (body.means (record around { trace = in_provenance })) order limit (good (record around { trace = in_provenance }))
     chosen false = good-plain_query at (body.means around) order limit (good around)

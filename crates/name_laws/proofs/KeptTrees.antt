@@ -22,7 +22,7 @@ use Rattle.name_meaning.specs.Froms.{source_step, from_all, first_item, label_of
 use Rattle.name_meaning.specs.Items.{item_step, title}
 use Rattle.name_meaning.specs.Meanings.{Surroundings, Part}
 use Rattle.name_meaning.specs.Operands.{operand}
-use Rattle.name_meaning.specs.Queries.{set_step, unprovable}
+use Rattle.name_meaning.specs.Queries.{set_step, may_not_ask}
 use Rattle.name_meaning.specs.Scopes.{look_up}
 use Rattle.name_meaning.specs.Sublinks.{null_at, around_of, exists_meant, scalar_meant}
 use Rattle.name_meaning.specs.declared.need.Gives.TheVariants.{Always as always, Common as common}
@@ -129,7 +129,7 @@ module _ (c : Contents) where
 
   good-set : (frame : SetTreeFrame) → PartsOfSet frame → kept_queries.GoodBody S (set_step frame)
   good-set (SetTree-F.Core core) h around = h around
-  good-set (SetTree-F.«SetTree::Paren» inner) h around = h (unprovable around)
+  good-set (SetTree-F.«SetTree::Paren» inner) h around = h (may_not_ask around)
   good-set (SetTree-F.«SetTree::Chain» first steps) h around = kept_queries.good-chain S around (first.means around) steps (h.0 around) h.1
 
   good-source : (frame : FromSourceFrame) → PartsOfSource frame → kept_froms.GoodSource c (source_step frame)

@@ -5,7 +5,7 @@ use Rattle.std.specs.Option.{option_map_or}
 use Rattle.perm_values.specs.declared.key.Key.{Key}
 use Rattle.perm_values.specs.declared.kind.Kind.{Kind}
 use Rattle.perm_values.specs.declared.kind.Kind.TheVariants as kind
-use Rattle.bag_algebra.specs.Built.{kinds_of-Base, kinds_of-Union, kinds_of-Intersect, kinds_of-Except, kinds_of-Limit}
+use Rattle.bag_algebra.specs.built.Openings.{kinds_of-Base, kinds_of-Union, kinds_of-Intersect, kinds_of-Except, kinds_of-Limit}
 use Rattle.bag_algebra.specs.Kinds.{kinds_of}
 use Rattle.bag_algebra.specs.declared.query.Label.TheVariants.{Relation, External}
 use Rattle.bag_algebra.specs.declared.query.Query.{Query}
@@ -20,7 +20,7 @@ use Rattle.sql_tree.specs.declared.source.ScopeMark.TheVariants as mark
 use Rattle.name_meaning.specs.Cores.{settle}
 use Rattle.name_meaning.specs.Froms.{names_of, names_at, all_places, table_columns, settled_columns, Read, external, place_of, texts_of, marked}
 use Rattle.name_meaning.specs.Meanings.{OutColumn, settled, QueryMeant, is_whole}
-use Rattle.name_meaning.specs.Queries.{set_of, limited, columns_so_far, united_columns, proved_columns, provenance_columns}
+use Rattle.name_meaning.specs.Queries.{set_of, limited, columns_so_far, united_columns, columns_with_provenance, provenance_columns}
 use Rattle.name_meaning.specs.Scopes.{ScopeItem}
 use Rattle.name_laws.specs.Known.{column_kinds_of, items_kinds}
 use Rattle.name_meaning.specs.Items.{Titled}
@@ -53,7 +53,7 @@ pub columns-joined : (l r : Option (List OutColumn)) (left right : List OutColum
 columns-joined l r left right e f = λ i. columns_so_far (e i) (f i)
 
 pub known-proved : (body : QueryMeant) (query : Query) (columns : List OutColumn) → body.breaks ≡ [] → body.columns ≡ Some columns
-    → proved_columns body query ≡ Some (columns ++ provenance_columns query)
+    → columns_with_provenance body query ≡ Some (columns ++ provenance_columns query)
 known-proved body query columns whole known =
     ap (λ (breaks : List Break). cond (is_whole breaks) (option_map (λ (own : List OutColumn). own ++ provenance_columns query) body.columns) body.columns) whole
     ∙ ap (option_map (λ (own : List OutColumn). own ++ provenance_columns query)) known

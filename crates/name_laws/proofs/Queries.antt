@@ -7,8 +7,8 @@ use Rattle.std.specs.List.{count_by, AllByRecursion as Every}
 use Rattle.perm_values.specs.declared.key.Key.{Key}
 use Rattle.perm_values.specs.declared.kind.Kind.{Kind}
 use Rattle.perm_values.specs.declared.kind.Kind.TheVariants.{Text}
-use Rattle.bag_algebra.specs.Built.{kinds_of-Prov}
-use Rattle.bag_algebra.specs.BuiltForms.{WellFormed-Union, WellFormed-Intersect, WellFormed-Except, WellFormed-Limit, WellFormed-Prov}
+use Rattle.bag_algebra.specs.built.Openings.{kinds_of-Prov}
+use Rattle.bag_algebra.specs.built.Forms.{WellFormed-Union, WellFormed-Intersect, WellFormed-Except, WellFormed-Limit, WellFormed-Prov}
 use Rattle.bag_algebra.specs.Kinds.{kinds_of, width_of, shape, place_kinds}
 use Rattle.bag_algebra.specs.WellFormed.{WellFormed, PlacesIn, KeysIn}
 use Rattle.bag_algebra.specs.declared.query.Query.{Query}
@@ -21,7 +21,7 @@ use Rattle.sql_tree.specs.declared.query.SetWord.{SetWord}
 use Rattle.sql_tree.specs.declared.query.SetWord.TheVariants as word
 use Rattle.name_meaning.specs.Cores.{BodyPart, settle, settle_known}
 use Rattle.name_meaning.specs.Meanings.{Around, OutColumn, QueryMeant, broken, broken_if, unites}
-use Rattle.name_meaning.specs.Queries.{SetStepPart, set_of, united_columns, do_unite, operand_break, operand_breaks, columns_so_far, set_joined, unprovable, set_chain, is_named, is_position, key_break, key_place, key_of, keys_of, keys_breaks, limited, count_columns, plain_query, proved_query, is_proving, query_seen}
+use Rattle.name_meaning.specs.Queries.{SetStepPart, set_of, united_columns, do_unite, operand_break, operand_breaks, columns_so_far, set_joined, may_not_ask, set_chain, is_named, is_position, key_break, key_place, key_of, keys_of, keys_breaks, limited, count_columns, plain_query, query_with_provenance, asks_provenance, query_seen}
 use Rattle.name_meaning.specs.declared.answer.Break.{Break}
 use Rattle.name_meaning.specs.declared.trace.Trace.TheVariants.{InProvenance as in_provenance}
 use Rattle.name_laws.specs.Known.{HasItsKinds}
@@ -101,7 +101,7 @@ joined-parts left right step l r whole =
       columns = λ i. columns_so_far (a.known i) (b.known i);
     }
 
-good-joined : (around : Around) (left right : QueryMeant) (step : SetStepPart) → GoodBodyMeant around left → GoodBodyMeant (unprovable around) right
+good-joined : (around : Around) (left right : QueryMeant) (step : SetStepPart) → GoodBodyMeant around left → GoodBodyMeant (may_not_ask around) right
     → GoodBodyMeant around (set_joined left step right)
 good-joined around left right step l r = record {
   known = λ whole.
@@ -130,8 +130,8 @@ pub good-chain : (around : Around) (left : QueryMeant) (steps : List SetStepPart
     → Every (λ (step : SetStepPart). GoodBody step.operand) steps → GoodBodyMeant around (set_chain around left steps)
 good-chain around left [] l h = l
 good-chain around left (step ∷ steps) l h =
-    let right : QueryMeant = step.operand.means (unprovable around) in
-    good-chain around (set_joined left step right) steps (good-joined around left right step l (h.0 (unprovable around))) h.1
+    let right : QueryMeant = step.operand.means (may_not_ask around) in
+    good-chain around (set_joined left step right) steps (good-joined around left right step l (h.0 (may_not_ask around))) h.1
 
 -- ---- ORDER BY and LIMIT
 
@@ -219,7 +219,7 @@ width-proved query = ap length (kinds_of-Prov query) ∙ length-append (kinds_of
 
 good-proved : (around : Around) (at : ℕ) (body : QueryMeant) (order : List OrderTree) (limit : Option ℤ) → IfThere IsTokenNumber limit
     → GoodBodyMeant around body
-    → GoodQueryMeant around (proved_query at body order limit (limited limit (keys_of body.columns order) (body.make [])))
+    → GoodQueryMeant around (query_with_provenance at body order limit (limited limit (keys_of body.columns order) (body.make [])))
 good-proved around at body order limit fits good =
     let own : List Break = keys_breaks body.columns order in
     let keys : List Key = keys_of body.columns order in
@@ -248,9 +248,9 @@ good-proved around at body order limit fits good =
 
 pub good-query_seen : (around : Around) (at : ℕ) (body : BodyPart) (order : List OrderTree) (limit : Option ℤ) → IfThere IsTokenNumber limit → GoodBody body
     → GoodQueryMeant around (query_seen around at body order limit)
-good-query_seen around at body order limit fits good = chosen (is_proving around body) where
+good-query_seen around at body order limit fits good = chosen (asks_provenance around body) where
   chosen : (b : Bool) → GoodQueryMeant around (cond b
-      (proved_query at (body.means (record around { trace = in_provenance })) order limit
+      (query_with_provenance at (body.means (record around { trace = in_provenance })) order limit
       (limited limit (keys_of (body.means (record around { trace = in_provenance })).columns order) ((body.means (record around { trace = in_provenance })).make [])))
       (plain_query at (body.means around) order limit))
   chosen true = moved (good-proved (record around { trace = in_provenance }) at (body.means (record around { trace = in_provenance })) order limit fits (good (record around { trace = in_provenance }))) where

@@ -17,7 +17,7 @@ use Rattle.name_meaning.specs.Cores.{BodyPart, settle_known, in_clause, optional
 use Rattle.name_meaning.specs.Froms.{FromMeant}
 use Rattle.name_meaning.specs.Items.{Made, SelectPart, made_items, items_inside}
 use Rattle.name_meaning.specs.Meanings.{Surroundings, Part, Around, Built, QueryMeant, is_whole}
-use Rattle.name_meaning.specs.Queries.{SetStepPart, set_of, columns_so_far, set_joined, unprovable, set_chain, keys_of, limited, plain_query, proved_query, is_proving, query_seen}
+use Rattle.name_meaning.specs.Queries.{SetStepPart, set_of, columns_so_far, set_joined, may_not_ask, set_chain, keys_of, limited, plain_query, query_with_provenance, asks_provenance, query_seen}
 use Rattle.name_meaning.specs.Scopes.{ScopeItem, scope_of}
 use Rattle.name_meaning.specs.Sublinks.{nothing_before}
 use Rattle.name_meaning.specs.declared.answer.Break.{Break}
@@ -128,27 +128,27 @@ module _ (P : List (List ℕ) → ℕ → List Kind → Type 0) (g : Grows P) wh
       → QueryReads P g (set_chain around left steps)
   reads-chain around left [] l h = l
   reads-chain around left (step ∷ steps) l h =
-      let right : QueryMeant = step.operand.means (unprovable around) in
-      reads-chain around (set_joined left step right) steps (reads-joined left right step l (h.0 (unprovable around))) h.1
+      let right : QueryMeant = step.operand.means (may_not_ask around) in
+      reads-chain around (set_joined left step right) steps (reads-joined left right step l (h.0 (may_not_ask around))) h.1
 
   reads-plain_query : (at : ℕ) (body : QueryMeant) (order : List OrderTree) (limit : Option ℤ) → QueryReads P g body
       → QueryReads P g (plain_query at body order limit)
   reads-plain_query at body order limit good w = reads-limited (P body.inside.names) limit (keys_of body.columns order) (body.make w) (good w)
 
-  reads-proved_query : (at : ℕ) (body : QueryMeant) (order : List OrderTree) (limit : Option ℤ) (query : Query) → QueryReads P g body
-      → QueryReads P g (proved_query at body order limit query)
-  reads-proved_query at body order limit query good w =
+  reads-query_with_provenance : (at : ℕ) (body : QueryMeant) (order : List OrderTree) (limit : Option ℤ) (query : Query) → QueryReads P g body
+      → QueryReads P g (query_with_provenance at body order limit query)
+  reads-query_with_provenance at body order limit query good w =
       reads-Prov (P body.inside.names) (limited limit (keys_of body.columns order) (body.make w))
       (reads-limited (P body.inside.names) limit (keys_of body.columns order) (body.make w) (good w))
 
   pub reads-query_seen : (around : Around) (at : ℕ) (body : BodyPart) (order : List OrderTree) (limit : Option ℤ) → BodyReads body
       → QueryReads P g (query_seen around at body order limit)
-  reads-query_seen around at body order limit good = chosen (is_proving around body) where
+  reads-query_seen around at body order limit good = chosen (asks_provenance around body) where
     chosen : (b : Bool) → QueryReads P g (cond b
-        (proved_query at (body.means (record around { trace = in_provenance })) order limit
+        (query_with_provenance at (body.means (record around { trace = in_provenance })) order limit
         (limited limit (keys_of (body.means (record around { trace = in_provenance })).columns order) ((body.means (record around { trace = in_provenance })).make [])))
         (plain_query at (body.means around) order limit))
-    chosen true = reads-proved_query at (body.means (record around { trace = in_provenance })) order limit
+    chosen true = reads-query_with_provenance at (body.means (record around { trace = in_provenance })) order limit
         (limited limit (keys_of (body.means (record around { trace = in_provenance })).columns order) ((body.means (record around { trace = in_provenance })).make []))
         (good (record around { trace = in_provenance }))
     chosen false = reads-plain_query at (body.means around) order limit (good around)

@@ -89,7 +89,7 @@ module _ (P : List (List ℕ) → ℕ → List Kind → Type 0) (g : Grows P) wh
     pub reads-read_of : (m : ScopeMark) (outer : List Scope) (t : Trace) (source : SourcePart) → SourceReads source → ReadHolds (read_of c m outer t source)
     reads-read_of m outer t (named_source name) good = reads-named name
     reads-read_of m outer t (inner_source query) good =
-        reads-query (query.means (record { outer = outer; trace = trace_under m t; provable = true })) (good (record { outer = outer; trace = trace_under m t; provable = true }))
+        reads-query (query.means (record { outer = outer; trace = trace_under m t; may_ask = true })) (good (record { outer = outer; trace = trace_under m t; may_ask = true }))
 
   -- ---- items and joins
 

@@ -3,7 +3,7 @@ use Rattle.std.specs.Prelude.{ℕ, Bool, true, false, cond, List, [], ◌∷◌,
 use Rattle.std.specs.Option.{option_map_or}
 use Rattle.null_logic.specs.declared.operator.Operator.{Operator}
 use Rattle.perm_values.specs.declared.kind.Kind.{Kind}
-use Rattle.bag_algebra.specs.BuiltForms.{EachTableOfSubs}
+use Rattle.bag_algebra.specs.built.Forms.{EachTableOfSubs}
 use Rattle.bag_algebra.specs.TablesRead.{EachTable}
 use Rattle.bag_algebra.specs.declared.expr.Expr.{Expr}
 use Rattle.bag_algebra.specs.declared.query.SubKind.{SubKind}

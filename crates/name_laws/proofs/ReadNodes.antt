@@ -4,7 +4,7 @@ use Rattle.std.proofs.Common.{◌≡◌, sym, subst}
 use Rattle.perm_values.specs.declared.key.Key.{Key}
 use Rattle.perm_values.specs.declared.kind.Kind.{Kind}
 use Rattle.bag_algebra.proofs.TablesRead.{each_table-kept}
-use Rattle.bag_algebra.specs.BuiltForms.{EachTableOfSubs, EachTable-Base, EachTable-Filter, EachTable-Project, EachTable-Join, EachTable-Union, EachTable-Intersect, EachTable-Except, EachTable-Distinct, EachTable-Aggregate, EachTable-Limit, EachTable-Prov}
+use Rattle.bag_algebra.specs.built.Forms.{EachTableOfSubs, EachTable-Base, EachTable-Filter, EachTable-Project, EachTable-Join, EachTable-Union, EachTable-Intersect, EachTable-Except, EachTable-Distinct, EachTable-Aggregate, EachTable-Limit, EachTable-Prov}
 use Rattle.bag_algebra.specs.TablesRead.{EachTable}
 use Rattle.bag_algebra.specs.declared.expr.Expr.{Expr}
 use Rattle.bag_algebra.specs.declared.expr.Item.{Item}

@@ -18,7 +18,7 @@ use Rattle.name_meaning.specs.Froms.{source_step, from_all, first_item, label_of
 use Rattle.name_meaning.specs.Items.{item_step, title}
 use Rattle.name_meaning.specs.Meanings.{Surroundings, Part}
 use Rattle.name_meaning.specs.Operands.{operand}
-use Rattle.name_meaning.specs.Queries.{set_step, unprovable}
+use Rattle.name_meaning.specs.Queries.{set_step, may_not_ask}
 use Rattle.name_meaning.specs.Scopes.{look_up}
 use Rattle.name_meaning.specs.Sublinks.{null_at, around_of, exists_meant, scalar_meant}
 use Rattle.name_meaning.specs.declared.need.Gives.TheVariants.{Always as always, Common as common}
@@ -120,7 +120,7 @@ module _ (P : List (List ℕ) → ℕ → List Kind → Type 0) (g : Grows P) (c
 
   reads-set : (frame : SetTreeFrame) → PartsOfSet frame → BodyReads P g (set_step frame)
   reads-set (SetTree-F.Core core) h around = h around
-  reads-set (SetTree-F.«SetTree::Paren» inner) h around = h (unprovable around)
+  reads-set (SetTree-F.«SetTree::Paren» inner) h around = h (may_not_ask around)
   reads-set (SetTree-F.«SetTree::Chain» first steps) h around = reads-chain P g around (first.means around) steps (h.0 around) h.1
 
   reads-source : (frame : FromSourceFrame) → PartsOfSource frame → SourceReads P g (source_step frame)

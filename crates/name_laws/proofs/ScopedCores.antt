@@ -16,7 +16,7 @@ use Rattle.name_meaning.specs.Cores.{BodyPart, settle_known, in_clause, optional
 use Rattle.name_meaning.specs.Froms.{FromMeant}
 use Rattle.name_meaning.specs.Items.{Made, SelectPart, made_items, items_breaks}
 use Rattle.name_meaning.specs.Meanings.{Surroundings, Part, Around, QueryMeant, is_whole, broken, broken_if, seen_kind, unites}
-use Rattle.name_meaning.specs.Queries.{SetStepPart, set_of, columns_so_far, operand_breaks, set_joined, unprovable, set_chain, keys_of, keys_breaks, limited, plain_query, proved_query, is_proving, query_seen}
+use Rattle.name_meaning.specs.Queries.{SetStepPart, set_of, columns_so_far, operand_breaks, set_joined, may_not_ask, set_chain, keys_of, keys_breaks, limited, plain_query, query_with_provenance, asks_provenance, query_seen}
 use Rattle.name_meaning.specs.Scopes.{ScopeItem, scope_of}
 use Rattle.name_meaning.specs.Sublinks.{nothing_before}
 use Rattle.name_meaning.specs.declared.answer.Break.{Break}
@@ -49,7 +49,7 @@ scope-limited t (Some n) keys query h = scope-Limit t query keys (nat_abs n) h
 
 -- a word that stands rightly leaves the trace as it is
 same-trace : (around : Around) (at : Option ℕ) → word_breaks around at ≡ [] → core_trace around at ≡ around.trace
-same-trace around at e = chosen around.provable at e where
+same-trace around at e = chosen around.may_ask at e where
   chosen : (b : Bool) (at : Option ℕ) → cond b [] (option_map_or (λ n. broken rule.MisplacedProvenance n ∷ []) at []) ≡ []
       → cond (not b && is_some at) untraced around.trace ≡ around.trace
   chosen true None e = refl
@@ -150,28 +150,28 @@ module _ (Sound : Type 0) where
       → QueryFits Sound around.trace (set_chain around left steps)
   fits-chain around left [] l h = l
   fits-chain around left (step ∷ steps) l h =
-      let right : QueryMeant = step.operand.means (unprovable around) in
-      fits-chain around (set_joined left step right) steps (fits-joined around.trace left right step l (h.0 (unprovable around))) h.1
+      let right : QueryMeant = step.operand.means (may_not_ask around) in
+      fits-chain around (set_joined left step right) steps (fits-joined around.trace left right step l (h.0 (may_not_ask around))) h.1
 
   fits-plain_query : (t : Trace) (at : ℕ) (body : QueryMeant) (order : List OrderTree) (limit : Option ℤ) → QueryFits Sound t body
       → QueryFits Sound t (plain_query at body order limit)
   fits-plain_query t at body order limit good sound whole w =
       scope-limited t limit (keys_of body.columns order) (body.make w) (good sound (front-none body.breaks (keys_breaks body.columns order) whole) w)
 
-  fits-proved_query : (t : Trace) (at : ℕ) (body : QueryMeant) (order : List OrderTree) (limit : Option ℤ) (query : Query) → QueryFits Sound in_provenance body
-      → QueryFits Sound t (proved_query at body order limit query)
-  fits-proved_query t at body order limit query good sound whole w =
+  fits-query_with_provenance : (t : Trace) (at : ℕ) (body : QueryMeant) (order : List OrderTree) (limit : Option ℤ) (query : Query) → QueryFits Sound in_provenance body
+      → QueryFits Sound t (query_with_provenance at body order limit query)
+  fits-query_with_provenance t at body order limit query good sound whole w =
       scope-Prov t (limited limit (keys_of body.columns order) (body.make w))
       (scope-limited in_provenance limit (keys_of body.columns order) (body.make w) (good sound (front-none body.breaks (keys_breaks body.columns order) whole) w))
 
   pub fits-query_seen : (around : Around) (at : ℕ) (body : BodyPart) (order : List OrderTree) (limit : Option ℤ) → BodyFits body
       → QueryFits Sound around.trace (query_seen around at body order limit)
-  fits-query_seen around at body order limit good = chosen (is_proving around body) where
+  fits-query_seen around at body order limit good = chosen (asks_provenance around body) where
     chosen : (b : Bool) → QueryFits Sound around.trace (cond b
-        (proved_query at (body.means (record around { trace = in_provenance })) order limit
+        (query_with_provenance at (body.means (record around { trace = in_provenance })) order limit
         (limited limit (keys_of (body.means (record around { trace = in_provenance })).columns order) ((body.means (record around { trace = in_provenance })).make [])))
         (plain_query at (body.means around) order limit))
-    chosen true = fits-proved_query around.trace at (body.means (record around { trace = in_provenance })) order limit
+    chosen true = fits-query_with_provenance around.trace at (body.means (record around { trace = in_provenance })) order limit
         (limited limit (keys_of (body.means (record around { trace = in_provenance })).columns order) ((body.means (record around { trace = in_provenance })).make []))
         (good (record around { trace = in_provenance }))
     chosen false = fits-plain_query around.trace at (body.means around) order limit (good around)

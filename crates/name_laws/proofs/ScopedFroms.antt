@@ -15,7 +15,7 @@ use Rattle.perm_catalog.specs.Sound.{IsSound, IsSoundView}
 use Rattle.perm_catalog.specs.declared.entries.Mark.{Mark}
 use Rattle.perm_catalog.specs.declared.entries.TableEntry.{TableEntry}
 use Rattle.perm_catalog.specs.declared.entries.ViewEntry.{ViewEntry}
-use Rattle.bag_algebra.specs.BuiltScopes.{is_scoped-Base, traceable-Base}
+use Rattle.bag_algebra.specs.built.Scopes.{is_scoped-Base, traceable-Base}
 use Rattle.sql_tree.specs.declared.name.Name.{Name}
 use Rattle.sql_tree.specs.declared.source.JoinWord.{JoinWord}
 use Rattle.sql_tree.specs.declared.source.ScopeMark.{ScopeMark}
@@ -137,8 +137,8 @@ module _ (c : Contents) where
   pub fits-read_of : (m : ScopeMark) (outer : List Scope) (t : Trace) (source : SourcePart) → SourceFits source → ReadFits (trace_under m t) (read_of c m outer t source)
   fits-read_of m outer t (named_source name) good = fits-read_named (trace_under m t) name
   fits-read_of m outer t (inner_source query) good =
-      fits-read_query (trace_under m t) (query.means (record { outer = outer; trace = trace_under m t; provable = true }))
-      (good (record { outer = outer; trace = trace_under m t; provable = true }))
+      fits-read_query (trace_under m t) (query.means (record { outer = outer; trace = trace_under m t; may_ask = true }))
+      (good (record { outer = outer; trace = trace_under m t; may_ask = true }))
 
   -- ---- items and joins
 

@@ -11,12 +11,12 @@ use Rattle.bag_algebra.specs.declared.query.Query.{Query}
 use Rattle.bag_algebra.specs.declared.query.Query.TheVariants.{Filter, Project, Join, Union, Intersect, Except, Distinct, Aggregate, Limit, Prov}
 use Rattle.bag_algebra.specs.declared.query.Sublink.{Sublink}
 use Rattle.perm_values.specs.declared.key.Key.{Key}
-use Rattle.bag_algebra.specs.BuiltScopes.{all_scoped, is_scoped-Filter, is_scoped-Project, is_scoped-Join, is_scoped-Union, is_scoped-Intersect, is_scoped-Except, is_scoped-Distinct, is_scoped-Aggregate, is_scoped-Limit, is_scoped-Prov}
+use Rattle.bag_algebra.specs.built.Scopes.{all_scoped, is_scoped-Filter, is_scoped-Project, is_scoped-Join, is_scoped-Union, is_scoped-Intersect, is_scoped-Except, is_scoped-Distinct, is_scoped-Aggregate, is_scoped-Limit, is_scoped-Prov}
 use Rattle.name_meaning.specs.Froms.{is_out_of_scope}
 use Rattle.name_meaning.specs.Meanings.{trace_below}
 use Rattle.name_meaning.specs.declared.trace.Trace.{Trace}
 use Rattle.name_meaning.specs.declared.trace.Trace.TheVariants.{Untraced as untraced, InProvenance as in_provenance, TracedSublink as traced_sublink}
-use Rattle.name_laws.specs.Facts.{Facts, facts_of, no_facts, both_facts, as_sublink, sub_facts, proved_facts}
+use Rattle.name_laws.specs.Facts.{Facts, facts_of, no_facts, both_facts, as_sublink, sub_facts, provenance_facts}
 use Rattle.name_laws.specs.Traced.{MayBeTraced, IsInScope, AreInScope}
 use Rattle.name_laws.proofs.FactsOf.{sub_facts-append, facts-Filter, facts-Project, facts-Join_alone, facts-Union, facts-Intersect, facts-Except, facts-Distinct, facts-Aggregate, facts-Limit, facts-Prov}
 use Rattle.name_laws.proofs.Every.{left-false, right-false}
@@ -41,7 +41,7 @@ traced-below untraced facts f = tt
 traced-below in_provenance facts f = both-true f.0 f.1
 traced-below traced_sublink facts f = (f.0, both-true f.0 f.1)
 
-traced-proved : (t : Trace) (facts : Facts) → facts.traceable ≡ true → MayBeTraced t (proved_facts facts)
+traced-proved : (t : Trace) (facts : Facts) → facts.traceable ≡ true → MayBeTraced t (provenance_facts facts)
 traced-proved untraced facts f = tt
 traced-proved in_provenance facts f = f
 traced-proved traced_sublink facts f = (refl, f)

@@ -4,7 +4,7 @@ use Rattle.std.proofs.Common.{refl, ap, sym, ◌∙◌, subst, true≢false, ari
 use Rattle.null_logic.specs.declared.compare.Compare.{Compare}
 use Rattle.perm_values.specs.declared.kind.Kind.{Kind}
 use Rattle.perm_values.specs.declared.kind.Kind.TheVariants.{Text, Boolean}
-use Rattle.bag_algebra.specs.BuiltForms.{subs_kinds}
+use Rattle.bag_algebra.specs.built.Forms.{subs_kinds}
 use Rattle.bag_algebra.specs.Kinds.{kinds_of, kind_in, width_of}
 use Rattle.bag_algebra.specs.WellFormed.{HasKind, WellFormed, PlacesIn, AggregatesForm, sub_form, sub_kind}
 use Rattle.bag_algebra.specs.declared.expr.Expr.{Expr}

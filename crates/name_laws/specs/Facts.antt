@@ -42,5 +42,5 @@ abbrev pub source_facts : Place → Bool → Facts
 source_facts place reads_table = record { places = place ∷ []; over_tables = reads_table; traceable = true }
 
 -- of a query that gives its provenance as columns
-abbrev pub proved_facts : Facts → Facts
-proved_facts facts = record { places = []; over_tables = true; traceable = facts.traceable }
+abbrev pub provenance_facts : Facts → Facts
+provenance_facts facts = record { places = []; over_tables = true; traceable = facts.traceable }

@@ -1,7 +1,7 @@
 -- What is made of a clause's expressions, sublinks and aggregates is well formed where it stands.
 use Rattle.std.specs.Prelude.{◌≡◌, false, List, [], length, Some, IfSome}
 use Rattle.perm_values.specs.declared.kind.Kind.{Kind}
-use Rattle.bag_algebra.specs.BuiltForms.{AllSubsForm, subs_kinds}
+use Rattle.bag_algebra.specs.built.Forms.{AllSubsForm, subs_kinds}
 use Rattle.bag_algebra.specs.Kinds.{width_of}
 use Rattle.bag_algebra.specs.WellFormed.{HasKind, AggregatesForm, KeysIn, PlacesIn}
 use Rattle.bag_algebra.specs.declared.query.Aggr.{Aggr}

@@ -6,7 +6,7 @@ use Rattle.bag_algebra.specs.declared.query.Query.{Query}
 use Rattle.bag_algebra.specs.declared.query.Sublink.{Sublink}
 use Rattle.name_meaning.specs.declared.trace.Trace.{Trace}
 use Rattle.name_meaning.specs.declared.trace.Trace.TheVariants.{Untraced as untraced, InProvenance as in_provenance, TracedSublink as traced_sublink}
-use Rattle.bag_algebra.specs.BuiltScopes.{all_scoped}
+use Rattle.bag_algebra.specs.built.Scopes.{all_scoped}
 use Rattle.name_laws.specs.Facts.{Facts, facts_of, sub_facts}
 
 abbrev pub MayBeTraced : Trace → Facts → Type 0

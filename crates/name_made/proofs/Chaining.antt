@@ -7,7 +7,7 @@ use Rattle.perm_catalog.specs.Contents.{Contents}
 use Rattle.perm_values.specs.declared.kind.Kind.{Kind}
 use Rattle.sql_tree.specs.declared.query.SetStep.{SetStep}
 use Rattle.name_meaning.specs.Meanings.{Around, QueryMeant}
-use Rattle.name_meaning.specs.Queries.{SetStepPart, set_chain, set_joined, set_of, unprovable}
+use Rattle.name_meaning.specs.Queries.{SetStepPart, set_chain, set_joined, set_of, may_not_ask}
 use Rattle.name_meaning.specs.Trees.{set_of_tree, set_step_of}
 use Rattle.name_made_nodes.specs.Chained.{Serves}
 use Rattle.name_made_nodes.specs.Makes.{MakesQuery}
@@ -24,13 +24,13 @@ pub chain-step : (c : Contents) (around : Around) (meant : QueryMeant) (kinds : 
     → i < length steps → step ≡ get_or steps i step
     → Serves (set_chain around meant (map (set_step_of c) steps)) kinds
     → MakesQuery (set_chain around meant (map (set_step_of c) (take i steps))) kinds before
-    → MakesQuery ((set_of_tree c step.operand).means (unprovable around)) kinds operand
+    → MakesQuery ((set_of_tree c step.operand).means (may_not_ask around)) kinds operand
     → after ≡ set_of step.word step.all before operand
     → MakesQuery (set_chain around meant (map (set_step_of c) (take (i + 1) steps))) kinds after
 chain-step c around meant kinds steps i step before operand after within is serves of_left of_right made =
     let left = set_chain around meant (map (set_step_of c) (take i steps)) in
     let part = set_step_of c step in
-    let right = part.operand.means (unprovable around) in
+    let right = part.operand.means (may_not_ask around) in
     let joined : set_chain around meant (map (set_step_of c) (take (i + 1) steps)) ≡ set_joined left part right =
     ap (set_chain around meant) (mapped (set_step_of c) steps i step within is) ∙ chain-append around meant (map (set_step_of c) (take i steps)) (part ∷ []) in
     let whole : map (set_step_of c) steps ≡ map (set_step_of c) (take (i + 1) steps) ++ map (set_step_of c) (drop (i + 1) steps) =
@@ -40,7 +40,7 @@ chain-step c around meant kinds steps i step before operand after within is serv
     (subst (λ (m : QueryMeant). Serves m kinds)
     (ap (set_chain around meant) whole ∙ chain-append around meant (map (set_step_of c) (take (i + 1) steps)) (map (set_step_of c) (drop (i + 1) steps))) serves) in
     let of_right : MakesQuery right kinds operand =
-    subst (λ (s : SetStepPart). MakesQuery (s.operand.means (unprovable around)) kinds operand) (sym (step-is c step)) of_right in
+    subst (λ (s : SetStepPart). MakesQuery (s.operand.means (may_not_ask around)) kinds operand) (sym (step-is c step)) of_right in
     subst (λ (m : QueryMeant). MakesQuery m kinds after) (sym joined)
     (record {
       makes = λ none.

@@ -38,8 +38,8 @@ pub(crate) fn core_made(core: &Core, wanted: &[Kind], around: &Around) -> Result
         alloc: around.alloc,
         catalog: &*around.catalog,
         outer: &*around.outer,
-        trace: core_trace(around.trace, around.provable, core.provenance),
-        provable: around.provable,
+        trace: core_trace(around.trace, around.may_ask, core.provenance),
+        may_ask: around.may_ask,
     };
     match scope_or_none(core.sources.as_slice(), &inner)? {
         None => Ok(Query::Single),

@@ -395,7 +395,7 @@ fn linked(
         catalog: &*here.catalog,
         outer: &*here.scopes,
         trace: trace_below(here.standing.trace),
-        provable: false,
+        may_ask: false,
     };
     let query = query_made(query, wanted, &around);
     sublink_of(kind, tested, query, found)

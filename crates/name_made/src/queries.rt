@@ -12,7 +12,7 @@ use crate::cores::core_made;
 use bag_algebra::Query;
 use name_made_nodes::{finished_of, with_operand};
 use name_made_parts::{chain_kinds, limit_keys, trace_inside};
-use name_seen_cores::is_proving;
+use name_seen_cores::asks_provenance;
 use name_seen_parts::Around;
 use perm_values::{Kind, NoMemory};
 use sql_tree::{QueryTree, SetStep, SetTree};
@@ -25,13 +25,13 @@ pub fn query_made(tree: &QueryTree, wanted: &[Kind], around: &Around) -> Result<
     ensures { IfOk result (λ query. MakesQuery
         (query_means_at (query_of around.now.catalog.now tree.now) (around_of around.now)) wanted.now query) }
 {
-    let with_provenance = is_proving(&tree.body, around);
+    let with_provenance = asks_provenance(&tree.body, around);
     let inner = Around {
         alloc: around.alloc,
         catalog: &*around.catalog,
         outer: &*around.outer,
         trace: trace_inside(around.trace, with_provenance),
-        provable: around.provable,
+        may_ask: around.may_ask,
     };
     let keys = limit_keys(tree, &inner)?;
     let body = set_made(&tree.body, wanted, &inner);
@@ -53,7 +53,7 @@ fn set_made(tree: &SetTree, wanted: &[Kind], around: &Around) -> Result<Query, N
                 catalog: &*around.catalog,
                 outer: &*around.outer,
                 trace: around.trace,
-                provable: false,
+                may_ask: false,
             };
             query_made(query.get(), wanted, &inner)
         }
@@ -94,7 +94,7 @@ fn chained(
         catalog: &*around.catalog,
         outer: &*around.outer,
         trace: around.trace,
-        provable: false,
+        may_ask: false,
     };
     let mut whole = first;
     for step in steps {

@@ -149,7 +149,7 @@ fn item_made(item: &FromItem, around: &Around) -> Result<Query, NoMemory>
                 catalog: &*around.catalog,
                 outer: &*around.outer,
                 trace: trace_under(&item.mark, around.trace),
-                provable: true,
+                may_ask: true,
             };
             let tree = query.get();
             let shown = shown_names(tree, &inner)?;

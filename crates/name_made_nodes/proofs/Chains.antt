@@ -6,7 +6,7 @@ use Rattle.perm_values.specs.declared.kind.Kind.{Kind}
 use Rattle.perm_values.specs.declared.kind.Kind.TheVariants as kind
 use Rattle.name_meaning.specs.Cores.{settle, settle_known}
 use Rattle.name_meaning.specs.Meanings.{Around, OutColumn, QueryMeant, settled, united_kind}
-use Rattle.name_meaning.specs.Queries.{SetStepPart, columns_so_far, operand_breaks, set_chain, set_joined, set_of, united_columns, unprovable}
+use Rattle.name_meaning.specs.Queries.{SetStepPart, columns_so_far, operand_breaks, set_chain, set_joined, set_of, united_columns, may_not_ask}
 use Rattle.name_made_nodes.specs.Chained.{Serves}
 use Rattle.name_made_nodes.specs.Makes.{MakesQuery}
 use Rattle.name_made_nodes.proofs.Parts.{none-first, none-second}
@@ -64,7 +64,7 @@ serves-first left step right kinds s =
 pub serves-so-far : (around : Around) (left : QueryMeant) (steps : List SetStepPart) (kinds : List Kind) → Serves (set_chain around left steps) kinds → Serves left kinds
 serves-so-far around left [] kinds s = s
 serves-so-far around left (step ∷ steps) kinds s =
-    let right = step.operand.means (unprovable around) in
+    let right = step.operand.means (may_not_ask around) in
     serves-first left step right kinds (serves-so-far around (set_joined left step right) steps kinds s)
 
 pub right-whole : (left : QueryMeant) (step : SetStepPart) (right : QueryMeant) (kinds : List Kind) → Serves (set_joined left step right) kinds → right.breaks ≡ []
@@ -85,7 +85,7 @@ joined-made left step right kinds a b s of_left of_right =
 pub chain-append : (around : Around) (left : QueryMeant) (steps more : List SetStepPart)
     → set_chain around left (steps ++ more) ≡ set_chain around (set_chain around left steps) more
 chain-append around left [] more = refl
-chain-append around left (step ∷ steps) more = chain-append around (set_joined left step (step.operand.means (unprovable around))) steps more
+chain-append around left (step ∷ steps) more = chain-append around (set_joined left step (step.operand.means (may_not_ask around))) steps more
 
 -- ---- kinds, one after the other
 

@@ -14,7 +14,7 @@ use Rattle.sql_tree.specs.declared.query.SetTree.{SetTree}
 use Rattle.sql_tree.specs.declared.query.SetTree.TheVariants as set
 use Rattle.name_meaning.specs.Cores.{BodyPart, settle, settle_known}
 use Rattle.name_meaning.specs.Meanings.{Around, OutColumn, QueryMeant, query_means_at}
-use Rattle.name_meaning.specs.Queries.{SetStepPart, is_proving, keys_breaks, keys_of, limited, query_seen, set_chain, set_joined, set_of, unprovable}
+use Rattle.name_meaning.specs.Queries.{SetStepPart, asks_provenance, keys_breaks, keys_of, limited, query_seen, set_chain, set_joined, set_of, may_not_ask}
 use Rattle.name_meaning.specs.Trees.{core_of, query_of, set_of_tree, set_step_of}
 use Rattle.name_meaning.specs.declared.answer.Break.{Break}
 use Rattle.name_meaning.specs.declared.trace.Trace.TheVariants.{InProvenance}
@@ -49,9 +49,9 @@ settles-so m columns wanted kinds whole known is =
 pub chain-settled : (around : Around) (left : QueryMeant) (step : SetStepPart) (steps : List SetStepPart) (wanted : List Kind)
     → (set_chain around left (step ∷ steps)).make (settle_known (set_chain around left (step ∷ steps)).columns wanted) ≡ (set_chain around left (step ∷ steps)).make wanted
 chain-settled around left step [] wanted =
-    let right = step.operand.means (unprovable around) in
+    let right = step.operand.means (may_not_ask around) in
     ap (λ (kinds : List Kind). set_of step.word step.all (left.make kinds) (right.make kinds)) (settled-known (set_joined left step right).columns wanted)
-chain-settled around left step (next ∷ steps) wanted = chain-settled around (set_joined left step (step.operand.means (unprovable around))) next steps wanted
+chain-settled around left step (next ∷ steps) wanted = chain-settled around (set_joined left step (step.operand.means (may_not_ask around))) next steps wanted
 
 -- ---- trees
 
@@ -92,7 +92,7 @@ core-is c around tree core wanted query is makes =
     subst (λ (body : BodyPart). MakesQuery (body.means around) wanted query) (sym (ap (set_of_tree c) is ∙ settree-core c core)) makes
 
 pub paren-is : (c : Contents) (around : Around) (tree : SetTree) (inner : QueryTree) (wanted : List Kind) (query : Query) → tree ≡ set.Paren inner
-    → MakesQuery (query_means_at (query_of c inner) (unprovable around)) wanted query → MakesQuery ((set_of_tree c tree).means around) wanted query
+    → MakesQuery (query_means_at (query_of c inner) (may_not_ask around)) wanted query → MakesQuery ((set_of_tree c tree).means around) wanted query
 unfolding token query_means_at
 paren-is c around tree inner wanted query is makes =
     subst (λ (body : BodyPart). MakesQuery (body.means around) wanted query) (sym (ap (set_of_tree c) is ∙ settree-paren c inner)) makes
@@ -104,10 +104,10 @@ step-is c step = setstep-record c step.word step.all step.at step.operand
 -- ---- queries
 
 abbrev pub inside : Bool → Around → Around
-inside with_provenance around = record { outer = around.outer; trace = cond with_provenance InProvenance around.trace; provable = around.provable }
+inside with_provenance around = record { outer = around.outer; trace = cond with_provenance InProvenance around.trace; may_ask = around.may_ask }
 
 of-provenance : (around : Around) (at : ℕ) (body : BodyPart) (order : List OrderTree) (limit : Option ℤ) (wanted : List Kind) (with_provenance : Bool) (keys : List Key) (made query : Query)
-    → is_proving around body ≡ with_provenance
+    → asks_provenance around body ≡ with_provenance
     → ((q : Query) → (body.means (inside with_provenance around)).breaks ≡ [] → limited limit keys q ≡ limited limit (keys_of (body.means (inside with_provenance around)).columns order) q)
     → MakesQuery (body.means (inside with_provenance around)) wanted made
     → query ≡ cond with_provenance (Prov (limited limit keys made)) (limited limit keys made)
@@ -130,7 +130,7 @@ of-provenance around at body order limit wanted false keys made query asks keyed
     })
 
 pub query-is : (c : Contents) (around : Around) (tree : QueryTree) (wanted : List Kind) (with_provenance : Bool) (keys : List Key) (made query : Query)
-    → with_provenance ≡ is_proving around (set_of_tree c tree.body)
+    → with_provenance ≡ asks_provenance around (set_of_tree c tree.body)
     → ((q : Query) → ((set_of_tree c tree.body).means (inside with_provenance around)).breaks ≡ []
     → limited tree.limit keys q ≡ limited tree.limit (keys_of ((set_of_tree c tree.body).means (inside with_provenance around)).columns tree.order) q)
     → MakesQuery ((set_of_tree c tree.body).means (inside with_provenance around)) wanted made

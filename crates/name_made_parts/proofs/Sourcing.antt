@@ -243,10 +243,10 @@ item-named c outer trace item name made is makes earlier =
     (item-so item.at item.mark trace earlier (scope_name (named_source name) item.alias) name.text (read_named c name) made makes)
 
 pub item-inner : (c : Contents) (outer : List Scope) (trace : Trace) (item : FromItem) (query : QueryTree) (made : Query) → item.source ≡ source.Inner query
-    → ((query_means_at (query_of c query) (record { outer = outer; trace = trace_under item.mark trace; provable = true })).breaks ≡ []
+    → ((query_means_at (query_of c query) (record { outer = outer; trace = trace_under item.mark trace; may_ask = true })).breaks ≡ []
     → made ≡ marked item.mark (option_map_or text_of item.alias [])
-    (read_names (read_query (query_means_at (query_of c query) (record { outer = outer; trace = trace_under item.mark trace; provable = true }))))
-    (read_query (query_means_at (query_of c query) (record { outer = outer; trace = trace_under item.mark trace; provable = true }))))
+    (read_names (read_query (query_means_at (query_of c query) (record { outer = outer; trace = trace_under item.mark trace; may_ask = true }))))
+    (read_query (query_means_at (query_of c query) (record { outer = outer; trace = trace_under item.mark trace; may_ask = true }))))
     → (earlier : List (List ℕ)) → MakesSource ((from_item_of c item).means outer trace earlier) made
 unfolding token query_means_at
 item-inner c outer trace item query made is makes earlier =

@@ -181,10 +181,10 @@ core_over outer trace word_breaks input has_from is_distinct items condition gro
 
 -- PROVENANCE stands wrongly where it isn't the word of a whole query; such a core isn't traced
 abbrev pub is_misplaced : Around → Option ℕ → Bool
-is_misplaced around word = not around.provable && is_some word
+is_misplaced around word = not around.may_ask && is_some word
 
 abbrev pub word_breaks : Around → Option ℕ → List Break
-word_breaks around word = cond around.provable [] (option_map_or (λ at. broken rule.MisplacedProvenance at ∷ []) word [])
+word_breaks around word = cond around.may_ask [] (option_map_or (λ at. broken rule.MisplacedProvenance at ∷ []) word [])
 
 abbrev pub core_trace : Around → Option ℕ → Trace
 core_trace around word = cond (is_misplaced around word) untraced around.trace

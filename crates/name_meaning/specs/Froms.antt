@@ -195,7 +195,7 @@ pub record FromItemPart : Type 0 where
 abbrev pub read_of : Contents → ScopeMark → List Scope → Trace → SourcePart → Read
 read_of c mark outer trace (named name) = read_named c name
 read_of c mark outer trace (inner query) =
-    read_query (query.means (record { outer = outer; trace = trace_under mark trace; provable = true }))
+    read_query (query.means (record { outer = outer; trace = trace_under mark trace; may_ask = true }))
 
 -- the table's or view's name, or the subquery's alias
 abbrev pub label_of : SourcePart → Option Name → List ℕ

@@ -90,7 +90,7 @@ means_at part here = part.means here
 pub record Around : Type 0 where
   pub outer : List Scope
   pub trace : Trace
-  pub provable : Bool
+  pub may_ask : Bool
 
 pub record OutColumn : Type 0 where
   pub name : List ℕ

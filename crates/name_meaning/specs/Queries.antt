@@ -71,16 +71,16 @@ set_joined left step right = record {
 }
 
 -- behind a first operand, the word PROVENANCE doesn't stand
-abbrev pub unprovable : Around → Around
-unprovable around = record around { provable = false }
+abbrev pub may_not_ask : Around → Around
+may_not_ask around = record around { may_ask = false }
 
 abbrev pub set_chain : Around → QueryMeant → List SetStepPart → QueryMeant
 set_chain around left [] = left
-set_chain around left (step ∷ steps) = set_chain around (set_joined left step (step.operand.means (unprovable around))) steps
+set_chain around left (step ∷ steps) = set_chain around (set_joined left step (step.operand.means (may_not_ask around))) steps
 
 abbrev pub set_step : {B I F A U P G J K : Type 0} → SetTree-F B I BodyPart F A U P BodyPart QueryPart SetStepPart G J K → BodyPart
 set_step (SetTree-F.Core core) = core
-set_step (SetTree-F.«SetTree::Paren» query) = record { word = None; means = λ around. query.means (unprovable around) }
+set_step (SetTree-F.«SetTree::Paren» query) = record { word = None; means = λ around. query.means (may_not_ask around) }
 set_step (SetTree-F.«SetTree::Chain» first steps) = record {
   word = first.word;
   means = λ around. set_chain around (first.means around) steps;
@@ -152,28 +152,28 @@ plain_query at body order limit = record {
 }
 
 -- the columns with those of the places, which are known where the query is whole
-abbrev pub proved_columns : QueryMeant → Query → Option (List OutColumn)
-proved_columns body query =
+abbrev pub columns_with_provenance : QueryMeant → Query → Option (List OutColumn)
+columns_with_provenance body query =
     cond (is_whole body.breaks) (option_map (λ columns. columns ++ provenance_columns query) body.columns) body.columns
 
-abbrev pub proved_query : ℕ → QueryMeant → List OrderTree → Option ℤ → Query → QueryMeant
-proved_query at body order limit query = record {
+abbrev pub query_with_provenance : ℕ → QueryMeant → List OrderTree → Option ℤ → Query → QueryMeant
+query_with_provenance at body order limit query = record {
   breaks = body.breaks ++ keys_breaks body.columns order;
-  columns = proved_columns body query;
+  columns = columns_with_provenance body query;
   places = Some (provenance_places (count_columns body.columns) query);
   keys = keys_of body.columns order;
-  inside = both_inside (record { queries = (at, count_columns (proved_columns body query)) ∷ []; names = [] }) body.inside;
+  inside = both_inside (record { queries = (at, count_columns (columns_with_provenance body query)) ∷ []; names = [] }) body.inside;
   make = λ wanted. Prov (limited limit (keys_of body.columns order) (body.make wanted));
 }
 
 -- the word behind the first SELECT of a whole query asks for the provenance of all of it
-abbrev pub is_proving : Around → BodyPart → Bool
-is_proving around body = around.provable && is_some body.word
+abbrev pub asks_provenance : Around → BodyPart → Bool
+asks_provenance around body = around.may_ask && is_some body.word
 
 abbrev pub query_seen : Around → ℕ → BodyPart → List OrderTree → Option ℤ → QueryMeant
-query_seen around at body order limit = cond (is_proving around body)
+query_seen around at body order limit = cond (asks_provenance around body)
     (let m = body.means (record around { trace = in_provenance }) in
-    proved_query at m order limit (limited limit (keys_of m.columns order) (m.make [])))
+    query_with_provenance at m order limit (limited limit (keys_of m.columns order) (m.make [])))
     (plain_query at (body.means around) order limit)
 
 abbrev pub query_step : {B I F A U P C Q W G J K : Type 0} → QueryTree-F B I BodyPart F A U P C Q W G J K → QueryPart

@@ -42,7 +42,7 @@ use Rattle.name_meaning.specs.declared.rule.Rule.TheVariants as rule
 
 -- a whole query sees no scope, and the word PROVENANCE may stand in it
 abbrev pub alone : Around
-alone = record { outer = []; trace = untraced; provable = true }
+alone = record { outer = []; trace = untraced; may_ask = true }
 
 abbrev pub query_meant : Contents → QueryTree → QueryMeant
 query_meant c tree = query_means_at (query_of c tree) alone

@@ -134,7 +134,7 @@ aggregate_meant here at word (Some argument) = aggregated here at word argument.
 
 -- a sublink sees all scopes around it, and the word PROVENANCE doesn't stand in it
 abbrev pub around_of : Surroundings → Around
-around_of here = record { outer = here.scopes; trace = trace_below here.trace; provable = false }
+around_of here = record { outer = here.scopes; trace = trace_below here.trace; may_ask = false }
 
 abbrev pub sub_built : SubKind → Option Expr → Before → QueryMeant → List Kind → Built
 sub_built sub tested before query wanted = record {

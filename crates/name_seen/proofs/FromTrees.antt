@@ -51,7 +51,7 @@ named-read c mark outer trace tree name is =
     ∙ ap (λ (part : SourcePart). read_of c mark outer trace part) (fromsource-named c name)
 
 pub inner-read : (c : Contents) (mark : ScopeMark) (outer : List Scope) (trace : Trace) (tree : FromSource) (query : QueryTree) → tree ≡ source.Inner query
-    → read_of c mark outer trace (source_of c tree) ≡ read_query (query_means_at (query_of c query) (record { outer = outer; trace = trace_under mark trace; provable = true }))
+    → read_of c mark outer trace (source_of c tree) ≡ read_query (query_means_at (query_of c query) (record { outer = outer; trace = trace_under mark trace; may_ask = true }))
 unfolding token query_means_at
 inner-read c mark outer trace tree query is =
     ap (λ (s : FromSource). read_of c mark outer trace (source_of c s)) is

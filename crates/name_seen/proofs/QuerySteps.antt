@@ -7,7 +7,7 @@ use Rattle.sql_tree.specs.declared.query.OrderTree.{OrderTree}
 use Rattle.sql_tree.specs.declared.query.QueryTree.{QueryTree}
 use Rattle.name_meaning.specs.Cores.{BodyPart}
 use Rattle.name_meaning.specs.Meanings.{Around, QueryMeant, query_means_at}
-use Rattle.name_meaning.specs.Queries.{is_proving, keys_breaks, query_seen}
+use Rattle.name_meaning.specs.Queries.{asks_provenance, keys_breaks, query_seen}
 use Rattle.name_meaning.specs.Trees.{query_of, set_of_tree}
 use Rattle.name_meaning.specs.declared.answer.Break.{Break}
 use Rattle.name_laws.specs.Known.{HasItsKinds}
@@ -30,42 +30,42 @@ paren-refused m old new (Broken b) broken = broken
 paren-refused m old new NoMemory broken = tt
 
 -- a query whose body was refused
-body-refused : (proving : Bool) (at : ℕ) (body : QueryMeant) (order : List OrderTree) (limit : Option ℤ) (old new : Gathered) (refusal : Refusal)
-    → ColumnsSeen body old new (Err refusal) → QuerySeen (query_behind proving at body order limit) (Err refusal)
+body-refused : (asking : Bool) (at : ℕ) (body : QueryMeant) (order : List OrderTree) (limit : Option ℤ) (old new : Gathered) (refusal : Refusal)
+    → ColumnsSeen body old new (Err refusal) → QuerySeen (query_behind asking at body order limit) (Err refusal)
 body-refused false at body order limit old new (Broken b) broken = first-stays body.breaks (keys_breaks body.columns order) (tt {0}) (tt {0}) b broken
 body-refused true at body order limit old new (Broken b) broken = first-stays body.breaks (keys_breaks body.columns order) (tt {0}) (tt {0}) b broken
-body-refused proving at body order limit old new NoMemory broken = tt
+body-refused asking at body order limit old new NoMemory broken = tt
 
-behind-is : (around : Around) (at : ℕ) (body : BodyPart) (order : List OrderTree) (limit : Option ℤ) (proving : Bool) → proving ≡ is_proving around body
-    → query_seen around at body order limit ≡ query_behind proving at (body.means (around_body proving around)) order limit
-behind-is around at body order limit proving is =
+behind-is : (around : Around) (at : ℕ) (body : BodyPart) (order : List OrderTree) (limit : Option ℤ) (asking : Bool) → asking ≡ asks_provenance around body
+    → query_seen around at body order limit ≡ query_behind asking at (body.means (around_body asking around)) order limit
+behind-is around at body order limit asking is =
     ap (λ (b : Bool). cond b (query_behind true at (body.means (around_body true around)) order limit) (query_behind false at (body.means around) order limit)) (sym is)
-    ∙ by-proving proving where
-      by-proving : (b : Bool) → cond b (query_behind true at (body.means (around_body true around)) order limit) (query_behind false at (body.means around) order limit)
+    ∙ by-asking asking where
+      by-asking : (b : Bool) → cond b (query_behind true at (body.means (around_body true around)) order limit) (query_behind false at (body.means around) order limit)
           ≡ query_behind b at (body.means (around_body b around)) order limit
-      by-proving true = refl
-      by-proving false = refl
+      by-asking true = refl
+      by-asking false = refl
 
-module _ (c : Contents) (tree : QueryTree) (around : Around) (proving : Bool) where
+module _ (c : Contents) (tree : QueryTree) (around : Around) (asking : Bool) where
   -- the query over its body
   abbrev pub body_meant : QueryMeant
-  body_meant = (set_of_tree c tree.body).means (around_body proving around)
+  body_meant = (set_of_tree c tree.body).means (around_body asking around)
 
   abbrev pub meant : QueryMeant
-  meant = query_behind proving tree.at body_meant tree.order tree.limit
+  meant = query_behind asking tree.at body_meant tree.order tree.limit
 
-  pub meant-is : proving ≡ is_proving around (set_of_tree c tree.body) → query_means_at (query_of c tree) around ≡ meant
-  meant-is is = query-means c tree around ∙ behind-is around tree.at (set_of_tree c tree.body) tree.order tree.limit proving is
+  pub meant-is : asking ≡ asks_provenance around (set_of_tree c tree.body) → query_means_at (query_of c tree) around ≡ meant
+  meant-is is = query-means c tree around ∙ behind-is around tree.at (set_of_tree c tree.body) tree.order tree.limit asking is
 
-  pub kinds-known : proving ≡ is_proving around (set_of_tree c tree.body) → IsSound c → meant.breaks ≡ [] → HasItsKinds meant
+  pub kinds-known : asking ≡ asks_provenance around (set_of_tree c tree.body) → IsSound c → meant.breaks ≡ [] → HasItsKinds meant
   kinds-known is sound whole =
       subst HasItsKinds (meant-is is) (query-known c tree around sound (ap (λ (m : QueryMeant). m.breaks) (meant-is is) ∙ whole))
 
-  pub query-refused : proving ≡ is_proving around (set_of_tree c tree.body) → (old new : Gathered) (refusal : Refusal) → ColumnsSeen body_meant old new (Err refusal)
+  pub query-refused : asking ≡ asks_provenance around (set_of_tree c tree.body) → (old new : Gathered) (refusal : Refusal) → ColumnsSeen body_meant old new (Err refusal)
       → QuerySeen (query_means_at (query_of c tree) around) (Err refusal)
   query-refused is old new refusal broken =
-      subst (λ (m : QueryMeant). QuerySeen m (Err refusal)) (sym (meant-is is)) (body-refused proving tree.at body_meant tree.order tree.limit old new refusal broken)
+      subst (λ (m : QueryMeant). QuerySeen m (Err refusal)) (sym (meant-is is)) (body-refused asking tree.at body_meant tree.order tree.limit old new refusal broken)
 
-  pub query-answered : proving ≡ is_proving around (set_of_tree c tree.body) → (result : Result QueryShown Refusal) → QuerySeen meant result
+  pub query-answered : asking ≡ asks_provenance around (set_of_tree c tree.body) → (result : Result QueryShown Refusal) → QuerySeen meant result
       → QuerySeen (query_means_at (query_of c tree) around) result
   query-answered is result shown = subst (λ (m : QueryMeant). QuerySeen m result) (sym (meant-is is)) shown

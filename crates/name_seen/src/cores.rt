@@ -36,7 +36,7 @@ pub(crate) fn core_seen(
     ensures { ColumnsSeen ((core_of around.now.catalog.now core.now).means (around_of around.now)) facts.old
         facts.new result }
 {
-    word_break(around.provable, core.provenance)?;
+    word_break(around.may_ask, core.provenance)?;
     let own = from_scope(core.sources.as_slice(), around, facts)?;
     core_clauses(core, own, around, facts)
 }

@@ -6,7 +6,7 @@ ghost use Rattle.name_seen_parts.specs.Standing.{around_of};
 ghost use Rattle.name_seen_from.specs.Queried.{QuerySeen};
 
 use crate::sets::set_seen;
-use name_seen_cores::{is_proving, query_over};
+use name_seen_cores::{asks_provenance, query_over};
 use name_seen_from::{Facts, QueryShown};
 use name_seen_parts::{Around, Refusal};
 use sql_tree::QueryTree;
@@ -18,8 +18,8 @@ pub fn query_seen(tree: &QueryTree, around: &Around) -> Result<QueryShown, Refus
     ensures { QuerySeen (query_means_at (query_of around.now.catalog.now tree.now) (around_of around.now))
         result }
 {
-    let proving = is_proving(&tree.body, around);
+    let asking = asks_provenance(&tree.body, around);
     let mut facts = Facts::none(around.alloc);
-    let columns = set_seen(&tree.body, &around.body(proving), &mut facts)?;
-    query_over(around.alloc, tree.order.as_slice(), proving, columns, facts)
+    let columns = set_seen(&tree.body, &around.body(asking), &mut facts)?;
+    query_over(around.alloc, tree.order.as_slice(), asking, columns, facts)
 }

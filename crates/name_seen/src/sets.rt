@@ -2,7 +2,7 @@
 ghost use Rattle.std.specs.Prelude.{map};
 ghost use Rattle.perm_catalog.specs.Sound.{IsSound};
 ghost use Rattle.name_meaning.specs.Meanings.{QueryMeant};
-ghost use Rattle.name_meaning.specs.Queries.{set_chain, set_joined, unprovable};
+ghost use Rattle.name_meaning.specs.Queries.{set_chain, set_joined, may_not_ask};
 ghost use Rattle.name_meaning.specs.Trees.{set_of_tree, set_step_of};
 ghost use Rattle.name_seen_parts.specs.Standing.{around_of};
 ghost use Rattle.name_seen_from.specs.Queried.{ColumnsSeen};
@@ -71,7 +71,7 @@ fn operand_seen(
     requires { IsSound around.now.catalog.now }
     ensures { (left : QueryMeant) (before : Gathered) → ColumnsSeen left before facts.old so_far
         → ColumnsSeen (set_joined left (set_step_of around.now.catalog.now step.now)
-        ((set_step_of around.now.catalog.now step.now).operand.means (unprovable (around_of around.now))))
+        ((set_step_of around.now.catalog.now step.now).operand.means (may_not_ask (around_of around.now))))
         before facts.new result }
 {
     match so_far {

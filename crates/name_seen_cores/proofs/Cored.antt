@@ -2,7 +2,7 @@
 use Rattle.std.specs.Prelude.{◌≡◌, ℕ, Bool, true, false, cond, List, [], ◌∷◌, ◌++◌, flat_map, map, Option, Some, None, option_map, Ok, Err}
 use Rattle.std.specs.Option.{option_map_or}
 use Rattle.std.proofs.Common.{refl, ap, sym, ◌∙◌}
-use Rattle.bag_algebra.specs.Built.{Distinct-is, Project_with-is}
+use Rattle.bag_algebra.specs.built.Openings.{Distinct-is, Project_with-is}
 use Rattle.bag_algebra.specs.Scoped.{is_table}
 use Rattle.bag_algebra.specs.declared.expr.Item.{Item}
 use Rattle.bag_algebra.specs.declared.query.Aggr.{Aggr}
@@ -88,8 +88,8 @@ pub word-fine : (around : Around) (word : Option ℕ) → first_or (word_breaks 
 word-fine around word fine = none-broken (word_breaks around word) tt tt fine
 
 pub trace-kept : (around : Around) (word : Option ℕ) → first_or (word_breaks around word) (tt {0}) ≡ Ok (tt {0}) → core_trace around word ≡ around.trace
-trace-kept around word fine = by-word around.provable word refl fine where
-  by-word : (provable : Bool) (word : Option ℕ) → around.provable ≡ provable → first_or (word_breaks around word) (tt {0}) ≡ Ok (tt {0}) → core_trace around word ≡ around.trace
+trace-kept around word fine = by-word around.may_ask word refl fine where
+  by-word : (may_ask : Bool) (word : Option ℕ) → around.may_ask ≡ may_ask → first_or (word_breaks around word) (tt {0}) ≡ Ok (tt {0}) → core_trace around word ≡ around.trace
   by-word true word e fine = rw e refl
   by-word false None e fine = rw e refl
   by-word false (Some at) e fine = absurd (cc (rw e at fine))

@@ -9,7 +9,7 @@ use Rattle.sql_tree.specs.declared.query.SetTree.{SetTree}
 use Rattle.sql_tree.specs.declared.query.SetTree.TheVariants as set
 use Rattle.name_meaning.specs.Cores.{BodyPart}
 use Rattle.name_meaning.specs.Meanings.{Around, QueryPart, query_means_at}
-use Rattle.name_meaning.specs.Queries.{SetStepPart, query_seen, set_chain, unprovable}
+use Rattle.name_meaning.specs.Queries.{SetStepPart, query_seen, set_chain, may_not_ask}
 use Rattle.name_meaning.specs.Trees.{core_of, query_of, set_of_tree, set_step_of}
 use Rattle.name_meaning.proofs.Equations.{token, querytree-record, setstep-record, settree-chain, settree-core, settree-paren}
 use Rattle.name_meaning.proofs.Opened.{core-is}
@@ -21,7 +21,7 @@ unfolding token
 set-is c tree core is = ap (set_of_tree c) is ∙ settree-core c core
 
 pub paren-means : (c : Contents) (tree : SetTree) (query : QueryTree) (around : Around) → tree ≡ set.Paren query
-    → (set_of_tree c tree).means around ≡ query_means_at (query_of c query) (unprovable around)
+    → (set_of_tree c tree).means around ≡ query_means_at (query_of c query) (may_not_ask around)
 unfolding token query_means_at
 paren-means c tree query around is = ap (λ (t : SetTree). (set_of_tree c t).means around) is ∙ ap (λ (b : BodyPart). b.means around) (settree-paren c query)
 

@@ -4,7 +4,7 @@ use Rattle.std.specs.List.{range_with_len}
 use Rattle.std.specs.Option.{option_map_or}
 use Rattle.std.proofs.Common.{refl, ap, sym, ◌∙◌}
 use Rattle.std.proofs.lemmas.List.{length-map}
-use Rattle.bag_algebra.specs.Built.{Except-is, Intersect-is, Limit-is, Prov-is, Union-is}
+use Rattle.bag_algebra.specs.built.Openings.{Except-is, Intersect-is, Limit-is, Prov-is, Union-is}
 use Rattle.bag_algebra.specs.Kinds.{kinds_of, place_kinds, shape}
 use Rattle.bag_algebra.specs.PlaceNames.{place_names}
 use Rattle.bag_algebra.specs.Scoped.{is_table}
@@ -18,9 +18,9 @@ use Rattle.sql_tree.specs.declared.query.SetWord.TheVariants as word
 use Rattle.name_meaning.specs.Cores.{settle, settle_known}
 use Rattle.name_meaning.specs.Froms.{named_columns}
 use Rattle.name_meaning.specs.Meanings.{Around, OutColumn, QueryMeant}
-use Rattle.name_meaning.specs.Queries.{SetStepPart, columns_so_far, keys_breaks, keys_of, limited, operand_break, operand_breaks, out_column, plain_query, proved_columns, set_chain, set_joined, set_of, united_columns, unprovable}
+use Rattle.name_meaning.specs.Queries.{SetStepPart, columns_so_far, keys_breaks, keys_of, limited, operand_break, operand_breaks, out_column, plain_query, columns_with_provenance, set_chain, set_joined, set_of, united_columns, may_not_ask}
 use Rattle.name_meaning.specs.declared.answer.Break.{Break}
-use Rattle.name_laws.specs.Facts.{Facts, both_facts, facts_of, no_facts, proved_facts}
+use Rattle.name_laws.specs.Facts.{Facts, both_facts, facts_of, no_facts, provenance_facts}
 use Rattle.name_laws.specs.Known.{HasItsKinds}
 use Rattle.name_laws.proofs.FactsOf.{both_facts-assoc, facts-Prov, facts-set, facts-limited}
 use Rattle.name_seen_parts.specs.Seen.{first_or}
@@ -94,9 +94,9 @@ chain-refused before step operand old middle new (Broken b) broken =
 chain-refused before step operand old middle new NoMemory broken = tt
 
 pub chain-behind : (around : Around) (left : QueryMeant) (steps : List SetStepPart) (step : SetStepPart)
-    → set_chain around left (steps ++ step ∷ []) ≡ set_joined (set_chain around left steps) step (step.operand.means (unprovable around))
+    → set_chain around left (steps ++ step ∷ []) ≡ set_joined (set_chain around left steps) step (step.operand.means (may_not_ask around))
 chain-behind around left [] step = refl
-chain-behind around left (first ∷ steps) step = chain-behind around (set_joined left first (first.operand.means (unprovable around))) steps step
+chain-behind around left (first ∷ steps) step = chain-behind around (set_joined left first (first.operand.means (may_not_ask around))) steps step
 
 -- a query in parentheses
 pub shown-whole : (m : QueryMeant) (shown : QueryShown) (old new : Gathered) → QueryWhole m shown
@@ -130,9 +130,9 @@ keys-are : (body : QueryMeant) (columns : List OutColumn) (order : List OrderTre
     → keys_breaks body.columns order ≡ keys_breaks (Some columns) order
 keys-are body columns order known = ap (λ (cs : Option (List OutColumn)). keys_breaks cs order) known
 
-pub keys-break : (proving : Bool) (at : ℕ) (body : QueryMeant) (order : List OrderTree) (limit : Option ℤ) (none facts : Gathered) (columns : List ShownColumn) (b : Break)
+pub keys-break : (asking : Bool) (at : ℕ) (body : QueryMeant) (order : List OrderTree) (limit : Option ℤ) (none facts : Gathered) (columns : List ShownColumn) (b : Break)
     → ColumnsWhole body none facts columns → first_or (keys_breaks (Some (columns_of columns)) order) (tt {0}) ≡ Err b
-    → first_or (query_behind proving at body order limit).breaks (tt {0}) ≡ Err b
+    → first_or (query_behind asking at body order limit).breaks (tt {0}) ≡ Err b
 keys-break false at body order limit none facts columns b is broken =
     first-behind body.breaks (keys_breaks body.columns order) tt is.whole
     ∙ ap (λ (breaks : List Break). first_or breaks tt) (keys-are body (columns_of columns) order is.known) ∙ broken
@@ -171,7 +171,7 @@ proved-whole at body order limit none facts columns shown empty is fine kinds be
     let whole : (query_behind true at body order limit).breaks ≡ [] =
     both-none body.breaks (keys_breaks body.columns order) is.whole (keys-are body (columns_of columns) order is.known ∙ fine) in
     let places : facts.places ≡ shape query = ap (λ (f : Facts). f.places) (body-facts body none facts columns limit keys [] empty is) in
-    let known : proved_columns body query ≡ Some (columns_of shown.columns) =
+    let known : columns_with_provenance body query ≡ Some (columns_of shown.columns) =
     known-proved body query (columns_of columns) is.whole is.known
     ∙ ap Some (ap (λ (ps : List Place). columns_of columns ++ columns_at ps) (sym places) ∙ sym behind.shown) in
     let count : option_map_or length body.columns 0 ≡ length columns =
@@ -182,24 +182,24 @@ proved-whole at body order limit none facts columns shown empty is fine kinds be
       inner = λ wanted. ap is_table (Prov-is (limited limit keys (body.make wanted)));
       kinds = kinds-are (query_behind true at body order limit) (columns_of shown.columns) (kinds whole) known;
       places = (λ i. Some (range_with_len (count i) (length (place_kinds (sym places i))))) ∙ sym behind.places;
-      facts = λ wanted. behind.proved ∙ ap proved_facts (body-facts body none facts columns limit keys wanted empty is)
+      facts = λ wanted. behind.proved ∙ ap provenance_facts (body-facts body none facts columns limit keys wanted empty is)
           ∙ sym (facts-Prov (limited limit keys (body.make wanted)));
     }
 
 -- ---- as a query asks for its provenance or not
 
-pub plain-so : (proving : Bool) (at : ℕ) (body : QueryMeant) (order : List OrderTree) (limit : Option ℤ) (none facts : Gathered) (columns : List ShownColumn) → proving ≡ false
+pub plain-so : (asking : Bool) (at : ℕ) (body : QueryMeant) (order : List OrderTree) (limit : Option ℤ) (none facts : Gathered) (columns : List ShownColumn) → asking ≡ false
     → facts_in none ≡ no_facts → ColumnsWhole body none facts columns → first_or (keys_breaks (Some (columns_of columns)) order) (tt {0}) ≡ Ok (tt {0})
-    → ((query_behind proving at body order limit).breaks ≡ [] → HasItsKinds (query_behind proving at body order limit))
-    → QueryWhole (query_behind proving at body order limit) (record { columns = columns; places = None; facts = facts })
+    → ((query_behind asking at body order limit).breaks ≡ [] → HasItsKinds (query_behind asking at body order limit))
+    → QueryWhole (query_behind asking at body order limit) (record { columns = columns; places = None; facts = facts })
 plain-so true at body order limit none facts columns e empty is fine kinds = absurd (cc e)
 plain-so false at body order limit none facts columns e empty is fine kinds =
     plain-whole at body order limit none facts columns empty is (none-broken (keys_breaks (Some (columns_of columns)) order) tt tt fine) kinds
 
-pub proved-so : (proving : Bool) (at : ℕ) (body : QueryMeant) (order : List OrderTree) (limit : Option ℤ) (none facts : Gathered) (columns : List ShownColumn) (shown : QueryShown)
-    → proving ≡ true → facts_in none ≡ no_facts → ColumnsWhole body none facts columns → first_or (keys_breaks (Some (columns_of columns)) order) (tt {0}) ≡ Ok (tt {0})
-    → ((query_behind proving at body order limit).breaks ≡ [] → HasItsKinds (query_behind proving at body order limit))
-    → PlacesBehind columns facts shown → QueryWhole (query_behind proving at body order limit) shown
+pub proved-so : (asking : Bool) (at : ℕ) (body : QueryMeant) (order : List OrderTree) (limit : Option ℤ) (none facts : Gathered) (columns : List ShownColumn) (shown : QueryShown)
+    → asking ≡ true → facts_in none ≡ no_facts → ColumnsWhole body none facts columns → first_or (keys_breaks (Some (columns_of columns)) order) (tt {0}) ≡ Ok (tt {0})
+    → ((query_behind asking at body order limit).breaks ≡ [] → HasItsKinds (query_behind asking at body order limit))
+    → PlacesBehind columns facts shown → QueryWhole (query_behind asking at body order limit) shown
 proved-so true at body order limit none facts columns shown e empty is fine kinds behind =
     proved-whole at body order limit none facts columns shown empty is (none-broken (keys_breaks (Some (columns_of columns)) order) tt tt fine) kinds behind
 proved-so false at body order limit none facts columns shown e empty is fine kinds behind = absurd (cc e)

@@ -12,11 +12,11 @@ use Rattle.name_meaning.specs.Cores.{core_over, group_break, group_scope, has_so
 use Rattle.name_meaning.specs.Froms.{FromMeant, named_columns}
 use Rattle.name_meaning.specs.Items.{SelectPart}
 use Rattle.name_meaning.specs.Meanings.{Around, Meant, Part, QueryMeant}
-use Rattle.name_meaning.specs.Queries.{keys_of, limited, operand_break, out_column, plain_query, proved_query, united_columns}
+use Rattle.name_meaning.specs.Queries.{keys_of, limited, operand_break, out_column, plain_query, query_with_provenance, united_columns}
 use Rattle.name_meaning.specs.Scopes.{ScopeItem}
 use Rattle.name_meaning.specs.Trees.{from_of, item_of, part_of}
 use Rattle.name_meaning.specs.declared.scope.Scope.{Scope}
-use Rattle.name_laws.specs.Facts.{both_facts, proved_facts, sub_facts}
+use Rattle.name_laws.specs.Facts.{both_facts, provenance_facts, sub_facts}
 use Rattle.name_seen_parts.specs.Seen.{first_or}
 use Rattle.name_seen_parts.specs.declared.refusal.Refusal.{Refusal}
 use Rattle.name_seen_parts.specs.declared.refusal.Refusal.TheVariants.{Break as Broken, NoMemory}
@@ -73,10 +73,10 @@ OperandUnited at left right (Err NoMemory) = ⊥
 -- the query over its body, which asks for provenance or not
 abbrev pub query_behind : Bool → ℕ → QueryMeant → List OrderTree → Option ℤ → QueryMeant
 query_behind false at body order limit = plain_query at body order limit
-query_behind true at body order limit = proved_query at body order limit (limited limit (keys_of body.columns order) (body.make []))
+query_behind true at body order limit = query_with_provenance at body order limit (limited limit (keys_of body.columns order) (body.make []))
 
 -- the columns of its places, behind those of a query with these columns and facts
 pub record PlacesBehind (columns : List ShownColumn) (facts : Gathered) (query : QueryShown) : Type 0 where
   pub shown : columns_of query.columns ≡ columns_of columns ++ map out_column (named_columns (place_names facts.places) (place_kinds facts.places))
   pub places : query.places ≡ Some (range_with_len (length columns) (length (place_kinds facts.places)))
-  pub proved : facts_in query.facts ≡ proved_facts (facts_in facts)
+  pub proved : facts_in query.facts ≡ provenance_facts (facts_in facts)

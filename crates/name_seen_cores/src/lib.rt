@@ -17,7 +17,7 @@ pub use expressions::{
 };
 pub use grouping::{behind_groups, grouped_scope, is_grouped, places_of_groups};
 pub use listing::{add_star, add_table_star, add_value};
-pub use queries::{core_word, is_proving, query_over};
+pub use queries::{asks_provenance, core_word, query_over};
 pub use sets::{add_operand, add_shown};
 pub use standing::{in_clause, in_on};
 pub use sublinks::{InnerColumns, add_inner, exists_over, in_tested, scalar_over, tested_over};

@@ -1,7 +1,7 @@
 //! What queries show over their bodies.
 ghost use Rattle.std.specs.Prelude.{◌≡◌, [], ℕ, ℤ, Option};
 ghost use Rattle.name_meaning.specs.Meanings.{QueryMeant};
-ghost use Rattle.name_meaning.specs.Queries.{is_proving};
+ghost use Rattle.name_meaning.specs.Queries.{asks_provenance};
 ghost use Rattle.name_meaning.specs.Trees.{set_of_tree};
 ghost use Rattle.name_laws.specs.Known.{HasItsKinds};
 ghost use Rattle.name_seen_parts.specs.Standing.{around_of};
@@ -31,28 +31,28 @@ pub fn core_word(tree: &SetTree) -> Option<usize>
 }
 
 /// Whether a query with this body asks for its provenance.
-pub fn is_proving(tree: &SetTree, around: &Around) -> bool
-    ensures { (c : Contents) → result ≡ is_proving (around_of around.now) (set_of_tree c tree.now) }
+pub fn asks_provenance(tree: &SetTree, around: &Around) -> bool
+    ensures { (c : Contents) → result ≡ asks_provenance (around_of around.now) (set_of_tree c tree.now) }
 {
-    around.provable && core_word(tree).is_some()
+    around.may_ask && core_word(tree).is_some()
 }
 
 /// What a query shows over a body with these columns and facts, or the first break of its keys.
 pub fn query_over(
     alloc: Global,
     order: &[OrderTree],
-    proving: bool,
+    asking: bool,
     columns: List<ShownColumn>,
     facts: Facts,
 ) -> Result<QueryShown, Refusal>
     ensures { (at : ℕ) (body : QueryMeant) (limit : Option ℤ) (none : Gathered) → facts_in none ≡ no_facts
         → ColumnsWhole body none facts columns
-        → ((query_behind proving at body order.now limit).breaks ≡ []
-        → HasItsKinds (query_behind proving at body order.now limit))
-        → QuerySeen (query_behind proving at body order.now limit) result }
+        → ((query_behind asking at body order.now limit).breaks ≡ []
+        → HasItsKinds (query_behind asking at body order.now limit))
+        → QuerySeen (query_behind asking at body order.now limit) result }
 {
     keys_break(columns.as_slice(), order)?;
-    if !proving {
+    if !asking {
         return Ok(QueryShown {
             columns,
             places: None,

@@ -1,5 +1,5 @@
 ghost use Rattle.std.specs.Prelude.{◌≡◌, ◌&&◌, IfOk, OnOk};
-ghost use Rattle.name_laws.specs.Facts.{Facts as Traced, no_facts, both_facts, as_sublink, source_facts, proved_facts};
+ghost use Rattle.name_laws.specs.Facts.{Facts as Traced, no_facts, both_facts, as_sublink, source_facts, provenance_facts};
 ghost use Rattle.name_seen_from.specs.Added.{facts_in};
 
 use bag_algebra::Place;
@@ -69,7 +69,7 @@ impl Facts {
 
     /// Those of a query that gives its provenance as columns. It takes no memory.
     pub fn proved(alloc: Global, traceable: bool) -> Facts
-        ensures { (of : Traced) → of.traceable ≡ traceable → facts_in result ≡ proved_facts of }
+        ensures { (of : Traced) → of.traceable ≡ traceable → facts_in result ≡ provenance_facts of }
     {
         Facts {
             places: List::new(alloc),

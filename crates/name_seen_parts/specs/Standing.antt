@@ -29,11 +29,11 @@ abbrev pub surroundings : Here → Surroundings
 surroundings here = standing_in (scopes_of here.scopes.now) here.standing
 
 abbrev pub around_of : Standpoint → Around
-around_of around = record { outer = scopes_of around.outer.now; trace = around.trace; provable = around.provable }
+around_of around = record { outer = scopes_of around.outer.now; trace = around.trace; may_ask = around.may_ask }
 
 -- where the body of a query stands that asks for its provenance or not
 abbrev pub around_body : Bool → Around → Around
-around_body proving around = record around { trace = cond proving in_provenance around.trace }
+around_body asking around = record around { trace = cond asking in_provenance around.trace }
 
 -- where the parts of a core stand with PROVENANCE at this offset
 abbrev pub around_core : Around → Option ℕ → Around
@@ -41,7 +41,7 @@ around_core around word = record around { trace = core_trace around word }
 
 -- where a subquery of FROM under this mark stands
 abbrev pub around_under : ScopeMark → Around → Around
-around_under mark around = record { outer = around.outer; trace = trace_under mark around.trace; provable = true }
+around_under mark around = record { outer = around.outer; trace = trace_under mark around.trace; may_ask = true }
 
 -- an operand as the definition sees it
 abbrev pub operand_at : Contents → Surroundings → Need → ExprTree → Operand

@@ -3,7 +3,7 @@ ghost use Rattle.std.specs.Prelude.{◌≡◌, cond};
 ghost use Rattle.name_meaning.specs.Cores.{core_trace};
 ghost use Rattle.name_meaning.specs.Froms.{trace_under};
 ghost use Rattle.name_meaning.specs.Meanings.{Around as Place, trace_below};
-ghost use Rattle.name_meaning.specs.Queries.{unprovable};
+ghost use Rattle.name_meaning.specs.Queries.{may_not_ask};
 ghost use Rattle.name_meaning.specs.Sublinks.{around_of as below};
 ghost use Rattle.name_meaning.specs.declared.trace.Trace.TheVariants.{InProvenance};
 ghost use Rattle.name_seen_parts.specs.Named.{scopes_of};
@@ -58,7 +58,7 @@ impl<'a> Here<'a> {
             catalog: self.catalog,
             outer: self.scopes,
             trace: trace_below(self.standing.trace),
-            provable: false,
+            may_ask: false,
         }
     }
 }
@@ -71,7 +71,7 @@ pub struct Around<'a> {
     pub catalog: &'a Catalog,
     pub outer: &'a Scopes<'a>,
     pub trace: Trace,
-    pub provable: bool,
+    pub may_ask: bool,
 }
 
 impl<'a> Around<'a> {
@@ -89,16 +89,16 @@ impl<'a> Around<'a> {
     }
 
     /// Where the body of the query stands: all of a query that asks for its provenance is traced.
-    pub fn body(&self, proving: bool) -> Around<'a>
-        ensures place { around_of result ≡ around_body proving (around_of self.now) }
+    pub fn body(&self, asking: bool) -> Around<'a>
+        ensures place { around_of result ≡ around_body asking (around_of self.now) }
         ensures catalog { result.catalog.now ≡ self.now.catalog.now }
     {
-        self.so(trace_of_body(self.trace, proving), self.provable)
+        self.so(trace_of_body(self.trace, asking), self.may_ask)
     }
 
     /// Where an operand stands behind the first, and a query in parentheses.
     pub fn operand(&self) -> Around<'a>
-        ensures place { around_of result ≡ unprovable (around_of self.now) }
+        ensures place { around_of result ≡ may_not_ask (around_of self.now) }
         ensures catalog { result.catalog.now ≡ self.now.catalog.now }
     {
         self.so(self.trace, false)
@@ -109,10 +109,7 @@ impl<'a> Around<'a> {
         ensures place { around_of result ≡ around_core (around_of self.now) word }
         ensures catalog { result.catalog.now ≡ self.now.catalog.now }
     {
-        self.so(
-            trace_of_core(self.trace, self.provable, word),
-            self.provable,
-        )
+        self.so(trace_of_core(self.trace, self.may_ask, word), self.may_ask)
     }
 
     /// Where a subquery of FROM under this mark stands.
@@ -124,14 +121,14 @@ impl<'a> Around<'a> {
     }
 
     /// The same place, traced so, with the word PROVENANCE or not.
-    fn so(&self, trace: Trace, provable: bool) -> Around<'a>
+    fn so(&self, trace: Trace, may_ask: bool) -> Around<'a>
         ensures place { around_of result ≡ record
-            { outer = scopes_of self.now.outer.now; trace = trace; provable = provable } }
+            { outer = scopes_of self.now.outer.now; trace = trace; may_ask = may_ask } }
         ensures catalog { result.catalog.now ≡ self.now.catalog.now }
     {
         Around {
             trace,
-            provable,
+            may_ask,
             ..*self
         }
     }
@@ -159,17 +156,17 @@ pub fn trace_under(mark: &ScopeMark, trace: Trace) -> Trace
     }
 }
 
-fn trace_of_body(trace: Trace, proving: bool) -> Trace
-    ensures { result ≡ cond proving InProvenance trace }
+fn trace_of_body(trace: Trace, asking: bool) -> Trace
+    ensures { result ≡ cond asking InProvenance trace }
 {
-    if proving { Trace::InProvenance } else { trace }
+    if asking { Trace::InProvenance } else { trace }
 }
 
-fn trace_of_core(trace: Trace, provable: bool, word: Option<usize>) -> Trace
-    ensures { (around : Place) → around.trace ≡ trace → around.provable ≡ provable → result
+fn trace_of_core(trace: Trace, may_ask: bool, word: Option<usize>) -> Trace
+    ensures { (around : Place) → around.trace ≡ trace → around.may_ask ≡ may_ask → result
         ≡ core_trace around word }
 {
-    if !provable && word.is_some() {
+    if !may_ask && word.is_some() {
         return Trace::Untraced;
     }
     trace

@@ -10,7 +10,7 @@ use Rattle.name_laws.proofs.Every.{back-none, front-none}
 use Rattle.name_meaning.proofs.Equations.{token, querytree-record}
 use Rattle.name_meaning.specs.Cores.{BodyPart}
 use Rattle.name_meaning.specs.Meanings.{Around, OutColumn, QueryMeant, QueryPart, broken_if, is_whole, query_means_at}
-use Rattle.name_meaning.specs.Queries.{is_named, is_proving, key_break, key_of, key_place, keys_breaks, keys_of, limited, plain_query, proved_query, provenance_columns, query_seen}
+use Rattle.name_meaning.specs.Queries.{is_named, asks_provenance, key_break, key_of, key_place, keys_breaks, keys_of, limited, plain_query, query_with_provenance, provenance_columns, query_seen}
 use Rattle.name_meaning.specs.Trees.{query_of, set_of_tree}
 use Rattle.name_meaning.specs.declared.answer.Break.{Break}
 use Rattle.name_meaning.specs.declared.trace.Trace.TheVariants.{InProvenance as in_provenance}
@@ -89,8 +89,8 @@ plain-keys : (at : ℕ) (body : QueryMeant) (order : List OrderTree) (limit : Op
 plain-keys at body order limit columns known = ap (λ (known : Option (List OutColumn)). keys_of known order) (sym known)
 
 proved-keys : (at : ℕ) (body : QueryMeant) (order : List OrderTree) (limit : Option ℤ) (query : Query) (columns : List OutColumn)
-    → (proved_query at body order limit query).breaks ≡ [] → (proved_query at body order limit query).columns ≡ Some columns
-    → map (key_of columns) order ≡ (proved_query at body order limit query).keys
+    → (query_with_provenance at body order limit query).breaks ≡ [] → (query_with_provenance at body order limit query).columns ≡ Some columns
+    → map (key_of columns) order ≡ (query_with_provenance at body order limit query).keys
 proved-keys at body order limit query columns none known =
     of body.columns refl (sym (ap (λ (bs : List Break). cond (is_whole bs) (option_map (λ (own : List OutColumn). own ++ provenance_columns query) body.columns) body.columns)
     (front-none body.breaks (keys_breaks body.columns order) none)) ∙ known)
@@ -107,15 +107,15 @@ proved-keys at body order limit query columns none known =
 seen-keys : (around : Around) (at : ℕ) (body : BodyPart) (order : List OrderTree) (limit : Option ℤ) (columns : List OutColumn)
     → (query_seen around at body order limit).breaks ≡ [] → (query_seen around at body order limit).columns ≡ Some columns
     → map (key_of columns) order ≡ (query_seen around at body order limit).keys
-seen-keys around at body order limit columns = chosen (is_proving around body) where
+seen-keys around at body order limit columns = chosen (asks_provenance around body) where
   chosen : (b : Bool) → (cond b
-      (let m = body.means (record around { trace = in_provenance }) in proved_query at m order limit (limited limit (keys_of m.columns order) (m.make [])))
+      (let m = body.means (record around { trace = in_provenance }) in query_with_provenance at m order limit (limited limit (keys_of m.columns order) (m.make [])))
       (plain_query at (body.means around) order limit)).breaks ≡ []
       → (cond b
-      (let m = body.means (record around { trace = in_provenance }) in proved_query at m order limit (limited limit (keys_of m.columns order) (m.make [])))
+      (let m = body.means (record around { trace = in_provenance }) in query_with_provenance at m order limit (limited limit (keys_of m.columns order) (m.make [])))
       (plain_query at (body.means around) order limit)).columns ≡ Some columns
       → map (key_of columns) order ≡ (cond b
-      (let m = body.means (record around { trace = in_provenance }) in proved_query at m order limit (limited limit (keys_of m.columns order) (m.make [])))
+      (let m = body.means (record around { trace = in_provenance }) in query_with_provenance at m order limit (limited limit (keys_of m.columns order) (m.make [])))
       (plain_query at (body.means around) order limit)).keys
   chosen true none known =
       let m = body.means (record around { trace = in_provenance }) in

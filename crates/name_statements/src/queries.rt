@@ -94,14 +94,15 @@ pub fn around_alone<'a>(
         catalog,
         outer: outermost,
         trace: Trace::Untraced,
-        provable: true,
+        may_ask: true,
     }
 }
 
 /// What stands inside the query.
 pub(crate) fn gathered_in(query: &QueryTree, around: &Around) -> Result<Gathered, NoMemory>
     requires sound { IsSound around.now.catalog.now }
-    requires whole { (query_means_at (query_of around.now.catalog.now query.now) (around_of around.now)).breaks ≡ [] }
+    requires whole { (query_means_at (query_of around.now.catalog.now query.now)
+        (around_of around.now)).breaks ≡ [] }
     ensures { IfOk result (λ found. inside_in found
         ≡ (query_means_at (query_of around.now.catalog.now query.now) (around_of around.now)).inside) }
 {

@@ -28,7 +28,8 @@ use std::alloc::Global;
 #[tactic(auto, using(crate::proofs::Wholes::wide_first))]
 pub fn gathered_within(query: &QueryTree, around: &Around) -> Result<Gathered, Refusal>
     requires sound { IsSound around.now.catalog.now }
-    requires whole { (query_means_at (query_of around.now.catalog.now query.now) (around_of around.now)).breaks ≡ [] }
+    requires whole { (query_means_at (query_of around.now.catalog.now query.now)
+        (around_of around.now)).breaks ≡ [] }
     ensures { InsideSeen query.now.at
         (query_means_at (query_of around.now.catalog.now query.now) (around_of around.now)) result }
 {

@@ -46,9 +46,11 @@ pub fn comparisons_have_their_laws()
 /// equalities: true exactly where some equality is, false exactly where all are, and `NOT` of it is the AND of `a <> ..`.
 pub fn between_and_in_are_short_for_comparisons()
     ensures between { (a low high : Cell) →
-        between a low high ≡ truth_and (compare_values Compare.GreaterEqual a low) (compare_values Compare.LessEqual a high) }
+        between a low high ≡ truth_and (compare_values Compare.GreaterEqual a low)
+        (compare_values Compare.LessEqual a high) }
     ensures not_between { (a low high : Cell) →
-        truth_not (between a low high) ≡ truth_or (compare_values Compare.Less a low) (compare_values Compare.Greater a high) }
+        truth_not (between a low high)
+        ≡ truth_or (compare_values Compare.Less a low) (compare_values Compare.Greater a high) }
     ensures in_none { (a : Cell) → in_list a [] ≡ False }
     ensures in_more { (a v : Cell) (vs : List Cell) →
         in_list a (v ∷ vs) ≡ truth_or (compare_values Compare.Equal a v) (in_list a vs) }
@@ -57,7 +59,8 @@ pub fn between_and_in_are_short_for_comparisons()
     ensures in_false { (a : Cell) (vs : List Cell) →
         (in_list a vs ≡ False) ↔ All (λ v. compare_values Compare.Equal a v ≡ False) vs }
     ensures not_in { (a v : Cell) (vs : List Cell) →
-        truth_not (in_list a (v ∷ vs)) ≡ truth_and (compare_values Compare.NotEqual a v) (truth_not (in_list a vs)) }
+        truth_not (in_list a (v ∷ vs))
+        ≡ truth_and (compare_values Compare.NotEqual a v) (truth_not (in_list a vs)) }
 {}
 
 /// Quotient and remainder give back the dividend; the remainder is smaller than the divisor and has the dividend's
@@ -68,7 +71,8 @@ pub fn division_goes_towards_zero()
         b ≢ pos 0 → unsigned_abs (exact Arith.Remainder a b) < unsigned_abs b }
     ensures of_positive { (a b : ℤ) → pos 0 ≤ℤ a → pos 0 ≤ℤ exact Arith.Remainder a b }
     ensures of_negative { (a b : ℤ) → a ≤ℤ pos 0 → exact Arith.Remainder a b ≤ℤ pos 0 }
-    ensures least_quotient { calculate Arith.Divide (negsuc (2 ^ 63 - 1)) (negsuc 0) ≡ Err RunFault.OutOfRange }
+    ensures least_quotient { calculate Arith.Divide (negsuc (2 ^ 63 - 1)) (negsuc 0)
+        ≡ Err RunFault.OutOfRange }
     ensures least_remainder { calculate Arith.Remainder (negsuc (2 ^ 63 - 1)) (negsuc 0) ≡ Ok (pos 0) }
     ensures least_negated { negate (negsuc (2 ^ 63 - 1)) ≡ Err RunFault.OutOfRange }
 {}
@@ -79,7 +83,8 @@ pub fn arithmetic_faults_have_their_causes()
     ensures by_zero { (op : Arith) (a b : ℤ) →
         (calculate op a b ≡ Err RunFault.DivideByZero) ↔ (IsTrue (divides op) × (b ≡ pos 0)) }
     ensures out_of_range { (op : Arith) (a b : ℤ) →
-        (calculate op a b ≡ Err RunFault.OutOfRange) ↔ (¬ (IsTrue (divides op) × (b ≡ pos 0)) × IsFalse (fits_64 (exact op a b))) }
+        (calculate op a b ≡ Err RunFault.OutOfRange)
+        ↔ (¬ (IsTrue (divides op) × (b ≡ pos 0)) × IsFalse (fits_64 (exact op a b))) }
     ensures negated { (a : ℤ) →
         IsTrue (fits_64 a) → (negate a ≡ Err RunFault.OutOfRange) ↔ (a ≡ negsuc (2 ^ 63 - 1)) }
 {}
@@ -92,9 +97,12 @@ pub fn like_has_its_laws()
     ensures run { (text : List ℕ) → like text (any_run ∷ []) ≡ true }
     ensures one { (text : List ℕ) → Decides (like text (any_one ∷ [])) (length text ≡ 1) }
     ensures joined { (text pattern more further : List ℕ) →
-        like text pattern ≡ true → like more further ≡ true → like (text ++ more) (pattern ++ further) ≡ true }
+        like text pattern ≡ true → like more further ≡ true
+        → like (text ++ more) (pattern ++ further) ≡ true }
     ensures parted { (text pattern further : List ℕ) →
-        like text (pattern ++ further) ≡ true → (front : List ℕ) × (back : List ℕ) × (text ≡ front ++ back) × (like front pattern ≡ true) × (like back further ≡ true) }
+        like text (pattern ++ further) ≡ true
+        → (front : List ℕ) × (back : List ℕ) × (text ≡ front ++ back) × (like front pattern ≡ true)
+        × (like back further ≡ true) }
 {}
 
 /// What a look-up in a table finds has the key and stands in the table, and it finds nothing exactly where no row has
@@ -105,7 +113,8 @@ pub fn look_up_is_exact()
     ensures absent { (rows : List OpRow) (spelling : List ℕ) (prefix : Bool) →
         IsNone (row_of rows spelling prefix) ↔ All (λ row. ¬ (HasKey spelling prefix row)) rows }
     ensures each { (rows : List OpRow) →
-        IsTrue (keys_differ rows) → (row : OpRow) → Contains rows row → row_of rows (row_spelling row) row.prefix ≡ Some row }
+        IsTrue (keys_differ rows) → (row : OpRow) → Contains rows row
+        → row_of rows (row_spelling row) row.prefix ≡ Some row }
 {}
 
 /// `OPERATORS` has the rows of the table, and no two of them have one key.

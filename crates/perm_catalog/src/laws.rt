@@ -16,7 +16,8 @@ ghost use Rattle.perm_catalog.specs.declared.entries.ViewEntry.{ViewEntry as Vie
 pub fn catalogs_stay_sound()
     ensures new { (next : ℕ) → IsSound (nothing_held next) }
     ensures create { (c : Contents) (name : List ℕ) (columns : List Column) (rows : Bag)
-        → IsSound c → is_free c name ≡ true → IsNewTable columns rows → IsSound (with_table c name columns rows None) }
+        → IsSound c → is_free c name ≡ true → IsNewTable columns rows
+        → IsSound (with_table c name columns rows None) }
     ensures insert_rows { (c : Contents) (name : List ℕ) (table : Table) (rows : Bag)
         → IsSound c → table_named c name ≡ Some table → bag_fits rows (column_kinds table.columns) ≡ true
         → IsSound (with_more_rows c name table.id rows) }

@@ -99,7 +99,8 @@ impl<T> List<T> {
 
     /// Takes the last item off; `None` exactly where the list is empty. It takes no memory.
     pub fn pop(&mut self) -> Option<T>
-        ensures { MatchOption result ((self.old ≡ []) × (self.new ≡ [])) (λ last. self.old ≡ self.new ++ last ∷ []) }
+        ensures { MatchOption result ((self.old ≡ []) × (self.new ≡ []))
+            (λ last. self.old ≡ self.new ++ last ∷ []) }
     {
         self.items.pop()
     }

@@ -173,7 +173,8 @@ impl Eq for Row {
 impl PartialOrd for Row {
     ghost partial_cmp = { λ u v. Some (row_cmp u v) };
 
-    ghost laws = { partial_order_from_agreeing_total row_cmp (lists_total value_cmp_total) (λ u v. refl) (lists_ties value_cmp value_ties) };
+    ghost laws = { partial_order_from_agreeing_total row_cmp (lists_total value_cmp_total)
+        (λ u v. refl) (lists_ties value_cmp value_ties) };
 
     fn partial_cmp(&self, other: &Row) -> Option<Ordering> {
         Some(self.order(other))

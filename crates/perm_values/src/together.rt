@@ -47,7 +47,8 @@ pub fn four<A: Drop, B: Drop, C: Drop, D: Drop>(
     ensures second_was { IfOk result (λ all. second ≡ Ok all.1) }
     ensures third_was { IfOk result (λ all. third ≡ Ok all.2) }
     ensures fourth_was { IfOk result (λ all. fourth ≡ Ok all.3) }
-    ensures lacking { IfErr result (λ lack. (first ≡ Err lack) ⊎ ((second ≡ Err lack) ⊎ ((third ≡ Err lack) ⊎ (fourth ≡ Err lack)))) }
+    ensures lacking { IfErr result
+        (λ lack. (first ≡ Err lack) ⊎ ((second ≡ Err lack) ⊎ ((third ≡ Err lack) ⊎ (fourth ≡ Err lack)))) }
 {
     let first = first?;
     let second = second?;

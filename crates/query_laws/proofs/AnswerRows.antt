@@ -3,7 +3,7 @@ use Rattle.std.proofs.Common.{◌≡◌, ◌↔◌, List, Contains, refl, sym, a
 use Rattle.bag_algebra.proofs.Columns.{in-with_lists}
 use Rattle.bag_algebra.proofs.Members.{IsIn, in-member, member-in}
 use Rattle.bag_algebra.specs.Bags.{Row, Bag}
-use Rattle.bag_algebra.specs.Built.{rows-with_lists}
+use Rattle.bag_algebra.specs.built.Openings.{rows-with_lists}
 use Rattle.bag_algebra.specs.Meaning.{Database, denote, meaning, witnesses}
 use Rattle.bag_algebra.specs.Means.{Means, Witness, with_lists, good_rows}
 use Rattle.bag_algebra.specs.Outcome.{Outcome, Good, Bad}

@@ -6,7 +6,7 @@ use Rattle.perm_values.specs.ValueLaws.{row_decides}
 use Rattle.bag_algebra.proofs.Members.{IsIn, in-map, from-map, in-flat_map, from-flat_map, in-member}
 use Rattle.bag_algebra.proofs.MembersByIndex.{in-from_contains, contains-from_in}
 use Rattle.bag_algebra.specs.Bags.{Row, Bag, nulls}
-use Rattle.bag_algebra.specs.Built.{denote-Apply}
+use Rattle.bag_algebra.specs.built.Openings.{denote-Apply}
 use Rattle.bag_algebra.specs.Kinds.{shape, width_of}
 use Rattle.bag_algebra.specs.Meaning.{Database, meaning, witnesses}
 use Rattle.bag_algebra.specs.Means.{Witness, paired, good_rows, all_empty, keeps_left, under, lists_under}

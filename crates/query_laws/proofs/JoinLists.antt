@@ -6,7 +6,7 @@ use Rattle.perm_values.specs.ValueLaws.{row_decides}
 use Rattle.perm_values.specs.declared.value.Value.{Value}
 use Rattle.bag_algebra.proofs.Members.{IsIn, in-map, from-map, in-append_left, in-append_right, from-append, in-flat_map, from-flat_map, in-filter, from-filter}
 use Rattle.bag_algebra.specs.Bags.{Row, Bag, nulls}
-use Rattle.bag_algebra.specs.Built.{denote-Join}
+use Rattle.bag_algebra.specs.built.Openings.{denote-Join}
 use Rattle.bag_algebra.specs.Children.{subs_denote, subs_shape}
 use Rattle.bag_algebra.specs.Kinds.{shape, width_of}
 use Rattle.bag_algebra.specs.Meaning.{Database, denote, meaning, witnesses, condition_on}

@@ -7,7 +7,7 @@ use Rattle.perm_values.specs.declared.kind.Kind.{Kind}
 use Rattle.perm_values.specs.declared.value.Value.{Value}
 use Rattle.bag_algebra.proofs.Members.{IsIn, in-map, from-map, in-append_left, in-append_right, from-append, in-flat_map, from-flat_map, in-filter, from-filter}
 use Rattle.bag_algebra.specs.Bags.{Row, Bag}
-use Rattle.bag_algebra.specs.Built.{denote-Table, denote-Single, denote-Base, denote-Filter, denote-Project, denote-Union, denote-Intersect, denote-Except, denote-Distinct, denote-Aggregate, denote-Limit, denote-Prov}
+use Rattle.bag_algebra.specs.built.Openings.{denote-Table, denote-Single, denote-Base, denote-Filter, denote-Project, denote-Union, denote-Intersect, denote-Except, denote-Distinct, denote-Aggregate, denote-Limit, denote-Prov}
 use Rattle.bag_algebra.specs.Children.{subs_denote}
 use Rattle.bag_algebra.specs.Kinds.{shape}
 use Rattle.bag_algebra.specs.Meaning.{Database, denote, meaning, witnesses, condition_on, items_on}

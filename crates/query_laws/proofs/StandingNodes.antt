@@ -7,8 +7,8 @@ use Rattle.perm_values.specs.declared.kind.Kind.{Kind}
 use Rattle.perm_values.specs.declared.kind.Kind.TheVariants.{Boolean}
 use Rattle.bag_algebra.proofs.TablesRead.{reads_among-each, reads_among-itself}
 use Rattle.bag_algebra.specs.Bags.{Row, Bag, member}
-use Rattle.bag_algebra.specs.Built.{Base-is, Filter-is, Project_with-is, Join-is, Apply-is, Union-is, Intersect-is, Except-is, Distinct-is, Aggregate-is, Limit-is}
-use Rattle.bag_algebra.specs.BuiltForms.{AllSubsForm, subs_kinds, EachTableOfSubs, WellFormed-Base, WellFormed-Filter, WellFormed-Project, WellFormed-Join, WellFormed-Apply, WellFormed-Union, WellFormed-Intersect, WellFormed-Except, WellFormed-Distinct, WellFormed-Aggregate, WellFormed-Limit, EachTable-Base, EachTable-Filter, EachTable-Project, EachTable-Join, EachTable-Apply, EachTable-Union, EachTable-Intersect, EachTable-Except, EachTable-Distinct, EachTable-Aggregate, EachTable-Limit}
+use Rattle.bag_algebra.specs.built.Openings.{Base-is, Filter-is, Project_with-is, Join-is, Apply-is, Union-is, Intersect-is, Except-is, Distinct-is, Aggregate-is, Limit-is}
+use Rattle.bag_algebra.specs.built.Forms.{AllSubsForm, subs_kinds, EachTableOfSubs, WellFormed-Base, WellFormed-Filter, WellFormed-Project, WellFormed-Join, WellFormed-Apply, WellFormed-Union, WellFormed-Intersect, WellFormed-Except, WellFormed-Distinct, WellFormed-Aggregate, WellFormed-Limit, EachTable-Base, EachTable-Filter, EachTable-Project, EachTable-Join, EachTable-Apply, EachTable-Union, EachTable-Intersect, EachTable-Except, EachTable-Distinct, EachTable-Aggregate, EachTable-Limit}
 use Rattle.bag_algebra.specs.Fits.{bag_fits, env_fits, TablesFit}
 use Rattle.bag_algebra.specs.Kinds.{kinds_of, kinds_in}
 use Rattle.bag_algebra.specs.Meaning.{Database, meaning}
@@ -31,7 +31,7 @@ use Rattle.bag_algebra.proofs.Members.{member-in}
 use Rattle.query_laws.proofs.RowsAlone.{base-rows, filter-rows, project-rows, join-rows, apply-rows, union-rows, intersect-rows, except-rows, distinct-rows, aggregate-rows, limit-rows}
 use Rattle.query_laws.specs.Agreeing.{SubsAgree}
 use Rattle.query_laws.specs.Standing.{SubsStand}
-use Rattle.bag_algebra.specs.BuiltScopes.{all_plain, is_plain-Filter, is_plain-Project, is_plain-Join, is_plain-Apply, is_plain-Union, is_plain-Intersect, is_plain-Except, is_plain-Distinct, is_plain-Aggregate, is_plain-Limit}
+use Rattle.bag_algebra.specs.built.Scopes.{all_plain, is_plain-Filter, is_plain-Project, is_plain-Join, is_plain-Apply, is_plain-Union, is_plain-Intersect, is_plain-Except, is_plain-Distinct, is_plain-Aggregate, is_plain-Limit}
 
 -- what one type has, an equal one has
 by : {A B : Type 0} → A ≡ B → A → B

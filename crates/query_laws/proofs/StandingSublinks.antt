@@ -5,7 +5,7 @@ use Rattle.perm_values.specs.declared.value.Value.{Value}
 use Rattle.bag_algebra.proofs.BagLaws.{permuted-from_same_bag}
 use Rattle.bag_algebra.proofs.Members.{IsIn, in-member}
 use Rattle.bag_algebra.specs.Bags.{Row, Bag, member, nulls}
-use Rattle.bag_algebra.specs.Built.{meaning-Filter, meaning-Project, meaning-Join}
+use Rattle.bag_algebra.specs.built.Openings.{meaning-Filter, meaning-Project, meaning-Join}
 use Rattle.bag_algebra.specs.Children.{subs_denote}
 use Rattle.bag_algebra.specs.Expressions.{value}
 use Rattle.bag_algebra.specs.Kinds.{width_of}

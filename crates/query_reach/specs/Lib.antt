@@ -1,3 +1,3 @@
-pub mod BuiltReach
 pub mod InUsize
 pub mod Reach
+pub mod built

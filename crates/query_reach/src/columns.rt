@@ -1,6 +1,6 @@
 //! How far into an outer row the columns of a query reach.
 ghost use Rattle.std.specs.Prelude.{◌≡◌, ◌≤◌, ◌^◌, ℕ, suc, max, Some, IfNone};
-ghost use Rattle.query_reach.specs.BuiltReach.{all_parts_reach, all_steps_reach, all_arms_reach, all_subs_reach};
+ghost use Rattle.query_reach.specs.built.Reach.{all_parts_reach, all_steps_reach, all_arms_reach, all_subs_reach};
 ghost use Rattle.query_reach.specs.InUsize.{in_usize};
 ghost use Rattle.query_reach.specs.Reach.{column_reach, expr_reach, items_reach, aggregates_reach, query_reach, reach_of};
 

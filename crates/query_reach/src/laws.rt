@@ -8,7 +8,8 @@ ghost use Rattle.query_reach.specs.Reach.{query_reach, reach_of};
 /// A query means the same under two nearest outer rows of which as many of the first columns as it reads are the same.
 pub fn a_query_reads_no_column_beyond_its_reach()
     ensures { (q : Query) (db : Database) (row other : Row) (env : List Row) →
-        take (reach_of q) row ≡ take (reach_of q) other → meaning q db (row ∷ env) ≡ meaning q db (other ∷ env) }
+        take (reach_of q) row ≡ take (reach_of q) other
+        → meaning q db (row ∷ env) ≡ meaning q db (other ∷ env) }
 {}
 
 /// The same of an outer row behind others, and of more of its first columns.

@@ -5,7 +5,7 @@ use Rattle.std.specs.Cmp.{both_ways}
 use Rattle.bag_algebra.proofs.BagLaws.{member-once}
 use Rattle.bag_algebra.proofs.Members.{IsIn, in-map, from-map, in-flat_map, from-flat_map, member-in, in-member}
 use Rattle.bag_algebra.specs.Bags.{Row, Bag, member, once}
-use Rattle.bag_algebra.specs.Built.{meaning-Prov}
+use Rattle.bag_algebra.specs.built.Openings.{meaning-Prov}
 use Rattle.bag_algebra.specs.Meaning.{Database, meaning, witnesses}
 use Rattle.bag_algebra.specs.Means.{Witness, flat, with_witnesses, good_rows}
 use Rattle.bag_algebra.specs.Outcome.{Outcome, Good, Bad, mapped}

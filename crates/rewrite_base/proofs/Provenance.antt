@@ -3,7 +3,7 @@ use Rattle.std.proofs.Common.{◌≡◌, true, List, sym, ap, ◌∙◌, subst}
 use Rattle.perm_values.specs.declared.kind.Kind.{Kind}
 use Rattle.bag_algebra.proofs.BagLaws.{member-once, once-same_members}
 use Rattle.bag_algebra.specs.Bags.{Row, Bag, once}
-use Rattle.bag_algebra.specs.Built.{Prov-is, Distinct-is, meaning-Distinct, meaning-Prov}
+use Rattle.bag_algebra.specs.built.Openings.{Prov-is, Distinct-is, meaning-Distinct, meaning-Prov}
 use Rattle.bag_algebra.specs.Fits.{TablesFit, env_fits}
 use Rattle.bag_algebra.specs.Kinds.{kinds_of, shape}
 use Rattle.bag_algebra.specs.Meaning.{Database, meaning}
@@ -14,7 +14,7 @@ use Rattle.bag_algebra.specs.WellFormed.{WellFormed}
 use Rattle.bag_algebra.specs.declared.query.Query.{Query}
 use Rattle.bag_algebra.specs.declared.query.Query.TheVariants.{Distinct, Prov}
 use Rattle.query_laws.proofs.Inputs.{across}
-use Rattle.bag_algebra.specs.BuiltScopes.{is_plain-Distinct}
+use Rattle.bag_algebra.specs.built.Scopes.{is_plain-Distinct}
 use Rattle.rewrite_base.proofs.WithoutPlaces.{rewrite-without_places}
 
 -- bags in which each row stands once are the same where their sets are

@@ -5,13 +5,13 @@ use Rattle.bag_algebra.proofs.BagLaws.{member-same_bag}
 use Rattle.bag_algebra.proofs.Members.{IsIn, member-in}
 use Rattle.bag_algebra.proofs.MembersByIndex.{contains-from_in}
 use Rattle.bag_algebra.specs.Bags.{Row, Bag, member}
-use Rattle.bag_algebra.specs.Built.{Prov-is}
+use Rattle.bag_algebra.specs.built.Openings.{Prov-is}
 use Rattle.bag_algebra.specs.Fits.{TablesFit, env_fits}
 use Rattle.bag_algebra.specs.Kinds.{kinds_of, shape, place_kinds}
 use Rattle.bag_algebra.specs.Meaning.{Database, meaning, witnesses}
 use Rattle.bag_algebra.specs.Means.{Witness, flat, good_rows}
 use Rattle.bag_algebra.specs.Outcome.{Outcome, Good, Bad}
-use Rattle.bag_algebra.specs.Patterns.{ProvOf}
+use Rattle.bag_algebra.specs.built.Patterns.{ProvOf}
 use Rattle.bag_algebra.specs.Rewriting.{IsRewrite, Stands, SameRows, SameSet}
 use Rattle.bag_algebra.specs.WellFormed.{WellFormed}
 use Rattle.bag_algebra.specs.declared.place.Place.{Place}

@@ -13,13 +13,13 @@ use Rattle.perm_values.specs.declared.value.Value.TheVariants.{Null, Boolean}
 use Rattle.bag_algebra.proofs.Members.{IsIn, from-filter, in-member, member-in}
 use Rattle.bag_algebra.proofs.TablesRead.{reads_among-itself}
 use Rattle.bag_algebra.specs.Bags.{Row, Bag, member, nulls}
-use Rattle.bag_algebra.specs.Built.{Aggregate-is, rows-with_lists}
+use Rattle.bag_algebra.specs.built.Openings.{Aggregate-is, rows-with_lists}
 use Rattle.bag_algebra.specs.Expressions.{value}
 use Rattle.bag_algebra.specs.Kinds.{kinds_of, kinds_in, kind_in, width_of, shape, place_kinds}
 use Rattle.bag_algebra.specs.Meaning.{Database, meaning, witnesses, arguments_on}
 use Rattle.bag_algebra.specs.Means.{Witness, flat, all_empty, good_rows, joined_rows, grouped}
 use Rattle.bag_algebra.specs.Outcome.{Outcome, Good, Bad, and_then, mapped, both_then}
-use Rattle.bag_algebra.specs.Patterns.{AggregateOf}
+use Rattle.bag_algebra.specs.built.Patterns.{AggregateOf}
 use Rattle.bag_algebra.specs.Rewriting.{IsRewrite, Stands, SameRows}
 use Rattle.bag_algebra.specs.WellFormed.{WellFormed, HasKind, PlacesIn, AggregatesForm}
 use Rattle.bag_algebra.specs.declared.query.AggFn.{AggFn}

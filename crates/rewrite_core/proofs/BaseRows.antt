@@ -11,14 +11,14 @@ use Rattle.bag_algebra.proofs.BagLaws.{member-same_bag}
 use Rattle.bag_algebra.proofs.Columns.{picked-append}
 use Rattle.bag_algebra.proofs.Members.{IsIn, in-map, from-map, in-member, member-in}
 use Rattle.bag_algebra.specs.Bags.{Row, Bag, SameBag}
-use Rattle.bag_algebra.specs.Built.{Base-is, rows-with_lists}
+use Rattle.bag_algebra.specs.built.Openings.{Base-is, rows-with_lists}
 use Rattle.bag_algebra.specs.ColumnItems.{column_items}
 use Rattle.bag_algebra.specs.Fits.{TablesFit, env_fits}
 use Rattle.bag_algebra.specs.Kinds.{kind_in, kinds_in, kinds_of, width_of}
 use Rattle.bag_algebra.specs.Meaning.{Database, meaning, witnesses}
 use Rattle.bag_algebra.specs.Means.{Held, Witness, flat}
 use Rattle.bag_algebra.specs.Outcome.{Outcome, Good, Bad, mapped}
-use Rattle.bag_algebra.specs.Patterns.{BaseOf, ProjectOf, ProvOf}
+use Rattle.bag_algebra.specs.built.Patterns.{BaseOf, ProjectOf, ProvOf}
 use Rattle.bag_algebra.specs.Rewriting.{IsRewrite, SameRows, SameSet, Stands}
 use Rattle.bag_algebra.specs.WellFormed.{PlacesIn, WellFormed}
 use Rattle.bag_algebra.specs.declared.query.Label.{Label}

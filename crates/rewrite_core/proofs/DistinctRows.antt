@@ -2,11 +2,11 @@
 use Rattle.std.proofs.Common.{◌≡◌, Bool, true, cond, List, [], Contains, sym, ◌∙◌, subst}
 use Rattle.bag_algebra.proofs.BagLaws.{member-once}
 use Rattle.bag_algebra.specs.Bags.{Row, Bag, once}
-use Rattle.bag_algebra.specs.Built.{Distinct-is}
+use Rattle.bag_algebra.specs.built.Openings.{Distinct-is}
 use Rattle.bag_algebra.specs.Meaning.{meaning, witnesses}
 use Rattle.bag_algebra.specs.Means.{Witness, with_lists}
 use Rattle.bag_algebra.specs.Outcome.{Outcome, Good, Bad, mapped}
-use Rattle.bag_algebra.specs.Patterns.{DistinctOf}
+use Rattle.bag_algebra.specs.built.Patterns.{DistinctOf}
 use Rattle.bag_algebra.specs.Rewriting.{IsRewrite}
 use Rattle.bag_algebra.specs.declared.query.Query.{Query}
 use Rattle.bag_algebra.specs.declared.query.Query.TheVariants.{Distinct}

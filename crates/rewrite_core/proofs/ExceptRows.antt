@@ -13,13 +13,13 @@ use Rattle.bag_algebra.proofs.TablesRead.{reads_among-itself, reads_among-onward
 use Rattle.bag_algebra.proofs.Truths.{both-true}
 use Rattle.bag_algebra.proofs.Widths.{place_kinds-append}
 use Rattle.bag_algebra.specs.Bags.{Row, Bag, member, except_of, nulls}
-use Rattle.bag_algebra.specs.Built.{Except-is, rows-with_lists, value-Op}
+use Rattle.bag_algebra.specs.built.Openings.{Except-is, rows-with_lists, value-Op}
 use Rattle.bag_algebra.specs.Expressions.{value, operate}
 use Rattle.bag_algebra.specs.Kinds.{kinds_of, kinds_in, width_of, shape, place_kinds}
 use Rattle.bag_algebra.specs.Meaning.{Database, meaning, witnesses}
 use Rattle.bag_algebra.specs.Means.{Witness, flat, all_empty, good_rows, joined_rows}
 use Rattle.bag_algebra.specs.Outcome.{Outcome, Good, Bad, union, and_then, mapped, both, both_then}
-use Rattle.bag_algebra.specs.Patterns.{ExceptOf}
+use Rattle.bag_algebra.specs.built.Patterns.{ExceptOf}
 use Rattle.bag_algebra.specs.Rewriting.{IsRewrite, Stands, SameRows, is_plain}
 use Rattle.bag_algebra.specs.WellFormed.{WellFormed, HasKind}
 use Rattle.bag_algebra.specs.declared.expr.Expr.{Expr}
@@ -44,7 +44,7 @@ use Rattle.query_laws.specs.ListsOfNodes.{ExceptList, of_other, of_no_other}
 use Rattle.query_laws.specs.SublinkLists.{InAnswer}
 use Rattle.rewrite_core.proofs.Matched.{Matching, matched-spread}
 use Rattle.rewrite_core.specs.OtherRows.{remaining}
-use Rattle.bag_algebra.specs.BuiltForms.{number_of_parts-built}
+use Rattle.bag_algebra.specs.built.Forms.{number_of_parts-built}
 
 -- ---- faults
 

@@ -5,13 +5,13 @@ use Rattle.perm_values.specs.declared.kind.Kind.TheVariants.{Boolean}
 use Rattle.perm_values.specs.declared.value.Value.{Value}
 use Rattle.bag_algebra.proofs.Members.{IsIn, in-member}
 use Rattle.bag_algebra.specs.Bags.{Row, Bag}
-use Rattle.bag_algebra.specs.BuiltForms.{Filter_alone-is}
+use Rattle.bag_algebra.specs.built.Forms.{Filter_alone-is}
 use Rattle.bag_algebra.specs.Fits.{TablesFit, env_fits}
 use Rattle.bag_algebra.specs.Kinds.{kinds_of, place_kinds, shape}
 use Rattle.bag_algebra.specs.Meaning.{Database, meaning, witnesses, condition_on}
 use Rattle.bag_algebra.specs.Means.{Witness, flat, good_rows, is_met, kept, no_subs}
 use Rattle.bag_algebra.specs.Outcome.{Outcome, Good, and_then, gather}
-use Rattle.bag_algebra.specs.Patterns.{FilterOf, ProvOf}
+use Rattle.bag_algebra.specs.built.Patterns.{FilterOf, ProvOf}
 use Rattle.bag_algebra.specs.Rewriting.{IsRewrite, SameSet}
 use Rattle.bag_algebra.specs.TablesRead.{EachTable, tables_read}
 use Rattle.bag_algebra.specs.WellFormed.{WellFormed, HasKind}

@@ -7,13 +7,13 @@ use Rattle.bag_algebra.proofs.Members.{in-member, member-in}
 use Rattle.bag_algebra.proofs.TablesRead.{reads_among-itself}
 use Rattle.bag_algebra.proofs.Widths.{place_kinds-append}
 use Rattle.bag_algebra.specs.Bags.{Row, Bag, member, intersect_of}
-use Rattle.bag_algebra.specs.Built.{Intersect-is, rows-with_lists}
+use Rattle.bag_algebra.specs.built.Openings.{Intersect-is, rows-with_lists}
 use Rattle.bag_algebra.specs.Expressions.{value}
 use Rattle.bag_algebra.specs.Kinds.{kinds_of, kinds_in, width_of, shape, place_kinds}
 use Rattle.bag_algebra.specs.Meaning.{Database, meaning, witnesses}
 use Rattle.bag_algebra.specs.Means.{Witness, flat, good_rows, joined_rows}
 use Rattle.bag_algebra.specs.Outcome.{Outcome, Good, Bad, mapped, both, both_then}
-use Rattle.bag_algebra.specs.Patterns.{IntersectOf}
+use Rattle.bag_algebra.specs.built.Patterns.{IntersectOf}
 use Rattle.bag_algebra.specs.Rewriting.{IsRewrite}
 use Rattle.bag_algebra.specs.WellFormed.{WellFormed, HasKind}
 use Rattle.bag_algebra.specs.declared.query.JoinKind.TheVariants.{Inner}

@@ -12,14 +12,14 @@ use Rattle.bag_algebra.proofs.Members.{IsIn, in-filter, from-filter, in-map, fro
 use Rattle.bag_algebra.proofs.TablesRead.{each_table-kept}
 use Rattle.bag_algebra.proofs.Widths.{place_kinds-append, places_width}
 use Rattle.bag_algebra.specs.Bags.{Row, Bag, nulls}
-use Rattle.bag_algebra.specs.BuiltForms.{Join_alone-is}
+use Rattle.bag_algebra.specs.built.Forms.{Join_alone-is}
 use Rattle.bag_algebra.specs.ColumnItems.{column_items}
 use Rattle.bag_algebra.specs.Fits.{TablesFit, env_fits}
 use Rattle.bag_algebra.specs.Kinds.{kinds_in, kinds_of, place_kinds, shape, width_of}
 use Rattle.bag_algebra.specs.Meaning.{Database, meaning, witnesses, condition_on}
 use Rattle.bag_algebra.specs.Means.{Witness, all_empty, flat, good_rows, is_met, joined_rows, kept, met_pairs, no_subs, unmatched_left, unmatched_right}
 use Rattle.bag_algebra.specs.Outcome.{Outcome, Good, Bad, both_then, gather, mapped}
-use Rattle.bag_algebra.specs.Patterns.{JoinOf, ProjectOf, ProvOf}
+use Rattle.bag_algebra.specs.built.Patterns.{JoinOf, ProjectOf, ProvOf}
 use Rattle.bag_algebra.specs.Rewriting.{IsRewrite, SameSet}
 use Rattle.bag_algebra.specs.TablesRead.{tables_read}
 use Rattle.bag_algebra.specs.WellFormed.{HasKind, PlacesIn, WellFormed}

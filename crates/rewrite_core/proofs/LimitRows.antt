@@ -6,13 +6,13 @@ use Rattle.perm_values.specs.declared.kind.Kind.{Kind}
 use Rattle.perm_values.specs.declared.kind.Kind.TheVariants.{Boolean}
 use Rattle.bag_algebra.proofs.TablesRead.{reads_among-itself}
 use Rattle.bag_algebra.specs.Bags.{Row, Bag, member, sorted}
-use Rattle.bag_algebra.specs.Built.{Limit-is, rows-with_lists}
+use Rattle.bag_algebra.specs.built.Openings.{Limit-is, rows-with_lists}
 use Rattle.bag_algebra.specs.Expressions.{value}
 use Rattle.bag_algebra.specs.Kinds.{kinds_of, kinds_in, width_of, shape, place_kinds}
 use Rattle.bag_algebra.specs.Meaning.{Database, meaning, witnesses}
 use Rattle.bag_algebra.specs.Means.{Witness, flat, good_rows, joined_rows}
 use Rattle.bag_algebra.specs.Outcome.{Outcome, Good, Bad, mapped, both_then}
-use Rattle.bag_algebra.specs.Patterns.{LimitOf}
+use Rattle.bag_algebra.specs.built.Patterns.{LimitOf}
 use Rattle.bag_algebra.specs.Rewriting.{IsRewrite, Stands, SameRows}
 use Rattle.bag_algebra.specs.WellFormed.{WellFormed, HasKind, KeysIn}
 use Rattle.bag_algebra.specs.declared.query.JoinKind.TheVariants.{Inner}

@@ -11,14 +11,14 @@ use Rattle.bag_algebra.proofs.Columns.{column_items-give}
 use Rattle.bag_algebra.proofs.Members.{IsIn, in-member}
 use Rattle.bag_algebra.proofs.Widths.{places_width}
 use Rattle.bag_algebra.specs.Bags.{Row, Bag}
-use Rattle.bag_algebra.specs.Built.{Project-is}
+use Rattle.bag_algebra.specs.built.Openings.{Project-is}
 use Rattle.bag_algebra.specs.Expressions.{value}
 use Rattle.bag_algebra.specs.Fits.{TablesFit, env_fits}
 use Rattle.bag_algebra.specs.Kinds.{kinds_in, kinds_of, place_kinds, shape, width_of}
 use Rattle.bag_algebra.specs.Meaning.{Database, meaning, witnesses, items_on}
 use Rattle.bag_algebra.specs.Means.{Witness, flat, good_rows, no_subs}
 use Rattle.bag_algebra.specs.Outcome.{Outcome, Good, Bad, and_then, both, each, mapped}
-use Rattle.bag_algebra.specs.Patterns.{ProjectOf, ProvOf}
+use Rattle.bag_algebra.specs.built.Patterns.{ProjectOf, ProvOf}
 use Rattle.bag_algebra.specs.Rewriting.{IsRewrite, SameSet}
 use Rattle.bag_algebra.specs.TablesRead.{EachTable, tables_read}
 use Rattle.bag_algebra.specs.WellFormed.{HasKind, ItemsForm, WellFormed}

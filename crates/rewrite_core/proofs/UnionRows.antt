@@ -10,13 +10,13 @@ use Rattle.bag_algebra.proofs.Members.{IsIn, from-append, from-map, in-append_le
 use Rattle.bag_algebra.proofs.TablesRead.{each_table-kept}
 use Rattle.bag_algebra.proofs.Widths.{place_kinds-append}
 use Rattle.bag_algebra.specs.Bags.{Row, Bag, nulls, union_of}
-use Rattle.bag_algebra.specs.Built.{Union-is, rows-with_lists}
+use Rattle.bag_algebra.specs.built.Openings.{Union-is, rows-with_lists}
 use Rattle.bag_algebra.specs.Fits.{TablesFit, env_fits}
 use Rattle.bag_algebra.specs.Kinds.{kinds_in, kinds_of, place_kinds, shape, width_of}
 use Rattle.bag_algebra.specs.Meaning.{Database, meaning, witnesses}
 use Rattle.bag_algebra.specs.Means.{Witness, all_empty, flat, good_rows}
 use Rattle.bag_algebra.specs.Outcome.{Outcome, Good, Bad, both, both_then, mapped}
-use Rattle.bag_algebra.specs.Patterns.{UnionOf, ProvOf}
+use Rattle.bag_algebra.specs.built.Patterns.{UnionOf, ProvOf}
 use Rattle.bag_algebra.specs.Rewriting.{IsRewrite, SameSet, is_plain}
 use Rattle.bag_algebra.specs.TablesRead.{EachTable, tables_read}
 use Rattle.bag_algebra.specs.WellFormed.{WellFormed}

@@ -13,7 +13,7 @@ use Rattle.bag_algebra.specs.Fits.{TablesFit, env_fits}
 use Rattle.bag_algebra.specs.Kinds.{kinds_of, width_of}
 use Rattle.bag_algebra.specs.Meaning.{Database, meaning}
 use Rattle.bag_algebra.specs.Outcome.{Outcome, Good, Bad, mapped}
-use Rattle.bag_algebra.specs.Patterns.{ProjectOf, ProvOf}
+use Rattle.bag_algebra.specs.built.Patterns.{ProjectOf, ProvOf}
 use Rattle.bag_algebra.specs.Rewriting.{IsRewrite, SameSet}
 use Rattle.bag_algebra.specs.WellFormed.{WellFormed}
 use Rattle.bag_algebra.specs.declared.query.Query.{Query, end_of-Sublink}

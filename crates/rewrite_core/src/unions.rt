@@ -3,7 +3,7 @@ ghost use Rattle.std.specs.Prelude.{◌≡◌, [], true, IfOk};
 ghost use Rattle.std.specs.List.{range_with_len};
 ghost use Rattle.bag_algebra.specs.ColumnItems.{column_items};
 ghost use Rattle.bag_algebra.specs.Kinds.{kinds_of, width_of};
-ghost use Rattle.bag_algebra.specs.Patterns.{ProjectOf, UnionOf};
+ghost use Rattle.bag_algebra.specs.built.Patterns.{ProjectOf, UnionOf};
 ghost use Rattle.bag_algebra.specs.Rewriting.{IsRewrite};
 ghost use Rattle.bag_algebra.specs.declared.query.Query.TheVariants.{Union};
 ghost use Rattle.bag_algebra.specs.declared.query.Query.{end_of-Sublink};

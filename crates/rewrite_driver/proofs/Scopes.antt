@@ -4,7 +4,7 @@ use Rattle.bag_algebra.proofs.Truths.{both-true, left-true, right-true}
 use Rattle.bag_algebra.specs.Scoped.{over_tables, traceable}
 use Rattle.bag_algebra.specs.declared.query.Query.{Query}
 use Rattle.bag_algebra.specs.declared.query.Sublink.{Sublink}
-use Rattle.bag_algebra.specs.BuiltScopes.{all_over_tables, all_traceable, without_subs}
+use Rattle.bag_algebra.specs.built.Scopes.{all_over_tables, all_traceable, without_subs}
 
 module _ (test : Query → Bool) (query node : Query) (holds : IsTrue (test query)) (is : query ≡ node) where
   pub one_of : (a : Bool) → test node ≡ a → IsTrue a

@@ -5,7 +5,7 @@ ghost use Rattle.bag_algebra.specs.Scoped.{is_scoped, traceable};
 ghost use Rattle.bag_algebra.specs.declared.query.Query.TheVariants.{Prov};
 ghost use Rattle.bag_algebra.specs.declared.query.Query.{Query};
 ghost use Rattle.query_laws.specs.Standing.{SubsStand};
-ghost use Rattle.bag_algebra.specs.BuiltScopes.{all_scoped, all_traceable};
+ghost use Rattle.bag_algebra.specs.built.Scopes.{all_scoped, all_traceable};
 ghost use Rattle.rewrite_driver.specs.FirstColumns.{KeepsRows};
 ghost use Rattle.rewrite_driver.specs.Places.{has_places};
 ghost use Rattle.rewrite_sublink.specs.SubRewritings.{SubsRewritten};

@@ -5,7 +5,7 @@ ghost use Rattle.bag_algebra.specs.declared.query.Label.{Label};
 ghost use Rattle.bag_algebra.specs.declared.query.Query.TheVariants.{Base, Filter, Project, Join, Union, Intersect, Except, Distinct, Aggregate, Limit};
 ghost use Rattle.bag_algebra.specs.declared.query.Query.{Query};
 ghost use Rattle.query_laws.specs.Standing.{SubsStand};
-ghost use Rattle.bag_algebra.specs.BuiltScopes.{all_over_tables};
+ghost use Rattle.bag_algebra.specs.built.Scopes.{all_over_tables};
 ghost use Rattle.rewrite_sublink.specs.SubRewritings.{SubsRewritten};
 
 use bag_algebra::{Aggr, Expr, Item, JoinKind, Query, Sublink};

@@ -9,7 +9,7 @@ use Rattle.bag_algebra.proofs.TablesRead.{reads_among-each}
 use Rattle.bag_algebra.proofs.Truths.{left-true, right-true}
 use Rattle.bag_algebra.proofs.Widths.{place_kinds-append}
 use Rattle.bag_algebra.specs.Bags.{Row, Bag}
-use Rattle.bag_algebra.specs.BuiltForms.{AllSubsForm, EachTableOfSubs, SubsForm-row_of_subs, subs_kinds}
+use Rattle.bag_algebra.specs.built.Forms.{AllSubsForm, EachTableOfSubs, SubsForm-row_of_subs, subs_kinds}
 use Rattle.bag_algebra.specs.Children.{subs_denote, subs_shape}
 use Rattle.bag_algebra.specs.Fits.{TablesFit, bag_fits, env_fits, row_begins}
 use Rattle.bag_algebra.specs.Kinds.{kinds_of, place_kinds, shape, width_of}
@@ -30,7 +30,7 @@ use Rattle.rewrite_base.proofs.KeptRows.{flat-append, row-width}
 use Rattle.contribution.proofs.LongerKinds.{NamesAlso, well_formed-longer}
 use Rattle.query_laws.specs.Agreeing.{SubsAgree}
 use Rattle.query_laws.specs.Standing.{SubsStand}
-use Rattle.bag_algebra.specs.BuiltScopes.{all_over_tables, all_plain}
+use Rattle.bag_algebra.specs.built.Scopes.{all_over_tables, all_plain}
 use Rattle.rewrite_sublink.proofs.Extending.{Extended, GoodOn, one-reached}
 use Rattle.rewrite_sublink.proofs.Forming.{by, whole, fitting-longer, kinds-contributed, bad-contributed, plain-contributed, tables-contributed, formed-contributed}
 use Rattle.rewrite_sublink.specs.Candidates.{all_contributed}

@@ -5,7 +5,7 @@ use Rattle.perm_values.specs.declared.value.Value.{Value}
 use Rattle.perm_values.specs.declared.value.Value.TheVariants.{Boolean}
 use Rattle.bag_algebra.proofs.Members.{IsIn, in-map, from-map, in-filter, from-filter, in-flat_map, from-flat_map}
 use Rattle.bag_algebra.specs.Bags.{Row, Bag}
-use Rattle.bag_algebra.specs.Built.{meaning-Filter}
+use Rattle.bag_algebra.specs.built.Openings.{meaning-Filter}
 use Rattle.bag_algebra.specs.Children.{subs_denote, sublink_value}
 use Rattle.bag_algebra.specs.Fits.{TablesFit, env_fits, row_begins}
 use Rattle.bag_algebra.specs.Kinds.{kinds_of, width_of}

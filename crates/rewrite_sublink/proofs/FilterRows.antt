@@ -8,8 +8,8 @@ use Rattle.bag_algebra.proofs.Members.{IsIn, in-member}
 use Rattle.bag_algebra.proofs.TablesRead.{reads_among-each, reads_among-itself}
 use Rattle.bag_algebra.proofs.Widths.{place_kinds-append}
 use Rattle.bag_algebra.specs.Bags.{Row, Bag}
-use Rattle.bag_algebra.specs.Built.{kinds_of-Filter, meaning-Filter, shape-Filter, Prov-is}
-use Rattle.bag_algebra.specs.BuiltForms.{AllSubsForm, EachTableOfSubs, subs_kinds, WellFormed-Filter, EachTable-Filter, SubsForm-row_of_subs}
+use Rattle.bag_algebra.specs.built.Openings.{kinds_of-Filter, meaning-Filter, shape-Filter, Prov-is}
+use Rattle.bag_algebra.specs.built.Forms.{AllSubsForm, EachTableOfSubs, subs_kinds, WellFormed-Filter, EachTable-Filter, SubsForm-row_of_subs}
 use Rattle.bag_algebra.specs.Children.{subs_denote, subs_shape}
 use Rattle.bag_algebra.specs.Expressions.{value}
 use Rattle.bag_algebra.specs.Fits.{TablesFit, bag_fits, env_fits, row_begins}
@@ -34,7 +34,7 @@ use Rattle.rewrite_base.proofs.JoinedOutcomes.{rewritten-from_related}
 use Rattle.rewrite_base.proofs.KeptRewriting.{rewriting-related}
 use Rattle.rewrite_base.proofs.KeptRows.{flat-append}
 use Rattle.query_laws.proofs.StandingSublinks.{answers-same}
-use Rattle.bag_algebra.specs.BuiltScopes.{all_plain, is_plain-Filter}
+use Rattle.bag_algebra.specs.built.Scopes.{all_plain, is_plain-Filter}
 use Rattle.rewrite_base.proofs.BesideLists.{same-from_rewritten}
 use Rattle.rewrite_base.specs.Rewritten.{Beside}
 use Rattle.rewrite_sublink.proofs.AllSublinks.{Ready, AllGoodOn, Reached, good-longer, contributes-longer, contributes-shorter, kinds-all, bad-all, plain-all, tables-all, formed-all, reached, stand-plain, stand-tables, stand-form, stand-kinds, stand-agree}

@@ -6,8 +6,8 @@ use Rattle.null_logic.specs.declared.truth.Truth.{Truth}
 use Rattle.perm_values.specs.declared.kind.Kind.{Kind}
 use Rattle.perm_values.specs.declared.kind.Kind.TheVariants as kind
 use Rattle.bag_algebra.specs.Bags.{Row}
-use Rattle.bag_algebra.specs.Built.{Case-is, IsTruth-is, kinds_of-Filter, meaning-Filter}
-use Rattle.bag_algebra.specs.BuiltForms.{AllSubsForm, EachTableOfSubs, subs_kinds, WellFormed-Filter, EachTable-Filter, arms_have-built, number_of_arms-built}
+use Rattle.bag_algebra.specs.built.Openings.{Case-is, IsTruth-is, kinds_of-Filter, meaning-Filter}
+use Rattle.bag_algebra.specs.built.Forms.{AllSubsForm, EachTableOfSubs, subs_kinds, WellFormed-Filter, EachTable-Filter, arms_have-built, number_of_arms-built}
 use Rattle.bag_algebra.specs.Children.{subs_denote}
 use Rattle.bag_algebra.specs.Kinds.{kinds_of, kind_in, place_kinds, shape, width_of}
 use Rattle.bag_algebra.specs.Meaning.{Database, meaning, condition_on}
@@ -30,7 +30,7 @@ use Rattle.contribution.proofs.LongerKinds.{NamesAlso, names-more, subs_form-lon
 use Rattle.contribution.specs.Conjunctions.{always}
 use Rattle.contribution.specs.CrossBase.{cross_base_of}
 use Rattle.rewrite_base.specs.KeptColumns.{pairs_of}
-use Rattle.bag_algebra.specs.BuiltScopes.{all_plain, is_plain-Filter}
+use Rattle.bag_algebra.specs.built.Scopes.{all_plain, is_plain-Filter}
 use Rattle.contribution.proofs.ColumnQueries.{all-first, all-nothing, formed-columns}
 use Rattle.contribution.proofs.NodeQueries.{meaning-pairs, formed-pairs, plain-pairs, plain-chosen, plain-projected}
 use Rattle.bag_algebra.specs.ColumnItems.{column_items}

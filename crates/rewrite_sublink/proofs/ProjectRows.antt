@@ -14,8 +14,8 @@ use Rattle.bag_algebra.proofs.Outcomes.{mapped-is}
 use Rattle.bag_algebra.proofs.TablesRead.{reads_among-each, reads_among-itself}
 use Rattle.bag_algebra.proofs.Widths.{place_kinds-append}
 use Rattle.bag_algebra.specs.Bags.{Row, Bag}
-use Rattle.bag_algebra.specs.Built.{kinds_of-Project, meaning-Project, shape-Project, Prov-is}
-use Rattle.bag_algebra.specs.BuiltForms.{AllSubsForm, EachTableOfSubs, subs_kinds, WellFormed-Project, EachTable-Project, SubsForm-row_of_subs}
+use Rattle.bag_algebra.specs.built.Openings.{kinds_of-Project, meaning-Project, shape-Project, Prov-is}
+use Rattle.bag_algebra.specs.built.Forms.{AllSubsForm, EachTableOfSubs, subs_kinds, WellFormed-Project, EachTable-Project, SubsForm-row_of_subs}
 use Rattle.bag_algebra.specs.Children.{subs_denote, subs_shape}
 use Rattle.bag_algebra.specs.ColumnItems.{column_item, column_items}
 use Rattle.bag_algebra.specs.Expressions.{value}
@@ -41,7 +41,7 @@ use Rattle.rewrite_base.proofs.KeptRewriting.{rewriting-related}
 use Rattle.rewrite_base.proofs.KeptRows.{flat-append, row-width, list-width}
 use Rattle.rewrite_base.proofs.Places.{at-between, within-range}
 use Rattle.query_laws.proofs.StandingSublinks.{answers-same}
-use Rattle.bag_algebra.specs.BuiltScopes.{all_plain, is_plain-Project}
+use Rattle.bag_algebra.specs.built.Scopes.{all_plain, is_plain-Project}
 use Rattle.contribution.proofs.ColumnQueries.{all-first, all-nothing, all-rest, column_items-kinds, kind_there, kinds_of-columns, meaning-columns, formed-columns}
 use Rattle.contribution.proofs.NodeQueries.{plain-projected}
 use Rattle.contribution.specs.ItemKinds.{item_kinds}

@@ -7,7 +7,7 @@ use Rattle.bag_algebra.specs.Scoped.{over_tables}
 use Rattle.bag_algebra.specs.declared.query.Query.{Query}
 use Rattle.bag_algebra.specs.declared.query.Sublink.{Sublink}
 use Rattle.contribution.specs.CrossBase.{cross_base_of}
-use Rattle.bag_algebra.specs.BuiltScopes.{all_over_tables}
+use Rattle.bag_algebra.specs.built.Scopes.{all_over_tables}
 use Rattle.rewrite_sublink.specs.Candidates.{all_contributed, contributed}
 
 opened : {X : Type 0} (xs : List X) (at : ℕ) (x : X) → at < length xs → x ≡ get_or xs at x → drop at xs ≡ x ∷ drop (at + 1) xs

@@ -10,7 +10,7 @@ use Rattle.perm_values.specs.Rows.{picked}
 use Rattle.perm_values.specs.declared.value.Value.{Value}
 use Rattle.perm_values.specs.declared.value.Value.TheVariants.{Null, Boolean}
 use Rattle.bag_algebra.specs.Bags.{Row, Bag}
-use Rattle.bag_algebra.specs.Built.{value-Case, value-IsTruth}
+use Rattle.bag_algebra.specs.built.Openings.{value-Case, value-IsTruth}
 use Rattle.bag_algebra.specs.Children.{subs_denote}
 use Rattle.bag_algebra.specs.Expressions.{value, has_truth, chosen_arm}
 use Rattle.bag_algebra.specs.Meaning.{Database, meaning, optional_value, condition_on}

@@ -6,7 +6,7 @@ use Rattle.null_logic.specs.declared.truth.Truth.{Truth}
 use Rattle.null_logic.specs.declared.truth.Truth.TheVariants.{True, False}
 use Rattle.bag_algebra.specs.ColumnItems.{column_items}
 use Rattle.bag_algebra.specs.Kinds.{kinds_of, width_of}
-use Rattle.bag_algebra.specs.Patterns.{FilterOf, ProjectOf}
+use Rattle.bag_algebra.specs.built.Patterns.{FilterOf, ProjectOf}
 use Rattle.bag_algebra.specs.declared.expr.Arm.{Arm}
 use Rattle.bag_algebra.specs.declared.expr.Expr.{Expr}
 use Rattle.bag_algebra.specs.declared.expr.Expr.TheVariants.{Case, IsTruth, Sub}

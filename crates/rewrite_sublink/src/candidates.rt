@@ -7,7 +7,7 @@ ghost use Rattle.bag_algebra.specs.declared.query.JoinKind.TheVariants.{Inner};
 ghost use Rattle.contribution.specs.Conjunctions.{always};
 ghost use Rattle.contribution.specs.CrossBase.{cross_base_of};
 ghost use Rattle.rewrite_base.specs.KeptColumns.{pairs_of};
-ghost use Rattle.bag_algebra.specs.BuiltScopes.{all_over_tables};
+ghost use Rattle.bag_algebra.specs.built.Scopes.{all_over_tables};
 ghost use Rattle.rewrite_sublink.specs.Candidates.{all_contributed, contributed, deciding, deciding_arm, exists_in, matching, sub_over, test_condition, test_subs, tested};
 
 use crate::decisions::deciding;

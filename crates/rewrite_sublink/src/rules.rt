@@ -4,7 +4,7 @@ ghost use Rattle.bag_algebra.specs.Kinds.{width_of};
 ghost use Rattle.bag_algebra.specs.Rewriting.{IsRewrite};
 ghost use Rattle.bag_algebra.specs.declared.query.Query.TheVariants.{Filter, Project};
 ghost use Rattle.query_laws.specs.Standing.{SubsStand};
-ghost use Rattle.bag_algebra.specs.BuiltScopes.{all_over_tables};
+ghost use Rattle.bag_algebra.specs.built.Scopes.{all_over_tables};
 ghost use Rattle.rewrite_sublink.specs.Candidates.{all_contributed, answer_columns, answer_places, beside_row};
 ghost use Rattle.rewrite_sublink.specs.SubRewritings.{SubsRewritten};
 

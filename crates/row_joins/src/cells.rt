@@ -43,7 +43,8 @@ impl Cells {
     /// Whether the value equals one of them: unknown where it equals none that is known, and it or one of them is NULL. It
     /// fails only for want of memory.
     pub fn equals_some(&self, alloc: Global, tested: &Value) -> Result<Truth, NoMemory>
-        ensures { (rows : Bag) → AreCells self.now rows → IfOk result (λ truth. truth ≡ some_of (comparisons Equal tested.now rows)) }
+        ensures { (rows : Bag) → AreCells self.now rows
+            → IfOk result (λ truth. truth ≡ some_of (comparisons Equal tested.now rows)) }
     {
         let row = row_of_one(alloc, tested)?;
         let key = key_of(alloc, Side::Left, self.columns.as_slice(), &row)?;

@@ -19,7 +19,8 @@ pub fn in_groups<'a>(
     aggregates: &[Aggr],
     env: &Env,
 ) -> Result<Input<'a>, ExecError>
-    ensures { Gives (grouped groups.now (functions_of aggregates.now) (arguments_on aggregates.now env.now) rows.entry) result }
+    ensures { Gives (grouped groups.now (functions_of aggregates.now) (arguments_on aggregates.now env.now)
+        rows.entry) result }
 {
     let found = grouped(alloc, rows.as_slice(), groups, aggregates, env)?;
     Ok(Input::made(found))

@@ -101,7 +101,8 @@ pub fn known_subs<'a>(
     is_hashed: bool,
     subs: &[Sublink],
 ) -> Result<Vec<Known<'a>>, NoMemory>
-    ensures { (db : Database) (env : ListOf SeenRow) → IfOk result (λ known. AllKnown db env subs.now known.items) }
+    ensures { (db : Database) (env : ListOf SeenRow)
+        → IfOk result (λ known. AllKnown db env subs.now known.items) }
 {
     let mut known = Vec::new(alloc);
     for sub in subs {
@@ -141,7 +142,8 @@ pub fn cells_value(
     tested: &Value,
 ) -> Result<Value, NoMemory>
     requires { IsTrue (tests_equality kind) }
-    ensures { (rows : Bag) → AreCells cells.now rows → IfOk result (λ value. sub_value kind tested.now rows ≡ Good value) }
+    ensures { (rows : Bag) → AreCells cells.now rows
+        → IfOk result (λ value. sub_value kind tested.now rows ≡ Good value) }
 {
     let truth = cells.equals_some(alloc, tested)?;
     Ok(turned(kind, truth).value())

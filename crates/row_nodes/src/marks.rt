@@ -28,7 +28,8 @@ pub(crate) fn left_out<'a>(
     rows: &'a [Row],
     other: &IndexSet<&'a Row>,
 ) -> Result<List<bool>, NoMemory>
-    ensures { (vs : Bag) → Holds other.now.keys vs → IfOk result (λ flags. flags ≡ marks_by (left_out (wanted common vs)) rows.now) }
+    ensures { (vs : Bag) → Holds other.now.keys vs
+        → IfOk result (λ flags. flags ≡ marks_by (left_out (wanted common vs)) rows.now) }
 {
     let mut seen = IndexSet::new(alloc);
     let mut flags = List::new(alloc);

@@ -71,7 +71,9 @@ fn compared<'a>(
     left: &'a [Row],
     right: &'a [Row],
 ) -> Result<List<bool>, NoMemory>
-    ensures rest { IfOk result (λ flags. unmarked flags left.now ≡ cond common (intersect_of all left.now right.now) (except_of all left.now right.now)) }
+    ensures rest { IfOk result
+        (λ flags. unmarked flags left.now
+        ≡ cond common (intersect_of all left.now right.now) (except_of all left.now right.now)) }
     ensures long { IfOk result (λ flags. length flags ≡ length left.now) }
 {
     if all {

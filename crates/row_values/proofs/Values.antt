@@ -6,7 +6,7 @@ use Rattle.null_logic.specs.declared.truth.Truth.{Truth}
 use Rattle.perm_values.specs.declared.value.Value.{Value}
 use Rattle.perm_values.specs.declared.value.Value.TheVariants.{Boolean}
 use Rattle.bag_algebra.specs.Bags.{Row}
-use Rattle.bag_algebra.specs.Built.{value-Op, value-Chain, value-Case, value-IsNull, value-IsTruth, value-Same}
+use Rattle.bag_algebra.specs.built.Openings.{value-Op, value-Chain, value-Case, value-IsNull, value-IsTruth, value-Same}
 use Rattle.bag_algebra.specs.Children.{part_values, step_of, arms_value}
 use Rattle.bag_algebra.specs.Expressions.{value, operate, has_truth}
 use Rattle.bag_algebra.specs.Expressions as algebra

@@ -7,7 +7,7 @@ use Rattle.std.specs.List.{All, AllByRecursion, Contains, IsDistinct, flat_map, 
 use Rattle.std.specs.Option.{option_map_or}
 use Rattle.perm_values.specs.declared.kind.Kind.{Kind}
 use Rattle.perm_values.specs.declared.kind.Kind.TheVariants as kind
-use Rattle.bag_algebra.specs.BuiltForms.{subs_kinds}
+use Rattle.bag_algebra.specs.built.Forms.{subs_kinds}
 use Rattle.bag_algebra.specs.WellFormed.{HasKind}
 use Rattle.bag_algebra.specs.declared.query.Aggr.{Aggr}
 use Rattle.bag_algebra.specs.declared.query.Sublink.{Sublink}

@@ -3,7 +3,7 @@ use Rattle.std.proofs.Common.{◌≡◌, ◌∙◌, ◌↔◌, Bool, true, cond,
 use Rattle.std.specs.List.{flat_map}
 use Rattle.bag_algebra.proofs.BagLaws.{member_decides}
 use Rattle.bag_algebra.specs.Bags.{Row, Bag, member, once}
-use Rattle.bag_algebra.specs.Built.{Prov-is, denote-Prov, meaning-Prov}
+use Rattle.bag_algebra.specs.built.Openings.{Prov-is, denote-Prov, meaning-Prov}
 use Rattle.bag_algebra.specs.Meaning.{Database, meaning, witnesses}
 use Rattle.bag_algebra.specs.Means.{Means, unlisted_means, with_witnesses}
 use Rattle.bag_algebra.specs.Outcome.{Outcome, Good, Bad, Faults, mapped}

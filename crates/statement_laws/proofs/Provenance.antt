@@ -4,12 +4,12 @@ use Rattle.perm_values.specs.Rows.{printed_cmp}
 use Rattle.bag_algebra.proofs.BagLaws.{member_decides, same_bag-refl}
 use Rattle.bag_algebra.proofs.SortedBags.{same_bag-sorted}
 use Rattle.bag_algebra.specs.Bags.{Row, Bag, SameBag, member, sorted}
-use Rattle.bag_algebra.specs.Built.{Prov-is}
+use Rattle.bag_algebra.specs.built.Openings.{Prov-is}
 use Rattle.bag_algebra.specs.Fits.{TablesFit}
 use Rattle.bag_algebra.specs.Kinds.{width_of}
 use Rattle.bag_algebra.specs.Meaning.{Database, meaning}
 use Rattle.bag_algebra.specs.Outcome.{Good, Bad, Faults}
-use Rattle.bag_algebra.specs.Patterns.{ProvOf}
+use Rattle.bag_algebra.specs.built.Patterns.{ProvOf}
 use Rattle.bag_algebra.specs.TableRows.{rows_in}
 use Rattle.bag_algebra.specs.WellFormed.{WellFormed}
 use Rattle.bag_algebra.specs.declared.query.Answer.{Answer}

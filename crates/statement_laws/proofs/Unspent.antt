@@ -41,7 +41,7 @@ use Rattle.name_meaning.specs.Froms.{Read, SourcePart, named, inner, FromItemPar
 use Rattle.name_meaning.specs.Items.{SelectMeant, SelectPart, columns_meant, item_step, no_columns, star_meant, table_star_meant, items_breaks, is_ungrouped}
 use Rattle.name_meaning.specs.Meanings.{Around, Meant, OutColumn, Part, QueryMeant, QueryPart, Surroundings, broken, broken_if, is_whole, means_at, query_means_at, seen_kind, unites}
 use Rattle.name_meaning.specs.Operands.{Operand, first_unfit, gives_of, need_of, node, operand, operated, parts_breaks, unfit_break}
-use Rattle.name_meaning.specs.Queries.{SetStepPart, columns_so_far, do_unite, is_named, is_position, is_proving, key_break, keys_breaks, keys_of, limited, operand_breaks, plain_query, proved_query, query_seen, set_chain, set_joined, set_step, unprovable}
+use Rattle.name_meaning.specs.Queries.{SetStepPart, columns_so_far, do_unite, is_named, is_position, asks_provenance, key_break, keys_breaks, keys_of, limited, operand_breaks, plain_query, query_with_provenance, query_seen, set_chain, set_joined, set_step, may_not_ask}
 use Rattle.name_meaning.specs.Scopes.{KnownColumn, ScopeItem, item_columns, look_up, placed, scope_of}
 use Rattle.name_meaning.specs.Statements.{alone, bare, breaks, columns_of, delete_breaks, greatest_height, has_boolean, limit_breaks, most_query_columns, most_table_columns, name_breaks, named_query_breaks, on_table, query_limits, query_meant, repeated_columns, repeats, row_breaks, size_limit, table_limit, table_scope, taken, unknown_table, unknown_view, used, value_breaks, values_breaks, width_limit}
 use Rattle.name_meaning.specs.Sublinks.{aggregate_meant, aggregated, around_of, breaking, column_meant, exists_meant, first_kind, if_standing, in_argument, in_tested, is_one_column, rows_counted, scalar_meant, takes_kind, tested_break, tested_looked, tested_meant, tested_unlooked}
@@ -238,7 +238,7 @@ unspent-table_star scope table = by_columns (item_columns table.text scope) wher
   by_columns (Some columns) = unspent-columns scope table.at columns
 
 unspent-word : (around : Around) (word : Option ℕ) → Unspent (word_breaks around word)
-unspent-word around word = chosen around.provable [] _ tt (if_there (λ at. broken rule.MisplacedProvenance at ∷ []) word [] (λ at. one rule.MisplacedProvenance at refl) tt)
+unspent-word around word = chosen around.may_ask [] _ tt (if_there (λ at. broken rule.MisplacedProvenance at ∷ []) word [] (λ at. one rule.MisplacedProvenance at refl) tt)
 
 unspent-items : (has_from : Bool) (scope : Scope) (here : Surroundings) (items : List SelectPart) → Every UnspentItem items →
     Unspent (items_breaks (map (λ (item : SelectPart). item.means has_from scope here) items))
@@ -271,9 +271,9 @@ unspent-operands at (Some left) (Some right) = chosen (nat_eq (length left) (len
 unspent-chain : (around : Around) (left : QueryMeant) (steps : List SetStepPart) → Unspent left.breaks → Every UnspentOperand steps → Unspent (set_chain around left steps).breaks
 unspent-chain around left [] h k = h
 unspent-chain around left (step ∷ steps) h k =
-    let right = step.operand.means (unprovable around) in
+    let right = step.operand.means (may_not_ask around) in
     unspent-chain around (set_joined left step right) steps
-    (three left.breaks right.breaks (operand_breaks step.at left.columns right.columns) h (k.0 (unprovable around)) (unspent-operands step.at left.columns right.columns)) k.1
+    (three left.breaks right.breaks (operand_breaks step.at left.columns right.columns) h (k.0 (may_not_ask around)) (unspent-operands step.at left.columns right.columns)) k.1
 
 unspent-key : (columns : List OutColumn) (tree : OrderTree) → Unspent (key_break columns tree)
 unspent-key columns tree = by_key tree.key where
@@ -291,7 +291,7 @@ unspent-query : (around : Around) (at : ℕ) (body : BodyPart) (order : List Ord
 unspent-query around at body order limit h =
     let proved = body.means (record around { trace = in_provenance }) in
     let plain = body.means around in
-    either-query (is_proving around body) _ _ (both proved.breaks (keys_breaks proved.columns order) (h (record around { trace = in_provenance })) (unspent-keys proved.columns order))
+    either-query (asks_provenance around body) _ _ (both proved.breaks (keys_breaks proved.columns order) (h (record around { trace = in_provenance })) (unspent-keys proved.columns order))
     (both plain.breaks (keys_breaks plain.columns order) (h around) (unspent-keys plain.columns order))
 
 -- ---- FROM
@@ -412,7 +412,7 @@ module _ (c : Contents) where
   unspent-set : (frame : SetTreeFrame) → SetParts c UnspentBody UnspentItem UnspentCore UnspentSource UnspentArm UnspentStep UnspentPart UnspentCore UnspentQuery UnspentOperand UnspentFromItem UnspentFrom UnspentJoin frame →
       UnspentCore (set_step frame)
   unspent-set (SetTree-F.Core core) h around = h around
-  unspent-set (SetTree-F.«SetTree::Paren» query) h around = h (unprovable around)
+  unspent-set (SetTree-F.«SetTree::Paren» query) h around = h (may_not_ask around)
   unspent-set (SetTree-F.«SetTree::Chain» first steps) h around = unspent-chain around (first.means around) steps (h.0 around) h.1
 
   unspent-source : (frame : FromSourceFrame) → SourceParts c UnspentBody UnspentItem UnspentCore UnspentSource UnspentArm UnspentStep UnspentPart UnspentCore UnspentQuery UnspentOperand UnspentFromItem UnspentFrom UnspentJoin frame →

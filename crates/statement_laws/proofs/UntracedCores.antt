@@ -9,7 +9,7 @@ use Rattle.name_meaning.specs.Cores.{BodyPart, Clauses, clause_breaks, core_clau
 use Rattle.name_meaning.specs.Froms.{FromMeant, FromPart, from_all}
 use Rattle.name_meaning.specs.Items.{SelectPart, items_breaks}
 use Rattle.name_meaning.specs.Meanings.{Surroundings, Meant, Part, Around, QueryMeant, broken_if, is_whole, seen_kind, unites}
-use Rattle.name_meaning.specs.Queries.{SetStepPart, is_proving, keys_breaks, keys_of, limited, operand_breaks, plain_query, proved_query, query_seen, set_chain, set_joined, unprovable}
+use Rattle.name_meaning.specs.Queries.{SetStepPart, asks_provenance, keys_breaks, keys_of, limited, operand_breaks, plain_query, query_with_provenance, query_seen, set_chain, set_joined, may_not_ask}
 use Rattle.name_meaning.specs.Scopes.{ScopeItem, scope_of}
 use Rattle.name_meaning.specs.declared.answer.Break.{Break}
 use Rattle.name_meaning.specs.declared.scope.Scope.{Scope}
@@ -103,29 +103,29 @@ abbrev pub SetStepSame : SetStepPart → Type 0
 SetStepSame step = BodyPartSame step.operand
 
 same-joined : (around : Around) (left right : QueryMeant) (step : SetStepPart) → SetStepSame step → QuerySame left right
-    → QuerySame (set_joined left step (step.operand.means (unprovable around))) (set_joined right step (step.operand.means (unprovable (untraced_around around))))
+    → QuerySame (set_joined left step (step.operand.means (may_not_ask around))) (set_joined right step (step.operand.means (may_not_ask (untraced_around around))))
 same-joined around left right step good same whole =
-    let m : QueryMeant = step.operand.means (unprovable around) in
+    let m : QueryMeant = step.operand.means (may_not_ask around) in
     let operands = front-none (left.breaks ++ m.breaks) (operand_breaks step.at left.columns m.columns) whole in
-    λ i. set_joined (same (front-none left.breaks m.breaks operands) i) step (good (unprovable around) (back-none left.breaks m.breaks operands) i)
+    λ i. set_joined (same (front-none left.breaks m.breaks operands) i) step (good (may_not_ask around) (back-none left.breaks m.breaks operands) i)
 
 pub same-chain : (around : Around) (left right : QueryMeant) (steps : List SetStepPart) → QuerySame left right → Every SetStepSame steps
     → QuerySame (set_chain around left steps) (set_chain (untraced_around around) right steps)
 same-chain around left right [] same h = same
 same-chain around left right (step ∷ steps) same h =
-    same-chain around (set_joined left step (step.operand.means (unprovable around))) (set_joined right step (step.operand.means (unprovable (untraced_around around)))) steps
+    same-chain around (set_joined left step (step.operand.means (may_not_ask around))) (set_joined right step (step.operand.means (may_not_ask (untraced_around around)))) steps
     (same-joined around left right step h.0 same) h.1
 
 -- ---- the whole
 
 pub same-query_seen : (around : Around) (at : ℕ) (body : BodyPart) (order : List OrderTree) (limit : Option ℤ) → BodyPartSame body
     → QuerySame (query_seen around at body order limit) (query_seen (untraced_around around) at body order limit)
-same-query_seen around at body order limit good = chosen (is_proving around body) where
+same-query_seen around at body order limit good = chosen (asks_provenance around body) where
   chosen : (b : Bool) → QuerySame
-      (cond b (proved_query at (body.means (record around { trace = in_provenance })) order limit
+      (cond b (query_with_provenance at (body.means (record around { trace = in_provenance })) order limit
       (limited limit (keys_of (body.means (record around { trace = in_provenance })).columns order) ((body.means (record around { trace = in_provenance })).make [])))
       (plain_query at (body.means around) order limit))
-      (cond b (proved_query at (body.means (record around { trace = in_provenance })) order limit
+      (cond b (query_with_provenance at (body.means (record around { trace = in_provenance })) order limit
       (limited limit (keys_of (body.means (record around { trace = in_provenance })).columns order) ((body.means (record around { trace = in_provenance })).make [])))
       (plain_query at (body.means (untraced_around around)) order limit))
   chosen true whole = refl

@@ -39,7 +39,7 @@ module _ (c : Contents) where
   pub same-read_of : (m : ScopeMark) (outer : List Scope) (t : Trace) (source : SourcePart) → SourceSame source
       → (read_of c m outer t source).breaks ≡ [] → read_of c m outer t source ≡ read_of c m outer untraced source
   same-read_of m outer t (named_source name) good whole = refl
-  same-read_of mark.Plain outer t (inner_source query) good whole = ap read_query (good (record { outer = outer; trace = t; provable = true }) whole)
+  same-read_of mark.Plain outer t (inner_source query) good whole = ap read_query (good (record { outer = outer; trace = t; may_ask = true }) whole)
   same-read_of mark.BaseRelation outer t (inner_source query) good whole = refl
   same-read_of (mark.External attributes) outer t (inner_source query) good whole = refl
 

@@ -15,7 +15,7 @@ use Rattle.name_meaning.specs.Froms.{source_step, first_item, label_of, scope_na
 use Rattle.name_meaning.specs.Items.{item_step, title}
 use Rattle.name_meaning.specs.Meanings.{Part}
 use Rattle.name_meaning.specs.Operands.{operand}
-use Rattle.name_meaning.specs.Queries.{set_step, unprovable}
+use Rattle.name_meaning.specs.Queries.{set_step, may_not_ask}
 use Rattle.name_meaning.specs.Scopes.{look_up}
 use Rattle.name_meaning.specs.Sublinks.{around_of, exists_meant, scalar_meant}
 use Rattle.name_meaning.specs.Trees.{set_of_tree}
@@ -108,7 +108,7 @@ module _ (c : Contents) where
 
   same-set : (frame : SetTreeFrame) → PartsOfSet frame → BodyPartSame (set_step frame)
   same-set (SetTree-F.Core core) h around = h around
-  same-set (SetTree-F.«SetTree::Paren» inner) h around = h (unprovable around)
+  same-set (SetTree-F.«SetTree::Paren» inner) h around = h (may_not_ask around)
   same-set (SetTree-F.«SetTree::Chain» first steps) h around = same-chain around (first.means around) (first.means (untraced_around around)) steps (h.0 around) h.1
 
   same-source : (frame : FromSourceFrame) → PartsOfSource frame → SourceSame (source_step frame)

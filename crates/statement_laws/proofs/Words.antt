@@ -33,7 +33,7 @@ use Rattle.name_meaning.specs.Expressions.{Body, StepPart, ArmPart, body_step, a
 use Rattle.name_meaning.specs.Froms.{SourcePart, FromItemPart, FromPart, JoinPart, source_step, from_item_step, from_step, join_step, names_of, settled_columns}
 use Rattle.name_meaning.specs.Items.{SelectPart, item_step}
 use Rattle.name_meaning.specs.Meanings.{OutColumn, Part, QueryMeant, QueryPart, is_whole, query_means_at}
-use Rattle.name_meaning.specs.Queries.{SetStepPart, keys_breaks, keys_of, limited, plain_query, proved_columns, proved_query, provenance_columns, query_seen, query_step, set_chain, set_step, set_step_step}
+use Rattle.name_meaning.specs.Queries.{SetStepPart, keys_breaks, keys_of, limited, plain_query, columns_with_provenance, query_with_provenance, provenance_columns, query_seen, query_step, set_chain, set_step, set_step_step}
 use Rattle.name_meaning.specs.Statements.{alone, answer_of, name_breaks, query_meant, resolved_body}
 use Rattle.name_meaning.specs.Trees.{body_of, item_of, set_of_tree, source_of, arm_of, step_of, part_of, core_of, query_of, set_step_of, from_item_of, from_of, join_of}
 use Rattle.name_meaning.specs.declared.answer.Break.{Break}
@@ -117,11 +117,11 @@ opened c tree = ap (λ (part : QueryPart). part.means alone) (querytree-record c
 
 -- by whether the word stands there
 abbrev by_word : Contents → QueryTree → Bool → QueryMeant
-by_word c tree proving = cond proving (proved_query tree.at (traced c tree.body) tree.order tree.limit (whole_query tree (traced c tree.body)))
+by_word c tree asking = cond asking (query_with_provenance tree.at (traced c tree.body) tree.order tree.limit (whole_query tree (traced c tree.body)))
     (plain_query tree.at ((set_of_tree c tree.body).means alone) tree.order tree.limit)
 
 proved-seen : (c : Contents) (tree : QueryTree) (at : ℕ) → HasWord at tree.body
-    → query_meant c tree ≡ proved_query tree.at (traced c tree.body) tree.order tree.limit (whole_query tree (traced c tree.body))
+    → query_meant c tree ≡ query_with_provenance tree.at (traced c tree.body) tree.order tree.limit (whole_query tree (traced c tree.body))
 proved-seen c tree at word = opened c tree ∙ ap (by_word c tree) (ap (λ (found : Option ℕ). is_some found) (word-at c at tree.body word))
 
 plain-seen : (c : Contents) (tree : QueryTree) → (set_of_tree c tree.body).word ≡ None
@@ -139,7 +139,7 @@ module _ (c : Contents) (statement : Statement) (answer : Answer) (tree : QueryT
   same_query : answer_of (query_meant c tree) ≡ answer
   same_query = same_answer (answer_of (query_meant c tree)) answer (sym (ap (resolved_body c) is) ∙ asked_for.is)
 
-  seen : query_meant c tree ≡ proved_query tree.at m tree.order tree.limit (whole_query tree m)
+  seen : query_meant c tree ≡ query_with_provenance tree.at m tree.order tree.limit (whole_query tree m)
   seen = proved-seen c tree at word
 
   all-none : m.breaks ++ keys_breaks m.columns tree.order ≡ []
@@ -173,7 +173,7 @@ shown-append (column ∷ own) more = ap (λ (names : List (List ℕ)). column.na
 
 -- the columns with those of the places, where the query is whole
 proved-names : (own : List OutColumn) (m : QueryMeant) (query : Query) → m.columns ≡ Some own → m.breaks ≡ []
-    → names_of (option_map_or settled_columns (proved_columns m query) []) ≡ shown_names own ++ shown_names (provenance_columns query)
+    → names_of (option_map_or settled_columns (columns_with_provenance m query) []) ≡ shown_names own ++ shown_names (provenance_columns query)
 proved-names own m query e none =
     ap (λ (bs : List Break). names_of (option_map_or settled_columns
     (cond (is_whole bs) (option_map (λ (columns : List OutColumn). columns ++ provenance_columns query) m.columns) m.columns) [])) none
@@ -190,7 +190,7 @@ word-names c statement answer plain tree at body sound asked_for is word without
     let all_none = none c statement answer tree at body asked_for is word without in
     let known = set-known c tree.body (record alone { trace = in_provenance }) sound all_none in
     let same : answer_of (query_meant c tree) ≡ answer = same_query c statement answer tree at body asked_for is word without in
-    let shown : query_meant c tree ≡ proved_query tree.at m tree.order tree.limit query = seen c statement answer tree at body asked_for is word without in
+    let shown : query_meant c tree ≡ query_with_provenance tree.at m tree.order tree.limit query = seen c statement answer tree at body asked_for is word without in
     let other : answer_of (query_meant c (with_body tree body)) ≡ plain = same_answer (answer_of (query_meant c (with_body tree body))) plain resolved.is in
     let plainly : query_meant c (with_body tree body) ≡ plain_query tree.at m tree.order tree.limit = plain_seen c statement answer tree at body asked_for is word without in
     let own_names : shown_names known.columns ≡ plain.names =

@@ -4,7 +4,7 @@ use Rattle.std.specs.Fmt.{digits}
 use Rattle.null_logic.specs.declared.arith.Arith.TheVariants.{Divide}
 use Rattle.perm_values.specs.declared.kind.Kind.TheVariants as kind
 use Rattle.perm_values.specs.declared.value.Value.TheVariants.{Null}
-use Rattle.bag_algebra.specs.Patterns.{OpOf, ProvOf, AggregateOf}
+use Rattle.bag_algebra.specs.built.Patterns.{OpOf, ProvOf, AggregateOf}
 use Rattle.bag_algebra.specs.declared.query.AggFn.TheVariants.{CountRows}
 use Rattle.bag_algebra.specs.declared.query.Query.{Query}
 use Rattle.null_logic.specs.declared.operator.Operator.TheVariants as op

@@ -6,7 +6,7 @@ use Rattle.null_logic.specs.declared.compare.Compare.TheVariants.{Equal}
 use Rattle.perm_values.specs.declared.kind.Kind.TheVariants as kind
 use Rattle.perm_values.specs.declared.value.Value.TheVariants.{Null, Boolean}
 use Rattle.bag_algebra.specs.Bags.{Bag}
-use Rattle.bag_algebra.specs.Patterns.{BaseOf, FilterOf, JoinOf, ProvOf}
+use Rattle.bag_algebra.specs.built.Patterns.{BaseOf, FilterOf, JoinOf, ProvOf}
 use Rattle.bag_algebra.specs.declared.expr.Expr.TheVariants.{Lit, Sub}
 use Rattle.bag_algebra.specs.declared.query.Answer.{Answer}
 use Rattle.bag_algebra.specs.declared.query.JoinKind.TheVariants.{Inner, Left}

@@ -4,7 +4,7 @@ use Rattle.std.specs.FinMap as map
 use Rattle.std.specs.Map.{keys_of}
 use Rattle.perm_values.specs.declared.kind.Kind.TheVariants as kind
 use Rattle.perm_values.specs.declared.value.Value.TheVariants.{Boolean}
-use Rattle.bag_algebra.specs.Patterns.{FilterOf, JoinOf}
+use Rattle.bag_algebra.specs.built.Patterns.{FilterOf, JoinOf}
 use Rattle.bag_algebra.specs.declared.expr.Expr.{Expr}
 use Rattle.bag_algebra.specs.declared.expr.Expr.TheVariants.{Lit}
 use Rattle.bag_algebra.specs.declared.query.JoinKind.TheVariants.{Inner}

@@ -9,7 +9,7 @@ use Rattle.perm_values.specs.declared.value.Value.TheVariants.{Null}
 use Rattle.bag_algebra.specs.Meaning.{Database, witnesses}
 use Rattle.bag_algebra.specs.Means.{Held, Empty}
 use Rattle.bag_algebra.specs.Outcome.{Good, Bad, only}
-use Rattle.bag_algebra.specs.Patterns.{AggregateOf, ApplyOf, BaseOf, FilterOf, JoinOf, ProvOf}
+use Rattle.bag_algebra.specs.built.Patterns.{AggregateOf, ApplyOf, BaseOf, FilterOf, JoinOf, ProvOf}
 use Rattle.bag_algebra.specs.declared.expr.Expr.TheVariants.{Sub}
 use Rattle.bag_algebra.specs.declared.query.AggFn.TheVariants.{Max}
 use Rattle.bag_algebra.specs.declared.query.JoinKind.{JoinKind}

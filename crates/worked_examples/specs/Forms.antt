@@ -14,7 +14,7 @@ use Rattle.bag_algebra.specs.Fits.{env_fits}
 use Rattle.bag_algebra.specs.Meaning.{Database, witnesses}
 use Rattle.bag_algebra.specs.Means.{Held, Empty}
 use Rattle.bag_algebra.specs.Kinds.{shape}
-use Rattle.bag_algebra.specs.Patterns.{OpOf, BaseOf, FilterOf, AggregateOf, Shape}
+use Rattle.bag_algebra.specs.built.Patterns.{OpOf, BaseOf, FilterOf, AggregateOf, Shape}
 use Rattle.bag_algebra.specs.WellFormed.{aggr_form, WellFormed}
 use Rattle.bag_algebra.specs.declared.expr.Expr.{Expr, more_of-Expr, end_of-Expr}
 use Rattle.bag_algebra.specs.declared.expr.Expr.TheVariants.{Col, Sub}

@@ -8,7 +8,7 @@ use Rattle.perm_values.specs.declared.value.Value.TheVariants.{Null, Integer}
 use Rattle.bag_algebra.specs.Bags.{Bag}
 use Rattle.bag_algebra.specs.Meaning.{Database}
 use Rattle.bag_algebra.specs.Outcome.{Good, Bad, only}
-use Rattle.bag_algebra.specs.Patterns.{FilterOf, AggregateOf}
+use Rattle.bag_algebra.specs.built.Patterns.{FilterOf, AggregateOf}
 use Rattle.bag_algebra.specs.declared.query.Aggr.{Aggr}
 use Rattle.bag_algebra.specs.declared.query.AggFn.{AggFn}
 use Rattle.bag_algebra.specs.declared.query.AggFn.TheVariants.{CountRows, Count, CountDistinct, Sum, Min, Max}

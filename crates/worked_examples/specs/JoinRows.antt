@@ -5,7 +5,7 @@ use Rattle.perm_values.specs.declared.value.Value.TheVariants.{Null}
 use Rattle.bag_algebra.specs.Meaning.{Database, witnesses}
 use Rattle.bag_algebra.specs.Means.{Held, Empty}
 use Rattle.bag_algebra.specs.Outcome.{Good}
-use Rattle.bag_algebra.specs.Patterns.{FilterOf, JoinOf, ProvOf}
+use Rattle.bag_algebra.specs.built.Patterns.{FilterOf, JoinOf, ProvOf}
 use Rattle.bag_algebra.specs.declared.expr.Expr.TheVariants.{Sub}
 use Rattle.bag_algebra.specs.declared.query.JoinKind.{JoinKind}
 use Rattle.bag_algebra.specs.declared.query.JoinKind.TheVariants.{Left, Right, Full}

@@ -8,7 +8,7 @@ use Rattle.perm_values.specs.declared.value.Value.TheVariants.{Integer, Text}
 use Rattle.bag_algebra.specs.Kinds.{shape}
 use Rattle.bag_algebra.specs.Meaning.{Database, witnesses}
 use Rattle.bag_algebra.specs.Means.{Held, Empty}
-use Rattle.bag_algebra.specs.Patterns.{BaseOf, FilterOf, ProjectOf, UnionOf}
+use Rattle.bag_algebra.specs.built.Patterns.{BaseOf, FilterOf, ProjectOf, UnionOf}
 use Rattle.bag_algebra.specs.PlaceNames.{place_names}
 use Rattle.bag_algebra.specs.declared.expr.Expr.TheVariants.{Col, Sub}
 use Rattle.bag_algebra.specs.declared.place.Place.{Place}

@@ -10,7 +10,7 @@ use Rattle.perm_values.specs.declared.value.Value.TheVariants.{Integer, Text, Bo
 use Rattle.bag_algebra.specs.Bags.{Bag, sorted}
 use Rattle.bag_algebra.specs.Meaning.{Database, meaning}
 use Rattle.bag_algebra.specs.Outcome.{Outcome, mapped}
-use Rattle.bag_algebra.specs.Patterns.{OpOf, ChainOf, BaseOf, FilterOf, ProjectOf, Shape}
+use Rattle.bag_algebra.specs.built.Patterns.{OpOf, ChainOf, BaseOf, FilterOf, ProjectOf, Shape}
 use Rattle.bag_algebra.specs.declared.expr.Expr.{Expr, more_of-Expr, end_of-Expr, more_of-ChainStep, end_of-ChainStep}
 use Rattle.bag_algebra.specs.declared.expr.Expr.TheVariants.{Col, Lit}
 use Rattle.bag_algebra.specs.declared.expr.Item.{Item}

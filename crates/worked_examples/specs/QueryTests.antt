@@ -6,7 +6,7 @@ use Rattle.bag_algebra.specs.Closed.{is_closed}
 use Rattle.bag_algebra.specs.FaultFree.{fault_free}
 use Rattle.bag_algebra.specs.Kinds.{width_of}
 use Rattle.bag_algebra.specs.Measures.{height_of, size_of}
-use Rattle.bag_algebra.specs.Patterns.{ChainOf, BaseOf, FilterOf, ProjectOf, UnionOf, DistinctOf, AggregateOf, ProvOf}
+use Rattle.bag_algebra.specs.built.Patterns.{ChainOf, BaseOf, FilterOf, ProjectOf, UnionOf, DistinctOf, AggregateOf, ProvOf}
 use Rattle.bag_algebra.specs.Rewriting.{is_plain}
 use Rattle.bag_algebra.specs.Scoped.{is_scoped}
 use Rattle.bag_algebra.specs.declared.expr.Expr.{more_of-ChainStep, end_of-ChainStep}

@@ -3,7 +3,7 @@
 use Rattle.std.specs.Prelude.{◌≡◌, ℕ, true, [], ◌∷◌, Option, Some, None, refl, codes}
 use Rattle.null_logic.specs.declared.arith.Arith.TheVariants.{Add}
 use Rattle.perm_values.specs.declared.kind.Kind.TheVariants as kind
-use Rattle.bag_algebra.specs.Patterns.{AggregateOf, BaseOf, CaseOf, ChainOf, FilterOf, JoinOf, LimitOf, ProjectOf, ProvOf, UnionOf}
+use Rattle.bag_algebra.specs.built.Patterns.{AggregateOf, BaseOf, CaseOf, ChainOf, FilterOf, JoinOf, LimitOf, ProjectOf, ProvOf, UnionOf}
 use Rattle.bag_algebra.specs.declared.expr.Expr.{Expr, more_of-Arm, end_of-Arm, more_of-ChainStep, end_of-ChainStep}
 use Rattle.bag_algebra.specs.declared.expr.Expr.TheBlock.{shape-the_row-Expr-0, hidden-the_row-Expr-0, shape-the_row-Expr-1, hidden-the_row-Expr-1}
 use Rattle.bag_algebra.specs.declared.expr.Expr.TheVariants.{Col, Sub}

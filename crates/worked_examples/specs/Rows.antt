@@ -8,7 +8,7 @@ use Rattle.perm_values.specs.declared.kind.Kind.TheVariants as kind
 use Rattle.perm_values.specs.declared.value.Value.TheVariants.{Null, Boolean}
 use Rattle.bag_algebra.specs.Meaning.{Database}
 use Rattle.bag_algebra.specs.Outcome.{Good, Bad, only}
-use Rattle.bag_algebra.specs.Patterns.{FilterOf, ProjectOf, JoinOf, UnionOf, ExceptOf, AggregateOf, ProvOf}
+use Rattle.bag_algebra.specs.built.Patterns.{FilterOf, ProjectOf, JoinOf, UnionOf, ExceptOf, AggregateOf, ProvOf}
 use Rattle.bag_algebra.specs.declared.expr.Expr.TheVariants.{Sub}
 use Rattle.bag_algebra.specs.declared.query.Aggr.{Aggr}
 use Rattle.bag_algebra.specs.declared.query.AggFn.TheVariants.{CountRows}

@@ -7,7 +7,7 @@ use Rattle.bag_algebra.specs.Bags.{Bag, sorted}
 use Rattle.bag_algebra.specs.Meaning.{Database, witnesses}
 use Rattle.bag_algebra.specs.Means.{Held}
 use Rattle.bag_algebra.specs.Outcome.{Good}
-use Rattle.bag_algebra.specs.Patterns.{IntersectOf, LimitOf, ProvOf}
+use Rattle.bag_algebra.specs.built.Patterns.{IntersectOf, LimitOf, ProvOf}
 use Rattle.bag_algebra.specs.declared.query.Query.{Query}
 use Rattle.worked_examples.specs.Queries.{num, x, y, z, holding, r, s, select_a, printed}
 

@@ -6,7 +6,7 @@ use Rattle.perm_values.specs.declared.value.Value.{Value}
 use Rattle.perm_values.specs.declared.value.Value.TheVariants.{Text}
 use Rattle.bag_algebra.specs.Meaning.{Database}
 use Rattle.bag_algebra.specs.Outcome.{Good}
-use Rattle.bag_algebra.specs.Patterns.{IsNullOf, BaseOf, FilterOf, ProvOf}
+use Rattle.bag_algebra.specs.built.Patterns.{IsNullOf, BaseOf, FilterOf, ProvOf}
 use Rattle.bag_algebra.specs.declared.expr.Expr.TheVariants.{Sub}
 use Rattle.bag_algebra.specs.declared.query.Label.TheVariants.{Relation, External}
 use Rattle.bag_algebra.specs.declared.query.SubKind.TheVariants.{Any, All, Scalar}

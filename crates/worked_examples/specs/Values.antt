@@ -12,7 +12,7 @@ use Rattle.perm_values.specs.declared.kind.Kind.TheVariants as kind
 use Rattle.perm_values.specs.declared.value.Value.TheVariants.{Null, Text, Boolean}
 use Rattle.bag_algebra.specs.Expressions.{value, like_values}
 use Rattle.bag_algebra.specs.Outcome.{Good, Bad, only}
-use Rattle.bag_algebra.specs.Patterns.{CaseOf}
+use Rattle.bag_algebra.specs.built.Patterns.{CaseOf}
 use Rattle.bag_algebra.specs.declared.expr.Expr.{Expr, more_of-Arm, end_of-Arm}
 use Rattle.bag_algebra.specs.declared.expr.Expr.TheVariants.{Lit}
 use Rattle.worked_examples.specs.Queries.{one, two, num, number, yes, compared, and_also, reckoned}

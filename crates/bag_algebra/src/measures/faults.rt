@@ -3,7 +3,7 @@
 
 ghost use Rattle.std.specs.Prelude.{◌≡◌};
 ghost use Rattle.std.specs.List.{list_all};
-ghost use Rattle.bag_algebra.specs.BuiltFaultFree.{all_parts_faultless, all_arms_faultless, all_fault_free};
+ghost use Rattle.bag_algebra.specs.built.FaultFree.{all_parts_faultless, all_arms_faultless, all_fault_free};
 ghost use Rattle.bag_algebra.specs.FaultFree.{faultless, items_faultless, aggregates_faultless, own_faultless, fault_free};
 ghost use Rattle.bag_algebra.specs.Inputs.{given};
 

@@ -32,12 +32,14 @@ pub fn expressions_have_one_kind()
 
 /// An expression reads no sublink behind those with whose kinds it is well formed: values of more of them change nothing.
 pub fn more_sublinks_change_nothing()
-    ensures { (scopes : List (List Kind)) (kinds : List Kind) (u : Row) (env : List Row) (subs more : List Value) →
+    ensures { (scopes : List (List Kind)) (kinds : List Kind) (u : Row) (env : List Row)
+        (subs more : List Value) →
         length subs ≡ length kinds → (e : Expr) (kind : Kind) → HasKind scopes kinds e kind →
         value e u env (subs ++ more) ≡ value e u env subs }
 {}
 
 /// A query that is well formed under so many outer rows reads no others.
 pub fn well_formed_queries_read_their_outer_rows_alone()
-    ensures { (outer : List (List Kind)) (q : Query) → WellFormed outer q → IsTrue (reads_within q (length outer)) }
+    ensures { (outer : List (List Kind)) (q : Query) → WellFormed outer q
+        → IsTrue (reads_within q (length outer)) }
 {}

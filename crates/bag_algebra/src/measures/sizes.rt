@@ -2,7 +2,7 @@
 #![tactic(auto, using(crate::proofs::Smaller::smaller))]
 
 ghost use Rattle.std.specs.Prelude.{◌≡◌, ◌-◌, ◌^◌, min};
-ghost use Rattle.bag_algebra.specs.BuiltMeasures.{inputs_height, subs_height, inputs_size, subs_size};
+ghost use Rattle.bag_algebra.specs.built.Measures.{inputs_height, subs_height, inputs_size, subs_size};
 ghost use Rattle.bag_algebra.specs.Inputs.{given};
 ghost use Rattle.bag_algebra.specs.Measures.{height_of, size_of};
 

@@ -4,7 +4,7 @@ ghost use Rattle.perm_values.specs.declared.kind.Kind.TheVariants.{Boolean};
 ghost use Rattle.perm_values.specs.declared.value.Value.{Value};
 ghost use Rattle.std.specs.Prelude.{◌≡◌, List, [], ◌∷◌, ◌++◌, IsTrue};
 ghost use Rattle.bag_algebra.specs.Bags.{Row};
-ghost use Rattle.bag_algebra.specs.Built.{row_of_subs};
+ghost use Rattle.bag_algebra.specs.built.Openings.{row_of_subs};
 ghost use Rattle.bag_algebra.specs.Children.{subs_denote};
 ghost use Rattle.bag_algebra.specs.Expressions.{value};
 ghost use Rattle.bag_algebra.specs.Fits.{row_begins, env_fits};

@@ -37,7 +37,8 @@ pub fn sets_of_rows_decide()
         ((us : Bag) (u : Row) → meaning left db env ≡ Good us → IsTrue (member u us) →
         SameSet (meaning right db (u ∷ env)) (meaning other_right db (u ∷ env))) →
         (kind : JoinKind) → width_of right ≡ width_of other_right →
-        SameSet (meaning (Apply kind left right) db env) (meaning (Apply kind other_left other_right) db env) }
+        SameSet (meaning (Apply kind left right) db env)
+        (meaning (Apply kind other_left other_right) db env) }
     ensures union { (db : Database) (env : List Row) (left right other_left other_right : Query) →
         SameSet (meaning left db env) (meaning other_left db env) →
         SameSet (meaning right db env) (meaning other_right db env) →

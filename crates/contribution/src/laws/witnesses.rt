@@ -7,7 +7,7 @@ ghost use Rattle.bag_algebra.specs.Kinds.{shape, width_of};
 ghost use Rattle.bag_algebra.specs.Meaning.{Database, meaning, witnesses};
 ghost use Rattle.bag_algebra.specs.Means.{Witness, flat, sub_value, chosen};
 ghost use Rattle.bag_algebra.specs.Outcome.{Good, Bad, Faults, each};
-ghost use Rattle.bag_algebra.specs.Patterns.{ProvOf};
+ghost use Rattle.bag_algebra.specs.built.Patterns.{ProvOf};
 ghost use Rattle.bag_algebra.specs.declared.query.Query.{Query};
 ghost use Rattle.bag_algebra.specs.declared.query.Sublink.{Sublink};
 ghost use Rattle.contribution.specs.Fitting.{Fitting};

@@ -7,7 +7,7 @@ ghost use Rattle.bag_algebra.specs.Kinds.{kinds_of, kinds_in, width_of};
 ghost use Rattle.bag_algebra.specs.Meaning.{Database, meaning, items_on};
 ghost use Rattle.bag_algebra.specs.Means.{no_subs};
 ghost use Rattle.bag_algebra.specs.Outcome.{Good, mapped};
-ghost use Rattle.bag_algebra.specs.Patterns.{ProjectOf};
+ghost use Rattle.bag_algebra.specs.built.Patterns.{ProjectOf};
 ghost use Rattle.bag_algebra.specs.Rewriting.{is_plain};
 ghost use Rattle.bag_algebra.specs.TablesRead.{tables_read};
 ghost use Rattle.bag_algebra.specs.WellFormed.{WellFormed, ItemsForm, PlacesIn};

@@ -5,7 +5,7 @@ ghost use Rattle.bag_algebra.specs.Kinds.{kinds_of, width_of};
 ghost use Rattle.bag_algebra.specs.Meaning.{Database, meaning, condition_on, items_on};
 ghost use Rattle.bag_algebra.specs.Means.{no_subs, kept, joined_rows};
 ghost use Rattle.bag_algebra.specs.Outcome.{and_then, both_then, each, gather};
-ghost use Rattle.bag_algebra.specs.Patterns.{FilterOf, JoinOf, ProjectOf};
+ghost use Rattle.bag_algebra.specs.built.Patterns.{FilterOf, JoinOf, ProjectOf};
 ghost use Rattle.bag_algebra.specs.Rewriting.{is_plain};
 ghost use Rattle.bag_algebra.specs.TablesRead.{tables_read};
 ghost use Rattle.bag_algebra.specs.WellFormed.{WellFormed, HasKind, ItemsForm};

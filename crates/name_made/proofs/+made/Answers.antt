@@ -23,7 +23,7 @@ use Rattle.name_made_nodes.proofs.Linking.{aggregated-made, tested-made, unteste
 use Rattle.name_made_nodes.proofs.Parts.{more-more, node-made}
 use Rattle.name_made_parts.proofs.AskedListing.{mapped}
 use Rattle.bag_algebra.specs.declared.query.Query.TheVariants.{Prov}
-use Rattle.name_meaning.specs.Queries.{limited, unprovable}
+use Rattle.name_meaning.specs.Queries.{limited, may_not_ask}
 use Rattle.name_made_parts.proofs.Coring.{core-none, core-some, clauses-made, item-so, some-kept, star-is, table-star-is, value-is}
 use Rattle.name_made_parts.proofs.Querying.{chain-made, chain-of-one, core-is, paren-is, query-is}
 use Rattle.null_logic.specs.declared.operator.Operator.TheVariants as x
@@ -315,7 +315,7 @@ expressions::made-returns-in_ok-tested-in-Quantified t c =
 pub queries::query_made-returns : goal.queries::query_made-returns
 queries::query_made-returns t c =
     of-one _ _ _ c.set_made-body.result c.finished_of.result (rw c.trace_inside.ensures at c.set_made-body.ensures) c.finished_of.ensures
-    (λ body q makes is. query-is c.args.around.now.catalog.now (standing_of c.args.around.now) c.args.tree.now c.args.wanted.now c.is_proving-with_provenance.result c.in_ok-keys.keys body q (c.is_proving-with_provenance.ensures c.args.around.now.catalog.now)
+    (λ body q makes is. query-is c.args.around.now.catalog.now (standing_of c.args.around.now) c.args.tree.now c.args.wanted.now c.asks_provenance-with_provenance.result c.in_ok-keys.keys body q (c.asks_provenance-with_provenance.ensures c.args.around.now.catalog.now)
     (rw c.trace_inside.ensures at c.in_ok-keys.ensures) makes is)
 
 pub queries::set_made-returns-in-Core : goal.queries::set_made-returns-in-Core
@@ -325,7 +325,7 @@ queries::set_made-returns-in-Core t c =
 
 pub queries::set_made-returns-in-Paren : goal.queries::set_made-returns-in-Paren
 queries::set_made-returns-in-Paren t c =
-    of-ok (MakesQuery (query_means_at (query_of c.args.around.now.catalog.now c.in-Paren.query) (unprovable (standing_of c.args.around.now))) c.args.wanted.now) (MakesQuery ((set_of_tree c.args.around.now.catalog.now c.args.tree.now).means (standing_of c.args.around.now)) c.args.wanted.now) c.query_made.result
+    of-ok (MakesQuery (query_means_at (query_of c.args.around.now.catalog.now c.in-Paren.query) (may_not_ask (standing_of c.args.around.now))) c.args.wanted.now) (MakesQuery ((set_of_tree c.args.around.now.catalog.now c.args.tree.now).means (standing_of c.args.around.now)) c.args.wanted.now) c.query_made.result
     (λ q makes. paren-is c.args.around.now.catalog.now (standing_of c.args.around.now) c.args.tree.now c.in-Paren.query c.args.wanted.now q c.in-Paren.is makes) (rw c.get-in-Paren.ensures at c.query_made.ensures)
 
 pub queries::set_made-returns-in-Ok : goal.queries::set_made-returns-in-Ok
@@ -516,7 +516,7 @@ sources::item_made-returns-in-Named t c =
 pub sources::item_made-returns-in_ok-shown-in-Inner : goal.sources::item_made-returns-in_ok-shown-in-Inner
 sources::item_made-returns-in_ok-shown-in-Inner t c =
     let around = c.args.around.now in
-    let m = query_means_at (query_of around.catalog.now c.in-Inner.query) (record { outer = scopes_of around.outer.now; trace = trace_under c.args.item.now.mark around.trace; provable = true }) in
+    let m = query_means_at (query_of around.catalog.now c.in-Inner.query) (record { outer = scopes_of around.outer.now; trace = trace_under c.args.item.now.mark around.trace; may_ask = true }) in
     let shown = rw (c.get-tree.ensures, c.trace_under.ensures) at c.in_ok-shown-in-Inner.ensures in
     of-one _ _ _ c.query_made-query.result c.marked_of.result (rw (c.get-tree.ensures, c.trace_under.ensures) at c.query_made-query.ensures) c.marked_of.ensures
     (λ query made of_query is. item-inner around.catalog.now (scopes_of around.outer.now) around.trace c.args.item.now c.in-Inner.query made c.in-Inner.is (λ whole. is m whole shown (of_query.makes whole)))

@@ -115,11 +115,11 @@ pub fn groups_of(alloc: Global, scope: &Scope) -> Result<Option<List<usize>>, No
 }
 
 /// Whether a core is traced; one where PROVENANCE stands wrongly isn't.
-pub fn core_trace(trace: Trace, provable: bool, word: Option<usize>) -> Trace
-    ensures { (around : meant.Around) → around.trace ≡ trace → around.provable ≡ provable
+pub fn core_trace(trace: Trace, may_ask: bool, word: Option<usize>) -> Trace
+    ensures { (around : meant.Around) → around.trace ≡ trace → around.may_ask ≡ may_ask
         → result ≡ core_trace around word }
 {
-    if !provable && word.is_some() {
+    if !may_ask && word.is_some() {
         return Trace::Untraced;
     }
     trace

@@ -43,7 +43,7 @@ use Rattle.name_meaning.specs.Froms.{FromMeant, FromPart, ItemMeant, Read, condi
 use Rattle.name_meaning.specs.Items.{SelectMeant}
 use Rattle.name_meaning.specs.Meanings.{Around, QueryMeant}
 use Rattle.perm_catalog.specs.Contents.{Contents}
-use Rattle.name_meaning.specs.Queries.{set_chain, unprovable}
+use Rattle.name_meaning.specs.Queries.{set_chain, may_not_ask}
 use Rattle.name_meaning.specs.Trees.{core_of, from_item_of, from_of, item_of, join_of, set_of_tree, set_step_of, source_of}
 use Rattle.name_seen_parts.specs.Seen.{first_or}
 use Rattle.name_seen_parts.specs.Standing.{around_of}
@@ -513,13 +513,13 @@ sets::set_seen-returns-in-Ok t c =
     let around = c.args.around.now in
     subst (λ (m : QueryMeant). ColumnsSeen m c.args.facts.now c.add_shown.new.facts c.add_shown.result)
     (sym (paren-means around.catalog.now c.args.tree.now c.in-Paren.query (around_of around) c.in-Paren.is))
-    (c.add_shown.ensures (query_means_at (query_of around.catalog.now c.in-Paren.query) (unprovable (around_of around)))
+    (c.add_shown.ensures (query_means_at (query_of around.catalog.now c.in-Paren.query) (may_not_ask (around_of around)))
     (rw (c.operand.ensures.place, c.operand.ensures.catalog, c.get-in-Paren.ensures) at c.in-Ok.ensures))
 
 pub sets::set_seen-returns-in-Err : goal.sets::set_seen-returns-in-Err
 sets::set_seen-returns-in-Err t c =
     let around = c.args.around.now in
-    let place = unprovable (around_of around) in
+    let place = may_not_ask (around_of around) in
     subst (λ (m : QueryMeant). ColumnsSeen m c.args.facts.now c.args.facts.now (Err c.in-Err.refusal))
     (sym (paren-means around.catalog.now c.args.tree.now c.in-Paren.query (around_of around) c.in-Paren.is))
     (paren-refused (query_means_at (query_of around.catalog.now c.in-Paren.query) place) c.args.facts.now c.args.facts.now c.in-Err.refusal
@@ -548,17 +548,17 @@ pub sets::operand_seen-returns-in-Ok : goal.sets::operand_seen-returns-in-Ok
 sets::operand_seen-returns-in-Ok t c = λ left before so_far.
     let around = c.args.around.now in
     let step = set_step_of around.catalog.now c.args.step.now in
-    let operand = step.operand.means (unprovable (around_of around)) in
+    let operand = step.operand.means (may_not_ask (around_of around)) in
     c.add_operand.ensures left step operand before c.args.facts.now c.set_seen-operand.new.facts (step-at around.catalog.now c.args.step.now)
     (subst (λ r. ColumnsSeen left before c.args.facts.now r) c.in-Ok.is so_far)
-    (subst (λ (body : BodyPart). ColumnsSeen (body.means (unprovable (around_of around))) c.args.facts.now c.set_seen-operand.new.facts c.set_seen-operand.result)
+    (subst (λ (body : BodyPart). ColumnsSeen (body.means (may_not_ask (around_of around))) c.args.facts.now c.set_seen-operand.new.facts c.set_seen-operand.result)
     (sym (operand-of around.catalog.now c.args.step.now)) (rw (c.operand.ensures.place, c.operand.ensures.catalog) at c.set_seen-operand.ensures))
 
 pub sets::operand_seen-returns-in-Err : goal.sets::operand_seen-returns-in-Err
 sets::operand_seen-returns-in-Err t c = λ left before so_far.
     let around = c.args.around.now in
     let step = set_step_of around.catalog.now c.args.step.now in
-    chain-refused left step (step.operand.means (unprovable (around_of around))) before c.args.facts.now c.args.facts.now c.in-Err.refusal
+    chain-refused left step (step.operand.means (may_not_ask (around_of around))) before c.args.facts.now c.args.facts.now c.in-Err.refusal
     (subst (λ r. ColumnsSeen left before c.args.facts.now r) c.in-Err.is so_far)
 
 -- ---- queries
@@ -567,9 +567,9 @@ pub queries::query_seen-returns-in_err-columns : goal.queries::query_seen-return
 queries::query_seen-returns-in_err-columns t c =
     let around = c.args.around.now in
     let tree = c.args.tree.now in
-    let is = c.is_proving-proving.ensures around.catalog.now in
+    let is = c.asks_provenance-asking.ensures around.catalog.now in
     same-refused (QuerySeen (query_means_at (query_of around.catalog.now tree) (around_of around))) c.from_residual.result c.in_err-columns.field-0.0 c.from_residual.ensures.1
-    (query-refused around.catalog.now tree (around_of around) c.is_proving-proving.result is c.none-facts.result c.set_seen.new.facts c.in_err-columns.field-0.0
+    (query-refused around.catalog.now tree (around_of around) c.asks_provenance-asking.result is c.none-facts.result c.set_seen.new.facts c.in_err-columns.field-0.0
     (subst (λ (place : Around). ColumnsSeen ((set_of_tree around.catalog.now tree.body).means place) c.none-facts.result c.set_seen.new.facts (Err c.in_err-columns.field-0.0))
     c.body.ensures.place
     (subst (λ (held : Contents). ColumnsSeen ((set_of_tree held tree.body).means (around_of c.body.result)) c.none-facts.result c.set_seen.new.facts (Err c.in_err-columns.field-0.0))
@@ -579,11 +579,11 @@ pub queries::query_seen-returns : goal.queries::query_seen-returns
 queries::query_seen-returns t c =
     let around = c.args.around.now in
     let tree = c.args.tree.now in
-    let is = c.is_proving-proving.ensures around.catalog.now in
-    query-answered around.catalog.now tree (around_of around) c.is_proving-proving.result is c.query_over.result
-    (rw c.as_slice.ensures at (c.query_over.ensures tree.at (body_meant around.catalog.now tree (around_of around) c.is_proving-proving.result) tree.limit c.none-facts.result
+    let is = c.asks_provenance-asking.ensures around.catalog.now in
+    query-answered around.catalog.now tree (around_of around) c.asks_provenance-asking.result is c.query_over.result
+    (rw c.as_slice.ensures at (c.query_over.ensures tree.at (body_meant around.catalog.now tree (around_of around) c.asks_provenance-asking.result) tree.limit c.none-facts.result
     c.none-facts.ensures (rw (c.body.ensures.place, c.body.ensures.catalog) at c.in_ok-columns.ensures)
-    (rw c.as_slice.ensures (kinds-known around.catalog.now tree (around_of around) c.is_proving-proving.result is c.requires))))
+    (rw c.as_slice.ensures (kinds-known around.catalog.now tree (around_of around) c.asks_provenance-asking.result is c.requires))))
 
 -- ---- sources
 

@@ -16,10 +16,10 @@ use sql_tree::ColRef;
 use std::alloc::Global;
 
 /// That the word PROVENANCE stands at this offset, where it may not.
-pub fn word_break(provable: bool, word: Option<usize>) -> Result<(), Break>
-    ensures { (around : Place) → around.provable ≡ provable → result ≡ first_or (word_breaks around word) tt }
+pub fn word_break(may_ask: bool, word: Option<usize>) -> Result<(), Break>
+    ensures { (around : Place) → around.may_ask ≡ may_ask → result ≡ first_or (word_breaks around word) tt }
 {
-    if provable {
+    if may_ask {
         return Ok(());
     }
     match word {

@@ -58,7 +58,8 @@ pub fn join_lists_pairs_and_unmatched_rows()
 /// A left row beside a right row under it has each list of the one beside each of the other; a left row that stands beside
 /// NULLs has its own lists, with nothing at the other places.
 pub fn dependent_join_lists_rows_under_left_rows()
-    ensures { (db : Database) (env : List Row) (t : Row) (w : Witness) (kind : JoinKind) (left right : Query) →
+    ensures { (db : Database) (env : List Row) (t : Row) (w : Witness) (kind : JoinKind) (left right : Query)
+        →
         Contains (witnesses (Apply kind left right) db env t) w ↔
         (InAnswer (Apply kind left right) db env t × ApplyList kind left right db env t w) }
 {}

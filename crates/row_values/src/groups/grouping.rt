@@ -27,7 +27,8 @@ pub fn grouped(
     aggregates: &[Aggr],
     env: &Env,
 ) -> Result<Rows, ExecError>
-    ensures { Gives (grouped groups.now (functions_of aggregates.now) (arguments_on aggregates.now env.now) rows.now) result }
+    ensures { Gives (grouped groups.now (functions_of aggregates.now) (arguments_on aggregates.now env.now)
+        rows.now) result }
 {
     let classes = classes_of(alloc, rows, groups)?;
     let count = classes.keys.len();
@@ -44,7 +45,8 @@ pub fn grouped(
 
 /// The row of each class.
 fn class_rows(alloc: Global, keys: IndexSet<Row>, columns: &[Column]) -> Result<Rows, ExecError>
-    ensures { (make : Row → Outcome Row) → MakesRows make keys.keys columns.now → Gives (each make keys.keys) result }
+    ensures { (make : Row → Outcome Row) → MakesRows make keys.keys columns.now
+        → Gives (each make keys.keys) result }
 {
     let mut rows = List::with_room(alloc, keys.len())?;
     let mut number = 0;

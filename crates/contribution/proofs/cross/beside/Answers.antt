@@ -1,5 +1,5 @@
 use Rattle.std.proofs.Common.{◌≡◌, [], IfOk, subst}
-use Rattle.bag_algebra.specs.Patterns.{JoinOf}
+use Rattle.bag_algebra.specs.built.Patterns.{JoinOf}
 use Rattle.bag_algebra.specs.declared.expr.Expr.{Expr}
 use Rattle.bag_algebra.specs.declared.query.JoinKind.TheVariants.{Inner}
 use Rattle.bag_algebra.specs.declared.query.Query.{Query, end_of-Sublink}

@@ -1,9 +1,9 @@
 use Rattle.std.proofs.Common.{◌≡◌, true, IfOk, ◌∙◌, [], subst}
 use Rattle.perm_values.proofs.Taken.{opened}
-use Rattle.bag_algebra.specs.Built.{Union-is}
+use Rattle.bag_algebra.specs.built.Openings.{Union-is}
 use Rattle.bag_algebra.specs.ColumnItems.{column_items}
 use Rattle.bag_algebra.specs.Kinds.{kinds_in}
-use Rattle.bag_algebra.specs.Patterns.{ProjectOf}
+use Rattle.bag_algebra.specs.built.Patterns.{ProjectOf}
 use Rattle.bag_algebra.specs.declared.query.Query.{Query, end_of-Sublink}
 use Rattle.bag_algebra.specs.declared.query.Query.TheVariants.{Table, Union}
 use Rattle.contribution.specs.NullRow.{null_row_of}

@@ -1,5 +1,5 @@
 use Rattle.std.proofs.Common.{[], ◌∷◌, ◌++◌, map, take, sym, ap, ◌∙◌, append-nil}
-use Rattle.bag_algebra.specs.Built.{kinds_of-Base, kinds_of-Filter, kinds_of-Project, kinds_of-Join, kinds_of-Apply, kinds_of-Union, kinds_of-Intersect, kinds_of-Except, kinds_of-Distinct, kinds_of-Aggregate, kinds_of-Limit, kinds_of-Prov, shape-Base, shape-Filter, shape-Project, shape-Join, shape-Apply, shape-Union, shape-Intersect, shape-Except, shape-Distinct, shape-Aggregate, shape-Limit, shape-Prov}
+use Rattle.bag_algebra.specs.built.Openings.{kinds_of-Base, kinds_of-Filter, kinds_of-Project, kinds_of-Join, kinds_of-Apply, kinds_of-Union, kinds_of-Intersect, kinds_of-Except, kinds_of-Distinct, kinds_of-Aggregate, kinds_of-Limit, kinds_of-Prov, shape-Base, shape-Filter, shape-Project, shape-Join, shape-Apply, shape-Union, shape-Intersect, shape-Except, shape-Distinct, shape-Aggregate, shape-Limit, shape-Prov}
 use Rattle.bag_algebra.specs.Children.{subs_shape}
 use Rattle.bag_algebra.specs.Kinds.{kinds_of, kinds_in, shape, place_kinds}
 use Rattle.bag_algebra.specs.declared.expr.Item.{Item}

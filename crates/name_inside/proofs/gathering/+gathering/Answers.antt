@@ -236,7 +236,7 @@ clauses_inside-returns t c =
 pub query_inside-returns-in_ok-set_inside-in-Some : goal.query_inside-returns-in_ok-set_inside-in-Some
 query_inside-returns-in_ok-set_inside-in-Some t c =
     query-adds c.args.around.now.catalog.now (around_of c.args.around.now) c.args.tree.now c.in-Some.width _ _ _ (subst (HasWidth (query_means_at (query_of c.args.around.now.catalog.now c.args.tree.now) (around_of c.args.around.now))) c.in-Some.is c.in_ok-width_of.ensures)
-    c.in_ok-add_query-in-Some.ensures (rw (c.body.ensures.catalog, c.body.ensures.place, c.is_proving-proving.ensures c.args.around.now.catalog.now) at c.in_ok-set_inside-in-Some.ensures)
+    c.in_ok-add_query-in-Some.ensures (rw (c.body.ensures.catalog, c.body.ensures.place, c.asks_provenance-asking.ensures c.args.around.now.catalog.now) at c.in_ok-set_inside-in-Some.ensures)
 
 pub source_inside-returns-in_ok-name_inside-in-Named : goal.source_inside-returns-in_ok-name_inside-in-Named
 source_inside-returns-in_ok-name_inside-in-Named t c =

@@ -1,5 +1,5 @@
 use Rattle.std.proofs.Common.{map, sym, subst}
-use Rattle.bag_algebra.specs.Built.{meaning-Aggregate}
+use Rattle.bag_algebra.specs.built.Openings.{meaning-Aggregate}
 use Rattle.bag_algebra.specs.Meaning.{meaning, arguments_on}
 use Rattle.bag_algebra.specs.declared.query.Aggr.{Aggr}
 use Rattle.query_laws.specs.Nodes.{IsGrouped}

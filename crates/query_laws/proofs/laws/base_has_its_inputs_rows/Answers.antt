@@ -1,4 +1,4 @@
-use Rattle.bag_algebra.specs.Built.{meaning-Base}
+use Rattle.bag_algebra.specs.built.Openings.{meaning-Base}
 use Rattle.query_laws.proofs.laws.base_has_its_inputs_rows.Goals as goal
 
 pub returns : goal.returns

@@ -1,5 +1,5 @@
 use Rattle.std.proofs.Common.{◌∷◌, sym, subst}
-use Rattle.bag_algebra.specs.Built.{meaning-Apply}
+use Rattle.bag_algebra.specs.built.Openings.{meaning-Apply}
 use Rattle.bag_algebra.specs.Kinds.{width_of}
 use Rattle.bag_algebra.specs.Meaning.{meaning}
 use Rattle.query_laws.specs.Nodes.{IsApplied}

@@ -1,5 +1,5 @@
 use Rattle.std.proofs.Common.{◌-◌, sym, subst}
-use Rattle.bag_algebra.specs.Built.{meaning-Except}
+use Rattle.bag_algebra.specs.built.Openings.{meaning-Except}
 use Rattle.bag_algebra.specs.Meaning.{meaning}
 use Rattle.query_laws.specs.Nodes.{IsCombined, in_left_alone}
 use Rattle.query_laws.proofs.Combined.{excepted}

@@ -1,5 +1,5 @@
 use Rattle.std.proofs.Common.{sym, subst}
-use Rattle.bag_algebra.specs.Built.{meaning-Filter}
+use Rattle.bag_algebra.specs.built.Openings.{meaning-Filter}
 use Rattle.bag_algebra.specs.Children.{subs_denote}
 use Rattle.bag_algebra.specs.Meaning.{meaning, condition_on}
 use Rattle.query_laws.specs.Nodes.{IsFiltered}

@@ -1,5 +1,5 @@
 use Rattle.std.proofs.Common.{min, sym, subst}
-use Rattle.bag_algebra.specs.Built.{meaning-Intersect}
+use Rattle.bag_algebra.specs.built.Openings.{meaning-Intersect}
 use Rattle.bag_algebra.specs.Meaning.{meaning}
 use Rattle.query_laws.specs.Nodes.{IsCombined, in_both}
 use Rattle.query_laws.proofs.Combined.{intersected}

@@ -1,5 +1,5 @@
 use Rattle.std.proofs.Common.{sym, subst}
-use Rattle.bag_algebra.specs.Built.{meaning-Limit}
+use Rattle.bag_algebra.specs.built.Openings.{meaning-Limit}
 use Rattle.bag_algebra.specs.Meaning.{meaning}
 use Rattle.query_laws.specs.Nodes.{IsLimited}
 use Rattle.query_laws.proofs.Limited.{limited}

@@ -1,5 +1,5 @@
 use Rattle.std.proofs.Common.{sym, subst}
-use Rattle.bag_algebra.specs.Built.{meaning-Project}
+use Rattle.bag_algebra.specs.built.Openings.{meaning-Project}
 use Rattle.bag_algebra.specs.Children.{subs_denote}
 use Rattle.bag_algebra.specs.Meaning.{meaning, items_on}
 use Rattle.query_laws.specs.Nodes.{IsProjected}

@@ -1,5 +1,5 @@
 use Rattle.std.proofs.Common.{sym, subst}
-use Rattle.bag_algebra.specs.Built.{meaning-Prov}
+use Rattle.bag_algebra.specs.built.Openings.{meaning-Prov}
 use Rattle.bag_algebra.specs.Meaning.{meaning, witnesses}
 use Rattle.query_laws.specs.Nodes.{IsProvenance}
 use Rattle.query_laws.proofs.Provenance.{provenance}

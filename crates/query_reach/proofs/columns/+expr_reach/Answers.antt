@@ -1,6 +1,6 @@
 use Rattle.std.proofs.Common.{refl, sym, ap, ◌∙◌, arith}
 use Rattle.bag_algebra.specs.declared.expr.Expr.{Expr}
-use Rattle.query_reach.specs.BuiltReach.{all_parts_reach, all_steps_reach, all_arms_reach, step_reach, arm_reach, reach-Op, reach-Chain, reach-Case, reach-IsNull, reach-IsTruth, reach-Same}
+use Rattle.query_reach.specs.built.Reach.{all_parts_reach, all_steps_reach, all_arms_reach, step_reach, arm_reach, reach-Op, reach-Chain, reach-Case, reach-IsNull, reach-IsTruth, reach-Same}
 use Rattle.query_reach.specs.InUsize.{in_usize}
 use Rattle.query_reach.specs.Reach.{expr_reach}
 use Rattle.query_reach.proofs.Greatest.{one-more, all-done}

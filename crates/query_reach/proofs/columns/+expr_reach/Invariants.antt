@@ -1,5 +1,5 @@
 use Rattle.bag_algebra.specs.declared.expr.Expr.{Expr}
-use Rattle.query_reach.specs.BuiltReach.{step_reach, arm_reach}
+use Rattle.query_reach.specs.built.Reach.{step_reach, arm_reach}
 use Rattle.query_reach.specs.Reach.{expr_reach}
 use Rattle.query_reach.proofs.Greatest.{SoFar}
 use Rattle.query_reach.proofs.columns.+expr_reach.Given as goal

@@ -1,6 +1,6 @@
 use Rattle.std.proofs.Common.{◌≡◌, ℕ, suc, max, Option, refl, sym, ap, ◌∙◌, arith}
 use Rattle.bag_algebra.specs.declared.query.Query.{Query}
-use Rattle.query_reach.specs.BuiltReach.{all_subs_reach, sub_reach, reach-Base, reach-Filter, reach-Project, reach-Join, reach-Apply, reach-Union, reach-Intersect, reach-Except, reach-Distinct, reach-Aggregate, reach-Limit, reach-Prov}
+use Rattle.query_reach.specs.built.Reach.{all_subs_reach, sub_reach, reach-Base, reach-Filter, reach-Project, reach-Join, reach-Apply, reach-Union, reach-Intersect, reach-Except, reach-Distinct, reach-Aggregate, reach-Limit, reach-Prov}
 use Rattle.query_reach.specs.InUsize.{in_usize}
 use Rattle.query_reach.specs.Reach.{expr_reach, option_reach, items_reach, aggregates_reach, query_reach}
 use Rattle.query_reach.proofs.Greatest.{one-more, all-done}

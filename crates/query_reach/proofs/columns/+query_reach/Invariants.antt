@@ -1,4 +1,4 @@
-use Rattle.query_reach.specs.BuiltReach.{sub_reach}
+use Rattle.query_reach.specs.built.Reach.{sub_reach}
 use Rattle.query_reach.proofs.Greatest.{SoFar}
 use Rattle.query_reach.proofs.columns.+query_reach.Given as goal
 

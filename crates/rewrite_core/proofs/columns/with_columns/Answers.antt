@@ -1,7 +1,7 @@
 use Rattle.std.proofs.Common.{[], subst}
 use Rattle.bag_algebra.specs.ColumnItems.{column_items}
 use Rattle.bag_algebra.specs.Kinds.{kinds_of}
-use Rattle.bag_algebra.specs.Patterns.{ProjectOf}
+use Rattle.bag_algebra.specs.built.Patterns.{ProjectOf}
 use Rattle.bag_algebra.specs.Rewriting.{IsRewrite}
 use Rattle.bag_algebra.specs.declared.query.Query.{Query, end_of-Sublink}
 use Rattle.contribution.proofs.NodeQueries.{of_made}

@@ -2,7 +2,7 @@ use Rattle.std.proofs.Common.{[], refl, List, ℕ, Result, Ok, Err, IfOk}
 use Rattle.perm_values.specs.declared.no_memory.NoMemory.{NoMemory}
 use Rattle.bag_algebra.specs.ColumnItems.{column_items}
 use Rattle.bag_algebra.specs.Kinds.{kinds_of}
-use Rattle.bag_algebra.specs.Patterns.{ProjectOf}
+use Rattle.bag_algebra.specs.built.Patterns.{ProjectOf}
 use Rattle.bag_algebra.specs.Rewriting.{IsRewrite}
 use Rattle.bag_algebra.specs.declared.expr.Expr.{Expr}
 use Rattle.bag_algebra.specs.declared.query.JoinKind.{JoinKind}

@@ -1,5 +1,5 @@
 use Rattle.std.proofs.Common.{◌≡◌, [], IfOk, subst}
-use Rattle.bag_algebra.specs.Patterns.{ProjectOf}
+use Rattle.bag_algebra.specs.built.Patterns.{ProjectOf}
 use Rattle.bag_algebra.specs.Rewriting.{IsRewrite}
 use Rattle.bag_algebra.specs.declared.query.Query.{end_of-Sublink}
 use Rattle.bag_algebra.specs.declared.query.Query.TheVariants.{Project}

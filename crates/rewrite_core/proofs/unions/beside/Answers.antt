@@ -1,5 +1,5 @@
 use Rattle.std.proofs.Common.{◌≡◌, true, IfOk, ap, ◌∙◌, subst}
-use Rattle.bag_algebra.specs.Built.{Union-is}
+use Rattle.bag_algebra.specs.built.Openings.{Union-is}
 use Rattle.bag_algebra.specs.declared.query.Query.{Query}
 use Rattle.bag_algebra.specs.declared.query.Query.TheVariants.{Union}
 use Rattle.rewrite_core.proofs.unions.beside.Goals as goal

@@ -1,6 +1,6 @@
 use Rattle.std.proofs.Common.{◌≡◌, ◌∙◌, true, IfOk, subst₂}
 use Rattle.bag_algebra.specs.Kinds.{width_of}
-use Rattle.bag_algebra.specs.Patterns.{UnionOf}
+use Rattle.bag_algebra.specs.built.Patterns.{UnionOf}
 use Rattle.rewrite_core.specs.UnionColumns.{padded_behind}
 use Rattle.rewrite_core.proofs.unions.both_padded.Goals as goal
 

@@ -1,6 +1,6 @@
 use Rattle.std.proofs.Common.{true≢false, ◌&&◌, take, refl, sym, ap, ◌∙◌, subst, rules}
 use Rattle.bag_algebra.proofs.Truths.{left-true, right-true}
-use Rattle.bag_algebra.specs.Built.{shape-Prov}
+use Rattle.bag_algebra.specs.built.Openings.{shape-Prov}
 use Rattle.bag_algebra.specs.Rewriting.{IsRewrite, Stands}
 use Rattle.bag_algebra.specs.Scoped.{is_scoped, over_tables, traceable}
 use Rattle.bag_algebra.specs.declared.query.Query.{the_lemmas}
@@ -8,7 +8,7 @@ use Rattle.bag_algebra.specs.declared.query.Query.TheVariants.{Single, Join}
 use Rattle.contribution.proofs.Added.{one_more}
 use Rattle.query_laws.proofs.StandingNodes.{stands-Base}
 use Rattle.query_laws.specs.Standing.{SubsStand}
-use Rattle.bag_algebra.specs.BuiltScopes.{all_scoped, all_traceable, is_scoped-Base, is_scoped-Filter, is_scoped-Project, is_scoped-Join, is_scoped-Apply, is_scoped-Union, is_scoped-Intersect, is_scoped-Except, is_scoped-Distinct, is_scoped-Aggregate, is_scoped-Limit, is_scoped-Prov, traceable-Filter, traceable-Project, traceable-Join, traceable-Apply, traceable-Union, traceable-Intersect, traceable-Except, traceable-Distinct, traceable-Aggregate, traceable-Limit}
+use Rattle.bag_algebra.specs.built.Scopes.{all_scoped, all_traceable, is_scoped-Base, is_scoped-Filter, is_scoped-Project, is_scoped-Join, is_scoped-Apply, is_scoped-Union, is_scoped-Intersect, is_scoped-Except, is_scoped-Distinct, is_scoped-Aggregate, is_scoped-Limit, is_scoped-Prov, traceable-Filter, traceable-Project, traceable-Join, traceable-Apply, traceable-Union, traceable-Intersect, traceable-Except, traceable-Distinct, traceable-Aggregate, traceable-Limit}
 use Rattle.rewrite_base.proofs.Itself.{stands-Table, stands-Single}
 use Rattle.rewrite_driver.proofs.MadeQueries.{stands_made, stands_where, rewrites_where, rewrites_without_places}
 use Rattle.rewrite_driver.proofs.Scopes.{one_of, first_of, second_of, at_each, subs-none, subs-sourced}

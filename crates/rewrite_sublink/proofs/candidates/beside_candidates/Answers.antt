@@ -1,6 +1,6 @@
 use Rattle.std.proofs.Common.{◌∙◌, [], ap}
 use Rattle.bag_algebra.specs.Kinds.{width_of}
-use Rattle.bag_algebra.specs.Patterns.{JoinOf}
+use Rattle.bag_algebra.specs.built.Patterns.{JoinOf}
 use Rattle.bag_algebra.specs.declared.query.JoinKind.TheVariants.{Inner}
 use Rattle.bag_algebra.specs.declared.query.Query.{end_of-Sublink}
 use Rattle.rewrite_sublink.proofs.candidates.beside_candidates.Goals as goal

@@ -1,5 +1,5 @@
 use Rattle.std.proofs.Common.{◌≡◌, [], IfOk, subst}
-use Rattle.bag_algebra.specs.Patterns.{ProjectOf}
+use Rattle.bag_algebra.specs.built.Patterns.{ProjectOf}
 use Rattle.bag_algebra.specs.declared.query.Query.{Query, end_of-Sublink}
 use Rattle.rewrite_sublink.proofs.matching.first_column.Goals as goal
 

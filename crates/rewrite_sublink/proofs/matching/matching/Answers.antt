@@ -1,5 +1,5 @@
 use Rattle.std.proofs.Common.{◌≡◌, [], IfOk, subst₂}
-use Rattle.bag_algebra.specs.Patterns.{FilterOf}
+use Rattle.bag_algebra.specs.built.Patterns.{FilterOf}
 use Rattle.bag_algebra.specs.declared.query.Query.{end_of-Sublink}
 use Rattle.rewrite_sublink.proofs.matching.matching.Goals as goal
 

@@ -1,6 +1,6 @@
 use Rattle.std.proofs.Common.{◌≡◌, ◌&&◌, refl, ap, ◌∙◌}
 use Rattle.std.specs.List.{list_all}
-use Rattle.bag_algebra.specs.BuiltFaultFree.{all_fault_free}
+use Rattle.bag_algebra.specs.built.FaultFree.{all_fault_free}
 use Rattle.bag_algebra.specs.Inputs.{inputs_of}
 use Rattle.bag_algebra.specs.FaultFree.{own_faultless, fault_free}
 use Rattle.bag_algebra.proofs.ByChildren.{fault_free-node}

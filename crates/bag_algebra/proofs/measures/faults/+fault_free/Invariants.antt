@@ -1,6 +1,6 @@
 use Rattle.std.proofs.Common.{◌≡◌, ◌*◌, suc, drop}
-use Rattle.bag_algebra.specs.BuiltMeasures.{inputs_size, subs_size}
-use Rattle.bag_algebra.specs.BuiltFaultFree.{all_fault_free}
+use Rattle.bag_algebra.specs.built.Measures.{inputs_size, subs_size}
+use Rattle.bag_algebra.specs.built.FaultFree.{all_fault_free}
 use Rattle.bag_algebra.specs.Inputs.{given}
 use Rattle.bag_algebra.specs.Measures.{size_of}
 use Rattle.bag_algebra.proofs.measures.faults.+fault_free.Given as goal

@@ -2,7 +2,7 @@ use Rattle.std.proofs.Common.{◌≡◌, true, false, refl, not, sym, ap, ◌∙
 use Rattle.null_logic.specs.declared.arith.Arith.{Arith}
 use Rattle.null_logic.specs.declared.operator.Operator.{Operator}
 use Rattle.null_logic.specs.declared.operator.Operator.TheVariants as op
-use Rattle.bag_algebra.specs.BuiltFaultFree.{all_parts_faultless, all_arms_faultless, faultless-Op, faultless-Chain, faultless-Case, faultless-IsNull, faultless-IsTruth, faultless-Same}
+use Rattle.bag_algebra.specs.built.FaultFree.{all_parts_faultless, all_arms_faultless, faultless-Op, faultless-Chain, faultless-Case, faultless-IsNull, faultless-IsTruth, faultless-Same}
 use Rattle.bag_algebra.specs.FaultFree.{may_fault, faultless}
 use Rattle.bag_algebra.proofs.Truths.{second-decides, first-decides}
 use Rattle.bag_algebra.proofs.measures.faults.+faultless.Goals as goal

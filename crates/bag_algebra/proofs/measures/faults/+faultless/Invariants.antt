@@ -1,5 +1,5 @@
 use Rattle.std.proofs.Common.{◌≡◌, drop}
-use Rattle.bag_algebra.specs.BuiltFaultFree.{all_parts_faultless, all_arms_faultless}
+use Rattle.bag_algebra.specs.built.FaultFree.{all_parts_faultless, all_arms_faultless}
 use Rattle.bag_algebra.proofs.measures.faults.+faultless.Given as goal
 
 abbrev pub invariant-parts_faultless-loop-part : goal.invariant-parts_faultless-loop-part

@@ -1,6 +1,6 @@
 use Rattle.std.proofs.Common.{◌+◌, [], ◌++◌, drop, ap, ◌∙◌, arith}
 use Rattle.std.proofs.lemmas.List.{at_drop_all}
-use Rattle.bag_algebra.specs.Built.{shape-Prov}
+use Rattle.bag_algebra.specs.built.Openings.{shape-Prov}
 use Rattle.bag_algebra.specs.Children.{inputs_shape, subs_shape}
 use Rattle.bag_algebra.specs.Inputs.{given}
 use Rattle.bag_algebra.specs.Kinds.{shape}

@@ -1,5 +1,5 @@
 use Rattle.std.proofs.Common.{◌≡◌, ◌+◌, ◌-◌, ◌*◌, ◌^◌, ◌≤◌, suc, min, drop}
-use Rattle.bag_algebra.specs.BuiltMeasures.{inputs_size, subs_size}
+use Rattle.bag_algebra.specs.built.Measures.{inputs_size, subs_size}
 use Rattle.bag_algebra.specs.Children.{subs_shape}
 use Rattle.bag_algebra.specs.Inputs.{given}
 use Rattle.bag_algebra.specs.Measures.{size_of}

@@ -1,5 +1,5 @@
 use Rattle.std.proofs.Common.{length, ap, ◌∙◌, arith}
-use Rattle.bag_algebra.specs.Built.{kinds_of-Base, kinds_of-Filter, kinds_of-Union, kinds_of-Intersect, kinds_of-Except, kinds_of-Distinct, kinds_of-Limit}
+use Rattle.bag_algebra.specs.built.Openings.{kinds_of-Base, kinds_of-Filter, kinds_of-Union, kinds_of-Intersect, kinds_of-Except, kinds_of-Distinct, kinds_of-Limit}
 use Rattle.bag_algebra.specs.Kinds.{width_of}
 use Rattle.bag_algebra.proofs.Widths.{shape_width, width-Project, width-Join, width-Apply, width-Aggregate, width-Prov}
 use Rattle.bag_algebra.proofs.measures.kinds.+width.Goals as goal

@@ -1,6 +1,6 @@
 use Rattle.std.proofs.Common.{sym, ap, ◌∙◌}
 use Rattle.std.specs.List.{list_all}
-use Rattle.bag_algebra.specs.BuiltScopes.{all_plain, is_plain-Prov}
+use Rattle.bag_algebra.specs.built.Scopes.{all_plain, is_plain-Prov}
 use Rattle.bag_algebra.specs.Rewriting.{is_plain}
 use Rattle.bag_algebra.proofs.ByChildren.{is_plain-node}
 use Rattle.bag_algebra.proofs.Truths.{second-decides, first-decides}

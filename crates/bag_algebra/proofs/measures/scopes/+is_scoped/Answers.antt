@@ -1,7 +1,7 @@
 use Rattle.std.proofs.Common.{ap, ◌∙◌, arith}
 use Rattle.std.specs.List.{list_all}
-use Rattle.bag_algebra.specs.Built.{Prov-is}
-use Rattle.bag_algebra.specs.BuiltScopes.{all_scoped, is_scoped-Prov}
+use Rattle.bag_algebra.specs.built.Openings.{Prov-is}
+use Rattle.bag_algebra.specs.built.Scopes.{all_scoped, is_scoped-Prov}
 use Rattle.bag_algebra.specs.Measures.{size_of}
 use Rattle.bag_algebra.specs.Scoped.{traceable, is_scoped}
 use Rattle.bag_algebra.proofs.ByChildren.{is_scoped-node}

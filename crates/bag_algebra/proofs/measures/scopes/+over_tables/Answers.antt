@@ -1,6 +1,6 @@
 use Rattle.std.proofs.Common.{sym, ap, ◌∙◌}
 use Rattle.std.specs.List.{list_all}
-use Rattle.bag_algebra.specs.BuiltScopes.{all_over_tables, over_tables-Base, over_tables-Prov}
+use Rattle.bag_algebra.specs.built.Scopes.{all_over_tables, over_tables-Base, over_tables-Prov}
 use Rattle.bag_algebra.specs.Scoped.{is_table, over_tables}
 use Rattle.bag_algebra.proofs.ByChildren.{over_tables-node}
 use Rattle.bag_algebra.proofs.Truths.{second-decides, first-decides}

@@ -1,6 +1,6 @@
 use Rattle.std.proofs.Common.{◌≡◌, ◌&&◌, refl, sym, ap, ◌∙◌}
 use Rattle.std.specs.List.{list_all}
-use Rattle.bag_algebra.specs.BuiltScopes.{all_traceable, traceable-Base}
+use Rattle.bag_algebra.specs.built.Scopes.{all_traceable, traceable-Base}
 use Rattle.bag_algebra.specs.Inputs.{inputs_of}
 use Rattle.bag_algebra.specs.Scoped.{has_rule, traceable}
 use Rattle.bag_algebra.proofs.ByChildren.{traceable-node}

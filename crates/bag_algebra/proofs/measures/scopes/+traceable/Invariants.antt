@@ -1,6 +1,6 @@
 use Rattle.std.proofs.Common.{◌≡◌, ◌*◌, suc, drop}
-use Rattle.bag_algebra.specs.BuiltMeasures.{inputs_size, subs_size}
-use Rattle.bag_algebra.specs.BuiltScopes.{all_traceable}
+use Rattle.bag_algebra.specs.built.Measures.{inputs_size, subs_size}
+use Rattle.bag_algebra.specs.built.Scopes.{all_traceable}
 use Rattle.bag_algebra.specs.Inputs.{given}
 use Rattle.bag_algebra.specs.Measures.{size_of}
 use Rattle.bag_algebra.proofs.measures.scopes.+traceable.Given as goal

@@ -1,5 +1,5 @@
 use Rattle.std.proofs.Common.{sym, ap, ◌∙◌}
-use Rattle.bag_algebra.specs.BuiltScopes.{has_rule-Join}
+use Rattle.bag_algebra.specs.built.Scopes.{has_rule-Join}
 use Rattle.bag_algebra.specs.Scoped.{has_rule}
 use Rattle.bag_algebra.proofs.Subs.{found_none}
 use Rattle.bag_algebra.proofs.measures.scopes.has_rule.Goals as goal

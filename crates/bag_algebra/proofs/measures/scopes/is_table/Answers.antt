@@ -1,6 +1,6 @@
 use Rattle.std.proofs.Common.{◌≡◌, ℕ, List, false, refl, sym}
 use Rattle.perm_values.specs.declared.kind.Kind.{Kind}
-use Rattle.bag_algebra.specs.Patterns.{BaseOf, FilterOf, ProjectOf, JoinOf, ApplyOf, UnionOf, IntersectOf, ExceptOf, DistinctOf, AggregateOf, LimitOf, ProvOf}
+use Rattle.bag_algebra.specs.built.Patterns.{BaseOf, FilterOf, ProjectOf, JoinOf, ApplyOf, UnionOf, IntersectOf, ExceptOf, DistinctOf, AggregateOf, LimitOf, ProvOf}
 use Rattle.bag_algebra.specs.Scoped.{is_table}
 use Rattle.bag_algebra.specs.declared.query.Query.{Query}
 use Rattle.bag_algebra.specs.declared.query.Query.TheVariants.{Table, Single}

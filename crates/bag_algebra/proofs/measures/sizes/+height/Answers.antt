@@ -1,6 +1,6 @@
 use Rattle.std.proofs.Common.{ap, arith}
 use Rattle.std.proofs.lemmas.List.{at_drop_all}
-use Rattle.bag_algebra.specs.BuiltMeasures.{inputs_height, subs_height}
+use Rattle.bag_algebra.specs.built.Measures.{inputs_height, subs_height}
 use Rattle.bag_algebra.proofs.ByChildren.{height_of-node}
 use Rattle.bag_algebra.proofs.Rest.{from_here}
 use Rattle.bag_algebra.proofs.measures.sizes.+height.Goals as goal

@@ -1,5 +1,5 @@
 use Rattle.std.proofs.Common.{◌≡◌, ◌-◌, ◌*◌, ◌^◌, suc, min, max, drop}
-use Rattle.bag_algebra.specs.BuiltMeasures.{subs_height, inputs_size, subs_size}
+use Rattle.bag_algebra.specs.built.Measures.{subs_height, inputs_size, subs_size}
 use Rattle.bag_algebra.specs.Inputs.{given}
 use Rattle.bag_algebra.specs.Measures.{size_of}
 use Rattle.bag_algebra.proofs.measures.sizes.+height.Given as goal

@@ -13,7 +13,7 @@ use Rattle.bag_algebra.specs.declared.query.Query.{Query}
 use Rattle.bag_algebra.specs.declared.query.Query.TheVariants.{Join}
 use Rattle.contribution.proofs.NodeQueries.{of_made, meaning-pairs, formed-pairs, plain-pairs, tables-pairs}
 use Rattle.contribution.proofs.parts.nodes.join_on.Goals as goal
-use Rattle.bag_algebra.specs.BuiltForms.{Join_alone-is}
+use Rattle.bag_algebra.specs.built.Forms.{Join_alone-is}
 
 pub returns-clause-made : goal.returns-clause-made
 returns-clause-made c =

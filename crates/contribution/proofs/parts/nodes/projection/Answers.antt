@@ -1,7 +1,7 @@
 use Rattle.std.proofs.Common.{◌≡◌, List, [], ◌∷◌, IfOk, ap, refl, subst, ◌∙◌}
 use Rattle.perm_values.specs.declared.kind.Kind.{Kind}
 use Rattle.bag_algebra.specs.Bags.{Row}
-use Rattle.bag_algebra.specs.Built.{Project-is}
+use Rattle.bag_algebra.specs.built.Openings.{Project-is}
 use Rattle.bag_algebra.specs.TablesRead.{tables_read}
 use Rattle.bag_algebra.specs.Kinds.{kinds_of}
 use Rattle.bag_algebra.specs.Meaning.{Database, meaning, items_on}

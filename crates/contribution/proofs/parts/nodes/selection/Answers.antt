@@ -13,7 +13,7 @@ use Rattle.bag_algebra.specs.declared.query.Query.{Query}
 use Rattle.bag_algebra.specs.declared.query.Query.TheVariants.{Filter}
 use Rattle.contribution.proofs.NodeQueries.{of_made, meaning-chosen, formed-chosen, plain-chosen, tables-chosen}
 use Rattle.contribution.proofs.parts.nodes.selection.Goals as goal
-use Rattle.bag_algebra.specs.BuiltForms.{Filter_alone-is}
+use Rattle.bag_algebra.specs.built.Forms.{Filter_alone-is}
 
 pub returns-clause-made : goal.returns-clause-made
 returns-clause-made c =

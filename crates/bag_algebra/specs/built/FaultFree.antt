@@ -4,7 +4,7 @@ use Rattle.std.specs.List.{list_all}
 use Rattle.std.proofs.Common.{refl, ap, ◌∙◌}
 use Rattle.null_logic.specs.declared.operator.Operator.{Operator}
 use Rattle.null_logic.specs.declared.truth.Truth.{Truth}
-use Rattle.bag_algebra.specs.Built.{row_of_parts, row_of_arms, Chain-is, Case-is, IsNull-is, IsTruth-is, Same-is}
+use Rattle.bag_algebra.specs.built.Openings.{row_of_parts, row_of_arms, Chain-is, Case-is, IsNull-is, IsTruth-is, Same-is}
 use Rattle.bag_algebra.specs.FaultFree.{may_fault, faultless, parts_faultless, arms_faultless, option_faultless, is_scalar, fault_free}
 use Rattle.bag_algebra.specs.declared.expr.Arm.{Arm}
 use Rattle.bag_algebra.specs.declared.expr.ChainStep.{ChainStep}

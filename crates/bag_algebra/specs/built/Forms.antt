@@ -4,10 +4,10 @@ use Rattle.std.proofs.Common.{refl, ap, ◌∙◌}
 use Rattle.perm_values.specs.declared.key.Key.{Key}
 use Rattle.perm_values.specs.declared.kind.Kind.{Kind}
 use Rattle.perm_values.specs.declared.kind.Kind.TheVariants.{Integer, Boolean}
-use Rattle.bag_algebra.specs.Built.{row_of_parts, row_of_steps, row_of_arms, row_of_subs, Base-is, Filter-is, Project_with-is, Join-is, Apply-is, Union-is, Intersect-is, Except-is, Distinct-is, Aggregate-is, Limit-is, Prov-is}
+use Rattle.bag_algebra.specs.built.Openings.{row_of_parts, row_of_steps, row_of_arms, row_of_subs, Base-is, Filter-is, Project_with-is, Join-is, Apply-is, Union-is, Intersect-is, Except-is, Distinct-is, Aggregate-is, Limit-is, Prov-is}
 use Rattle.bag_algebra.specs.TablesRead.{EachTable, EachSubTable}
 use Rattle.bag_algebra.specs.Kinds.{kinds_of, width_of}
-use Rattle.bag_algebra.specs.Patterns.{FilterOf, JoinOf}
+use Rattle.bag_algebra.specs.built.Patterns.{FilterOf, JoinOf}
 use Rattle.bag_algebra.specs.WellFormed.{HasKind, PartsHave, StepsHave, ArmsHave, ArmForm, number_of_parts, number_of_steps, number_of_arms, PlacesIn, KeysIn, ItemsForm, AggregatesForm, sub_form, sub_kind, sub_kinds, SubForm, BaseForm, FilterForm, ProjectForm, JoinForm, ApplyForm, SetForm, AggregateForm, LimitForm, WellFormed, SubsForm}
 use Rattle.bag_algebra.specs.declared.expr.Arm.{Arm}
 use Rattle.bag_algebra.specs.declared.expr.ChainStep.{ChainStep}
