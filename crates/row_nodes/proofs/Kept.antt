@@ -1,12 +1,12 @@
 -- What is kept of queries from row to row.
-use Rattle.std.proofs.Common.{◌≡◌, ℕ, ◌<◌, suc, zero, true, List, [], ◌∷◌, ◌++◌, length, get_or, set, take, refl, sym, ap, ◌∙◌, subst, arith}
+use Rattle.std.proofs.Common.{◌≡◌, ℕ, ◌<◌, suc, zero, Bool, true, List, [], ◌∷◌, ◌++◌, length, get_or, set, take, refl, sym, ap, ◌∙◌, subst, arith}
 use Rattle.bag_algebra.specs.Bags.{Row, Bag}
 use Rattle.bag_algebra.specs.built.Openings.{Filter-is, Project_with-is, meaning-Filter}
 use Rattle.bag_algebra.specs.FaultFree.{faultless}
 use Rattle.bag_algebra.specs.Meaning.{Database, meaning}
 use Rattle.bag_algebra.specs.Means.{kept}
 use Rattle.bag_algebra.specs.Outcome.{Good, and_then, gather}
-use Rattle.bag_algebra.specs.built.Patterns.{BaseOf, FilterOf, ProjectOf, JoinOf, UnionOf, IntersectOf, ExceptOf, DistinctOf, AggregateOf, LimitOf, ProvOf}
+use Rattle.bag_algebra.specs.built.Patterns.{BaseOf, FilterOf, ProjectOf, JoinOf, ApplyOf, UnionOf, IntersectOf, ExceptOf, DistinctOf, AggregateOf, LimitOf, ProvOf}
 use Rattle.bag_algebra.specs.declared.expr.Expr.{Expr}
 use Rattle.bag_algebra.specs.declared.expr.Item.{Item}
 use Rattle.bag_algebra.specs.declared.query.Query.{Query}
@@ -17,7 +17,7 @@ use Rattle.row_joins.proofs.Hashing.{all_kept, good_on}
 use Rattle.query_reach.specs.Reach.{reach_of}
 use Rattle.query_reach.proofs.Alike.{meaning-alike}
 use Rattle.row_nodes.specs.Keeping.{kept_reach, IsFilter, Filters, Keeps}
-use Rattle.row_nodes.specs.Known.{IsWhole, IsInput, HasInput, Answers, Finds, Knows, KnowsOn, AllKnown}
+use Rattle.row_nodes.specs.Known.{IsWhole, IsInput, HasInput, Answers, Finds, Knows, KnowsOn, KnowsSub, AllKnown}
 use Rattle.row_nodes.specs.Runs.{node_condition}
 use Rattle.row_nodes.specs.declared.keeping.Keeping.{Keeping}
 use Rattle.row_nodes.specs.declared.keeping.Keeping.TheVariants as of
@@ -87,6 +87,7 @@ module _ (n : ℕ) (db : Database) (env : List Row) (u v : Row) (keyed : Keyed) 
   }
   input_carried (ProjectOf input items _ subs) f h = input_carried input f h
   input_carried (JoinOf kind left right condition _ subs) f h = tt
+  input_carried (ApplyOf kind left right) f h = tt
   input_carried (UnionOf all left right) f h = tt
   input_carried (IntersectOf all left right) f h = tt
   input_carried (ExceptOf all left right) f h = tt
@@ -95,51 +96,51 @@ module _ (n : ℕ) (db : Database) (env : List Row) (u v : Row) (keyed : Keyed) 
   input_carried (LimitOf input keys count) f h = tt
   input_carried (ProvOf input) f h = tt
 
-whole_answers : (db : Database) (inner : List Row) (sub : Sublink) (answer : Answer) → IsWhole db inner sub answer → Answers db inner sub answer
-whole_answers db inner sub by.Nothing h = tt
-whole_answers db inner sub (by.Rows rows) h = h
-whole_answers db inner sub (by.Cells cells) h = h
-whole_answers db inner sub (by.Keyed keyed) h = absurd h.has
+whole_answers : (db : Database) (inner : List Row) (q : Query) (in_cells : Bool) (answer : Answer) → IsWhole db inner q in_cells answer → Answers db inner q in_cells answer
+whole_answers db inner q in_cells by.Nothing h = tt
+whole_answers db inner q in_cells (by.Rows rows) h = h
+whole_answers db inner q in_cells (by.Cells cells) h = h
+whole_answers db inner q in_cells (by.Keyed keyed) h = absurd h.has
 
-found_answers : (keeping : Keeping) (db : Database) (env : List Row) (u v : Row) (sub : Sublink) (answer : Answer) → Keeps sub.query keeping →
-    take (kept_reach keeping) u ≡ take (kept_reach keeping) v → Finds keeping db (u ∷ env) sub answer → Answers db (v ∷ env) sub answer
-found_answers of.Nothing db env u v sub by.Nothing keeps same h = tt
-found_answers of.Nothing db env u v sub (by.Rows rows) keeps same h = absurd h
-found_answers of.Nothing db env u v sub (by.Cells cells) keeps same h = absurd h
-found_answers of.Nothing db env u v sub (by.Keyed keyed) keeps same h = absurd h
-found_answers (of.Rows n) db env u v sub answer keeps same h =
-    whole_answers db (v ∷ env) sub answer (record { rows = h.rows; means = sym (same_within sub.query n db u v env keeps same) ∙ h.means; has = h.has })
-found_answers (of.Input n) db env u v sub by.Nothing keeps same h = tt
-found_answers (of.Input n) db env u v sub (by.Rows rows) keeps same h = absurd h
-found_answers (of.Input n) db env u v sub (by.Cells cells) keeps same h = absurd h
-found_answers (of.Input n) db env u v sub (by.Keyed keyed) keeps same h =
-    record { reach = n; filters = keeps; input = input_carried n db env u v keyed same sub.query keeps h }
+found_answers : (keeping : Keeping) (db : Database) (env : List Row) (u v : Row) (q : Query) (in_cells : Bool) (answer : Answer) → Keeps q keeping →
+    take (kept_reach keeping) u ≡ take (kept_reach keeping) v → Finds keeping db (u ∷ env) q in_cells answer → Answers db (v ∷ env) q in_cells answer
+found_answers of.Nothing db env u v q in_cells by.Nothing keeps same h = tt
+found_answers of.Nothing db env u v q in_cells (by.Rows rows) keeps same h = absurd h
+found_answers of.Nothing db env u v q in_cells (by.Cells cells) keeps same h = absurd h
+found_answers of.Nothing db env u v q in_cells (by.Keyed keyed) keeps same h = absurd h
+found_answers (of.Rows n) db env u v q in_cells answer keeps same h =
+    whole_answers db (v ∷ env) q in_cells answer (record { rows = h.rows; means = sym (same_within q n db u v env keeps same) ∙ h.means; has = h.has })
+found_answers (of.Input n) db env u v q in_cells by.Nothing keeps same h = tt
+found_answers (of.Input n) db env u v q in_cells (by.Rows rows) keeps same h = absurd h
+found_answers (of.Input n) db env u v q in_cells (by.Cells cells) keeps same h = absurd h
+found_answers (of.Input n) db env u v q in_cells (by.Keyed keyed) keeps same h =
+    record { reach = n; filters = keeps; input = input_carried n db env u v keyed same q keeps h }
 
 -- what is found on a row that begins with the columns is known of all such rows
-pub kept_known : (db : Database) (env : List Row) (u : Row) (sub : Sublink) (old new : Known) → Knows db env sub old → take (kept_reach old.keeping) u ≡ old.columns →
-    Finds old.keeping db (u ∷ env) sub new.answer → new.keeping ≡ old.keeping → new.columns ≡ old.columns → Knows db env sub new
-kept_known db env u sub old new knows begins found keeping columns = record {
-  keeps = subst (Keeps sub.query) (sym keeping) knows.keeps;
-  answers = λ v own. found_answers old.keeping db env u v sub new.answer knows.keeps
+pub kept_known : (db : Database) (env : List Row) (u : Row) (q : Query) (in_cells : Bool) (old new : Known) → Knows db env q in_cells old → take (kept_reach old.keeping) u ≡ old.columns →
+    Finds old.keeping db (u ∷ env) q in_cells new.answer → new.keeping ≡ old.keeping → new.columns ≡ old.columns → Knows db env q in_cells new
+kept_known db env u q in_cells old new knows begins found keeping columns = record {
+  keeps = subst (Keeps q) (sym keeping) knows.keeps;
+  answers = λ v own. found_answers old.keeping db env u v q in_cells new.answer knows.keeps
       (begins ∙ sym columns ∙ sym own ∙ ap (λ k. take (kept_reach k) v) keeping) found;
 }
 
-pub kept_on : (db : Database) (env : List Row) (u : Row) (sub : Sublink) (old new : Known) → Knows db env sub old → take (kept_reach old.keeping) u ≡ old.columns →
-    Finds old.keeping db (u ∷ env) sub new.answer → new.keeping ≡ old.keeping → new.columns ≡ old.columns → KnowsOn db env u sub new
-kept_on db env u sub old new knows begins found keeping columns =
-    let known = kept_known db env u sub old new knows begins found keeping columns in
+pub kept_on : (db : Database) (env : List Row) (u : Row) (q : Query) (in_cells : Bool) (old new : Known) → Knows db env q in_cells old → take (kept_reach old.keeping) u ≡ old.columns →
+    Finds old.keeping db (u ∷ env) q in_cells new.answer → new.keeping ≡ old.keeping → new.columns ≡ old.columns → KnowsOn db env u q in_cells new
+kept_on db env u q in_cells old new knows begins found keeping columns =
+    let known = kept_known db env u q in_cells old new knows begins found keeping columns in
     record { knows = known; answers = known.answers u (ap (λ k. take (kept_reach k) u) keeping ∙ begins ∙ sym columns) }
 
 -- where the row begins with the columns
-pub known_on : (db : Database) (env : List Row) (u : Row) (sub : Sublink) (known : Known) → Knows db env sub known → take (kept_reach known.keeping) u ≡ known.columns →
-    KnowsOn db env u sub known
-known_on db env u sub known knows begins = record { knows = knows; answers = knows.answers u begins }
+pub known_on : (db : Database) (env : List Row) (u : Row) (q : Query) (in_cells : Bool) (known : Known) → Knows db env q in_cells known → take (kept_reach known.keeping) u ≡ known.columns →
+    KnowsOn db env u q in_cells known
+known_on db env u q in_cells known knows begins = record { knows = knows; answers = knows.answers u begins }
 
 -- where nothing is found
-pub known_empty : (db : Database) (env : List Row) (sub : Sublink) (old new : Known) → Knows db env sub old → new.keeping ≡ old.keeping → new.answer ≡ by.Nothing → Knows db env sub new
-known_empty db env sub old new knows keeping answer = record {
-  keeps = subst (Keeps sub.query) (sym keeping) knows.keeps;
-  answers = λ u begins. subst (Answers db (u ∷ env) sub) (sym answer) tt;
+pub known_empty : (db : Database) (env : List Row) (q : Query) (in_cells : Bool) (old new : Known) → Knows db env q in_cells old → new.keeping ≡ old.keeping → new.answer ≡ by.Nothing → Knows db env q in_cells new
+known_empty db env q in_cells old new knows keeping answer = record {
+  keeps = subst (Keeps q) (sym keeping) knows.keeps;
+  answers = λ u begins. subst (Answers db (u ∷ env) q in_cells) (sym answer) tt;
 }
 
 -- ---- one for each sublink
@@ -151,7 +152,7 @@ module _ (db : Database) (env : List Row) where
   known_long (s ∷ subs) [] h = absurd h
   known_long (s ∷ subs) (x ∷ known) h = ap suc (known_long subs known h.1)
 
-  pub known_more : (subs : List Sublink) (known : List Known) (sub : Sublink) (k : Known) → AllKnown db env subs known → Knows db env sub k →
+  pub known_more : (subs : List Sublink) (known : List Known) (sub : Sublink) (k : Known) → AllKnown db env subs known → KnowsSub db env sub k →
       AllKnown db env (subs ++ sub ∷ []) (known ++ k ∷ [])
   known_more [] [] sub k h here = (here, tt)
   known_more [] (x ∷ known) sub k h here = absurd h
@@ -159,15 +160,15 @@ module _ (db : Database) (env : List Row) where
   known_more (s ∷ subs) (x ∷ known) sub k h here = (h.0, known_more subs known sub k h.1 here)
 
   pub known_at : (subs : List Sublink) (known : List Known) (i : ℕ) (sub : Sublink) (k : Known) → AllKnown db env subs known → i < length subs →
-      sub ≡ get_or subs i sub → k ≡ get_or known i k → Knows db env sub k
+      sub ≡ get_or subs i sub → k ≡ get_or known i k → KnowsSub db env sub k
   known_at [] known i sub k h low e f = absurd (omega arith)
   known_at (s ∷ subs) [] i sub k h low e f = absurd h
-  known_at (s ∷ subs) (x ∷ known) zero sub k h low e f = subst (λ t. Knows db env t k) (sym e) (subst (λ t. Knows db env s t) (sym f) h.0)
+  known_at (s ∷ subs) (x ∷ known) zero sub k h low e f = subst (λ t. KnowsSub db env t k) (sym e) (subst (λ t. KnowsSub db env s t) (sym f) h.0)
   known_at (s ∷ subs) (x ∷ known) (suc i) sub k h low e f = known_at subs known i sub k h.1 (omega arith) e f
 
   pub known_set : (subs : List Sublink) (known : List Known) (i : ℕ) (sub : Sublink) (k : Known) → AllKnown db env subs known → i < length subs →
-      sub ≡ get_or subs i sub → Knows db env sub k → AllKnown db env subs (set known i k)
+      sub ≡ get_or subs i sub → KnowsSub db env sub k → AllKnown db env subs (set known i k)
   known_set [] known i sub k h low e here = absurd (omega arith)
   known_set (s ∷ subs) [] i sub k h low e here = absurd h
-  known_set (s ∷ subs) (x ∷ known) zero sub k h low e here = (subst (λ t. Knows db env t k) e here, h.1)
+  known_set (s ∷ subs) (x ∷ known) zero sub k h low e here = (subst (λ t. KnowsSub db env t k) e here, h.1)
   known_set (s ∷ subs) (x ∷ known) (suc i) sub k h low e here = (h.0, known_set subs known i sub k h.1 (omega arith) e here)

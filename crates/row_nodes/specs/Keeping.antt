@@ -4,7 +4,7 @@ use Rattle.bag_algebra.specs.Bags.{Row, Bag}
 use Rattle.bag_algebra.specs.FaultFree.{faultless}
 use Rattle.bag_algebra.specs.Meaning.{Database, meaning}
 use Rattle.bag_algebra.specs.Outcome.{Good}
-use Rattle.bag_algebra.specs.built.Patterns.{BaseOf, FilterOf, ProjectOf, JoinOf, UnionOf, IntersectOf, ExceptOf, DistinctOf, AggregateOf, LimitOf, ProvOf}
+use Rattle.bag_algebra.specs.built.Patterns.{BaseOf, FilterOf, ProjectOf, JoinOf, ApplyOf, UnionOf, IntersectOf, ExceptOf, DistinctOf, AggregateOf, LimitOf, ProvOf}
 use Rattle.bag_algebra.specs.declared.expr.Expr.{Expr}
 use Rattle.bag_algebra.specs.declared.query.Query.{Query}
 use Rattle.bag_algebra.specs.declared.query.Query.TheVariants.{Table, Single}
@@ -33,6 +33,7 @@ Filters (BaseOf input places label) n = ⊥
 Filters (FilterOf input condition shape subs) n = IsFilter (FilterOf input condition shape subs) input condition n
 Filters (ProjectOf input items _ subs) n = Filters input n
 Filters (JoinOf kind left right condition _ subs) n = ⊥
+Filters (ApplyOf kind left right) n = ⊥
 Filters (UnionOf all left right) n = ⊥
 Filters (IntersectOf all left right) n = ⊥
 Filters (ExceptOf all left right) n = ⊥

@@ -1,4 +1,5 @@
--- What is known of a node's sublinks from row to row.
+-- What is known of a query from row to row, under which it is asked for as the query of a sublink or the right side of a
+-- dependent join.
 use Rattle.std.specs.Prelude.{◌≡◌, ℕ, Bool, true, false, IsTrue, List, [], ◌∷◌, take, Result, Ok, Err}
 use Rattle.null_logic.specs.Logic.{truth_not}
 use Rattle.null_logic.specs.declared.compare.Compare.{Compare}
@@ -7,7 +8,7 @@ use Rattle.null_logic.specs.declared.truth.Truth.{Truth}
 use Rattle.bag_algebra.specs.Bags.{Row, Bag}
 use Rattle.bag_algebra.specs.Meaning.{Database, meaning}
 use Rattle.bag_algebra.specs.Outcome.{Good}
-use Rattle.bag_algebra.specs.built.Patterns.{BaseOf, FilterOf, ProjectOf, JoinOf, UnionOf, IntersectOf, ExceptOf, DistinctOf, AggregateOf, LimitOf, ProvOf}
+use Rattle.bag_algebra.specs.built.Patterns.{BaseOf, FilterOf, ProjectOf, JoinOf, ApplyOf, UnionOf, IntersectOf, ExceptOf, DistinctOf, AggregateOf, LimitOf, ProvOf}
 use Rattle.bag_algebra.specs.declared.expr.Expr.{Expr}
 use Rattle.bag_algebra.specs.declared.query.Query.{Query}
 use Rattle.bag_algebra.specs.declared.query.Query.TheVariants.{Table, Single}
@@ -48,18 +49,18 @@ turned (Any c) truth = truth
 turned (All c) truth = truth_not truth
 turned Scalar truth = truth
 
--- what answers a sublink of this kind whose query has these rows
-abbrev pub HasRows : SubKind → Bag → Answer → Type 0
-HasRows kind vs by.Nothing = Unit {0}
-HasRows kind vs (by.Rows rows) = rows ≡ vs
-HasRows kind vs (by.Cells cells) = IsTrue (tests_equality kind) × AreCells cells vs
-HasRows kind vs (by.Keyed keyed) = ⊥
+-- what answers for a query with these rows; a table of their first columns only where a value among these is asked for
+abbrev pub HasRows : Bool → Bag → Answer → Type 0
+HasRows in_cells vs by.Nothing = Unit {0}
+HasRows in_cells vs (by.Rows rows) = rows ≡ vs
+HasRows in_cells vs (by.Cells cells) = IsTrue in_cells × AreCells cells vs
+HasRows in_cells vs (by.Keyed keyed) = ⊥
 
 -- the query has rows under the outer rows, and these are they
-pub record IsWhole (db : Database) (inner : List Row) (sub : Sublink) (answer : Answer) : Type 0 where
+pub record IsWhole (db : Database) (inner : List Row) (q : Query) (in_cells : Bool) (answer : Answer) : Type 0 where
   pub rows : Bag
-  pub means : meaning sub.query db inner ≡ Good rows
-  pub has : HasRows sub.kind rows answer
+  pub means : meaning q db inner ≡ Good rows
+  pub has : HasRows in_cells rows answer
 
 -- the input of a filter has rows under the outer rows, and these are they, by a key
 pub record IsInput (input : Query) (condition : Expr) (db : Database) (inner : List Row) (keyed : Keyed) : Type 0 where
@@ -74,6 +75,7 @@ HasInput (BaseOf input places label) db inner keyed = Unit {0}
 HasInput (FilterOf input condition shape subs) db inner keyed = IsInput input condition db inner keyed
 HasInput (ProjectOf input items _ subs) db inner keyed = HasInput input db inner keyed
 HasInput (JoinOf kind left right condition _ subs) db inner keyed = Unit {0}
+HasInput (ApplyOf kind left right) db inner keyed = Unit {0}
 HasInput (UnionOf all left right) db inner keyed = Unit {0}
 HasInput (IntersectOf all left right) db inner keyed = Unit {0}
 HasInput (ExceptOf all left right) db inner keyed = Unit {0}
@@ -94,12 +96,12 @@ pub record KeyedUnder (q : Query) (db : Database) (u : Row) (inner : List Row) (
   pub front : inner ≡ u ∷ env
   pub on : IsKeyed q db inner keyed
 
--- what answers the sublink under these outer rows
-abbrev pub Answers : Database → List Row → Sublink → Answer → Type 0
-Answers db inner sub by.Nothing = Unit {0}
-Answers db inner sub (by.Rows rows) = IsWhole db inner sub (by.Rows rows)
-Answers db inner sub (by.Cells cells) = IsWhole db inner sub (by.Cells cells)
-Answers db inner sub (by.Keyed keyed) = IsKeyed sub.query db inner keyed
+-- what answers for the query under these outer rows
+abbrev pub Answers : Database → List Row → Query → Bool → Answer → Type 0
+Answers db inner q in_cells by.Nothing = Unit {0}
+Answers db inner q in_cells (by.Rows rows) = IsWhole db inner q in_cells (by.Rows rows)
+Answers db inner q in_cells (by.Cells cells) = IsWhole db inner q in_cells (by.Cells cells)
+Answers db inner q in_cells (by.Keyed keyed) = IsKeyed q db inner keyed
 
 -- what may be found of a query's filter under the outer rows
 abbrev pub FindsInput : Query → Database → List Row → Answer → Type 0
@@ -119,28 +121,32 @@ FindsNothing (by.Rows rows) = ⊥
 FindsNothing (by.Cells cells) = ⊥
 FindsNothing (by.Keyed keyed) = ⊥
 
-abbrev pub Finds : Keeping → Database → List Row → Sublink → Answer → Type 0
-Finds of.Nothing db inner sub answer = FindsNothing answer
-Finds (of.Rows n) db inner sub answer = IsWhole db inner sub answer
-Finds (of.Input n) db inner sub answer = FindsInput sub.query db inner answer
+abbrev pub Finds : Keeping → Database → List Row → Query → Bool → Answer → Type 0
+Finds of.Nothing db inner q in_cells answer = FindsNothing answer
+Finds (of.Rows n) db inner q in_cells answer = IsWhole db inner q in_cells answer
+Finds (of.Input n) db inner q in_cells answer = FindsInput q db inner answer
 
-abbrev pub IsFound : Keeping → Database → List Row → Sublink → Result Answer ExecError → Type 0
-IsFound keeping db inner sub (Ok answer) = Finds keeping db inner sub answer
-IsFound keeping db inner sub (Err error) = Refuses (meaning sub.query db inner) error
+abbrev pub IsFound : Keeping → Database → List Row → Query → Bool → Result Answer ExecError → Type 0
+IsFound keeping db inner q in_cells (Ok answer) = Finds keeping db inner q in_cells answer
+IsFound keeping db inner q in_cells (Err error) = Refuses (meaning q db inner) error
 
--- what is known of the sublink is so on every row of its node that begins with the columns
-pub record Knows (db : Database) (env : List Row) (sub : Sublink) (known : Known) : Type 0 where
-  pub keeps : Keeps sub.query known.keeping
-  pub answers : (u : Row) → take (kept_reach known.keeping) u ≡ known.columns → Answers db (u ∷ env) sub known.answer
+-- what is known of the query is so on every row under which it is asked for and that begins with the columns
+pub record Knows (db : Database) (env : List Row) (q : Query) (in_cells : Bool) (known : Known) : Type 0 where
+  pub keeps : Keeps q known.keeping
+  pub answers : (u : Row) → take (kept_reach known.keeping) u ≡ known.columns → Answers db (u ∷ env) q in_cells known.answer
 
 -- and is so on this row
-pub record KnowsOn (db : Database) (env : List Row) (u : Row) (sub : Sublink) (known : Known) : Type 0 where
-  pub knows : Knows db env sub known
-  pub answers : Answers db (u ∷ env) sub known.answer
+pub record KnowsOn (db : Database) (env : List Row) (u : Row) (q : Query) (in_cells : Bool) (known : Known) : Type 0 where
+  pub knows : Knows db env q in_cells known
+  pub answers : Answers db (u ∷ env) q in_cells known.answer
+
+-- of a sublink's query; IN and NOT IN ask for a value
+abbrev pub KnowsSub : Database → List Row → Sublink → Known → Type 0
+KnowsSub db env sub known = Knows db env sub.query (tests_equality sub.kind) known
 
 -- one for each sublink
 abbrev pub AllKnown : Database → List Row → List Sublink → List Known → Type 0
 AllKnown db env [] [] = Unit {0}
 AllKnown db env [] (known ∷ more) = ⊥
 AllKnown db env (sub ∷ subs) [] = ⊥
-AllKnown db env (sub ∷ subs) (known ∷ more) = Knows db env sub known × AllKnown db env subs more
+AllKnown db env (sub ∷ subs) (known ∷ more) = KnowsSub db env sub known × AllKnown db env subs more

@@ -1,11 +1,11 @@
-//! What is known of a node's sublinks from row to row.
-ghost use Rattle.std.specs.Prelude.{◌≡◌, ◌∷◌, IsTrue, IfOk, OnOk, List as ListOf, take};
+//! What is known of a query from row to row: of that of a sublink, or of the right side of a dependent join.
+ghost use Rattle.std.specs.Prelude.{◌≡◌, ◌∷◌, IsTrue, IfOk, OnOk, Bool, List as ListOf, take};
 ghost use Rattle.bag_algebra.specs.Bags.{Bag, Row as SeenRow};
 ghost use Rattle.bag_algebra.specs.FaultFree.{faultless};
 ghost use Rattle.bag_algebra.specs.Meaning.{Database};
 ghost use Rattle.bag_algebra.specs.Means.{sub_value};
 ghost use Rattle.bag_algebra.specs.Outcome.{Good};
-ghost use Rattle.bag_algebra.specs.declared.query.Sublink.{Sublink as SeenSublink};
+ghost use Rattle.bag_algebra.specs.declared.query.Query.{Query as SeenQuery};
 ghost use Rattle.row_joins.specs.Cells.{AreCells};
 ghost use Rattle.row_joins.specs.Hashed.{on_pair, met_rows};
 ghost use Rattle.row_nodes.specs.Keeping.{kept_reach};
@@ -15,27 +15,27 @@ ghost use Rattle.row_nodes.specs.Known.{AllKnown, Finds, HasRows, Knows, KnowsOn
 use crate::first_columns::{first_columns, row_of, same_values};
 use crate::input::Input;
 use crate::keeping::{Keeping, kept_of};
-use bag_algebra::{Env, Expr, SubKind, Sublink};
+use bag_algebra::{Env, Expr, Query, SubKind, Sublink};
 use indexmap::IndexMap;
 use null_logic::{Compare, Truth};
 use perm_values::{List, NoMemory, Row, Rows, Value};
 use row_joins::{Cells, ColumnPair, Reading, equated, key_table, rows_around};
 use std::alloc::Global;
 
-/// What answers a sublink.
+/// What answers for a query.
 #[derive(Drop)]
 pub enum Answer<'a> {
-    /// Nothing that is known: its query is run.
+    /// Nothing that is known: it is run.
     Nothing,
-    /// The rows of its query.
+    /// Its rows.
     Rows(Input<'a>),
     /// The first columns of these.
     Cells(Cells),
-    /// The rows over which its query, or the one below its items, is a filter.
+    /// The rows over which it, or the query below its items, is a filter.
     Keyed(Keyed<'a>),
 }
 
-/// What is known of a sublink's query: what was found of it on a row, for as long as the rows begin with the same columns.
+/// What is known of a query: what was found of it under a row, for as long as the rows begin with the same columns.
 #[derive(Drop)]
 pub struct Known<'a> {
     keeping: Keeping,
@@ -45,11 +45,12 @@ pub struct Known<'a> {
 
 impl<'a> Known<'a> {
     /// Nothing yet; where there is no hashing, nothing for good. It takes no memory.
-    fn new(alloc: Global, is_hashed: bool, sub: &Sublink) -> Known<'a>
-        ensures { (db : Database) (env : ListOf SeenRow) → Knows db env sub.now result }
+    pub fn of(alloc: Global, is_hashed: bool, query: &Query) -> Known<'a>
+        ensures { (db : Database) (env : ListOf SeenRow) (in_cells : Bool)
+            → Knows db env query.now in_cells result }
     {
         Known {
-            keeping: kept_of(is_hashed, &sub.query),
+            keeping: kept_of(is_hashed, query),
             columns: Row::new(alloc),
             answer: Answer::Nothing,
         }
@@ -62,7 +63,7 @@ impl<'a> Known<'a> {
         self.keeping
     }
 
-    /// What answers the sublink on a row that begins with the columns.
+    /// What answers for the query under a row that begins with the columns.
     pub fn answer(&self) -> &Answer<'a>
         ensures { result.now ≡ self.now.answer }
     {
@@ -72,8 +73,8 @@ impl<'a> Known<'a> {
     /// Goes on to a row. What was found is dropped where the row begins with other columns than the one before; where it
     /// begins with the same and nothing was found, it is asked for. It fails only for want of memory.
     pub fn asks(&mut self, alloc: Global, row: &Row) -> Result<bool, NoMemory>
-        ensures knows { (db : Database) (env : ListOf SeenRow) (sub : SeenSublink) →
-            Knows db env sub self.old → OnOk result (Knows db env sub self.new) }
+        ensures knows { (db : Database) (env : ListOf SeenRow) (q : SeenQuery) (in_cells : Bool) →
+            Knows db env q in_cells self.old → OnOk result (Knows db env q in_cells self.new) }
         ensures begins { OnOk result (take (kept_reach self.new.keeping) row.now ≡ self.new.columns) }
     {
         let columns = first_columns(row, self.keeping.reach());
@@ -87,9 +88,10 @@ impl<'a> Known<'a> {
 
     /// Keeps what was found on a row that begins with the columns. It takes no memory.
     pub fn keep(&mut self, answer: Answer<'a>)
-        ensures { (db : Database) (env : ListOf SeenRow) (row : SeenRow) (sub : SeenSublink) →
-            Knows db env sub self.old → take (kept_reach self.old.keeping) row ≡ self.old.columns →
-            Finds self.old.keeping db (row ∷ env) sub answer.entry → KnowsOn db env row sub self.new }
+        ensures { (db : Database) (env : ListOf SeenRow) (row : SeenRow) (q : SeenQuery) (in_cells : Bool) →
+            Knows db env q in_cells self.old → take (kept_reach self.old.keeping) row ≡ self.old.columns →
+            Finds self.old.keeping db (row ∷ env) q in_cells answer.entry
+            → KnowsOn db env row q in_cells self.new }
     {
         self.answer = answer;
     }
@@ -106,24 +108,24 @@ pub fn known_subs<'a>(
 {
     let mut known = Vec::new(alloc);
     for sub in subs {
-        known.push(Known::new(alloc, is_hashed, sub))?;
+        known.push(Known::of(alloc, is_hashed, &sub.query))?;
     }
     Ok(known)
 }
 
-/// What answers a sublink of this kind whose query has these rows: where it asks for a value among them, a table of their
-/// first columns. It fails only for want of memory.
-pub fn same_rows<'a>(alloc: Global, kind: SubKind, rows: Input<'a>) -> Result<Answer<'a>, NoMemory>
-    ensures { IfOk result (HasRows kind rows.entry) }
+/// What answers for a query with these rows: where a value among their first columns is asked for, a table of these. It fails
+/// only for want of memory.
+pub fn same_rows<'a>(alloc: Global, in_cells: bool, rows: Input<'a>) -> Result<Answer<'a>, NoMemory>
+    ensures { IfOk result (HasRows in_cells rows.entry) }
 {
-    if tests_equality(kind) {
+    if in_cells {
         return Ok(Answer::Cells(Cells::new(alloc, rows.as_slice())?));
     }
     Ok(Answer::Rows(rows))
 }
 
 /// Whether the sublink is IN or NOT IN.
-fn tests_equality(kind: SubKind) -> bool
+pub fn tests_equality(kind: SubKind) -> bool
     ensures { result ≡ tests_equality kind }
 {
     match kind {

@@ -1,4 +1,5 @@
 //! The value of an expression on a row.
+ghost use Rattle.std.specs.Prelude.{◌≡◌, IfOk};
 ghost use Rattle.perm_values.specs.Rows.{value_at};
 ghost use Rattle.bag_algebra.specs.Children.{part_values, arms_value};
 ghost use Rattle.bag_algebra.specs.Expressions.{value, column, operate};
@@ -11,7 +12,7 @@ use crate::operate::{has_truth, holds, is_null, operate};
 use crate::step::{Step, chain};
 use bag_algebra::{Arm, ChainStep, Env, Expr};
 use null_logic::Operator;
-use perm_values::{Copyable, List, Row, Value};
+use perm_values::{Copyable, List, NoMemory, Row, Value};
 use std::alloc::Global;
 
 /// The value of an expression on a row, with the values of the node's sublinks and the outer rows; a place out of range
@@ -183,14 +184,21 @@ fn column(
     }
 }
 
+/// The value at a place; NULL out of range. It fails only for want of memory.
+pub fn value_or_null(alloc: Global, values: &[Value], place: usize) -> Result<Value, NoMemory>
+    ensures { IfOk result (λ value. value ≡ value_at values.now place) }
+{
+    match values.get(place) {
+        Some(value) => value.copy(alloc),
+        None => Ok(Value::Null),
+    }
+}
+
 /// The value at a place; NULL out of range.
 pub fn value_at(alloc: Global, values: &[Value], place: usize) -> Result<Value, ExecError>
     ensures { Gives (Good (value_at values.now place)) result }
 {
-    match values.get(place) {
-        Some(value) => copied(alloc, value),
-        None => Ok(Value::Null),
-    }
+    Ok(value_or_null(alloc, values, place)?)
 }
 
 fn copied(alloc: Global, value: &Value) -> Result<Value, ExecError>

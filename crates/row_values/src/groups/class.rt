@@ -1,11 +1,12 @@
 //! Classes of rows with the same group values, in the order of their first rows.
 ghost use Rattle.std.specs.Prelude.{◌≡◌, IfOk, [], ◌∷◌};
-ghost use Rattle.perm_values.specs.Rows.{picked, value_at};
+ghost use Rattle.perm_values.specs.Rows.{picked};
 ghost use Rattle.bag_algebra.specs.Means.{class_keys};
 ghost use Rattle.row_values.specs.Groups.{IsClassed};
 
+use crate::expression::value_or_null;
 use indexmap::IndexSet;
-use perm_values::{Copyable, List, NoMemory, Row, Value};
+use perm_values::{List, NoMemory, Row};
 use std::alloc::Global;
 
 /// The group values of each class, and for each row the number of its class.
@@ -48,13 +49,4 @@ fn group_values(alloc: Global, row: &Row, groups: &[usize]) -> Result<Row, NoMem
         values.push(value_or_null(alloc, row.as_slice(), *group)?)?;
     }
     Ok(values)
-}
-
-fn value_or_null(alloc: Global, values: &[Value], place: usize) -> Result<Value, NoMemory>
-    ensures { IfOk result (λ value. value ≡ value_at values.now place) }
-{
-    match values.get(place) {
-        Some(value) => value.copy(alloc),
-        None => Ok(Value::Null),
-    }
 }

@@ -4,6 +4,6 @@ use Rattle.row_nodes.proofs.Kept.{kept_on}
 use Rattle.row_nodes.proofs.known.Known.keep.Goals as goal
 
 pub returns : goal.returns
-returns c = λ db env row sub knows begins found.
+returns c = λ db env row q in_cells knows begins found.
     let new : Known = record { keeping = c.args.self.now.keeping; columns = c.args.self.now.columns; answer = c.args.answer } in
-    kept_on db env row sub c.args.self.now new knows begins found refl refl
+    kept_on db env row q in_cells c.args.self.now new knows begins found refl refl
