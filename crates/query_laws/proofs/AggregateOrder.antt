@@ -1,11 +1,11 @@
 -- An aggregate sees how often each value occurs.
-use Rattle.std.proofs.Common.{◌≡◌, List, [], ◌∷◌, map, refl, sym, ap, subst, ◌∙◌}
+use Rattle.std.proofs.Common.{◌≡◌, List, [], ◌∷◌, map, refl, ap, subst}
 use Rattle.perm_values.specs.declared.value.Value.{Value}
-use Rattle.bag_algebra.proofs.BagLaws.{Permuted, permuted-map, permuted-counts, permuted-from_same_bag}
+use Rattle.bag_algebra.proofs.BagLaws.{Permuted, permuted-map, permuted-from_same_bag}
 use Rattle.bag_algebra.specs.Means.{cell, aggregated}
 use Rattle.bag_algebra.specs.declared.query.AggFn.{AggFn}
 use Rattle.query_laws.specs.Aggregated.{occurrences}
-use Rattle.query_laws.proofs.AggregateValues.{single, count-single, singles_counts}
+use Rattle.query_laws.proofs.AggregateValues.{single, singles_counts}
 use Rattle.bag_algebra.proofs.AggregateOrder.{aggregated-permuted}
 
 -- ---- lists with the same occurrences

@@ -22,6 +22,7 @@ pub mod PairedLists
 pub mod Projected
 pub mod Provenance
 pub mod RowsAlone
+pub mod SameExpressions
 pub mod SameInputs
 pub mod StandingNodes
 pub mod StandingSublinks

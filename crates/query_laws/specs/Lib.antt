@@ -5,5 +5,6 @@ pub mod Faults
 pub mod Holding
 pub mod ListsOfNodes
 pub mod Nodes
+pub mod SameExpressions
 pub mod Standing
 pub mod SublinkLists
