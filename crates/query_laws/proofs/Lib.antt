@@ -8,6 +8,7 @@ pub mod Caused
 pub mod Choice
 pub mod Combined
 pub mod Contributed
+pub mod ExpressionsByChildren
 pub mod Filtered
 pub mod Grouped
 pub mod Inputs

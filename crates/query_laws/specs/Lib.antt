@@ -1,6 +1,7 @@
 pub mod Aggregated
 pub mod Agreeing
 pub mod Evaluated
+pub mod EveryExpression
 pub mod Faults
 pub mod Holding
 pub mod ListsOfNodes
