@@ -4,7 +4,7 @@ use Rattle.std.proofs.Math.Nat.{zero-mul}
 use Rattle.perm_values.specs.Rows.{same_row}
 use Rattle.bag_algebra.proofs.BagLaws.{same_row-is, same_row-refl, permuted-from_same_bag, same_bag-from_permuted}
 use Rattle.bag_algebra.specs.Bags.{Row, Bag, count, nulls}
-use Rattle.bag_algebra.specs.Means.{good_rows, keeps_left, is_some_row, under}
+use Rattle.bag_algebra.specs.Means.{good_rows, keeps_left, under}
 use Rattle.bag_algebra.specs.Outcome.{Outcome, Good, Bad, and_then, mapped, gather}
 use Rattle.bag_algebra.specs.Rewriting.{SameRows}
 use Rattle.bag_algebra.specs.declared.query.JoinKind.{JoinKind}

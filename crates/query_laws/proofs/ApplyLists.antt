@@ -1,5 +1,5 @@
 -- The witness lists of a dependent join's rows, by membership.
-use Rattle.std.proofs.Common.{◌≡◌, ◌↔◌, Bool, true, cond, List, [], ◌∷◌, ◌++◌, map, Contains, refl, sym, subst}
+use Rattle.std.proofs.Common.{◌≡◌, ◌↔◌, cond, List, [], ◌∷◌, ◌++◌, map, Contains, refl, sym, subst}
 use Rattle.std.specs.List.{flat_map}
 use Rattle.perm_values.specs.Rows.{same_row}
 use Rattle.perm_values.specs.ValueLaws.{row_decides}

@@ -8,6 +8,7 @@ pub mod Caused
 pub mod Choice
 pub mod Combined
 pub mod Contributed
+pub mod ExpressionsByChildren
 pub mod Filtered
 pub mod Grouped
 pub mod Inputs
@@ -22,6 +23,7 @@ pub mod PairedLists
 pub mod Projected
 pub mod Provenance
 pub mod RowsAlone
+pub mod SameExpressions
 pub mod SameInputs
 pub mod StandingNodes
 pub mod StandingSublinks

@@ -1,5 +1,5 @@
 -- Nodes over what stands for their inputs, and for the queries of their sublinks, stand for them.
-use Rattle.std.proofs.Common.{◌≡◌, ℕ, true, List, [], ◌∷◌, ◌++◌, length, map, Contains, refl, sym, ap, ◌∙◌, subst}
+use Rattle.std.proofs.Common.{◌≡◌, ℕ, true, List, [], ◌∷◌, ◌++◌, length, Contains, refl, sym, ap, ◌∙◌, subst}
 use Rattle.std.proofs.lemmas.Bool.{and_from}
 use Rattle.std.specs.Prelude.{Bool, ◌&&◌, IsTrue}
 use Rattle.perm_values.specs.declared.key.Key.{Key}
@@ -29,7 +29,9 @@ use Rattle.contribution.proofs.RowKinds.{RowFits, row_fits-append}
 use Rattle.contribution.proofs.WhereGood.{each-in}
 use Rattle.bag_algebra.proofs.Members.{member-in}
 use Rattle.query_laws.proofs.RowsAlone.{base-rows, filter-rows, project-rows, join-rows, apply-rows, union-rows, intersect-rows, except-rows, distinct-rows, aggregate-rows, limit-rows}
+use Rattle.query_laws.proofs.SameExpressions.{item_kinds-same, aggregate_kinds-same, items-formed, aggregates-formed, tested-formed}
 use Rattle.query_laws.specs.Agreeing.{SubsAgree}
+use Rattle.query_laws.specs.SameExpressions.{SameExpr, SameItems, SameAggregates}
 use Rattle.query_laws.specs.Standing.{SubsStand}
 use Rattle.bag_algebra.specs.built.Scopes.{all_plain, is_plain-Filter, is_plain-Project, is_plain-Join, is_plain-Apply, is_plain-Union, is_plain-Intersect, is_plain-Except, is_plain-Distinct, is_plain-Aggregate, is_plain-Limit}
 
@@ -59,7 +61,8 @@ module _ (scopes : List (List Kind)) where
   subs-form (sub ∷ subs) [] s h = absurd s
   subs-form (sub ∷ subs) (other ∷ others) s h = record {
     query = s.0.query.formed scopes h.query;
-    fitting = by (λ i. sub_form (s.0.kind i) (s.0.tested i) scopes (sym (s.0.query.kinds scopes h.query) i)) h.fitting;
+    fitting = tested-formed other.kind sub.tested other.tested s.0.tested scopes (kinds_of other.query)
+        (by (λ i. sub_form (s.0.kind i) sub.tested scopes (sym (s.0.query.kinds scopes h.query) i)) h.fitting);
     others = subs-form subs others s.1 h.others;
   }
 
@@ -120,48 +123,50 @@ module _ (q b : Query) (s : Stands q b) where
   inner-fits outer db env f h e us u good here =
       (seen-row (kinds_of q) outer env u e (rows-fit outer db env f h e us u good here)).fitting
 
-  pub stands-Filter : (condition : Expr) (subs others : List Sublink) → SubsStand subs others → Stands (Filter q condition subs) (Filter b condition others)
-  stands-Filter condition subs others t =
-      standing (Filter q condition subs) (Filter b condition others)
-      (is_plain-Filter b condition others ∙ and_from (is_plain b) (all_plain others) s.plain (subs-plain subs others t))
-      (λ outer f. ap kinds_of (Filter-is b condition others) ∙ s.kinds outer (by (WellFormed-Filter outer q condition subs) f).input ∙ sym (ap kinds_of (Filter-is q condition subs)))
+  pub stands-Filter : (condition test : Expr) → SameExpr condition test → (subs others : List Sublink) → SubsStand subs others →
+      Stands (Filter q condition subs) (Filter b test others)
+  stands-Filter condition test same subs others t =
+      standing (Filter q condition subs) (Filter b test others)
+      (is_plain-Filter b test others ∙ and_from (is_plain b) (all_plain others) s.plain (subs-plain subs others t))
+      (λ outer f. ap kinds_of (Filter-is b test others) ∙ s.kinds outer (by (WellFormed-Filter outer q condition subs) f).input ∙ sym (ap kinds_of (Filter-is q condition subs)))
       (λ outer f.
       let g = by (WellFormed-Filter outer q condition subs) f in
       let e = sym (s.kinds outer g.input) in
-      by (sym (WellFormed-Filter outer b condition others)) (record {
+      by (sym (WellFormed-Filter outer b test others)) (record {
         input = s.formed outer g.input;
         subs = by (λ i. AllSubsForm (e i ∷ outer) others) (subs-form (kinds_of q ∷ outer) subs others t g.subs);
-        condition = by (λ i. HasKind (e i ∷ outer) (subs-kinds (kinds_of q ∷ outer) subs others t g.subs i) condition Boolean) g.condition;
+        condition = same.kind _ _ Boolean (by (λ i. HasKind (e i ∷ outer) (subs-kinds (kinds_of q ∷ outer) subs others t g.subs i) condition Boolean) g.condition);
       }))
       (λ P h.
       let g = by (EachTable-Filter P q condition subs) h in
-      by (sym (EachTable-Filter P b condition others)) (reads_among-each P b q s.tables g.0, subs-tables P subs others t g.1))
+      by (sym (EachTable-Filter P b test others)) (reads_among-each P b q s.tables g.0, subs-tables P subs others t g.1))
       (λ outer db env f h e.
       let g = by (WellFormed-Filter outer q condition subs) f in
       let k = by (EachTable-Filter _ q condition subs) h in
-      filter-rows q b condition subs others db env (s.rows outer db env g.input k.0 e)
+      filter-rows q b condition test subs others db env same (s.rows outer db env g.input k.0 e)
       (λ us u good here. subs-agree (kinds_of q ∷ outer) db u env (inner-fits outer db env g.input k.0 e us u good here) subs others t g.subs k.1))
 
-  pub stands-Project : (items : List Item) (subs others : List Sublink) → SubsStand subs others → Stands (Project q items subs) (Project b items others)
-  stands-Project items subs others t =
-      standing (Project q items subs) (Project b items others)
-      (is_plain-Project b items others ∙ and_from (is_plain b) (all_plain others) s.plain (subs-plain subs others t))
-      (λ outer f. ap kinds_of (Project_with-is b items others) ∙ sym (ap kinds_of (Project_with-is q items subs)))
+  pub stands-Project : (items columns : List Item) → SameItems items columns → (subs others : List Sublink) → SubsStand subs others →
+      Stands (Project q items subs) (Project b columns others)
+  stands-Project items columns same subs others t =
+      standing (Project q items subs) (Project b columns others)
+      (is_plain-Project b columns others ∙ and_from (is_plain b) (all_plain others) s.plain (subs-plain subs others t))
+      (λ outer f. ap kinds_of (Project_with-is b columns others) ∙ sym (item_kinds-same items columns same) ∙ sym (ap kinds_of (Project_with-is q items subs)))
       (λ outer f.
       let g = by (WellFormed-Project outer q items subs) f in
       let e = sym (s.kinds outer g.input) in
-      by (sym (WellFormed-Project outer b items others)) (record {
+      by (sym (WellFormed-Project outer b columns others)) (record {
         input = s.formed outer g.input;
         subs = by (λ i. AllSubsForm (e i ∷ outer) others) (subs-form (kinds_of q ∷ outer) subs others t g.subs);
-        items = by (λ i. ItemsForm (e i ∷ outer) (subs-kinds (kinds_of q ∷ outer) subs others t g.subs i) items) g.items;
+        items = items-formed _ _ items columns same (by (λ i. ItemsForm (e i ∷ outer) (subs-kinds (kinds_of q ∷ outer) subs others t g.subs i) items) g.items);
       }))
       (λ P h.
       let g = by (EachTable-Project P q items subs) h in
-      by (sym (EachTable-Project P b items others)) (reads_among-each P b q s.tables g.0, subs-tables P subs others t g.1))
+      by (sym (EachTable-Project P b columns others)) (reads_among-each P b q s.tables g.0, subs-tables P subs others t g.1))
       (λ outer db env f h e.
       let g = by (WellFormed-Project outer q items subs) f in
       let k = by (EachTable-Project _ q items subs) h in
-      project-rows q b items subs others db env (s.rows outer db env g.input k.0 e)
+      project-rows q b items columns subs others db env same (s.rows outer db env g.input k.0 e)
       (λ us u good here. subs-agree (kinds_of q ∷ outer) db u env (inner-fits outer db env g.input k.0 e us u good here) subs others t g.subs k.1))
 
   pub stands-Distinct : Stands (Distinct q) (Distinct b)
@@ -172,24 +177,25 @@ module _ (q b : Query) (s : Stands q b) where
       (λ P h. by (sym (EachTable-Distinct P b)) (reads_among-each P b q s.tables (by (EachTable-Distinct P q) h)))
       (λ outer db env f h e. distinct-rows q b db env (s.rows outer db env (by (WellFormed-Distinct outer q) f) (by (EachTable-Distinct _ q) h) e))
 
-  pub stands-Aggregate : (groups : List ℕ) (aggregates : List Aggr) → Stands (Aggregate q groups aggregates) (Aggregate b groups aggregates)
-  stands-Aggregate groups aggregates =
-      standing (Aggregate q groups aggregates) (Aggregate b groups aggregates) (is_plain-Aggregate b groups aggregates ∙ s.plain)
+  pub stands-Aggregate : (groups : List ℕ) (aggregates others : List Aggr) → SameAggregates aggregates others →
+      Stands (Aggregate q groups aggregates) (Aggregate b groups others)
+  stands-Aggregate groups aggregates others same =
+      standing (Aggregate q groups aggregates) (Aggregate b groups others) (is_plain-Aggregate b groups others ∙ s.plain)
       (λ outer f.
       let e = s.kinds outer (by (WellFormed-Aggregate outer q groups aggregates) f).input in
-      ap kinds_of (Aggregate-is b groups aggregates) ∙ (λ i. kinds_in (e i) groups ++ map (λ (aggregate : Aggr). aggregate.kind) aggregates)
+      ap kinds_of (Aggregate-is b groups others) ∙ (λ i. kinds_in (e i) groups ++ sym (aggregate_kinds-same aggregates others same) i)
       ∙ sym (ap kinds_of (Aggregate-is q groups aggregates)))
       (λ outer f.
       let g = by (WellFormed-Aggregate outer q groups aggregates) f in
       let e = sym (s.kinds outer g.input) in
-      by (sym (WellFormed-Aggregate outer b groups aggregates)) (record {
+      by (sym (WellFormed-Aggregate outer b groups others)) (record {
         input = s.formed outer g.input;
         groups = by (λ i. PlacesIn (length (e i)) groups) g.groups;
-        aggregates = by (λ i. AggregatesForm (e i ∷ outer) aggregates) g.aggregates;
+        aggregates = aggregates-formed _ aggregates others same (by (λ i. AggregatesForm (e i ∷ outer) aggregates) g.aggregates);
       }))
-      (λ P h. by (sym (EachTable-Aggregate P b groups aggregates)) (reads_among-each P b q s.tables (by (EachTable-Aggregate P q groups aggregates) h)))
+      (λ P h. by (sym (EachTable-Aggregate P b groups others)) (reads_among-each P b q s.tables (by (EachTable-Aggregate P q groups aggregates) h)))
       (λ outer db env f h e.
-      aggregate-rows q b groups aggregates db env
+      aggregate-rows q b groups aggregates others db env same
       (s.rows outer db env (by (WellFormed-Aggregate outer q groups aggregates) f).input (by (EachTable-Aggregate _ q groups aggregates) h) e))
 
   pub stands-Limit : (keys : List Key) (most : ℕ) → Stands (Limit q keys most) (Limit b keys most)
@@ -220,31 +226,32 @@ module _ (q b : Query) (s : Stands q b) (r d : Query) (t : Stands r d) where
       (row_fits-append u v (kinds_of q) (kinds_of r) (rows-fit q b s outer db env f h e us u of_left here)
       (rows-fit r d t outer db env g k e vs v of_right there))).fitting
 
-  pub stands-Join : (kind : JoinKind) (condition : Expr) (subs others : List Sublink) → SubsStand subs others →
-      Stands (Join kind q r condition subs) (Join kind b d condition others)
-  stands-Join kind condition subs others k =
-      standing (Join kind q r condition subs) (Join kind b d condition others)
-      (is_plain-Join kind b d condition others ∙ and_from (is_plain b && is_plain d) (all_plain others) (and_from (is_plain b) (is_plain d) s.plain t.plain) (subs-plain subs others k))
+  pub stands-Join : (kind : JoinKind) (condition test : Expr) → SameExpr condition test → (subs others : List Sublink) → SubsStand subs others →
+      Stands (Join kind q r condition subs) (Join kind b d test others)
+  stands-Join kind condition test same subs others k =
+      standing (Join kind q r condition subs) (Join kind b d test others)
+      (is_plain-Join kind b d test others ∙ and_from (is_plain b && is_plain d) (all_plain others) (and_from (is_plain b) (is_plain d) s.plain t.plain) (subs-plain subs others k))
       (λ outer f.
       let g = by (WellFormed-Join outer kind q r condition subs) f in
-      ap kinds_of (Join-is kind b d condition others) ∙ (λ i. s.kinds outer g.left i ++ t.kinds outer g.right i) ∙ sym (ap kinds_of (Join-is kind q r condition subs)))
+      ap kinds_of (Join-is kind b d test others) ∙ (λ i. s.kinds outer g.left i ++ t.kinds outer g.right i) ∙ sym (ap kinds_of (Join-is kind q r condition subs)))
       (λ outer f.
       let g = by (WellFormed-Join outer kind q r condition subs) f in
       let e : kinds_of q ++ kinds_of r ≡ kinds_of b ++ kinds_of d = λ i. sym (s.kinds outer g.left) i ++ sym (t.kinds outer g.right) i in
-      by (sym (WellFormed-Join outer kind b d condition others)) (record {
+      by (sym (WellFormed-Join outer kind b d test others)) (record {
         left = s.formed outer g.left;
         right = t.formed outer g.right;
         subs = by (λ i. AllSubsForm (e i ∷ outer) others) (subs-form ((kinds_of q ++ kinds_of r) ∷ outer) subs others k g.subs);
-        condition = by (λ i. HasKind (e i ∷ outer) (subs-kinds ((kinds_of q ++ kinds_of r) ∷ outer) subs others k g.subs i) condition Boolean) g.condition;
+        condition = same.kind _ _ Boolean
+            (by (λ i. HasKind (e i ∷ outer) (subs-kinds ((kinds_of q ++ kinds_of r) ∷ outer) subs others k g.subs i) condition Boolean) g.condition);
       }))
       (λ P h.
       let g = by (EachTable-Join P kind q r condition subs) h in
-      by (sym (EachTable-Join P kind b d condition others))
+      by (sym (EachTable-Join P kind b d test others))
       (reads_among-each P b q s.tables g.0, reads_among-each P d r t.tables g.1, subs-tables P subs others k g.2))
       (λ outer db env f h e.
       let g = by (WellFormed-Join outer kind q r condition subs) f in
       let j = by (EachTable-Join _ kind q r condition subs) h in
-      join-rows kind q r b d condition subs others db env (s.rows outer db env g.left j.0 e) (t.rows outer db env g.right j.1 e)
+      join-rows kind q r b d condition test subs others db env same (s.rows outer db env g.left j.0 e) (t.rows outer db env g.right j.1 e)
       (ap length (sym (s.kinds outer g.left))) (ap length (sym (t.kinds outer g.right)))
       (λ us vs u v of_left of_right here there. subs-agree ((kinds_of q ++ kinds_of r) ∷ outer) db (u ++ v) env
       (pairs-fit outer db env g.left g.right j.0 j.1 e us vs u v of_left of_right here there) subs others k g.subs j.2))

@@ -21,6 +21,7 @@ use Rattle.bag_algebra.specs.declared.query.Query.TheVariants.{Filter, Project, 
 use Rattle.bag_algebra.specs.declared.query.SubKind.{SubKind}
 use Rattle.bag_algebra.specs.declared.query.Sublink.{Sublink}
 use Rattle.contribution.proofs.OrderOfQueries.{sub_value-permuted}
+use Rattle.query_laws.proofs.SameExpressions.{optional-same}
 use Rattle.query_laws.specs.Agreeing.{SubAgrees, SubsAgree}
 
 answer-same : (kind : SubKind) (x : Outcome Value) (o p : Outcome Bag) → SameRows o p → both_then x o (sub_value kind) ≡ both_then x p (sub_value kind)
@@ -39,7 +40,7 @@ module _ (db : Database) (env : List Row) (u : Row) where
       ≡ both_then (optional_value other.tested env u) (meaning other.query db (u ∷ env)) (sub_value other.kind)
   one-same sub other a =
       answer-same sub.kind (optional_value sub.tested env u) (meaning sub.query db (u ∷ env)) (meaning other.query db (u ∷ env)) a.rows
-      ∙ (λ i. both_then (optional_value (a.tested i) env u) (meaning other.query db (u ∷ env)) (sub_value (a.kind i)))
+      ∙ (λ i. both_then (optional-same sub.tested other.tested a.tested env u i) (meaning other.query db (u ∷ env)) (sub_value (a.kind i)))
 
   pub answers-same : (subs others : List Sublink) → SubsAgree db env u subs others →
       (subs_denote subs db env).answers u ≡ (subs_denote others db env).answers u

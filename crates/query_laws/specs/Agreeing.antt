@@ -4,11 +4,12 @@ use Rattle.bag_algebra.specs.Bags.{Row}
 use Rattle.bag_algebra.specs.Meaning.{Database, meaning}
 use Rattle.bag_algebra.specs.Rewriting.{SameRows}
 use Rattle.bag_algebra.specs.declared.query.Sublink.{Sublink}
+use Rattle.query_laws.specs.SameExpressions.{SameOptional}
 
--- of one kind, with one tested expression, over queries that have the same rows or faults on the row
+-- of one kind, with the same tested expression or none, over queries that have the same rows or faults on the row
 pub record SubAgrees (db : Database) (env : List Row) (u : Row) (sub other : Sublink) : Type 0 where
   pub kind : sub.kind ≡ other.kind
-  pub tested : sub.tested ≡ other.tested
+  pub tested : SameOptional sub.tested other.tested
   pub rows : SameRows (meaning sub.query db (u ∷ env)) (meaning other.query db (u ∷ env))
 
 -- one by one

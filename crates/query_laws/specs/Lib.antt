@@ -1,9 +1,11 @@
 pub mod Aggregated
 pub mod Agreeing
 pub mod Evaluated
+pub mod EveryExpression
 pub mod Faults
 pub mod Holding
 pub mod ListsOfNodes
 pub mod Nodes
+pub mod SameExpressions
 pub mod Standing
 pub mod SublinkLists

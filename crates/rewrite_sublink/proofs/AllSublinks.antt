@@ -28,35 +28,37 @@ use Rattle.contribution.proofs.Growth.{row_begins-longer}
 use Rattle.contribution.specs.CrossBase.{cross_base_of}
 use Rattle.rewrite_base.proofs.KeptRows.{flat-append, row-width}
 use Rattle.contribution.proofs.LongerKinds.{NamesAlso, well_formed-longer}
+use Rattle.query_laws.proofs.SameExpressions.{optional-itself}
 use Rattle.query_laws.specs.Agreeing.{SubsAgree}
 use Rattle.query_laws.specs.Standing.{SubsStand}
 use Rattle.bag_algebra.specs.built.Scopes.{all_over_tables, all_plain}
 use Rattle.rewrite_sublink.proofs.Extending.{Extended, GoodOn, one-reached}
 use Rattle.rewrite_sublink.proofs.Forming.{by, whole, fitting-longer, kinds-contributed, bad-contributed, plain-contributed, tables-contributed, formed-contributed}
+use Rattle.rewrite_sublink.proofs.TestedAs.{tested_as}
 use Rattle.rewrite_sublink.specs.Candidates.{all_contributed}
 use Rattle.rewrite_sublink.specs.SubRewritings.{SubsRewritten}
 use Rattle.query_laws.proofs.Contributed.{all_good, each_contributes-from, one_of_each}
 use Rattle.query_laws.proofs.PairedLists.{OneOfEach}
 use Rattle.query_laws.specs.SublinkLists.{Contributes, EachContributes, no_sublink, one_more}
 
--- sublinks over tables, with what stands for each and a rewriting of each
+-- sublinks over tables, with what stands for each, of the same tested expression, and a rewriting of each
 pub data Ready : (subs standing : List Sublink) → List Query → Type 0 where
   none : Ready [] [] []
   some : {subs standing : List Sublink} {rewritings : List Query} (sub : Sublink) (s r : Query) → Stands sub.query s → IsRewrite sub.query r → over_tables sub.query ≡ true →
       Ready subs standing rewritings → Ready (sub ∷ subs) (record { kind = sub.kind; tested = sub.tested; query = s } ∷ standing) (r ∷ rewritings)
 
 pub ready : (subs standing : List Sublink) (rewritings : List Query) → SubsStand subs standing → SubsRewritten subs rewritings → all_over_tables subs ≡ true →
-    Ready subs standing rewritings
+    Ready (tested_as subs standing) standing rewritings
 ready [] [] [] s r o = none
 ready [] [] (p ∷ ps) s r o = absurd r
 ready [] (stand ∷ standing) rewritings s r o = absurd s
 ready (sub ∷ subs) [] rewritings s r o = absurd s
 ready (sub ∷ subs) (stand ∷ standing) [] s r o = absurd r
 ready (sub ∷ subs) (stand ∷ standing) (p ∷ ps) s r o =
-    let same : record { kind = sub.kind; tested = sub.tested; query = stand.query } ≡ stand =
-    λ i. record { kind = s.0.kind i; tested = s.0.tested i; query = stand.query } in
-    subst (λ first. Ready (sub ∷ subs) (first ∷ standing) (p ∷ ps)) same
-    (some sub stand.query p s.0.query r.0 (left-true (over_tables sub.query) (all_over_tables subs) o)
+    let same : record { kind = sub.kind; tested = stand.tested; query = stand.query } ≡ stand =
+    λ i. record { kind = s.0.kind i; tested = stand.tested; query = stand.query } in
+    subst (λ first. Ready (tested_as (sub ∷ subs) (stand ∷ standing)) (first ∷ standing) (p ∷ ps)) same
+    (some (record { kind = sub.kind; tested = stand.tested; query = sub.query }) stand.query p s.0.query r.0 (left-true (over_tables sub.query) (all_over_tables subs) o)
     (ready subs standing ps s.1 r.1 (right-true (over_tables sub.query) (all_over_tables subs) o)))
 
 none-contribute : {db : Database} {env : List Row} {b : Row} {w : Witness} → EachContributes db env b [] w → [] ≡ w
@@ -247,6 +249,6 @@ pub stand-agree : (scopes : List (List Kind)) (db : Database) (env : List Row) (
     SubsAgree db env z subs standing
 stand-agree scopes db env z e none f t = tt
 stand-agree scopes db env z e (some sub s r stands rewritten over rest) f t = (
-  record { kind = refl; tested = refl; rows = stands.rows scopes db (z ∷ env) f.query t.0 e },
+  record { kind = refl; tested = optional-itself sub.tested; rows = stands.rows scopes db (z ∷ env) f.query t.0 e },
   stand-agree scopes db env z e rest f.others t.1,
 )

@@ -10,3 +10,5 @@ pub mod OneSublink
 pub mod ProjectRows
 pub mod Steps
 pub mod TestValues
+pub mod TestedAs
+pub mod WholeRules

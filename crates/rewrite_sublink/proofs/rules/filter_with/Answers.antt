@@ -2,9 +2,8 @@ use Rattle.std.proofs.Common.{◌≡◌, ◌∙◌, IfOk, length, sym, ap, subst
 use Rattle.bag_algebra.specs.Rewriting.{IsRewrite}
 use Rattle.bag_algebra.specs.declared.query.Query.TheVariants.{Filter}
 use Rattle.contribution.proofs.NodeQueries.{of_made}
-use Rattle.rewrite_sublink.proofs.AllSublinks.{ready}
 use Rattle.rewrite_sublink.proofs.Lengths.{stand-length, rewritten-length}
-use Rattle.rewrite_sublink.proofs.FilterRows.{rewrite-Filter_with}
+use Rattle.rewrite_sublink.proofs.WholeRules.{filter-whole}
 use Rattle.rewrite_sublink.proofs.rules.filter_with.Goals as goal
 use Rattle.rewrite_sublink.specs.Candidates.{all_contributed}
 
@@ -21,5 +20,5 @@ returns c =
     (all_contributed (Filter c.args.rewriting c.args.condition.now c.args.standing.now) c.args.subs.now c.args.standing.now c.args.sub_rewritings)
     (subst₂ (λ rows rewritings. IfOk c.with_contributions.result (λ p. p ≡ all_contributed rows c.args.subs.now c.args.standing.now rewritings))
     c.in_ok-rows.ensures c.as_slice.ensures c.with_contributions.ensures)
-    (rewrite-Filter_with c.args.input.now c.args.rewriting c.args.condition.now c.args.subs.now c.args.standing.now c.args.sub_rewritings c.requires.input
-    (ready c.args.subs.now c.args.standing.now c.args.sub_rewritings c.requires.standing c.requires.rewritten c.requires.over_tables))
+    (filter-whole c.args.input.now c.args.rewriting c.args.condition.now c.args.subs.now c.args.standing.now c.args.sub_rewritings c.requires.input
+    c.requires.standing c.requires.rewritten c.requires.over_tables)

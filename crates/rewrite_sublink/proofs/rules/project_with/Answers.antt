@@ -3,8 +3,7 @@ use Rattle.bag_algebra.specs.Kinds.{width_of}
 use Rattle.bag_algebra.specs.Rewriting.{IsRewrite}
 use Rattle.bag_algebra.specs.declared.query.Query.TheVariants.{Project}
 use Rattle.contribution.proofs.NodeQueries.{of_made}
-use Rattle.rewrite_sublink.proofs.AllSublinks.{ready}
-use Rattle.rewrite_sublink.proofs.ProjectRows.{rewrite-Project_with}
+use Rattle.rewrite_sublink.proofs.WholeRules.{project-whole}
 use Rattle.rewrite_sublink.proofs.Lengths.{stand-length, rewritten-length}
 use Rattle.rewrite_sublink.proofs.rules.project_with.Goals as goal
 use Rattle.rewrite_sublink.specs.Candidates.{all_contributed, answer_columns, beside_row}
@@ -26,5 +25,5 @@ returns c =
     (subst (λ rewritings. IfOk c.items_with.result (λ q. q ≡
     answer_columns (all_contributed (Project r (beside_row r c.args.items.now) standing) subs standing rewritings) (width_of c.args.input.now) (width_of r) (length c.args.items.now)))
     c.as_slice-rewritings.ensures c.items_with.ensures)
-    (rewrite-Project_with c.args.input.now r c.args.items.now subs standing c.args.sub_rewritings c.requires.input
-    (ready subs standing c.args.sub_rewritings c.requires.standing c.requires.rewritten c.requires.over_tables))
+    (project-whole c.args.input.now r c.args.items.now subs standing c.args.sub_rewritings c.requires.input
+    c.requires.standing c.requires.rewritten c.requires.over_tables)

@@ -5,13 +5,13 @@ pub returns-clause-base : goal.returns-clause-base
 returns-clause-base c q b places label s = stands-Base q b s places label
 
 pub returns-clause-filter : goal.returns-clause-filter
-returns-clause-filter c q b condition subs others s t = stands-Filter q b s condition subs others t
+returns-clause-filter c q b condition test subs others same s t = stands-Filter q b s condition test same subs others t
 
 pub returns-clause-project : goal.returns-clause-project
-returns-clause-project c q b items subs others s t = stands-Project q b s items subs others t
+returns-clause-project c q b items columns subs others same s t = stands-Project q b s items columns same subs others t
 
 pub returns-clause-join : goal.returns-clause-join
-returns-clause-join c kind q b r d condition subs others s t k = stands-Join q b s r d t kind condition subs others k
+returns-clause-join c kind q b r d condition test subs others same s t k = stands-Join q b s r d t kind condition test same subs others k
 
 pub returns-clause-apply : goal.returns-clause-apply
 returns-clause-apply c kind q b r d s t = stands-Apply q b s r d t kind
@@ -29,7 +29,7 @@ pub returns-clause-distinct : goal.returns-clause-distinct
 returns-clause-distinct c q b s = stands-Distinct q b s
 
 pub returns-clause-aggregate : goal.returns-clause-aggregate
-returns-clause-aggregate c q b groups aggregates s = stands-Aggregate q b s groups aggregates
+returns-clause-aggregate c q b groups aggregates others same s = stands-Aggregate q b s groups aggregates others same
 
 pub returns-clause-limit : goal.returns-clause-limit
 returns-clause-limit c q b keys most s = stands-Limit q b s keys most
