@@ -4,8 +4,8 @@ use Rattle.perm_values.specs.declared.kind.Kind.{Kind}
 use Rattle.perm_values.specs.declared.kind.Kind.TheVariants.{Boolean}
 use Rattle.bag_algebra.proofs.TablesRead.{reads_among-each, reads_among-itself}
 use Rattle.bag_algebra.specs.Bags.{Row}
-use Rattle.bag_algebra.specs.Built.{denote-Filter, denote-Project, kinds_of-Filter, kinds_of-Project, shape-Filter, shape-Project}
-use Rattle.bag_algebra.specs.BuiltForms.{AllSubsForm, EachTableOfSubs, subs_kinds, WellFormed-Filter, WellFormed-Project, EachTable-Filter, EachTable-Project}
+use Rattle.bag_algebra.specs.built.Openings.{denote-Filter, denote-Project, kinds_of-Filter, kinds_of-Project, shape-Filter, shape-Project}
+use Rattle.bag_algebra.specs.built.Forms.{AllSubsForm, EachTableOfSubs, subs_kinds, WellFormed-Filter, WellFormed-Project, EachTable-Filter, EachTable-Project}
 use Rattle.bag_algebra.specs.Children.{subs_denote, subs_shape}
 use Rattle.bag_algebra.specs.Kinds.{kinds_of, place_kinds, shape}
 use Rattle.bag_algebra.specs.Meaning.{Database, denote, meaning, condition_on, items_on}

@@ -1,6 +1,6 @@
 -- The rules of Filters and Projects with sublinks, where what stands for a sublink tests an expression that is the same.
 use Rattle.std.proofs.Common.{◌≡◌, true, List, length, ap, subst}
-use Rattle.bag_algebra.specs.BuiltScopes.{all_over_tables}
+use Rattle.bag_algebra.specs.built.Scopes.{all_over_tables}
 use Rattle.bag_algebra.specs.Kinds.{width_of}
 use Rattle.bag_algebra.specs.Rewriting.{IsRewrite}
 use Rattle.bag_algebra.specs.declared.expr.Expr.{Expr}

@@ -26,7 +26,8 @@ pub fn nodes_see_rows_alone()
     ensures base { (input other : Query) (places : List ℕ) (label : Label) (db : Database) (env : List Row) →
         SameRows (meaning input db env) (meaning other db env) →
         SameRows (meaning (Base input places label) db env) (meaning other db env) }
-    ensures filter { (input other : Query) (condition test : Expr) (subs others : List Sublink) (db : Database)
+    ensures filter { (input other : Query) (condition test : Expr) (subs others : List Sublink)
+        (db : Database)
         (env : List Row) → SameExpr condition test →
         SameRows (meaning input db env) (meaning other db env) →
         ((us : Bag) (u : Row) → meaning input db env ≡ Good us → IsTrue (member u us) →
@@ -68,7 +69,8 @@ pub fn nodes_see_rows_alone()
     ensures distinct { (input other : Query) (db : Database) (env : List Row) →
         SameRows (meaning input db env) (meaning other db env) →
         SameRows (meaning (Distinct input) db env) (meaning (Distinct other) db env) }
-    ensures aggregate { (input other : Query) (groups : List ℕ) (aggregates others : List Aggr) (db : Database)
+    ensures aggregate { (input other : Query) (groups : List ℕ) (aggregates others : List Aggr)
+        (db : Database)
         (env : List Row) → SameAggregates aggregates others →
         SameRows (meaning input db env) (meaning other db env) →
         SameRows (meaning (Aggregate input groups aggregates) db env)
