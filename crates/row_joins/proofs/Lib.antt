@@ -2,6 +2,7 @@ pub mod Among
 pub mod Built
 pub mod Conditions
 pub mod Equality
+pub mod Flagged
 pub mod Hashing
 pub mod Joining
 pub mod Keyed

@@ -3,4 +3,5 @@ pub mod Cells
 pub mod Equated
 pub mod Hashed
 pub mod Joins
+pub mod Partners
 pub mod Places

@@ -141,6 +141,9 @@ pub record KnowsOn (db : Database) (env : List Row) (u : Row) (q : Query) (in_ce
   pub answers : Answers db (u ∷ env) q in_cells known.answer
 
 -- of a sublink's query; IN and NOT IN ask for a value
+abbrev pub AnswersSub : Database → List Row → Sublink → Answer → Type 0
+AnswersSub db inner sub answer = Answers db inner sub.query (tests_equality sub.kind) answer
+
 abbrev pub KnowsSub : Database → List Row → Sublink → Known → Type 0
 KnowsSub db env sub known = Knows db env sub.query (tests_equality sub.kind) known
 

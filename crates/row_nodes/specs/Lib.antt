@@ -1,3 +1,4 @@
+pub mod FreeSublinks
 pub mod Held
 pub mod Joins
 pub mod Keeping

@@ -2,6 +2,7 @@
 //! what is known of its sublinks from row to row.
 #![tactic(auto)]
 
+mod fault_free;
 mod first_columns;
 mod groups;
 mod input;
@@ -16,7 +17,7 @@ mod set_operation;
 pub use groups::in_groups;
 pub use input::{Input, made, single_row, table_rows};
 pub use items::item_values;
-pub use join::{hashed_pairs, meets_by_keys, more_met};
+pub use join::{hashed_pairs, meets_by_keys, more_met, tries_by_keys};
 pub use keeping::Keeping;
 pub use known::{Answer, Keyed, Known, cells_value, known_subs, same_rows, tests_equality};
 pub use limit::limited;
