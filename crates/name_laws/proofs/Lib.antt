@@ -33,7 +33,7 @@ mod ScopedFroms
 mod ScopedMeant
 mod ScopedTrees
 mod Scopes
-mod Settled
+pub mod Settled
 mod Standing
 mod SteadyMeant
 mod Sublinks

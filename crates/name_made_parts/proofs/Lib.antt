@@ -5,5 +5,4 @@ pub mod Querying
 pub mod Segmented
 pub mod Settling
 pub mod Sourcing
-pub mod Starred
 pub mod Viewed

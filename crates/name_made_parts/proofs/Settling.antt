@@ -21,32 +21,7 @@ use Rattle.name_meaning.proofs.Equations.{SelectItemFrame}
 use Rattle.name_made_nodes.proofs.Parts.{none-first, none-second}
 use Rattle.name_made_parts.specs.Cored.{items_meant}
 use Rattle.name_meaning.proofs.Opened.{shown_item, opened_item}
-
--- ---- columns at the wanted kinds
-
-settled-twice : (k : Option Kind) (wanted : Kind) → settled k (settled k wanted) ≡ settled k wanted
-settled-twice None wanted = refl
-settled-twice (Some k) wanted = refl
-
-abbrev settle_titles : List Titled → List Kind → List Kind
-settle_titles [] wanted = []
-settle_titles (title ∷ titles) [] = settled title.kind kind.Text ∷ settle_titles titles []
-settle_titles (title ∷ titles) (k ∷ ks) = settled title.kind k ∷ settle_titles titles ks
-
-settle-named : (n : ℕ) (titles : List Titled) (wanted : List Kind) → settle (named_from n titles) wanted ≡ settle_titles titles wanted
-settle-named n [] wanted = refl
-settle-named n (title ∷ titles) [] = ap (λ kinds. settled title.kind kind.Text ∷ kinds) (settle-named (suc n) titles [])
-settle-named n (title ∷ titles) (k ∷ ks) = ap (λ kinds. settled title.kind k ∷ kinds) (settle-named (suc n) titles ks)
-
-settle_titles-append : (titles more : List Titled) (wanted : List Kind)
-    → settle_titles (titles ++ more) wanted ≡ settle_titles titles (take (length titles) wanted) ++ settle_titles more (drop (length titles) wanted)
-settle_titles-append [] more wanted = refl
-settle_titles-append (title ∷ titles) more [] = ap (λ kinds. settled title.kind kind.Text ∷ kinds) (settle_titles-append titles more [] ∙ none titles) where
-  none : (titles : List Titled) → settle_titles titles (take (length titles) []) ++ settle_titles more (drop (length titles) [])
-      ≡ settle_titles titles [] ++ settle_titles more []
-  none [] = refl
-  none (title ∷ titles) = refl
-settle_titles-append (title ∷ titles) more (k ∷ ks) = ap (λ kinds. settled title.kind k ∷ kinds) (settle_titles-append titles more ks)
+use Rattle.name_laws.proofs.Settled.{settled-twice, settle_titles, settle-named, settle_titles-append}
 
 -- ---- items
 

@@ -27,6 +27,7 @@ use Rattle.name_meaning.proofs.Equations.{token, fromitem-record, fromsource-inn
 use Rattle.name_meaning.proofs.Opened.{opened_from}
 use Rattle.name_made_nodes.proofs.Parts.{none-first, none-second}
 use Rattle.name_made_parts.specs.Sources.{JoinsMade, MakesFrom, MakesJoin, MakesOn, MakesSource, SourcesMade, StandsIn, beside_left, own_breaks, text_of}
+use Rattle.name_seen_parts.proofs.Scoping.{more-behind}
 
 -- ---- items in scope
 
@@ -140,12 +141,6 @@ join-made outer trace step first count scope before right after condition on ite
 
 -- ---- parts before and behind commas
 
-more-append : (outer : List Scope) (trace : Trace) (left : FromMeant) (parts : List FromPart) (part : FromPart)
-    → from_more outer trace left (parts ++ part ∷ [])
-    ≡ beside_from (from_more outer trace left parts) (part.means outer trace (from_more outer trace left parts).names)
-more-append outer trace left [] part = refl
-more-append outer trace left (first ∷ parts) part = more-append outer trace (beside_from left (first.means outer trace left.names)) parts part
-
 pub no-sources : (outer : List Scope) (trace : Trace) (scope : Scope) → SourcesMade outer trace [] scope None 0
 no-sources outer trace scope = record { makes = λ whole stands. refl; counts = λ items known. let none : items ≡ [] = cc known in ap length none }
 
@@ -175,7 +170,7 @@ source-more outer trace (first ∷ parts) part scope before next after count joi
     let right = part.means outer trace left.names in
     let start : 0 + count ≡ count = omega arith in
     let is_beside : from_more outer trace (first.means outer trace []) (parts ++ part ∷ []) ≡ beside_from left right =
-    more-append outer trace (first.means outer trace []) parts part in
+    more-behind outer trace (first.means outer trace []) parts part in
     record {
       makes = λ whole stands.
           let none : left.breaks ++ right.breaks ≡ [] = subst (λ (m : FromMeant). m.breaks ≡ []) is_beside whole in

@@ -22,7 +22,7 @@ swapped true false = refl
 swapped false true = refl
 swapped false false = refl
 
-any-reversed : {X : Type 0} (test : X → Bool) (xs : List X) → list_any test (reverse xs) ≡ list_any test xs
+pub any-reversed : {X : Type 0} (test : X → Bool) (xs : List X) → list_any test (reverse xs) ≡ list_any test xs
 any-reversed test [] = refl
 any-reversed test (x ∷ xs) =
     ap (list_any test) (reverse-append (x ∷ []) xs) ∙ list_any-append test (reverse xs) (reverse (x ∷ []))

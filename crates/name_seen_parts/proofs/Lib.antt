@@ -1,12 +1,12 @@
 pub mod Aggregating
-mod AnyColumns
+pub mod AnyColumns
 pub mod Arms
 pub mod Attributed
 pub mod Firsts
 pub mod KnownNames
 pub mod Labels
 mod Levels
-mod Matches
+pub mod Matches
 pub mod NamedColumns
 pub mod OperandLists
 mod OperatorRows

@@ -63,7 +63,7 @@ scope-beside-is xs ys =
 
 -- ---- FROM with one more source
 
-more-behind : (outer : List Scope) (trace : Trace) (left : FromMeant) (parts : List FromPart) (part : FromPart)
+pub more-behind : (outer : List Scope) (trace : Trace) (left : FromMeant) (parts : List FromPart) (part : FromPart)
     → from_more outer trace left (parts ++ part ∷ [])
     ≡ beside_from (from_more outer trace left parts) (part.means outer trace (from_more outer trace left parts).names)
 more-behind outer trace left [] part = refl

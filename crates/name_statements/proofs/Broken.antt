@@ -19,6 +19,7 @@ use Rattle.name_meaning.specs.Trees.{part_of}
 use Rattle.name_meaning.specs.declared.answer.Break.{Break}
 use Rattle.name_meaning.specs.declared.scope.Scope.{Scope}
 use Rattle.name_seen_parts.proofs.Arms.{part-at}
+use Rattle.name_seen_parts.proofs.Attributed.{any-reversed}
 use Rattle.name_seen_parts.specs.Seen.{first_or, seen}
 use Rattle.name_seen_parts.specs.declared.refusal.Refusal.{Refusal}
 use Rattle.name_seen_parts.specs.declared.refusal.Refusal.TheVariants.{Break as Broken, NoMemory}
@@ -31,18 +32,6 @@ use Rattle.name_statements.specs.Earlier.{column_break, is_defined, is_shown, te
 use Rattle.name_meaning.specs.declared.rule.Rule.TheVariants as rule
 
 -- ---- the order of names is of no account
-
-swapped : (a b : Bool) → (a || (b || false)) ≡ (b || a)
-swapped true true = refl
-swapped true false = refl
-swapped false true = refl
-swapped false false = refl
-
-any-reversed : {X : Type 0} (test : X → Bool) (xs : List X) → list_any test (reverse xs) ≡ list_any test xs
-any-reversed test [] = refl
-any-reversed test (x ∷ xs) =
-    ap (list_any test) (reverse-append (x ∷ []) xs) ∙ list_any-append test (reverse xs) (reverse (x ∷ []))
-    ∙ ap (λ b. b || (test x || false)) (any-reversed test xs) ∙ swapped (list_any test xs) (test x)
 
 any-texts : (test : List ℕ → Bool) (columns : List ColumnDef) → list_any (λ (column : ColumnDef). test column.name.text) columns ≡ list_any test (texts_of columns)
 any-texts test [] = refl

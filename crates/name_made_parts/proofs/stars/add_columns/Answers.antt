@@ -6,7 +6,8 @@ use Rattle.bag_algebra.specs.declared.expr.Item.{Item}
 use Rattle.name_meaning.specs.Items.{column_item}
 use Rattle.name_meaning.specs.Scopes.{Placed, placed}
 use Rattle.name_seen_parts.specs.Stars.{is_in_item}
-use Rattle.name_made_parts.proofs.Starred.{columns-are, filtered-more}
+use Rattle.name_seen_parts.proofs.AnyColumns.{columns-are}
+use Rattle.name_seen_parts.proofs.Matches.{filtered-more}
 use Rattle.name_made_parts.proofs.stars.add_columns.Goals as goal
 
 pub loop-place-preserved : goal.loop-place-preserved
