@@ -15,7 +15,7 @@ use Rattle.bag_algebra.specs.declared.expr.Expr.TheVariants.{Sub}
 use Rattle.bag_algebra.specs.declared.query.Query.{more_of-Sublink, end_of-Sublink}
 use Rattle.bag_algebra.specs.declared.query.Query.TheVariants.{Single}
 use Rattle.bag_algebra.specs.declared.query.SubKind.TheVariants.{Scalar}
-use Rattle.csv_tables.specs.declared.data_error.DataError.TheVariants as rule
+use Rattle.csv_tables.specs.declared.data_error.DataError.TheVariants as unfit
 use Rattle.perm_catalog.specs.Changes.{nothing_held}
 use Rattle.perm_io.specs.Found as found
 use Rattle.sql_tree.specs.declared.statement.Statement.{Statement}
@@ -131,7 +131,7 @@ pub failed_file : copy (holding [] []) 7 (codes "r") kinds [] false found.Failed
 failed_file = refl
 
 -- the first record that breaks a rule, and of it the width: a record of three fields
-pub third_record : copy (holding [] []) 7 (codes "r") kinds [] false (found.Read (codes "1,1\n2,2\nz,z,3\n")) ≡ Refused (Unfit (rule.Width 3))
+pub third_record : copy (holding [] []) 7 (codes "r") kinds [] false (found.Read (codes "1,1\n2,2\nz,z,3\n")) ≡ Refused (Unfit (unfit.Width 3))
 unfolding records_from strip_bom next_record
 third_record = refl
 
@@ -151,7 +151,7 @@ pub fault_before_spent :
 fault_before_spent = refl
 
 -- a record that breaks a rule comes first
-pub file_before_spent : copy (drawing_next last_number [] []) 7 (codes "r") kinds [] false (found.Read (codes "x,1\n")) ≡ Refused (Unfit (rule.NotInteger 1 1))
+pub file_before_spent : copy (drawing_next last_number [] []) 7 (codes "r") kinds [] false (found.Read (codes "x,1\n")) ≡ Refused (Unfit (unfit.NotInteger 1 1))
 unfolding records_from strip_bom next_record
 file_before_spent = refl
 
