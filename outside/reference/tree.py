@@ -72,8 +72,10 @@ at `places` are told.""")
 Filter = with_parts("Filter", "input condition sublinks clause width", """The rows for which the condition is true: a WHERE or a
 HAVING, as `clause` says.""")
 Project = with_parts("Project", "input items sublinks width", "The row of the items for each row.")
-Join = with_parts("Join", "kind left right condition width", """The pairs of rows for which the condition is true; `kind` says
-whose rows without a partner stay.""")
+Join = with_parts("Join", "kind left right condition sublinks width", """The pairs of rows for which the condition is true; `kind`
+says whose rows without a partner stay. The sublinks of the condition see the pair.""")
+DependentJoin = with_parts("DependentJoin", "kind left right width", """Each row of the left query beside each row that the right
+query has with that row as its nearest outer one (LATERAL); of the kind LEFT a row under which it has none stays.""")
 SetOperation = with_parts("SetOperation", "word keeps_all left right width", "UNION, INTERSECT or EXCEPT, with ALL or without.")
 Distinct = with_parts("Distinct", "input width", "Each row once.")
 Aggregate = with_parts("Aggregate", "input groups aggregates width", """A row for each group: the columns at `groups`, then the
