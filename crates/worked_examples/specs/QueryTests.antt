@@ -6,13 +6,14 @@ use Rattle.bag_algebra.specs.Closed.{is_closed}
 use Rattle.bag_algebra.specs.FaultFree.{fault_free}
 use Rattle.bag_algebra.specs.Kinds.{width_of}
 use Rattle.bag_algebra.specs.Measures.{height_of, size_of}
-use Rattle.bag_algebra.specs.built.Patterns.{ChainOf, BaseOf, FilterOf, ProjectOf, UnionOf, DistinctOf, AggregateOf, ProvOf}
+use Rattle.bag_algebra.specs.built.Patterns.{ChainOf, BaseOf, FilterOf, ProjectOf, ApplyOf, UnionOf, DistinctOf, AggregateOf, ProvOf}
 use Rattle.bag_algebra.specs.Rewriting.{is_plain}
 use Rattle.bag_algebra.specs.Scoped.{is_scoped}
 use Rattle.bag_algebra.specs.declared.expr.Expr.{more_of-ChainStep, end_of-ChainStep}
 use Rattle.bag_algebra.specs.declared.expr.Expr.TheVariants.{Col, Sub}
 use Rattle.bag_algebra.specs.declared.query.AggFn.{AggFn}
 use Rattle.bag_algebra.specs.declared.query.AggFn.TheVariants.{CountRows, Sum}
+use Rattle.bag_algebra.specs.declared.query.JoinKind.TheVariants.{Inner}
 use Rattle.bag_algebra.specs.declared.query.Label.TheVariants.{Relation}
 use Rattle.bag_algebra.specs.declared.query.SubKind.{SubKind}
 use Rattle.bag_algebra.specs.declared.query.SubKind.TheVariants.{Exists, Scalar}
@@ -72,6 +73,12 @@ sublink-of-sublink = refl
 
 open-sublink-of-sublink : is_closed (asking Exists (asking Exists (reading 3))) ≡ false
 open-sublink-of-sublink = refl
+
+left-row : is_closed (ApplyOf Inner table (reading 1)) ≡ true
+left-row = refl
+
+behind-left-row : is_closed (ApplyOf Inner table (reading 2)) ≡ false
+behind-left-row = refl
 
 -- ---- what may fault
 
