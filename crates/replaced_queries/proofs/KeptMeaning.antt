@@ -3,9 +3,8 @@ use Rattle.std.proofs.Common.{◌≡◌, ◌≢◌, inl, inr, ℕ, Bool, true, f
 use mathlib.Core.Bool.{true≢false}
 use Rattle.perm_values.specs.declared.kind.Kind.{Kind}
 use Rattle.perm_values.specs.declared.value.Value.{Value}
-use Rattle.bag_algebra.proofs.BagLaws.{permuted-sym, permuted-from_same_bag, same_bag-from_permuted, member-same_bag}
+use Rattle.bag_algebra.proofs.BagLaws.{permuted-sym, permuted-from_same_bag, member-same_bag}
 use Rattle.bag_algebra.proofs.Members.{IsIn}
-use Rattle.bag_algebra.proofs.MembersByIndex.{in-from_contains, contains-from_in}
 use Rattle.bag_algebra.proofs.TablesRead.{each_table-kept}
 use Rattle.bag_algebra.specs.Bags.{Row, Bag, SameBag, member}
 use Rattle.bag_algebra.specs.Kinds.{shape, width_of}
@@ -21,16 +20,16 @@ use Rattle.bag_algebra.specs.declared.query.JoinKind.{JoinKind}
 use Rattle.bag_algebra.specs.declared.query.Query.{Query, Row_of-Sublink, more_of-Sublink, end_of-Sublink}
 use Rattle.bag_algebra.specs.declared.query.Query.TheVariants.{Table, Single}
 use Rattle.bag_algebra.specs.declared.query.SubKind.{SubKind}
-use Rattle.contribution.proofs.Agreement.{Agree, agree_good, agree_bad, agree-refl}
+use Rattle.contribution.proofs.Agreement.{Agree, agree_good, agree-refl}
 use Rattle.contribution.proofs.EntriesAtPlaces.{Rows, all-at}
 use Rattle.contribution.proofs.ListedRows.{row-listed, some-in}
 use Rattle.contribution.proofs.OrderOfGroups.{aggregate_means-alike}
-use Rattle.contribution.proofs.OrderOfQueries.{AlikeSubs, no_subs-alike, with_sub-alike, filter_node, project_node, join_node}
+use Rattle.contribution.proofs.OrderOfQueries.{AlikeSubs, no_subs-alike, with_sub-alike, filter_node, project_node, join_node, same_rows, same_members}
 use Rattle.contribution.proofs.OrderOfRows.{Alike, unlisted_means-alike, base_means-alike, apply_means-alike}
 use Rattle.contribution.proofs.OrderOfSets.{union_means-alike, intersect_means-alike, except_means-alike, distinct_means-alike, limit_means-alike, provenance_means-alike}
 use Rattle.contribution.proofs.SharedMembers.{Shared}
 use Rattle.contribution.specs.HeldRows.{held_rows, StandAt}
-use Rattle.contribution.specs.SameMeaning.{SameMembers, SameMeaning}
+use Rattle.contribution.specs.SameMeaning.{SameMeaning}
 use Rattle.replaced_queries.specs.OverQueries.{over_queries, sub_over_queries, HasTable}
 use Rattle.replaced_queries.proofs.KeptColumns.{Columns, kinds-over, shape-over}
 
@@ -152,16 +151,6 @@ module _ (at : ℕ → List Kind → Query) (db : Database) where
         with_sub-over kind (optional_value tested env) (blank-over query h.0) (λ u. denote-over query (u ∷ env) h.0) (sub_denote-over subs env h.1)
 
 -- ---- as the law says it
-
-same_rows : {o p : Outcome Bag} → Agree o p → SameRows o p
-same_rows (agree_good p) = same_bag-from_permuted p
-same_rows (agree_bad f) = refl
-
-same_members : {X : Type 0} {xs ys : List X} → Shared xs ys → SameMembers xs ys
-same_members {X} {xs} {ys} s = record {
-  there = λ x h. contains-from_in x ys (s.there.within x (in-from_contains x xs h));
-  back = λ x h. contains-from_in x xs (s.back.within x (in-from_contains x ys h));
-}
 
 pub same_meaning-over : (at : ℕ → List Kind → Query) (q : Query) (db : Database) (env : List Row) →
     EachTable (λ id kinds. HasTable db id kinds (at id kinds)) q → SameMeaning (denote q db env) (denote (over_queries at q) db env)

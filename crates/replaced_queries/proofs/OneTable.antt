@@ -35,6 +35,14 @@ module _ (id : ℕ) (p : Query) where
   columns-standing q places reads =
       each_table-kept _ (λ other own. HasColumns own (standing id p other own)) (λ other own f. columns-where other own (other == id) refl places f) q reads
 
+  own-where : (other : ℕ) (own : List Kind) (b : Bool) → (other == id) ≡ b → other ≢ id → cond b p (Table other own) ≡ Table other own
+  own-where other own true e apart = absurd (apart (eqb-true other id e))
+  own-where other own false e apart = refl
+
+  pub own-standing : (q : Query) → EachTable (λ other own. other ≢ id) q → EachTable (λ other own. standing id p other own ≡ Table other own) q
+  own-standing q unread =
+      each_table-kept _ (λ other own. standing id p other own ≡ Table other own) (λ other own apart. own-where other own (other == id) refl apart) q unread
+
   module _ (closed : WellFormed [] p) where
     closed-where : (other : ℕ) (own : List Kind) (b : Bool) → WellFormed [] (cond b p (Table other own))
     closed-where other own true = closed
@@ -74,17 +82,14 @@ module _ (id : ℕ) (p : Query) where
         (subst (IsIn read) (tables-over (standing id p) q) (in-from_contains read _ h)) in
         from-place found.0 (found.0.id == id) refl found.1 found.2
 
-    other_place : (b : Bool) → (read.id == id) ≡ b → read.id ≢ id → IsIn read (tables_read (cond b p (Table read.id read.kinds)))
-    other_place true e apart = absurd (apart (eqb-true read.id id e))
-    other_place false e apart = inl refl
-
     own_place : (kinds : List Kind) (b : Bool) → (id == id) ≡ b → IsIn read (tables_read p) → IsIn read (tables_read (cond b p (Table id kinds)))
     own_place kinds true e h = h
     own_place kinds false e h = absurd (true≢false (sym (eq-eqb id id refl) ∙ e))
 
     in-place : IsReadOver id p q read → IsIn read (flat_map (read_at (standing id p)) (tables_read q))
     in-place (another h apart) =
-        in-flat_map (read_at (standing id p)) read read (tables_read q) (in-from_contains read (tables_read q) h) (other_place (read.id == id) refl apart)
+        in-flat_map (read_at (standing id p)) read read (tables_read q) (in-from_contains read (tables_read q) h)
+        (subst (λ other. IsIn read (tables_read other)) (sym (own-where read.id read.kinds (read.id == id) refl apart)) (inl refl))
     in-place (in_its_place kinds h r) =
         in-flat_map (read_at (standing id p)) read (record { id = id; kinds = kinds }) (tables_read q) (in-from_contains _ (tables_read q) h)
         (own_place kinds (id == id) refl (in-from_contains read (tables_read p) r))

@@ -45,7 +45,8 @@ pub fn queries_in_place_of_tables_are_read()
         EachTable (λ id kinds. TablesFit db (at id kinds)) q → TablesFit db (over_queries at q) }
 {}
 
-/// Over its own tables a query is itself.
+/// Where each table stands in its own place, the query is itself.
 pub fn tables_in_their_own_places_change_nothing()
-    ensures { (q : Query) → over_queries Table q ≡ q }
+    ensures { (at : ℕ → List Kind → Query) (q : Query) →
+        EachTable (λ id kinds. at id kinds ≡ Table id kinds) q → over_queries at q ≡ q }
 {}

@@ -11,5 +11,5 @@ pub use each_table::{
 };
 pub use one_table::{
     a_query_in_place_of_a_table_is_read, a_query_in_place_of_a_table_keeps_the_columns,
-    a_table_may_be_replaced_by_a_query_with_its_rows,
+    a_table_may_be_replaced_by_a_query_with_its_rows, what_does_not_read_a_table_stays,
 };

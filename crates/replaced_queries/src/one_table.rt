@@ -1,5 +1,5 @@
 //! A query in the place of one table.
-ghost use Rattle.std.specs.Prelude.{◌≡◌, ◌↔◌, ℕ, List, [], Contains};
+ghost use Rattle.std.specs.Prelude.{◌≡◌, ◌≢◌, ◌↔◌, ℕ, List, [], Contains};
 ghost use Rattle.perm_values.specs.declared.kind.Kind.{Kind};
 ghost use Rattle.bag_algebra.specs.Bags.{Row};
 ghost use Rattle.bag_algebra.specs.Fits.{TablesFit};
@@ -7,7 +7,7 @@ ghost use Rattle.bag_algebra.specs.Kinds.{kinds_of, shape};
 ghost use Rattle.bag_algebra.specs.Meaning.{Database, denote, meaning};
 ghost use Rattle.bag_algebra.specs.Outcome.{Good};
 ghost use Rattle.bag_algebra.specs.Rewriting.{SameRows};
-ghost use Rattle.bag_algebra.specs.TablesRead.{TableRead, tables_read};
+ghost use Rattle.bag_algebra.specs.TablesRead.{EachTable, TableRead, tables_read};
 ghost use Rattle.bag_algebra.specs.WellFormed.{WellFormed};
 ghost use Rattle.bag_algebra.specs.declared.query.Query.{Query};
 ghost use Rattle.contribution.specs.SameMeaning.{SameMeaning};
@@ -44,4 +44,10 @@ pub fn a_query_in_place_of_a_table_is_read()
         Contains (tables_read (over_queries (standing id p) q)) read ↔ IsReadOver id p q read }
     ensures fitting { (id : ℕ) (p q : Query) (db : Database) → TablesFit db p → TablesFit db q →
         TablesFit db (over_queries (standing id p) q) }
+{}
+
+/// A query that doesn't read the table stays as it is.
+pub fn what_does_not_read_a_table_stays()
+    ensures { (id : ℕ) (p q : Query) → EachTable (λ other own. other ≢ id) q →
+        over_queries (standing id p) q ≡ q }
 {}
