@@ -185,11 +185,11 @@ mutual
 
 -- ---- as the law says it
 
-same_rows : {o p : Outcome Bag} → Agree o p → SameRows o p
+pub same_rows : {o p : Outcome Bag} → Agree o p → SameRows o p
 same_rows (agree_good p) = same_bag-from_permuted p
 same_rows (agree_bad f) = refl
 
-same_members : {X : Type 0} {xs ys : List X} → Shared xs ys → SameMembers xs ys
+pub same_members : {X : Type 0} {xs ys : List X} → Shared xs ys → SameMembers xs ys
 same_members {X} {xs} {ys} s = record {
   there = λ x h. contains-from_in x ys (s.there.within x (in-from_contains x xs h));
   back = λ x h. contains-from_in x xs (s.back.within x (in-from_contains x ys h));

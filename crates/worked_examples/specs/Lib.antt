@@ -19,6 +19,7 @@ pub mod Queries
 pub mod QueryTests
 pub mod Reached
 pub mod ReadColumns
+pub mod ReplacedQueries
 pub mod RewrittenRows
 pub mod Rows
 pub mod SetRows

@@ -1,0 +1,2 @@
+pub mod OverQueries
+pub mod TablesOver
