@@ -10,6 +10,7 @@ use Rattle.std.specs.List.{list_any, count_by, range_with_len, AllByRecursion as
 use Rattle.std.specs.Option.{option_map_or}
 use Rattle.perm_values.specs.declared.kind.Kind.{Kind}
 use Rattle.perm_values.specs.declared.kind.Kind.TheVariants.{Boolean}
+use Rattle.bag_algebra.specs.Bags.{Bag}
 use Rattle.bag_algebra.specs.built.Openings.{kinds_of-Join}
 use Rattle.bag_algebra.specs.built.Forms.{subs_kinds, WellFormed-Base, WellFormed-Join}
 use Rattle.bag_algebra.specs.Kinds.{kinds_of, width_of}
@@ -27,6 +28,7 @@ use Rattle.perm_catalog.specs.Changes.{table_named, view_named}
 use Rattle.perm_catalog.specs.Columns.{column_kinds}
 use Rattle.perm_catalog.specs.Contents.{Contents}
 use Rattle.perm_catalog.specs.Sound.{IsSound, IsSoundTable, IsSoundView}
+use Rattle.perm_catalog.specs.Stored.{IsSoundMark}
 use Rattle.perm_catalog.specs.declared.column.Column.{Column}
 use Rattle.perm_catalog.specs.declared.entries.Mark.{Mark}
 use Rattle.perm_catalog.specs.declared.entries.TableEntry.{TableEntry}
@@ -125,15 +127,18 @@ plain-formed rows query names None f within = f
 plain-formed rows query names (Some places) f within = based-formed rows query places (External (names_at names places)) f within (length-map places _)
 
 module _ (c : Contents) (sound : IsSound c) where
-  table-formed : (rows : List (List Kind)) (id : ℕ) (name : List ℕ) (columns : List Column) (stored : Option Mark) → stored ≡ None
-      → WellFormed rows (table_with id name columns stored)
-  table-formed rows id name columns None e =
+  table-formed : (rows : List (List Kind)) (id : ℕ) (name : List ℕ) (columns : List Column) (held : Bag) (stored : Option Mark)
+      → IfSome stored (IsSoundMark c columns held) → WellFormed rows (table_with id name columns stored)
+  table-formed rows id name columns held None is =
       let l = length-map columns (λ (column : Column). column.kind) in
       let m : length (names_of (table_columns columns)) ≡ length (all_places columns) =
       length-map (table_columns columns) _ ∙ length-map columns _ ∙ sym (length-range_with_len 0 (length columns)) in
       based-formed rows (Table id (column_kinds columns)) (all_places columns) (Relation name (names_of (table_columns columns))) tt
       (range-in 0 (length columns) (length (column_kinds columns)) (omega (arith, l))) m
-  table-formed rows id name columns (Some m) e = cc
+  table-formed rows id name columns held (Some mark) is =
+      based-formed rows (Table id (column_kinds columns)) mark.places (External (names_at (names_of (table_columns columns)) mark.places)) tt
+      (subst (λ (n : ℕ). PlacesIn n mark.places) (sym (length-map columns (λ (column : Column). column.kind))) is.places)
+      (length-map mark.places _)
 
   good-read_table : (outer : List Scope) (name : List ℕ) (table : TableEntry) → IsSoundTable c table → GoodRead outer (read_table name table)
   good-read_table outer name table is whole = record {
@@ -142,7 +147,7 @@ module _ (c : Contents) (sound : IsSound c) where
     kinds = kinds-table_columns table.columns;
     plain_kinds = kinds-table table.id name table.columns table.stored ∙ kinds-table_columns table.columns;
     formed = λ rows hold. tt;
-    plain_formed = λ rows hold. table-formed rows table.id name table.columns table.stored is.unstored;
+    plain_formed = λ rows hold. table-formed rows table.id name table.columns is.rows table.stored is.stored;
   }
 
   good-read_view : (outer : List Scope) (name : List ℕ) (view : ViewEntry) → IsSoundView c view → GoodRead outer (read_view name view)

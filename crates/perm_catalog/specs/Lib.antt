@@ -3,3 +3,4 @@ pub mod Columns
 pub mod Contents
 pub mod Lookups
 pub mod Sound
+pub mod Stored

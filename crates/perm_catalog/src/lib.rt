@@ -6,10 +6,8 @@ mod column;
 mod drop_held;
 mod entries;
 mod last;
-mod laws;
 mod renew;
 
 pub use catalog::{Catalog, CatalogRefusal};
 pub use column::Column;
 pub use entries::{Kept, Mark, TableEntry, ViewEntry};
-pub use laws::catalogs_stay_sound;

@@ -14,11 +14,12 @@ ghost use Rattle.run_meaning.specs.Resolving.{IsDue, Resolves, ResolvesBuilt};
 ghost use Rattle.perm_engine.specs.Due.{due_breaks};
 ghost use Rattle.perm_engine.specs.Sessions.{begun_with};
 
+use catalog_laws::catalogs_stay_sound;
 use name_analysis::resolve;
 use name_meaning::{Break, Resolved, Rule};
 use name_seen_parts::Refusal;
 use name_statements::{let_catalog_go, let_resolved_go, let_statement_go};
-use perm_catalog::{Catalog, catalogs_stay_sound};
+use perm_catalog::Catalog;
 use perm_io::Files;
 use perm_values::Bytes;
 use run_meaning::carried_out;

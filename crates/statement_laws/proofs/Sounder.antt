@@ -18,8 +18,8 @@ use Rattle.contribution.proofs.WhereGood.{WhereGood, any_value, good-both}
 use Rattle.csv_tables.proofs.Fitting.{bag_fits-spelled}
 use Rattle.csv_tables.specs.Loading.{broken_rules, spelled_rows}
 use Rattle.csv_tables.specs.declared.data_error.DataError.{DataError}
-use Rattle.perm_catalog.proofs.SoundTables.{sound-created, sound-more_rows, sound-fewer_rows, sound-dropped_table}
-use Rattle.perm_catalog.proofs.SoundViews.{sound-more_views, sound-dropped_view}
+use Rattle.catalog_laws.proofs.SoundTables.{sound-created, sound-more_rows, sound-fewer_rows, sound-dropped_table}
+use Rattle.catalog_laws.proofs.SoundViews.{sound-more_views, sound-dropped_view}
 use Rattle.perm_catalog.specs.Changes.{table_named, rows_at, with_more_rows, with_fewer_rows, with_table, without_table}
 use Rattle.perm_catalog.specs.Columns.{column_kinds}
 use Rattle.perm_catalog.specs.Contents.{Contents}
@@ -114,7 +114,7 @@ module _ (c : Contents) (sound : IsSound c) where
   pub keeps-sound : (at : ℕ) (statement : Resolved) → IsReady c statement → AddsSoundly c statement → KeepsSound (asks c at statement)
   keeps-sound at (r.CreateTable name columns) free adds =
       drawn-sound c at (codes "CREATE TABLE\n") (with_table c name columns [] None)
-      (sound-created c name columns [] sound free (record { columns_are = adds; fitting = refl }))
+      (sound-created c name columns [] None sound free (record { columns_are = adds; fitting = refl }) tt)
   keeps-sound at (r.CreateTableAs name columns answer places) ready adds = tt
   keeps-sound at (r.CreateView name entry) free adds = sound-more_views c name entry sound free adds
   keeps-sound at (r.Copy name kinds file null_field header) some adds =

@@ -8,11 +8,25 @@ use Rattle.perm_catalog.specs.Sound.{IsSound, IsSoundTable, IsSoundView}
 use Rattle.perm_catalog.specs.declared.entries.TableEntry.{TableEntry}
 use Rattle.perm_catalog.specs.declared.entries.ViewEntry.{ViewEntry}
 use Rattle.perm_catalog.proofs.Named.{AtName, Elsewhere, found, found-apart, named-last, named-without, distinct-last, distinct-without}
-use Rattle.perm_catalog.proofs.Soundness.{none_is_some, some_is_some, kept-table, kept-view, stays, free-table, free-view}
+use Rattle.bag_algebra.specs.TableRows.{rows_in}
+use Rattle.catalog_laws.proofs.Marks.{AreApart, Goes}
+use Rattle.catalog_laws.proofs.Soundness.{none_is_some, some_is_some, are-apart, kept-table, kept-view, stays, free-table, free-view}
 
 -- a table and a view of a catalog whose views alone change
-same-table : (c d : Contents) (t : TableEntry) → d.next ≡ c.next → d.rows ≡ c.rows → IsSoundTable c t → IsSoundTable d t
-same-table c d t next rows = kept-table c d t (omega (arith, next)) (λ i. map.get (rows i) t.id)
+same-goes : (c d : Contents) → d.next ≡ c.next → d.rows ≡ c.rows → ((q : List ℕ) → table_named d q ≡ table_named c q) → Goes c d
+same-goes c d next rows tables = record {
+  later = omega (arith, next);
+  here = λ id version _ _ h.
+      (record { held = record { name = h.held.name; table = h.held.table; is = sym (tables h.held.name) ∙ h.held.is; id_is = h.held.id_is };
+                version_is = h.version_is },
+       λ i. rows_in (rows i) id);
+  was = λ q t h _. record { held = record { name = q; table = t; is = sym (tables q) ∙ h; id_is = refl }; kinds = refl };
+}
+
+same-table : (c d : Contents) (t : TableEntry) → AreApart c → AreApart d → d.next ≡ c.next → d.rows ≡ c.rows →
+    ((q : List ℕ) → table_named d q ≡ table_named c q) → IsSoundTable c t → IsSoundTable d t
+same-table c d t before after next rows tables =
+    kept-table c d t before after (same-goes c d next rows tables) (λ i. map.get (rows i) t.id)
 
 same-view : (c d : Contents) (v : ViewEntry) → ((q : List ℕ) → table_named d q ≡ table_named c q) → IsSoundView c v → IsSoundView d v
 same-view c d v tables = kept-view c d v (λ q t used named. stays d q t (tables q ∙ named))
@@ -55,7 +69,7 @@ module _ (c : Contents) (name : List ℕ) (view : ViewEntry) (s : IsSound c) (fr
     view_names = distinct-last name view c.views none s.view_names;
     apart = still-none;
     identities = s.identities;
-    tables = λ q t h. same-table c more t refl refl (s.tables q t h);
+    tables = λ q t h. same-table c more t (are-apart c s) (record { names = s.table_names; identities = s.identities }) refl refl (λ n. refl) (s.tables q t h);
     views = λ q v h. view-sound q v (place q v h);
   }
 
@@ -85,6 +99,6 @@ module _ (c : Contents) (name : List ℕ) (s : IsSound c) where
     view_names = distinct-without name c.views s.view_names;
     apart = λ q t h. lack q ∙ none-both (pointwise nat_eq name q) (view_named c q) (s.apart q t h);
     identities = s.identities;
-    tables = λ q t h. same-table c fewer t refl refl (s.tables q t h);
+    tables = λ q t h. same-table c fewer t (are-apart c s) (record { names = s.table_names; identities = s.identities }) refl refl (λ n. refl) (s.tables q t h);
     views = λ q v h. same-view c fewer v (λ n. refl) (s.views q v (left q v h));
   }

@@ -1,5 +1,5 @@
 //! Laws of sound catalogs: each is the contract of a function that does nothing.
-ghost use Rattle.std.specs.Prelude.{◌≡◌, ℕ, Bool, true, List, Some, None};
+ghost use Rattle.std.specs.Prelude.{◌≡◌, ℕ, Bool, true, List, Option, Some, None, IfSome};
 ghost use Rattle.bag_algebra.specs.Bags.{Bag};
 ghost use Rattle.bag_algebra.specs.Fits.{bag_fits};
 ghost use Rattle.perm_catalog.specs.Changes.{table_named, is_free, nothing_held, with_table, with_more_rows, with_fewer_rows, with_view, without_table, without_view};
@@ -7,7 +7,9 @@ ghost use Rattle.perm_catalog.specs.Columns.{column_kinds};
 ghost use Rattle.perm_catalog.specs.Contents.{Contents};
 ghost use Rattle.perm_catalog.specs.Lookups.{first_user};
 ghost use Rattle.perm_catalog.specs.Sound.{IsSound, IsSoundView, IsNewTable};
+ghost use Rattle.perm_catalog.specs.Stored.{IsSoundMark};
 ghost use Rattle.perm_catalog.specs.declared.column.Column.{Column};
+ghost use Rattle.perm_catalog.specs.declared.entries.Mark.{Mark};
 ghost use Rattle.perm_catalog.specs.declared.entries.TableEntry.{TableEntry as Table};
 ghost use Rattle.perm_catalog.specs.declared.entries.ViewEntry.{ViewEntry as View};
 
@@ -15,9 +17,10 @@ ghost use Rattle.perm_catalog.specs.declared.entries.ViewEntry.{ViewEntry as Vie
 /// sound catalog sound: their contracts say that they make of it what stands here.
 pub fn catalogs_stay_sound()
     ensures new { (next : ℕ) → IsSound (nothing_held next) }
-    ensures create { (c : Contents) (name : List ℕ) (columns : List Column) (rows : Bag)
+    ensures create { (c : Contents) (name : List ℕ) (columns : List Column) (rows : Bag) (stored : Option Mark)
         → IsSound c → is_free c name ≡ true → IsNewTable columns rows
-        → IsSound (with_table c name columns rows None) }
+        → IfSome stored (IsSoundMark c columns rows)
+        → IsSound (with_table c name columns rows stored) }
     ensures insert_rows { (c : Contents) (name : List ℕ) (table : Table) (rows : Bag)
         → IsSound c → table_named c name ≡ Some table → bag_fits rows (column_kinds table.columns) ≡ true
         → IsSound (with_more_rows c name table.id rows) }

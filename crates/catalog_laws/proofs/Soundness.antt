@@ -14,6 +14,7 @@ use Rattle.bag_algebra.specs.TablesRead.{TableRead}
 use Rattle.perm_catalog.specs.Sound.{IsSound, IsSoundTable, IsSoundView, IsHeldRead}
 use Rattle.perm_catalog.specs.declared.entries.TableEntry.{TableEntry}
 use Rattle.perm_catalog.specs.declared.entries.ViewEntry.{ViewEntry}
+use Rattle.catalog_laws.proofs.Marks.{AreApart, Goes, stored-goes}
 
 pub none_is_some : {X : Type 0} {P : Type 0} {x : X} → None ≡ Some x → P
 none_is_some e = cc
@@ -23,17 +24,20 @@ some_is_some x y e = cc
 
 -- ---- what stays sound where little changes
 
+pub are-apart : (c : Contents) → IsSound c → AreApart c
+are-apart c s = record { names = s.table_names; identities = s.identities }
+
 -- a table whose rows stay
-pub kept-table : (c d : Contents) (table : TableEntry) → c.next ≤ d.next → map.get d.rows table.id ≡ map.get c.rows table.id →
+pub kept-table : (c d : Contents) (table : TableEntry) → AreApart c → AreApart d → Goes c d → map.get d.rows table.id ≡ map.get c.rows table.id →
     IsSoundTable c table → IsSoundTable d table
-kept-table c d table later same s = record {
-  id = omega (arith, s.id, later);
-  version = omega (arith, s.version, later);
+kept-table c d table before after goes same s = record {
+  id = let later = goes.later in omega (arith, s.id, later);
+  version = let later = goes.later in omega (arith, s.version, later);
   columns = s.columns;
   rows = s.rows;
   held = same ∙ s.held;
   fitting = s.fitting;
-  unstored = s.unstored;
+  stored = stored-goes c d before after goes table.columns s.rows table.stored s.stored;
 }
 
 -- a table has the name still, with the identity and the columns that it had
