@@ -68,7 +68,7 @@ module _ {X : Type 0} (test : X → Bool) where
   named-by e f es false is more apart h =
       let there = more h in
       let other : pointwise nat_eq e.0 f.0 ≡ false = differ e.0 f.0 (pointwise nat_eq e.0 f.0) refl
-          (all-named (λ y. pointwise nat_eq f.0 y ≡ false) es e.0 e.1 apart there) in
+      (all-named (λ y. pointwise nat_eq f.0 y ≡ false) es e.0 e.1 apart there) in
       ap (λ b. cond b (Some f.1) (named es e.0)) other ∙ there
 
   pub found-named : (es : List (List ℕ × X)) (e : List ℕ × X) → IsDistinct (pointwise nat_eq) (keys_of es) → find passes es ≡ Some e →

@@ -20,7 +20,8 @@ use Rattle.contribution.proofs.TablesRead.{denote-equal_tables}
 use Rattle.perm_catalog.specs.Changes.{table_named}
 use Rattle.perm_catalog.specs.Columns.{column_kinds}
 use Rattle.perm_catalog.specs.Contents.{Contents}
-use Rattle.perm_catalog.specs.Stored.{entry_of_id, is_unchanged, first_changed, IsFresh, IsKept, IsKeptTable, IsDrawn, IsSoundMark}
+use Rattle.perm_catalog.specs.Lookups.{entry_of_id}
+use Rattle.perm_catalog.specs.Stored.{is_unchanged, first_changed, IsFresh, IsKept, IsKeptTable, IsDrawn, IsSoundMark}
 use Rattle.perm_catalog.specs.declared.column.Column.{Column}
 use Rattle.perm_catalog.specs.declared.entries.Kept.{Kept}
 use Rattle.perm_catalog.specs.declared.entries.Mark.{Mark}
@@ -150,10 +151,10 @@ module _ (c d : Contents) (before : AreApart c) (after : AreApart d) (goes : Goe
   fresh-before fresh =
       all-pass (is_unchanged c) mark.kept
       (λ k kept low.
-          let drawn = sound.drawn k kept low in
-          let is = none-fails (is_unchanged d) mark.kept fresh k kept low in
-          let at = slice_index_or mark.kept k kept in
-          here-unchanged c before at (goes.here at.id at.version drawn.id drawn.version (unchanged-here d after at is)).0)
+      let drawn = sound.drawn k kept low in
+      let is = none-fails (is_unchanged d) mark.kept fresh k kept low in
+      let at = slice_index_or mark.kept k kept in
+      here-unchanged c before at (goes.here at.id at.version drawn.id drawn.version (unchanged-here d after at is)).0)
 
   rows-same : IsFresh d mark → (id : ℕ) (kinds : List Kind) → IsKeptTable c mark.kept id kinds → rows_in d.rows id ≡ rows_in c.rows id
   rows-same fresh id kinds read =

@@ -82,10 +82,13 @@ module _ (c : Contents) (name : List ℕ) (columns : List Column) (rows : Bag) (
   goes-on = record {
     later = omega arith;
     here = λ id version low _ h.
-        let t = h.held in
-        (record { held = record { name = t.name; table = t.table; is = was-here id low t.name t.table (place t.name t.table t.is) t.id_is; id_is = t.id_is };
-                  version_is = h.version_is },
-         rows-apart id low);
+        let t = h.held in (
+          record {
+            held = record { name = t.name; table = t.table; is = was-here id low t.name t.table (place t.name t.table t.is) t.id_is; id_is = t.id_is };
+            version_is = h.version_is;
+          },
+          rows-apart id low,
+        );
     was = λ q t h low. record {
       held = record { name = q; table = t; is = was-here t.id low q t (place q t h) refl; id_is = refl };
       kinds = refl;
@@ -191,9 +194,10 @@ module _ (c : Contents) (name : List ℕ) (table : TableEntry) (rows : FinMap na
       let new : c.next ≡ h.held.table.version = ap (λ (x : TableEntry). x.version) (some_is_some newer h.held.table here.is) in
       let e = h.version_is in
       absurd (omega (arith, low, new, e))
-  still-here id version low h (inr else) =
-      (record { held = record { name = h.held.name; table = h.held.table; is = else.was; id_is = h.held.id_is }; version_is = h.version_is },
-       elsewhere-rows id (λ e. other-id h.held.name h.held.table else.apart else.was (h.held.id_is ∙ e)))
+  still-here id version low h (inr else) = (
+    record { held = record { name = h.held.name; table = h.held.table; is = else.was; id_is = h.held.id_is }; version_is = h.version_is },
+    elsewhere-rows id (λ e. other-id h.held.name h.held.table else.apart else.was (h.held.id_is ∙ e)),
+  )
 
   was-there : (q : List ℕ) (t : TableEntry) → Spot q t → Was c t
   was-there q t (inl here) =
@@ -285,10 +289,11 @@ module _ (c : Contents) (name : List ℕ) (table : TableEntry) (s : IsSound c) (
 
   left-here : (id version : ℕ) → IsHere fewer id version → IsHere c id version × (rows_in fewer.rows id ≡ rows_in c.rows id)
   left-here id version h =
-      let else = left h.held.name h.held.table h.held.is in
-      (record { held = record { name = h.held.name; table = h.held.table; is = else.was; id_is = h.held.id_is }; version_is = h.version_is },
-       ap (λ o. unwrap_or o [])
-       (get-removed_apart c.rows table.id id (λ e. else.apart (s.identities name h.held.name table h.held.table is else.was (sym (h.held.id_is ∙ e))))))
+      let else = left h.held.name h.held.table h.held.is in (
+        record { held = record { name = h.held.name; table = h.held.table; is = else.was; id_is = h.held.id_is }; version_is = h.version_is },
+        ap (λ o. unwrap_or o [])
+            (get-removed_apart c.rows table.id id (λ e. else.apart (s.identities name h.held.name table h.held.table is else.was (sym (h.held.id_is ∙ e))))),
+      )
 
   goes-left : Goes c fewer
   goes-left = record {

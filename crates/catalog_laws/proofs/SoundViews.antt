@@ -16,10 +16,13 @@ use Rattle.catalog_laws.proofs.Soundness.{none_is_some, some_is_some, are-apart,
 same-goes : (c d : Contents) → d.next ≡ c.next → d.rows ≡ c.rows → ((q : List ℕ) → table_named d q ≡ table_named c q) → Goes c d
 same-goes c d next rows tables = record {
   later = omega (arith, next);
-  here = λ id version _ _ h.
-      (record { held = record { name = h.held.name; table = h.held.table; is = sym (tables h.held.name) ∙ h.held.is; id_is = h.held.id_is };
-                version_is = h.version_is },
-       λ i. rows_in (rows i) id);
+  here = λ id version _ _ h. (
+    record {
+      held = record { name = h.held.name; table = h.held.table; is = sym (tables h.held.name) ∙ h.held.is; id_is = h.held.id_is };
+      version_is = h.version_is;
+    },
+    λ i. rows_in (rows i) id,
+  );
   was = λ q t h _. record { held = record { name = q; table = t; is = sym (tables q) ∙ h; id_is = refl }; kinds = refl };
 }
 

@@ -3,7 +3,6 @@
 mod laws;
 
 pub use laws::{
-    closed_queries_are_well_formed_alone, expressions_are_well_formed,
-    outermost_queries_are_closed, queries_are_answers, queries_are_well_formed,
-    queries_have_a_column,
+    expressions_are_well_formed, outermost_queries_are_closed, queries_are_answers,
+    queries_are_well_formed, queries_have_a_column,
 };

@@ -7,9 +7,8 @@ mod laws;
 mod tables;
 
 pub use forms::{
-    closed_queries_are_well_formed_alone, expressions_are_well_formed,
-    outermost_queries_are_closed, queries_are_answers, queries_are_well_formed,
-    queries_have_a_column,
+    expressions_are_well_formed, outermost_queries_are_closed, queries_are_answers,
+    queries_are_well_formed, queries_have_a_column,
 };
 pub use laws::{
     expressions_keep_their_facts, from_is_known, queries_are_in_scope, queries_have_their_kinds,

@@ -17,9 +17,15 @@ uses_name entry name = list_any (pointwise nat_eq name) entry.names_used
 abbrev pub first_user : Contents → List ℕ → Option (List ℕ)
 first_user c name = option_map (λ (e : List ℕ × ViewEntry). e.0) (find (λ (e : List ℕ × ViewEntry). uses_name e.1 name) c.views)
 
--- the name of the table that has this identity
+-- the table that has this identity, with its name
+abbrev pub entry_of_id : Contents → ℕ → Option (List ℕ × TableEntry)
+entry_of_id c id = find (λ (e : List ℕ × TableEntry). nat_eq e.1.id id) c.tables
+
 abbrev pub name_of_id : Contents → ℕ → Option (List ℕ)
-name_of_id c id = option_map (λ (e : List ℕ × TableEntry). e.0) (find (λ (e : List ℕ × TableEntry). nat_eq e.1.id id) c.tables)
+name_of_id c id = option_map (λ (e : List ℕ × TableEntry). e.0) (entry_of_id c id)
+
+abbrev pub version_of_id : Contents → ℕ → Option ℕ
+version_of_id c id = option_map (λ (e : List ℕ × TableEntry). e.1.version) (entry_of_id c id)
 
 -- the places of the provenance columns that the table of this name stores
 abbrev pub declared_places : Contents → List ℕ → Option (List ℕ)

@@ -16,14 +16,11 @@ use Rattle.bag_algebra.specs.declared.query.Query.{Query}
 use Rattle.perm_catalog.specs.Changes.{table_named}
 use Rattle.perm_catalog.specs.Columns.{column_kinds}
 use Rattle.perm_catalog.specs.Contents.{Contents}
+use Rattle.perm_catalog.specs.Lookups.{entry_of_id}
 use Rattle.perm_catalog.specs.declared.column.Column.{Column}
 use Rattle.perm_catalog.specs.declared.entries.Kept.{Kept}
 use Rattle.perm_catalog.specs.declared.entries.Mark.{Mark}
 use Rattle.perm_catalog.specs.declared.entries.TableEntry.{TableEntry}
-
--- the table that has this identity, with its name
-abbrev pub entry_of_id : Contents → ℕ → Option (List ℕ × TableEntry)
-entry_of_id c id = find (λ (e : List ℕ × TableEntry). nat_eq e.1.id id) c.tables
 
 -- a table of the kept identity is there, with the kept version
 abbrev pub is_unchanged : Contents → Kept → Bool

@@ -1,7 +1,7 @@
 ghost use Rattle.std.specs.Prelude.{◌≡◌, ◌<◌, ◌↔◌, OnOk, OnErr, IsErrOf, IsTrue, true, None, is_some, IsSome, IfSome, IfOk, length, count_by};
 ghost use Rattle.std.specs.Option.{option_copied};
 ghost use Rattle.perm_values.specs.Numbers.{last_number};
-ghost use Rattle.perm_catalog.specs.Lookups.{declared_places, first_user, name_of_id};
+ghost use Rattle.perm_catalog.specs.Lookups.{declared_places, first_user, name_of_id, version_of_id};
 ghost use Rattle.perm_catalog.specs.Changes.{table_named, view_named, is_free, with_table, with_entry, with_more_rows, with_more_rows_undrawn, nothing_held, rows_at, with_fewer_rows, with_fewer_rows_undrawn, with_view, without_table, without_view};
 
 use crate::column::Column;
@@ -126,6 +126,18 @@ impl Catalog {
         for (name, entry) in self.tables.iter() {
             if entry.id == id {
                 return Some(name);
+            }
+        }
+        None
+    }
+
+    /// The version of the table that has this identity; `None` exactly where none has it.
+    pub fn version_of(&self, id: u64) -> Option<u64>
+        ensures { result ≡ version_of_id self.now id }
+    {
+        for (_, entry) in self.tables.iter() {
+            if entry.id == id {
+                return Some(entry.version);
             }
         }
         None

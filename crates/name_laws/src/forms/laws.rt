@@ -1,9 +1,8 @@
 //! Each law is the contract of a function that does nothing.
-ghost use Rattle.std.specs.Prelude.{◌≡◌, ◌<◌, ◌↔◌, true, List, []};
+ghost use Rattle.std.specs.Prelude.{◌≡◌, ◌<◌, true, List, []};
 ghost use Rattle.bag_algebra.specs.Closed.{is_closed};
 ghost use Rattle.bag_algebra.specs.Kinds.{width_of};
 ghost use Rattle.bag_algebra.specs.WellFormed.{WellFormed};
-ghost use Rattle.bag_algebra.specs.declared.query.Query.{Query};
 ghost use Rattle.name_laws.specs.Formed.{IsFormedExpr, IsAnswer};
 ghost use Rattle.name_laws.specs.Standing.{RowsHold};
 ghost use Rattle.name_meaning.specs.Meanings.{Surroundings, Before, Around, means_at, query_means_at, settled};
@@ -40,12 +39,6 @@ pub fn outermost_queries_are_closed()
         → (query_means_at (query_of c tree) around).breaks ≡ [] → around.outer ≡ [] → (wanted : List Kind)
         → WellFormed [] ((query_means_at (query_of c tree) around).make wanted)
         × (is_closed ((query_means_at (query_of c tree) around).make wanted) ≡ true) }
-{}
-
-/// A query that is well formed under some outer rows is closed exactly where it is well formed under none.
-pub fn closed_queries_are_well_formed_alone()
-    ensures { (outer : List (List Kind)) (query : Query) → WellFormed outer query → (is_closed query ≡ true)
-        ↔ WellFormed [] query }
 {}
 
 /// It has as many names as columns, and its keys and its provenance columns are among its columns.
