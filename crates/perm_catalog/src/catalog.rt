@@ -143,6 +143,13 @@ impl Catalog {
         None
     }
 
+    /// Whether no number is left to draw: the next one is the last, which is never drawn.
+    pub fn is_spent(&self) -> bool
+        ensures { IsTrue result ↔ (self.now.next ≡ last_number) }
+    {
+        self.next == u64::MAX
+    }
+
     /// Adds a table, last in the order of creation: the next number is drawn as its identity and its version.
     /// `VersionsSpent` comes exactly where that number is the last one. After a refusal nothing has changed.
     pub fn create(
@@ -158,7 +165,7 @@ impl Catalog {
         ensures spent { IsErrOf result CatalogRefusal.VersionsSpent ↔ (self.old.next ≡ last_number) }
         ensures err { OnErr result (self.new ≡ self.old) }
     {
-        if self.next == u64::MAX {
+        if self.is_spent() {
             drop(columns);
             drop(rows);
             drop(stored);
@@ -210,7 +217,7 @@ impl Catalog {
         ensures spent { IsErrOf result CatalogRefusal.VersionsSpent ↔ (self.old.next ≡ last_number) }
         ensures err { OnErr result (self.new ≡ self.old) }
     {
-        if self.next == u64::MAX {
+        if self.is_spent() {
             drop(rows);
             return Err(CatalogRefusal::VersionsSpent);
         }
@@ -248,7 +255,7 @@ impl Catalog {
         ensures spent { IsErrOf result CatalogRefusal.VersionsSpent ↔ (self.old.next ≡ last_number) }
         ensures err { OnErr result ((result ≡ Err CatalogRefusal.VersionsSpent) × (self.new ≡ self.old)) }
     {
-        if self.next == u64::MAX {
+        if self.is_spent() {
             return Err(CatalogRefusal::VersionsSpent);
         }
         let removed = self.drop_from_table(name, doomed);
