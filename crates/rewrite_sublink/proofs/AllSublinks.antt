@@ -15,9 +15,8 @@ use Rattle.bag_algebra.specs.Means.{Witness, flat}
 use Rattle.bag_algebra.specs.Outcome.{Good}
 use Rattle.bag_algebra.specs.declared.query.Query.{Query}
 use Rattle.bag_algebra.specs.declared.query.Sublink.{Sublink}
-use Rattle.rewrite_base.proofs.KeptRows.{flat-append}
 use Rattle.query_laws.specs.SublinkLists.{Contributes, EachContributes, no_sublink, one_more}
-use Rattle.rewrite_sublink.proofs.LongerRows.{row-begun, values-longer, contributes-longer, contributes-shorter}
+use Rattle.rewrite_sublink.proofs.LongerRows.{flat-behind, row-begun, values-longer, contributes-longer, contributes-shorter}
 use Rattle.rewrite_sublink.proofs.Steps.{SubsFitting, Begun, HasValue, HasValues, Extended, Reached, Step, Steps}
 
 -- ---- no sublink
@@ -101,12 +100,9 @@ module _ (sub : Sublink) (subs : List Sublink) where
       last : Reached (others (next rows)) db env (λ b w. EachContributes db env b subs w) one.bag
       last = steps.good columns outer db env (others-fitting f) (next rows) one.bag after others-values
 
-      joined-list : (b : Row) (c rest : Witness) → b ++ flat c ++ flat rest ≡ b ++ flat (c ++ rest)
-      joined-list b c rest = append_assoc b (flat c) (flat rest) ∙ ap (λ row. b ++ row) (sym (flat-append c rest))
-
       there : (b : Row) (w : Witness) → IsIn b us → EachContributes db env b (sub ∷ subs) w → IsIn (b ++ flat w) last.bag
       there b w h (one_more {rest = rest} _ c first more) =
-          subst (λ x. IsIn x last.bag) (joined-list b c rest)
+          subst (λ x. IsIn x last.bag) (flat-behind b c rest)
           (last.extended.there (b ++ flat c) rest (one.extended.there b c h first)
           (contributes-longer (others-fitting f) b (row-begun g b h) (parts b h).1 (flat c) rest more))
 
@@ -121,7 +117,7 @@ module _ (sub : Sublink) (subs : List Sublink) where
             c ++ behind.1,
             first.2,
             one_more sub c first.3 (contributes-shorter (others-fitting f) b (row-begun g b first.2) (parts b first.2).1 (flat c) behind.1 more),
-            sym (joined-list b c behind.1) ∙ ap (λ x. x ++ flat behind.1) first.4 ∙ behind.4,
+            sym (flat-behind b c behind.1) ∙ ap (λ x. x ++ flat behind.1) first.4 ∙ behind.4,
           )
 
       good-more : Reached (others (next rows)) db env (λ b w. EachContributes db env b (sub ∷ subs) w) us

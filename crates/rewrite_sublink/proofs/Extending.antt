@@ -46,17 +46,22 @@ module _ {columns : List Kind} {outer : List (List Kind)} {db : Database} {env :
   wide : (b : Row) → IsIn b us → length b ≡ width_of rows
   wide b h = row-width outer rows db env g.fitting us b g.good (in-member b us h)
 
+  from-pair : (z : Row) → IsIn z (every_pair us candidates) → (b : Row) × (k : Row) × IsIn b us × IsIn k candidates × (b ++ k ≡ z)
+  from-pair z h =
+      let left = from-flat_map (λ u. map (λ v. u ++ v) candidates) z us h in
+      let right = from-map (λ v. left.0 ++ v) z candidates left.2 in
+      (left.0, right.0, left.1, right.1, right.2)
+
   good-met : (o : Outcome Value) (b : Bool) → o ≡ Good (Boolean b) → o ≡ Good (Boolean (is_met o))
   good-met o true e = e ∙ ap (λ p. Good (Boolean (is_met p))) (sym e)
   good-met o false e = e ∙ ap (λ p. Good (Boolean (is_met p))) (sym e)
 
   good-pair : (z : Row) → IsIn z (every_pair us candidates) → on z ≡ Good (Boolean (is_met (on z)))
   good-pair z h =
-      let left = from-flat_map (λ u. map (λ v. u ++ v) candidates) z us h in
-      let right = from-map (λ v. left.0 ++ v) z candidates left.2 in
-      subst (λ z. on z ≡ Good (Boolean (is_met (on z)))) right.2
-      (good-met (on (left.0 ++ right.0)) _
-      (test-good is f left.0 (row-begun g left.0 left.1) (values left.0 left.1) (width_of rows) (wide left.0 left.1) right.0 (candidate-width is f right.0 right.1)))
+      let pair = from-pair z h in
+      subst (λ z. on z ≡ Good (Boolean (is_met (on z)))) pair.4
+      (good-met (on (pair.0 ++ pair.1)) _
+      (test-good is f pair.0 (row-begun g pair.0 pair.2) (values pair.0 pair.2) (width_of rows) (wide pair.0 pair.2) pair.1 (candidate-width is f pair.1 pair.3)))
 
   meaning-contributed : meaning (contributed rows (base_of is) (stand_of is) r) db env ≡ Good passing
   meaning-contributed =
@@ -66,6 +71,9 @@ module _ {columns : List Kind} {outer : List (List Kind)} {db : Database} {env :
       ∙ (λ i. both_then (g.good i) ((base-rows is f).1 i) (joined_rows Inner (condition_on always env no_subs) (width_of rows) (width_of (base_of is))))
       ∙ all_pairs env (width_of rows) (width_of (base_of is)) us candidates)
       ∙ gather-kept on (λ z. is_met (on z)) (every_pair us candidates) good-pair
+
+  from-passing : (b k : Row) → IsIn b us → IsIn k candidates → is_met (on (b ++ k)) ≡ true → (c : Witness) × Contributes db env b sub c × (flat c ≡ k)
+  from-passing b k h here met = passing-contributes is f b (row-begun g b h) (values b h) (width_of rows) (wide b h) k (candidate-width is f k here) met
 
   extended-one : Extended (λ b c. Contributes db env b sub c) us passing
   extended-one = record {
@@ -77,11 +85,9 @@ module _ {columns : List Kind} {outer : List (List Kind)} {db : Database} {env :
         (contributing-passes is f b begins (values b h) (width_of rows) (wide b h) c (candidate-width is f (flat c) here) k);
     back = λ y h.
         let found = from-filter (λ z. is_met (on z)) y (every_pair us candidates) h in
-        let left = from-flat_map (λ u. map (λ v. u ++ v) candidates) y us found.0 in
-        let right = from-map (λ v. left.0 ++ v) y candidates left.2 in
-        let c = passing-contributes is f left.0 (row-begun g left.0 left.1) (values left.0 left.1) (width_of rows) (wide left.0 left.1) right.0
-        (candidate-width is f right.0 right.1) (ap (λ z. is_met (on z)) right.2 ∙ found.1) in
-        (left.0, c.0, left.1, c.1, ap (λ k. left.0 ++ k) c.2 ∙ right.2);
+        let pair = from-pair y found.0 in
+        let c = from-passing pair.0 pair.1 pair.2 pair.3 (ap (λ z. is_met (on z)) pair.4 ∙ found.1) in
+        (pair.0, c.0, pair.2, c.1, ap (λ k. pair.0 ++ k) c.2 ∙ pair.4);
   }
 
   pub reached-contributed : Reached (contributed rows (base_of is) (stand_of is) r) db env (λ b c. Contributes db env b sub c) us

@@ -26,16 +26,15 @@ use Rattle.bag_algebra.specs.declared.query.Sublink.{Sublink}
 use Rattle.contribution.proofs.AddedColumns.{columns-added, condition_with_subs-same}
 use Rattle.contribution.proofs.GoodRows.{from-gather, from-kept}
 use Rattle.contribution.proofs.JoinMembers.{in-gather, in-kept}
-use Rattle.contribution.proofs.LongerKinds.{NamesAlso, has_kind-longer}
+use Rattle.contribution.proofs.LongerKinds.{has_kind-longer}
 use Rattle.contribution.specs.Fitting.{Fitting}
 use Rattle.rewrite_base.proofs.JoinedOutcomes.{rewritten-from_related}
 use Rattle.rewrite_base.proofs.KeptRewriting.{rewriting-related}
-use Rattle.rewrite_base.proofs.KeptRows.{flat-append}
 use Rattle.rewrite_base.proofs.BesideLists.{same-from_rewritten}
 use Rattle.rewrite_base.specs.Rewritten.{Beside}
 use Rattle.rewrite_base.proofs.Faults.{SameFaults, kept-alike, gather-bad_alike}
 use Rattle.rewrite_base.proofs.FlatRows.{Flattened, flattened, row-begins, stands_beside}
-use Rattle.rewrite_sublink.proofs.LongerRows.{by, names-begin, subs-named, values-longer, contributes-longer, contributes-shorter}
+use Rattle.rewrite_sublink.proofs.LongerRows.{by, flat-behind, names-rewriting, subs-named, values-longer, contributes-longer, contributes-shorter}
 use Rattle.rewrite_sublink.proofs.NodeRows.{first-good, kinds-whole, tables-whole, formed-whole, good-whole, bad-whole, Reaching, reaching-over}
 use Rattle.rewrite_sublink.proofs.Steps.{SubsFitting, Begun, HasValues, Reached, Steps}
 use Rattle.query_laws.proofs.NodeLists.{filter-lists}
@@ -69,15 +68,14 @@ module _ (q r first : Query) (condition : Expr) (subs : List Sublink) (whole : Q
     begins-over : kinds_of over ≡ kinds_of q ++ place_kinds (shape q)
     begins-over = kinds_of-Filter r condition subs ∙ given.kinds outer form.input
 
-    names : NamesAlso (kinds_of q ∷ outer) (kinds_of r ∷ outer)
-    names = names-begin (kinds_of q) (place_kinds (shape q)) (kinds_of r) outer (given.kinds outer form.input)
-
     formed-over : WellFormed outer over
-    formed-over = by (sym (WellFormed-Filter outer r condition subs)) (record {
-      input = given.formed outer form.input;
-      subs = subs-named subs (kinds_of q ∷ outer) (kinds_of r ∷ outer) names form.subs;
-      condition = has_kind-longer names (subs_kinds subs) condition Boolean form.condition;
-    })
+    formed-over =
+        let names = names-rewriting q r outer given form.input in
+        by (sym (WellFormed-Filter outer r condition subs)) (record {
+          input = given.formed outer form.input;
+          subs = subs-named subs (kinds_of q ∷ outer) (kinds_of r ∷ outer) names form.subs;
+          condition = has_kind-longer names (subs_kinds subs) condition Boolean form.condition;
+        })
 
     kinds-made : kinds_of p ≡ kinds_of node ++ place_kinds (shape node)
     kinds-made =
@@ -164,14 +162,11 @@ module _ (q r first : Query) (condition : Expr) (subs : List Sublink) (whole : Q
           lists_are t w = filter-lists db env t w q condition subs
 
           module _ (made : Reached p db env (λ z w. EachContributes db env z subs w) zs) (is_node : meaning node db env ≡ Good ts) where
-            joined-list : (t : Row) (l c w : Witness) → l ++ c ≡ w → t ++ flat l ++ flat c ≡ t ++ flat w
-            joined-list t l c w same = append_assoc t (flat l) (flat c) ∙ ap (λ row. t ++ row) (sym (flat-append l c) ∙ ap flat same)
-
             all-rows : Flattened (witnesses node db env) ts made.bag
             all-rows = record {
               there = λ t w i c.
                   let list = ((lists_are t w).0 c).1 in
-                  subst (λ x. IsIn x made.bag) (joined-list t list.list list.contributions w list.whole)
+                  subst (λ x. IsIn x made.bag) (flat-behind t list.list list.contributions ∙ ap (λ w. t ++ flat w) list.whole)
                   (made.extended.there (t ++ flat list.list) list.contributions (over-there t list.list i list.is_list)
                   (contributes-longer subs-fit t (begins t (chosen t i).0) (values t i) (flat list.list) list.contributions list.contribute));
               back = λ y j.
@@ -187,7 +182,7 @@ module _ (q r first : Query) (condition : Expr) (subs : List Sublink) (whole : Q
                     row.1 ++ last.1,
                     row.2,
                     (lists_are t (row.1 ++ last.1)).1 (answer, followed),
-                    sym (joined-list t row.1 last.1 (row.1 ++ last.1) refl) ∙ ap (λ z. z ++ flat last.1) row.4 ∙ last.4,
+                    sym (flat-behind t row.1 last.1) ∙ ap (λ z. z ++ flat last.1) row.4 ∙ last.4,
                   );
             }
 

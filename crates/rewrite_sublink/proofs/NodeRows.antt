@@ -91,13 +91,13 @@ pub first-of_good : {X Y : Type 0} (o : Outcome X) (next : X → Outcome Y) (y :
 first-of_good (Good x) next y e = (x, refl)
 first-of_good (Bad f) next y e = absurd (cc e)
 
--- first is the node over the rewriting, p has what the sublinks contribute besides
-module _ (n first p : Query) (db : Database) (env : List Row) (bad : (faults : Faults) → meaning first db env ≡ Bad faults → meaning p db env ≡ Bad faults) where
+-- over is the node over the rewriting, p has what the sublinks contribute besides
+module _ (n over p : Query) (db : Database) (env : List Row) (bad : (faults : Faults) → meaning over db env ≡ Bad faults → meaning p db env ≡ Bad faults) where
   pub record Reaching (o s : Outcome Bag) : Type 0 where
     pub faults : SameFaults o s
     pub rows : (ts zs : Bag) → o ≡ Good ts → s ≡ Good zs → (ys : Bag) × (meaning p db env ≡ Good ys) × Flattened (witnesses n db env) ts ys
 
-  reaching-where : (o s : Outcome Bag) → meaning n db env ≡ o → meaning first db env ≡ s → Reaching o s →
+  reaching-where : (o s : Outcome Bag) → meaning n db env ≡ o → meaning over db env ≡ s → Reaching o s →
       Related (Beside (witnesses n db env)) (meaning n db env) (meaning p db env)
   reaching-where (Good ts) (Good zs) e f r =
       let found = r.rows ts zs refl refl in
@@ -107,7 +107,7 @@ module _ (n first p : Query) (db : Database) (env : List Row) (bad : (faults : F
   reaching-where (Bad g) (Bad h) e f r = subst₂ (Related (Beside (witnesses n db env))) (sym e) (sym (bad h f)) r.faults
 
   module _ (q r : Query) (make remake : Bag → Outcome Bag) (node : meaning n db env ≡ and_then (meaning q db env) make)
-      (over_rewriting : meaning first db env ≡ and_then (meaning r db env) remake)
+      (over_rewriting : meaning over db env ≡ and_then (meaning r db env) remake)
       (made : (us vs : Bag) → meaning q db env ≡ Good us → meaning r db env ≡ Good vs → Beside (witnesses q db env) us vs → Reaching (make us) (remake vs)) where
     by_input : (o s : Outcome Bag) → meaning q db env ≡ o → meaning r db env ≡ s → Related (Beside (witnesses q db env)) o s →
         Related (Beside (witnesses n db env)) (meaning n db env) (meaning p db env)

@@ -32,11 +32,11 @@ use Rattle.bag_algebra.specs.declared.query.Query.TheVariants.{Project, Prov}
 use Rattle.bag_algebra.specs.declared.query.Sublink.{Sublink}
 use Rattle.contribution.proofs.AddedColumns.{columns-added, items_with_subs-same}
 use Rattle.contribution.proofs.GoodRows.{from-each}
-use Rattle.contribution.proofs.LongerKinds.{NamesAlso, all-kept, has_kind-longer}
+use Rattle.contribution.proofs.LongerKinds.{all-kept, has_kind-longer}
 use Rattle.contribution.specs.Fitting.{Fitting}
 use Rattle.rewrite_base.proofs.JoinedOutcomes.{rewritten-from_related}
 use Rattle.rewrite_base.proofs.KeptRewriting.{rewriting-related}
-use Rattle.rewrite_base.proofs.KeptRows.{flat-append, row-width, list-width}
+use Rattle.rewrite_base.proofs.KeptRows.{row-width, list-width}
 use Rattle.rewrite_base.proofs.Places.{at-between, within-range}
 use Rattle.contribution.proofs.ColumnQueries.{all-first, all-nothing, all-rest, column_items-kinds, kind_there, kinds_of-columns, meaning-columns, formed-columns}
 use Rattle.contribution.proofs.NodeQueries.{plain-projected}
@@ -45,7 +45,7 @@ use Rattle.rewrite_base.proofs.BesideLists.{same-from_rewritten}
 use Rattle.rewrite_base.specs.Rewritten.{Beside}
 use Rattle.rewrite_base.proofs.Faults.{SameFaults, same_faults-made, each-bad_alike, in-each}
 use Rattle.rewrite_base.proofs.FlatRows.{Flattened, flattened, row-begins, stands_beside}
-use Rattle.rewrite_sublink.proofs.LongerRows.{by, names-begin, subs-named, values-longer, contributes-longer, contributes-shorter}
+use Rattle.rewrite_sublink.proofs.LongerRows.{by, flat-behind, names-rewriting, subs-named, values-longer, contributes-longer, contributes-shorter}
 use Rattle.rewrite_sublink.proofs.NodeRows.{first-of_good, kinds-whole, tables-whole, formed-whole, good-whole, bad-whole, Reaching, reaching-over}
 use Rattle.rewrite_sublink.proofs.Steps.{SubsFitting, Begun, HasValues, Reached, Steps}
 use Rattle.rewrite_sublink.specs.Candidates.{beside_row, answer_places, answer_columns}
@@ -184,19 +184,18 @@ module _ (q r first : Query) (items : List Item) (subs : List Sublink) (whole : 
     made-is : length (item_kinds items) ≡ length items
     made-is = length-map items (λ (item : Item). item.kind)
 
-    names : NamesAlso (kinds_of q ∷ outer) (kinds_of r ∷ outer)
-    names = names-begin (kinds_of q) (place_kinds (shape q)) (kinds_of r) outer (given.kinds outer form.input)
-
     formed-over : WellFormed outer over
-    formed-over = by (sym (WellFormed-Project outer r all_items subs)) (record {
-      input = given.formed outer form.input;
-      subs = subs-named subs (kinds_of q ∷ outer) (kinds_of r ∷ outer) names form.subs;
-      items =
-          All-append (λ (item : Item). HasKind (kinds_of r ∷ outer) (subs_kinds subs) item.expr item.kind) (column_items (kinds_of r) (range_with_len 0 (width_of r))) items
-          (columns-formed (kinds_of r) outer (subs_kinds subs) (range_with_len 0 (width_of r)) (within-range (width_of r) 0 (width_of r) (omega arith)))
-          (all-kept (λ (item : Item). HasKind (kinds_of q ∷ outer) (subs_kinds subs) item.expr item.kind) (λ (item : Item). HasKind (kinds_of r ∷ outer) (subs_kinds subs) item.expr item.kind) items
-          (λ item h. has_kind-longer names (subs_kinds subs) item.expr item.kind h) form.items);
-    })
+    formed-over =
+        let names = names-rewriting q r outer given form.input in
+        by (sym (WellFormed-Project outer r all_items subs)) (record {
+          input = given.formed outer form.input;
+          subs = subs-named subs (kinds_of q ∷ outer) (kinds_of r ∷ outer) names form.subs;
+          items =
+              All-append (λ (item : Item). HasKind (kinds_of r ∷ outer) (subs_kinds subs) item.expr item.kind) (column_items (kinds_of r) (range_with_len 0 (width_of r))) items
+              (columns-formed (kinds_of r) outer (subs_kinds subs) (range_with_len 0 (width_of r)) (within-range (width_of r) 0 (width_of r) (omega arith)))
+              (all-kept (λ (item : Item). HasKind (kinds_of q ∷ outer) (subs_kinds subs) item.expr item.kind) (λ (item : Item). HasKind (kinds_of r ∷ outer) (subs_kinds subs) item.expr item.kind) items
+              (λ item h. has_kind-longer names (subs_kinds subs) item.expr item.kind h) form.items);
+        })
 
     kinds-middle : kinds_of middle ≡ (kinds_of q ++ place_kinds (shape q)) ++ item_kinds items ++ place_kinds (subs_shape subs)
     kinds-middle = kinds-whole stands steps outer (kinds_of q ∷ outer) formed-over form.subs ∙ ap (λ ks. ks ++ place_kinds (subs_shape subs)) kinds-over
@@ -339,8 +338,7 @@ module _ (q r first : Query) (items : List Item) (subs : List Sublink) (whole : 
                 ∙ at-answer Null row.origin (flat row.list) row.made (flat c) (width_of q) (width_of r) (length items) (width_of middle)
                 (row-width outer q db env input-fits us row.origin good (in-member row.origin us row.here)) (whole-width row.origin row.list row.here row.is_list) (made-width z row j)
                 (ap (λ x. length (x ++ flat c)) row.same ∙ wide)
-                ∙ append_assoc row.made (flat row.list) (flat c)
-                ∙ ap (λ x. row.made ++ x) (sym (flat-append row.list c))
+                ∙ flat-behind row.made row.list c
 
             all-rows : Flattened (witnesses node db env) ts (map move found.bag)
             all-rows = record {
