@@ -36,7 +36,7 @@ use Rattle.rewrite_base.proofs.Faults.{SameFaults, kept-alike, gather-bad_alike}
 use Rattle.rewrite_base.proofs.FlatRows.{Flattened, flattened, row-begins, stands_beside}
 use Rattle.rewrite_sublink.proofs.LongerRows.{by, flat-behind, names-rewriting, subs-named, values-longer, contributes-longer, contributes-shorter}
 use Rattle.rewrite_sublink.proofs.NodeRows.{first-good, kinds-whole, tables-whole, formed-whole, good-whole, bad-whole, Reaching, reaching-over}
-use Rattle.rewrite_sublink.proofs.Steps.{SubsFitting, Begun, HasValues, Reached, Steps}
+use Rattle.rewrite_sublink.proofs.Steps.{SubsFitting, HasValues, Reached, Steps}
 use Rattle.query_laws.proofs.NodeLists.{filter-lists}
 use Rattle.query_laws.specs.ListsOfNodes.{Followed}
 use Rattle.query_laws.specs.SublinkLists.{InAnswer, EachContributes}

@@ -47,7 +47,7 @@ use Rattle.rewrite_base.proofs.Faults.{SameFaults, same_faults-made, each-bad_al
 use Rattle.rewrite_base.proofs.FlatRows.{Flattened, flattened, row-begins, stands_beside}
 use Rattle.rewrite_sublink.proofs.LongerRows.{by, flat-behind, names-rewriting, subs-named, values-longer, contributes-longer, contributes-shorter}
 use Rattle.rewrite_sublink.proofs.NodeRows.{first-of_good, kinds-whole, tables-whole, formed-whole, good-whole, bad-whole, Reaching, reaching-over}
-use Rattle.rewrite_sublink.proofs.Steps.{SubsFitting, Begun, HasValues, Reached, Steps}
+use Rattle.rewrite_sublink.proofs.Steps.{SubsFitting, HasValues, Reached, Steps}
 use Rattle.rewrite_sublink.specs.Candidates.{beside_row, answer_places, answer_columns}
 use Rattle.query_laws.proofs.AnswerRows.{answer-in, answer-from}
 use Rattle.query_laws.proofs.NodeLists.{project-lists}
