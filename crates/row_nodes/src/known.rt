@@ -19,7 +19,7 @@ use bag_algebra::{Env, Expr, Query, SubKind, Sublink};
 use indexmap::IndexMap;
 use null_logic::{Compare, Truth};
 use perm_values::{List, NoMemory, Row, Rows, Value};
-use row_joins::{Cells, ColumnPair, Reading, equated, key_table, rows_around};
+use row_joins::{Cells, ColumnPair, key_table, keyed_columns, rows_around};
 use std::alloc::Global;
 
 /// What answers for a query.
@@ -194,7 +194,7 @@ fn turned(kind: SubKind, truth: Truth) -> Truth
     }
 }
 
-/// Rows by the columns that a filter over them equates with columns of the outer row.
+/// Rows by the columns that a filter over them equates with columns of the outer row wherever no guard of it is true.
 #[derive(Drop)]
 pub struct Keyed<'a> {
     rows: Input<'a>,
@@ -203,11 +203,12 @@ pub struct Keyed<'a> {
 }
 
 impl<'a> Keyed<'a> {
-    /// The rows by the columns that the condition equates. It fails only for want of memory.
+    /// The rows by the columns that are equal wherever the condition is true and no guard of it is. It fails only for
+    /// want of memory.
     pub fn new(alloc: Global, condition: &Expr, rows: Input<'a>) -> Result<Keyed<'a>, NoMemory>
         ensures { IfOk result (λ keyed. AreKeyed condition.now rows.entry keyed) }
     {
-        let columns = equated(alloc, Reading::Around, condition)?;
+        let columns = keyed_columns(alloc, condition)?;
         let table = key_table(alloc, columns.as_slice(), rows.as_slice())?;
         Ok(Keyed {
             rows,
@@ -216,8 +217,8 @@ impl<'a> Keyed<'a> {
         })
     }
 
-    /// The rows of which the condition is true where the row is the nearest outer row, in order. It fails only for want of
-    /// memory.
+    /// The rows of which the condition is true where the row is the nearest outer row, in order. It fails only for want
+    /// of memory.
     pub fn rows_around(
         &self,
         alloc: Global,
