@@ -27,14 +27,14 @@ either a b = OpOf op.Or two (more_of-Expr a (more_of-Expr b end_of-Expr))
 abbrev is_true : Expr → Expr
 is_true a = IsTruthOf truth.True a
 
-abbrev filter : Query → Expr → Query
+abbrev pub filter : Query → Expr → Query
 filter q condition = FilterOf q condition [] end_of-Sublink
 
 abbrev select : Expr → Query → Query
 select e q = ProjectOf q (item e ∷ []) [] end_of-Sublink
 
 -- s.c = r.a
-abbrev equation : Expr
+abbrev pub equation : Expr
 equation = compared Equal (col 0 0) (col 1 0)
 
 -- ---- a filter below other nodes: SELECT 1 FROM (SELECT c FROM s WHERE s.c = r.a) x WHERE x.c > 1
