@@ -1,5 +1,5 @@
 -- A query means the same under all outer rows that agree on the columns that it reads.
-use Rattle.std.proofs.Common.{◌≡◌, subst, ℕ, zero, suc, ◌≤◌, max, cond, List, [], ◌∷◌, ◌++◌, length, get_or, take, map, Option, Some, None, refl, sym, ap, ◌∙◌, arith}
+use Rattle.std.proofs.Common.{◌≡◌, subst, ℕ, zero, suc, ◌≤◌, max, false, nat_lt, cond, List, [], ◌∷◌, ◌++◌, length, get_or, take, map, Option, Some, None, refl, sym, ap, ◌∙◌, arith}
 use Rattle.std.specs.Prelude.{◌==◌}
 use Rattle.std.proofs.lemmas.Bool.Decides.{nat_tests}
 use Rattle.std.proofs.Math.Nat.{le-max_left, le-max_right}
@@ -22,7 +22,7 @@ use Rattle.bag_algebra.specs.declared.expr.Item.{Item}
 use Rattle.bag_algebra.specs.declared.query.Aggr.{Aggr}
 use Rattle.bag_algebra.specs.declared.query.Query.{Query, Row_of-Sublink, more_of-Sublink, end_of-Sublink}
 use Rattle.bag_algebra.specs.declared.query.Query.TheVariants.{Table, Single}
-use Rattle.query_reach.specs.Reach.{column_reach, expr_reach, parts_reach, steps_reach, arms_reach, option_reach, items_reach, aggregates_reach, query_reach, subs_reach}
+use Rattle.query_reach.specs.Reach.{column_reach, expr_reach, parts_reach, steps_reach, arms_reach, option_reach, items_reach, aggregates_reach, query_reach, subs_reach, reads_own_row}
 
 -- what is within a number where the greater of two is
 left : (a b n : ℕ) → max a b ≤ n → a ≤ n
@@ -44,9 +44,9 @@ one_further level n u env other same (suc own) place h = same own place (subst (
 
 -- ---- expressions
 
-module _ (level n : ℕ) (u : Row) (env other : List Row) (same : Alike level n (u ∷ env) (u ∷ other)) (answers : List Value) where
+module _ (level n : ℕ) (u v : Row) (env other : List Row) (same : Alike level n (u ∷ env) (v ∷ other)) (answers : List Value) where
   mutual
-    value-alike : (e : Expr) → expr_reach e level ≤ n → value e u env answers ≡ value e u other answers
+    value-alike : (e : Expr) → expr_reach e level ≤ n → value e u env answers ≡ value e v other answers
     value-alike (Col own place) w = ap Good (same own place w)
     value-alike (Lit constant kind) w = refl
     value-alike (OpOf o _ parts) w = λ i. and_then (values-alike parts w i) (operate o)
@@ -55,32 +55,32 @@ module _ (level n : ℕ) (u : Row) (env other : List Row) (same : Alike level n 
         let rest = step_values-alike steps (right (expr_reach first level) (steps_reach steps level) n w) in
         λ i. both_then (here i) (rest i) chain
     value-alike (CaseOf _ arms otherwise) w =
-        arm_value-alike arms (value otherwise u env answers) (value otherwise u other answers)
+        arm_value-alike arms (value otherwise u env answers) (value otherwise v other answers)
         (left (arms_reach arms level) (expr_reach otherwise level) n w)
         (value-alike otherwise (right (arms_reach arms level) (expr_reach otherwise level) n w))
     value-alike (Sub number) w = refl
-    value-alike (IsNullOf part) w = ap (mapped (λ v. Boolean (is_null v))) (value-alike part w)
-    value-alike (IsTruthOf truth part) w = ap (mapped (λ v. Boolean (has_truth truth v))) (value-alike part w)
+    value-alike (IsNullOf part) w = ap (mapped (λ x. Boolean (is_null x))) (value-alike part w)
+    value-alike (IsTruthOf truth part) w = ap (mapped (λ x. Boolean (has_truth truth x))) (value-alike part w)
     value-alike (SameOf first second) w =
         let here = value-alike first (left (expr_reach first level) (expr_reach second level) n w) in
         let there = value-alike second (right (expr_reach first level) (expr_reach second level) n w) in
-        λ i. both (λ v x. Boolean (same_value v x)) (here i) (there i)
+        λ i. both (λ x y. Boolean (same_value x y)) (here i) (there i)
 
-    values-alike : {m : _} (parts : Row_of-Expr m) → parts_reach parts level ≤ n → values parts u env answers ≡ values parts u other answers
+    values-alike : {m : _} (parts : Row_of-Expr m) → parts_reach parts level ≤ n → values parts u env answers ≡ values parts v other answers
     values-alike end_of-Expr w = refl
     values-alike (more_of-Expr part parts) w =
         let here = value-alike part (left (expr_reach part level) (parts_reach parts level) n w) in
         let rest = values-alike parts (right (expr_reach part level) (parts_reach parts level) n w) in
-        λ i. both (λ v vs. v ∷ vs) (here i) (rest i)
+        λ i. both (λ x xs. x ∷ xs) (here i) (rest i)
 
-    step_values-alike : {m : _} (steps : Row_of-ChainStep m) → steps_reach steps level ≤ n → step_values steps u env answers ≡ step_values steps u other answers
+    step_values-alike : {m : _} (steps : Row_of-ChainStep m) → steps_reach steps level ≤ n → step_values steps u env answers ≡ step_values steps v other answers
     step_values-alike end_of-ChainStep w = refl
     step_values-alike (more_of-ChainStep operation part steps) w =
         let here = value-alike part (left (expr_reach part level) (steps_reach steps level) n w) in
         let rest = step_values-alike steps (right (expr_reach part level) (steps_reach steps level) n w) in
-        λ i. both (λ v ss. record { operation = operation; operand = v } ∷ ss) (here i) (rest i)
+        λ i. both (λ x ss. record { operation = operation; operand = x } ∷ ss) (here i) (rest i)
 
-    arm_value-alike : {m : _} (arms : Row_of-Arm m) (o p : Outcome Value) → arms_reach arms level ≤ n → o ≡ p → arm_value arms u env answers o ≡ arm_value arms u other answers p
+    arm_value-alike : {m : _} (arms : Row_of-Arm m) (o p : Outcome Value) → arms_reach arms level ≤ n → o ≡ p → arm_value arms u env answers o ≡ arm_value arms v other answers p
     arm_value-alike end_of-Arm o p w e = e
     arm_value-alike (more_of-Arm condition arm arms) o p w e =
         let own = left (max (expr_reach condition level) (expr_reach arm level)) (arms_reach arms level) n w in
@@ -89,19 +89,30 @@ module _ (level n : ℕ) (u : Row) (env other : List Row) (same : Alike level n 
         let rest = arm_value-alike arms o p (right (max (expr_reach condition level) (expr_reach arm level)) (arms_reach arms level) n w) e in
         λ i. chosen_arm (test i) (here i) (rest i)
 
+own-alike : (u v : Row) (env : List Row) → Alike 0 0 (u ∷ env) (v ∷ env)
+own-alike u v env zero place h = absurd (omega arith)
+own-alike u v env (suc own) place h = refl
+
+no_reach : (n : ℕ) → nat_lt 0 n ≡ false → n ≤ 0
+no_reach n h = grind (arith, nat_tests)
+
+-- what reads no own column has one value
+pub own_value : (e : Expr) (u v : Row) (env : List Row) (answers : List Value) → reads_own_row e ≡ false → value e u env answers ≡ value e v env answers
+own_value e u v env answers h = value-alike 0 0 u v env env (own-alike u v env) answers e (no_reach (expr_reach e 0) h)
+
 -- ---- parts of queries
 
 module _ (level n : ℕ) (env other : List Row) (same : Alike level n env other) where
   option-alike : (part : Option Expr) → option_reach part (suc level) ≤ n → optional_value part env ≡ optional_value part other
   option-alike None w = refl
-  option-alike (Some part) w = λ i u. value-alike (suc level) n u env other (one_further level n u env other same) [] part w i
+  option-alike (Some part) w = λ i u. value-alike (suc level) n u u env other (one_further level n u env other same) [] part w i
 
   items-alike : (items : List Item) → items_reach items (suc level) ≤ n → (u : Row) (answers : List Value) →
       each (λ (item : Item). value item.expr u env answers) items ≡ each (λ (item : Item). value item.expr u other answers) items
   items-alike [] w u answers = refl
   items-alike (item ∷ items) w u answers =
       let own = left (expr_reach item.expr (suc level)) (items_reach items (suc level)) n w in
-      let here = value-alike (suc level) n u env other (one_further level n u env other same) answers item.expr own in
+      let here = value-alike (suc level) n u u env other (one_further level n u env other same) answers item.expr own in
       let rest = items-alike items (right (expr_reach item.expr (suc level)) (items_reach items (suc level)) n w) u answers in
       λ i. both (λ v vs. v ∷ vs) (here i) (rest i)
 
@@ -114,7 +125,7 @@ module _ (level n : ℕ) (env other : List Row) (same : Alike level n env other)
 
   condition_on-alike : (condition : Expr) (s r : SubMeans) → expr_reach condition (suc level) ≤ n → s ≡ r → condition_on condition env s ≡ condition_on condition other r
   condition_on-alike condition s r w e =
-      λ i u. and_then ((e i).answers u) (λ answers. value-alike (suc level) n u env other (one_further level n u env other same) answers condition w i)
+      λ i u. and_then ((e i).answers u) (λ answers. value-alike (suc level) n u u env other (one_further level n u env other same) answers condition w i)
 
   items_on-alike : (items : List Item) (s r : SubMeans) → items_reach items (suc level) ≤ n → s ≡ r → items_on items env s ≡ items_on items other r
   items_on-alike items s r w e = λ i u. and_then ((e i).answers u) (λ answers. items-alike items w u answers i)

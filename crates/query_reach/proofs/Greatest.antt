@@ -2,6 +2,7 @@
 use Rattle.std.proofs.Common.{◌≡◌, ℕ, ◌+◌, ◌^◌, ◌<◌, ◌≤◌, nat_lt, max, cond, Bool, true, false, List, [], ◌∷◌, ◌++◌, Option, Some, None, length, get_or, take, subst, refl, sym, ap, ◌∙◌, arith}
 use Rattle.std.specs.Prelude.{IfNone}
 use Rattle.std.proofs.lemmas.Bool.{ltb-false}
+use Rattle.std.proofs.lemmas.Bool.Decides.{nat_tests}
 use Rattle.std.proofs.lemmas.List.{take_all, take_more}
 use Rattle.query_reach.specs.InUsize.{in_usize}
 use Rattle.query_reach.specs.Reach.{greatest}
@@ -38,3 +39,13 @@ module _ (n : ℕ) (r : Option ℕ) (e : r ≡ in_usize n) where
     great : (b : Bool) → nat_lt n (2 ^ 64) ≡ b → IfNone (cond b (Some n) None) (2 ^ 64 ≤ n)
     great true f = tt
     great false f = ltb-false n (2 ^ 64) f
+
+-- whether such a number is some
+pub is_some : (n k : ℕ) → Some k ≡ in_usize n → nat_lt 0 k ≡ nat_lt 0 n
+is_some n k e = ap (nat_lt 0) (is_held n (Some k) e k refl)
+
+great_is : (n : ℕ) → 2 ^ 64 ≤ n → true ≡ nat_lt 0 n
+great_is n h = grind (arith, nat_tests)
+
+pub is_great : (n : ℕ) → None ≡ in_usize n → true ≡ nat_lt 0 n
+is_great n e = great_is n (is_too_great n None e)

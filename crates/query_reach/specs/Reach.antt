@@ -1,7 +1,7 @@
 -- How many of the first columns of an outer row are read. A row is named by its level as an expression sees it: level 0 is the
 -- row of the expression's own node, level k the kth outer row. The queries of a node's sublinks see the node's row as their
 -- nearest outer row, and the right side of a dependent join a left row, so every row is one level further out there.
-use Rattle.std.specs.Prelude.{ℕ, suc, max, cond, ◌==◌, List, [], ◌∷◌, Option, Some, None}
+use Rattle.std.specs.Prelude.{ℕ, suc, max, Bool, nat_lt, cond, ◌==◌, List, [], ◌∷◌, Option, Some, None}
 use Rattle.bag_algebra.specs.built.Patterns.{OpOf, ChainOf, CaseOf, IsNullOf, IsTruthOf, SameOf, BaseOf, FilterOf, ProjectOf, JoinOf, ApplyOf, UnionOf, IntersectOf, ExceptOf, DistinctOf, AggregateOf, LimitOf, ProvOf}
 use Rattle.bag_algebra.specs.declared.expr.Expr.{Expr, Row_of-Expr, Row_of-Arm, Row_of-ChainStep, more_of-Expr, end_of-Expr, more_of-Arm, end_of-Arm, more_of-ChainStep, end_of-ChainStep}
 use Rattle.bag_algebra.specs.declared.expr.Expr.TheVariants.{Col, Lit, Sub}
@@ -48,6 +48,10 @@ abbrev mutual
 abbrev pub option_reach : Option Expr → ℕ → ℕ
 option_reach None level = 0
 option_reach (Some part) level = expr_reach part level
+
+-- whether the expression reads a column of its own row
+abbrev pub reads_own_row : Expr → Bool
+reads_own_row e = nat_lt 0 (expr_reach e 0)
 
 abbrev pub items_reach : List Item → ℕ → ℕ
 items_reach items level = greatest (λ (item : Item). expr_reach item.expr level) items

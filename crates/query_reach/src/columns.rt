@@ -2,7 +2,7 @@
 ghost use Rattle.std.specs.Prelude.{◌≡◌, ◌≤◌, ◌^◌, ℕ, suc, max, Some, IfNone};
 ghost use Rattle.query_reach.specs.built.Reach.{all_parts_reach, all_steps_reach, all_arms_reach, all_subs_reach};
 ghost use Rattle.query_reach.specs.InUsize.{in_usize};
-ghost use Rattle.query_reach.specs.Reach.{column_reach, expr_reach, items_reach, aggregates_reach, query_reach, reach_of};
+ghost use Rattle.query_reach.specs.Reach.{column_reach, expr_reach, items_reach, aggregates_reach, query_reach, reach_of, reads_own_row};
 
 use bag_algebra::{Aggr, Arm, ChainStep, Expr, Item, Query, Sublink};
 
@@ -13,6 +13,16 @@ pub fn reach(query: &Query) -> Option<usize>
     ensures none { IfNone result (2 ^ 64 ≤ reach_of query.now) }
 {
     query_reach(query, Some(1))
+}
+
+/// Whether the expression reads a column of its own row. It takes no memory.
+pub fn reads_own_row(expr: &Expr) -> bool
+    ensures { result ≡ reads_own_row expr.now }
+{
+    match expr_reach(expr, Some(0)) {
+        Some(reach) => reach > 0,
+        None => true,
+    }
 }
 
 /// How far the query reaches into the row at a level, as the expressions of its nodes see it. No column is at a level that no

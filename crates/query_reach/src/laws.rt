@@ -1,9 +1,12 @@
 //! What a query doesn't reach changes nothing: each law is the contract of a function that does nothing.
-ghost use Rattle.std.specs.Prelude.{◌≡◌, ◌≤◌, ◌++◌, ◌∷◌, ℕ, suc, List, length, take};
+ghost use Rattle.std.specs.Prelude.{◌≡◌, ◌≤◌, ◌++◌, ◌∷◌, ℕ, suc, false, List, length, take};
+ghost use Rattle.perm_values.specs.declared.value.Value.{Value};
 ghost use Rattle.bag_algebra.specs.Bags.{Row};
+ghost use Rattle.bag_algebra.specs.Expressions.{value};
 ghost use Rattle.bag_algebra.specs.Meaning.{Database, meaning};
+ghost use Rattle.bag_algebra.specs.declared.expr.Expr.{Expr};
 ghost use Rattle.bag_algebra.specs.declared.query.Query.{Query};
-ghost use Rattle.query_reach.specs.Reach.{query_reach, reach_of};
+ghost use Rattle.query_reach.specs.Reach.{query_reach, reach_of, reads_own_row};
 
 /// A query means the same under two nearest outer rows of which as many of the first columns as it reads are the same.
 pub fn a_query_reads_no_column_beyond_its_reach()
@@ -17,4 +20,10 @@ pub fn outer_rows_are_read_no_further_than_the_query_reaches()
     ensures { (q : Query) (db : Database) (front : List Row) (row other : Row) (env : List Row) (n : ℕ) →
         query_reach q (suc (length front)) ≤ n → take n row ≡ take n other →
         meaning q db (front ++ row ∷ env) ≡ meaning q db (front ++ other ∷ env) }
+{}
+
+/// An expression that reads no column of its own row has one value on all rows.
+pub fn an_expression_that_reads_no_own_column_has_one_value()
+    ensures { (e : Expr) (u v : Row) (env : List Row) (answers : List Value) → reads_own_row e ≡ false →
+        value e u env answers ≡ value e v env answers }
 {}

@@ -3,6 +3,7 @@ pub mod Built
 pub mod Conditions
 pub mod Equality
 pub mod Flagged
+pub mod Guarded
 pub mod Hashing
 pub mod Joining
 pub mod Keyed

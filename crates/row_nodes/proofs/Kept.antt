@@ -1,7 +1,7 @@
 -- What is kept of queries from row to row.
-use Rattle.std.proofs.Common.{◌≡◌, ℕ, ◌<◌, suc, zero, Bool, true, List, [], ◌∷◌, ◌++◌, length, get_or, set, take, refl, sym, ap, ◌∙◌, subst, arith}
+use Rattle.std.proofs.Common.{◌≡◌, ℕ, ◌<◌, suc, zero, Bool, true, false, cond, Option, Some, None, List, [], ◌∷◌, ◌++◌, length, get_or, set, take, refl, sym, ap, ◌∙◌, subst, arith}
 use Rattle.bag_algebra.specs.Bags.{Row, Bag}
-use Rattle.bag_algebra.specs.built.Openings.{Filter-is, Project_with-is, meaning-Filter}
+use Rattle.bag_algebra.specs.built.Openings.{row_of_subs, Filter-is, Project_with-is, meaning-Filter}
 use Rattle.bag_algebra.specs.FaultFree.{faultless}
 use Rattle.bag_algebra.specs.Meaning.{Database, meaning}
 use Rattle.bag_algebra.specs.Means.{kept}
@@ -10,14 +10,15 @@ use Rattle.bag_algebra.specs.built.Patterns.{BaseOf, FilterOf, ProjectOf, JoinOf
 use Rattle.bag_algebra.specs.declared.expr.Expr.{Expr}
 use Rattle.bag_algebra.specs.declared.expr.Item.{Item}
 use Rattle.bag_algebra.specs.declared.query.Query.{Query}
+use Rattle.bag_algebra.specs.declared.query.Query.TheBlock.{shape-the_row-Sublink-1, hidden-the_row-Sublink-1}
 use Rattle.bag_algebra.specs.declared.query.Query.TheVariants.{Table, Single, Filter, Project}
 use Rattle.bag_algebra.specs.declared.query.Sublink.{Sublink}
 use Rattle.row_joins.specs.Hashed.{on_pair, met_rows}
 use Rattle.row_joins.proofs.Hashing.{all_kept, good_on}
 use Rattle.query_reach.specs.Reach.{reach_of}
 use Rattle.query_reach.proofs.Alike.{meaning-alike}
-use Rattle.row_nodes.specs.Keeping.{kept_reach, IsFilter, Filters, Keeps}
-use Rattle.row_nodes.specs.Known.{IsWhole, IsInput, HasInput, Answers, Finds, Knows, KnowsOn, KnowsSub, AllKnown}
+use Rattle.row_nodes.specs.Keeping.{kept_reach, can_key, keyed_at, Keeps}
+use Rattle.row_nodes.specs.Known.{IsWhole, IsInput, HasInput, IsKeyed, Answers, Finds, Knows, KnowsOn, KnowsSub, AllKnown, IsNew, AllNew}
 use Rattle.row_nodes.specs.Runs.{node_condition}
 use Rattle.row_nodes.specs.declared.keeping.Keeping.{Keeping}
 use Rattle.row_nodes.specs.declared.keeping.Keeping.TheVariants as of
@@ -26,14 +27,33 @@ use Rattle.row_nodes.specs.declared.known.Answer.TheVariants as by
 use Rattle.row_nodes.specs.declared.known.Keyed.{Keyed}
 use Rattle.row_nodes.specs.declared.known.Known.{Known}
 
+-- whether a key may answer a filter, on a list of sublinks
+abbrev pub keys : Expr → List Sublink → Bool
+keys condition [] = faultless condition
+keys condition (sub ∷ subs) = false
+
 -- a query whose reach is n
 same_within : (q : Query) (n : ℕ) (db : Database) (row other : Row) (env : List Row) → n ≡ reach_of q → take n row ≡ take n other → meaning q db (row ∷ env) ≡ meaning q db (other ∷ env)
 same_within q n db row other env is same = meaning-alike q db [] row other env n (let e = is in omega arith) same
 
 -- ---- a filter
 
+can_key-row_of_subs : (condition : Expr) (subs : List Sublink) → can_key condition (row_of_subs subs) ≡ keys condition subs
+unfolding shape-the_row-Sublink-1 hidden-the_row-Sublink-1 package.denote.Hole.Carrier.hidden
+can_key-row_of_subs condition [] = refl
+can_key-row_of_subs condition (sub ∷ subs) = refl
+
+chosen : (b : Bool) (reach n : ℕ) → cond b (Some reach) None ≡ Some n → (b ≡ true) × (n ≡ reach)
+chosen true reach n e = (refl, cc)
+chosen false reach n e = absurd (cc e)
+
+key_chosen : (condition : Expr) (subs : List Sublink) (reach n : ℕ) → cond (keys condition subs) (Some reach) None ≡ Some n →
+    (faultless condition ≡ true) × (subs ≡ []) × (n ≡ reach)
+key_chosen condition [] reach n e = let c = chosen (faultless condition) reach n e in (c.0, refl, c.1)
+key_chosen condition (sub ∷ subs) reach n e = absurd (cc e)
+
 module _ (query input : Query) (condition : Expr) (subs : List Sublink) (is : query ≡ Filter input condition subs) where
-  filter_means : faultless condition ≡ true → subs ≡ [] → (db : Database) (env : List Row) (rows : Bag) → meaning input db env ≡ Good rows →
+  pub filter_means : faultless condition ≡ true → subs ≡ [] → (db : Database) (env : List Row) (rows : Bag) → meaning input db env ≡ Good rows →
       meaning query db env ≡ Good (met_rows (on_pair condition env) rows)
   filter_means safe alone db env rows h =
       ap (λ q. meaning q db env) is
@@ -42,79 +62,86 @@ module _ (query input : Query) (condition : Expr) (subs : List Sublink) (is : qu
       ∙ ap (λ ss. gather (kept (node_condition condition db env ss)) rows) alone
       ∙ all_kept (on_pair condition env) (good_on condition env safe) rows
 
-  pub filters_filter : (n : ℕ) → faultless condition ≡ true → subs ≡ [] → n ≡ reach_of input → Filters query n
-  filters_filter n safe alone reach =
-      let given : IsFilter query input condition n = record { reach_is = reach; faultless_is = safe; means = filter_means safe alone } in
-      subst (λ q. Filters q n) (sym (is ∙ Filter-is input condition subs))
-      (subst (λ q. IsFilter q input condition n) (is ∙ Filter-is input condition subs) given)
+  pub filter_top : keyed_at query 0 ≡ cond (keys condition subs) (Some (reach_of input)) None
+  filter_top = ap (λ q. keyed_at q 0) (is ∙ Filter-is input condition subs) ∙ ap (λ b. cond b (Some (reach_of input)) None) (can_key-row_of_subs condition subs)
 
-  pub filter_of : (n : ℕ) → Filters query n → IsFilter query input condition n
-  filter_of n h =
-      subst (λ q. IsFilter q input condition n) (sym (is ∙ Filter-is input condition subs))
-      (subst (λ q. Filters q n) (is ∙ Filter-is input condition subs) h)
+  pub filter_below : (depth : ℕ) → keyed_at query (suc depth) ≡ keyed_at input depth
+  filter_below depth = ap (λ q. keyed_at q (suc depth)) (is ∙ Filter-is input condition subs)
 
-  pub filter_input : (db : Database) (inner : List Row) (keyed : Keyed) → IsInput input condition db inner keyed → HasInput query db inner keyed
-  filter_input db inner keyed h = subst (λ q. HasInput q db inner keyed) (sym (is ∙ Filter-is input condition subs)) h
+  pub filter_of : (n : ℕ) → keyed_at query 0 ≡ Some n → (faultless condition ≡ true) × (subs ≡ []) × (n ≡ reach_of input)
+  filter_of n e = key_chosen condition subs (reach_of input) n (sym filter_top ∙ e)
 
-  pub input_of : (db : Database) (inner : List Row) (keyed : Keyed) → HasInput query db inner keyed → IsInput input condition db inner keyed
-  input_of db inner keyed h = subst (λ q. HasInput q db inner keyed) (is ∙ Filter-is input condition subs) h
+  pub filter_input : (db : Database) (inner : List Row) (keyed : Keyed) → IsInput input condition db inner keyed → HasInput query 0 db inner keyed
+  filter_input db inner keyed h = subst (λ q. HasInput q 0 db inner keyed) (sym (is ∙ Filter-is input condition subs)) h
+
+  pub input_of : (db : Database) (inner : List Row) (keyed : Keyed) → HasInput query 0 db inner keyed → IsInput input condition db inner keyed
+  input_of db inner keyed h = subst (λ q. HasInput q 0 db inner keyed) (is ∙ Filter-is input condition subs) h
+
+  pub filter_deeper : (depth : ℕ) (db : Database) (inner : List Row) (keyed : Keyed) → HasInput input depth db inner keyed → HasInput query (suc depth) db inner keyed
+  filter_deeper depth db inner keyed h = subst (λ q. HasInput q (suc depth) db inner keyed) (sym (is ∙ Filter-is input condition subs)) h
+
+  pub deeper_filter : (depth : ℕ) (db : Database) (inner : List Row) (keyed : Keyed) → HasInput query (suc depth) db inner keyed → HasInput input depth db inner keyed
+  deeper_filter depth db inner keyed h = subst (λ q. HasInput q (suc depth) db inner keyed) (is ∙ Filter-is input condition subs) h
 
 -- ---- items over one
 
 module _ (query input : Query) (items : List Item) (subs : List Sublink) (is : query ≡ Project input items subs) where
-  pub filters_project : (n : ℕ) → Filters input n → Filters query n
-  filters_project n h = subst (λ q. Filters q n) (sym (is ∙ Project_with-is input items subs)) h
+  pub project_top : keyed_at query 0 ≡ None
+  project_top = ap (λ q. keyed_at q 0) (is ∙ Project_with-is input items subs)
 
-  pub project_filters : (n : ℕ) → Filters query n → Filters input n
-  project_filters n h = subst (λ q. Filters q n) (is ∙ Project_with-is input items subs) h
+  pub project_below : (depth : ℕ) → keyed_at query (suc depth) ≡ keyed_at input depth
+  project_below depth = ap (λ q. keyed_at q (suc depth)) (is ∙ Project_with-is input items subs)
 
-  pub input_project : (db : Database) (inner : List Row) (keyed : Keyed) → HasInput input db inner keyed → HasInput query db inner keyed
-  input_project db inner keyed h = subst (λ q. HasInput q db inner keyed) (sym (is ∙ Project_with-is input items subs)) h
+  pub project_deeper : (depth : ℕ) (db : Database) (inner : List Row) (keyed : Keyed) → HasInput input depth db inner keyed → HasInput query (suc depth) db inner keyed
+  project_deeper depth db inner keyed h = subst (λ q. HasInput q (suc depth) db inner keyed) (sym (is ∙ Project_with-is input items subs)) h
 
-  pub project_input : (db : Database) (inner : List Row) (keyed : Keyed) → HasInput query db inner keyed → HasInput input db inner keyed
-  project_input db inner keyed h = subst (λ q. HasInput q db inner keyed) (is ∙ Project_with-is input items subs) h
+  pub deeper_project : (depth : ℕ) (db : Database) (inner : List Row) (keyed : Keyed) → HasInput query (suc depth) db inner keyed → HasInput input depth db inner keyed
+  deeper_project depth db inner keyed h = subst (λ q. HasInput q (suc depth) db inner keyed) (is ∙ Project_with-is input items subs) h
 
 -- ---- from one row to another that begins with the same columns
 
 module _ (n : ℕ) (db : Database) (env : List Row) (u v : Row) (keyed : Keyed) (same : take n u ≡ take n v) where
-  input_carried : (q : Query) → Filters q n → HasInput q db (u ∷ env) keyed → HasInput q db (v ∷ env) keyed
-  input_carried (Table id kinds) f h = tt
-  input_carried Single f h = tt
-  input_carried (BaseOf input places label) f h = tt
-  input_carried (FilterOf input condition shape subs) f h = record {
-    means = sym (same_within input n db u v env f.reach_is same) ∙ h.means;
+  input_carried : (q : Query) (depth : ℕ) → keyed_at q depth ≡ Some n → HasInput q depth db (u ∷ env) keyed → HasInput q depth db (v ∷ env) keyed
+  input_carried (Table id kinds) depth f h = tt
+  input_carried Single depth f h = tt
+  input_carried (BaseOf input places label) depth f h = tt
+  input_carried (FilterOf input condition _ subs) zero f h = record {
+    means = sym (same_within input n db u v env (chosen (can_key condition subs) (reach_of input) n f).1 same) ∙ h.means;
     keyed_are = h.keyed_are;
   }
-  input_carried (ProjectOf input items _ subs) f h = input_carried input f h
-  input_carried (JoinOf kind left right condition _ subs) f h = tt
-  input_carried (ApplyOf kind left right) f h = tt
-  input_carried (UnionOf all left right) f h = tt
-  input_carried (IntersectOf all left right) f h = tt
-  input_carried (ExceptOf all left right) f h = tt
-  input_carried (DistinctOf input) f h = tt
-  input_carried (AggregateOf input groups aggregates) f h = tt
-  input_carried (LimitOf input keys count) f h = tt
-  input_carried (ProvOf input) f h = tt
+  input_carried (FilterOf input condition _ subs) (suc depth) f h = input_carried input depth f h
+  input_carried (ProjectOf input items _ subs) zero f h = tt
+  input_carried (ProjectOf input items _ subs) (suc depth) f h = input_carried input depth f h
+  input_carried (JoinOf kind left right condition _ subs) depth f h = tt
+  input_carried (ApplyOf kind left right) depth f h = tt
+  input_carried (UnionOf all left right) depth f h = tt
+  input_carried (IntersectOf all left right) depth f h = tt
+  input_carried (ExceptOf all left right) depth f h = tt
+  input_carried (DistinctOf input) depth f h = tt
+  input_carried (AggregateOf input groups aggregates) depth f h = tt
+  input_carried (LimitOf input keys count) depth f h = tt
+  input_carried (ProvOf input) depth f h = tt
 
 whole_answers : (db : Database) (inner : List Row) (q : Query) (in_cells : Bool) (answer : Answer) → IsWhole db inner q in_cells answer → Answers db inner q in_cells answer
 whole_answers db inner q in_cells by.Nothing h = tt
 whole_answers db inner q in_cells (by.Rows rows) h = h
 whole_answers db inner q in_cells (by.Cells cells) h = h
-whole_answers db inner q in_cells (by.Keyed keyed) h = absurd h.has
+whole_answers db inner q in_cells (by.Keyed depth keyed) h = absurd h.has
 
 found_answers : (keeping : Keeping) (db : Database) (env : List Row) (u v : Row) (q : Query) (in_cells : Bool) (answer : Answer) → Keeps q keeping →
     take (kept_reach keeping) u ≡ take (kept_reach keeping) v → Finds keeping db (u ∷ env) q in_cells answer → Answers db (v ∷ env) q in_cells answer
 found_answers of.Nothing db env u v q in_cells by.Nothing keeps same h = tt
 found_answers of.Nothing db env u v q in_cells (by.Rows rows) keeps same h = absurd h
 found_answers of.Nothing db env u v q in_cells (by.Cells cells) keeps same h = absurd h
-found_answers of.Nothing db env u v q in_cells (by.Keyed keyed) keeps same h = absurd h
+found_answers of.Nothing db env u v q in_cells (by.Keyed depth keyed) keeps same h = absurd h
 found_answers (of.Rows n) db env u v q in_cells answer keeps same h =
     whole_answers db (v ∷ env) q in_cells answer (record { rows = h.rows; means = sym (same_within q n db u v env keeps same) ∙ h.means; has = h.has })
-found_answers (of.Input n) db env u v q in_cells by.Nothing keeps same h = tt
-found_answers (of.Input n) db env u v q in_cells (by.Rows rows) keeps same h = absurd h
-found_answers (of.Input n) db env u v q in_cells (by.Cells cells) keeps same h = absurd h
-found_answers (of.Input n) db env u v q in_cells (by.Keyed keyed) keeps same h =
-    record { reach = n; filters = keeps; input = input_carried n db env u v keyed same q keeps h }
+found_answers (of.Input n depth) db env u v q in_cells by.Nothing keeps same h = tt
+found_answers (of.Input n depth) db env u v q in_cells (by.Rows rows) keeps same h = absurd h
+found_answers (of.Input n depth) db env u v q in_cells (by.Cells cells) keeps same h = absurd h
+found_answers (of.Input n depth) db env u v q in_cells (by.Keyed at keyed) keeps same h =
+    subst (λ d. IsKeyed q d db (v ∷ env) keyed) (sym h.0)
+    (record { reach = n; filter_is = keeps; input = input_carried n db env u v keyed same q depth keeps h.1 })
 
 -- what is found on a row that begins with the columns is known of all such rows
 pub kept_known : (db : Database) (env : List Row) (u : Row) (q : Query) (in_cells : Bool) (old new : Known) → Knows db env q in_cells old → take (kept_reach old.keeping) u ≡ old.columns →
@@ -172,3 +199,10 @@ module _ (db : Database) (env : List Row) where
   known_set (s ∷ subs) [] i sub k h low e here = absurd h
   known_set (s ∷ subs) (x ∷ known) zero sub k h low e here = (subst (λ t. KnowsSub db env t k) e here, h.1)
   known_set (s ∷ subs) (x ∷ known) (suc i) sub k h low e here = (h.0, known_set subs known i sub k h.1 (omega arith) e here)
+
+pub new_more : (is_hashed : Bool) (subs : List Sublink) (known : List Known) (sub : Sublink) (k : Known) → AllNew is_hashed subs known → IsNew is_hashed sub.query k →
+    AllNew is_hashed (subs ++ sub ∷ []) (known ++ k ∷ [])
+new_more is_hashed [] [] sub k h here = (here, tt)
+new_more is_hashed [] (x ∷ known) sub k h here = absurd h
+new_more is_hashed (s ∷ subs) [] sub k h here = absurd h
+new_more is_hashed (s ∷ subs) (x ∷ known) sub k h here = (h.0, new_more is_hashed subs known sub k h.1 here)

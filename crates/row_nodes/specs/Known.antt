@@ -1,6 +1,7 @@
 -- What is known of a query from row to row, under which it is asked for as the query of a sublink or the right side of a
 -- dependent join.
-use Rattle.std.specs.Prelude.{◌≡◌, ℕ, Bool, true, false, IsTrue, List, [], ◌∷◌, take, Result, Ok, Err}
+use Rattle.std.specs.Prelude.{◌≡◌, ℕ, zero, suc, Bool, true, false, cond, ◌&&◌, IsTrue, List, [], ◌∷◌, take, Option, Some, None, Result, Ok, Err}
+use Rattle.perm_values.specs.Rows.{same_row}
 use Rattle.null_logic.specs.Logic.{truth_not}
 use Rattle.null_logic.specs.declared.compare.Compare.{Compare}
 use Rattle.null_logic.specs.declared.compare.Compare.TheVariants.{Equal, NotEqual, Less, LessEqual, Greater, GreaterEqual}
@@ -19,7 +20,7 @@ use Rattle.row_values.specs.Answers.{Refuses}
 use Rattle.row_values.specs.declared.error.ExecError.{ExecError}
 use Rattle.row_joins.specs.Cells.{AreCells}
 use Rattle.row_joins.specs.Equated.{is_equality}
-use Rattle.row_nodes.specs.Keeping.{Filters, Keeps, kept_reach}
+use Rattle.row_nodes.specs.Keeping.{Keeps, KeptOf, is_kept, kept_reach, keyed_at}
 use Rattle.row_nodes.specs.Keyed.{AreKeyed}
 use Rattle.row_nodes.specs.declared.keeping.Keeping.{Keeping}
 use Rattle.row_nodes.specs.declared.keeping.Keeping.TheVariants as of
@@ -54,7 +55,7 @@ abbrev pub HasRows : Bool → Bag → Answer → Type 0
 HasRows in_cells vs by.Nothing = Unit {0}
 HasRows in_cells vs (by.Rows rows) = rows ≡ vs
 HasRows in_cells vs (by.Cells cells) = IsTrue in_cells × AreCells cells vs
-HasRows in_cells vs (by.Keyed keyed) = ⊥
+HasRows in_cells vs (by.Keyed depth keyed) = ⊥
 
 -- the query has rows under the outer rows, and these are they
 pub record IsWhole (db : Database) (inner : List Row) (q : Query) (in_cells : Bool) (answer : Answer) : Type 0 where
@@ -67,64 +68,71 @@ pub record IsInput (input : Query) (condition : Expr) (db : Database) (inner : L
   pub means : meaning input db inner ≡ Good keyed.rows
   pub keyed_are : AreKeyed condition keyed.rows keyed
 
--- the same of the filter that a query, or the one below its items, is
-abbrev pub HasInput : Query → Database → List Row → Keyed → Type 0
-HasInput (Table id kinds) db inner keyed = Unit {0}
-HasInput Single db inner keyed = Unit {0}
-HasInput (BaseOf input places label) db inner keyed = Unit {0}
-HasInput (FilterOf input condition shape subs) db inner keyed = IsInput input condition db inner keyed
-HasInput (ProjectOf input items _ subs) db inner keyed = HasInput input db inner keyed
-HasInput (JoinOf kind left right condition _ subs) db inner keyed = Unit {0}
-HasInput (ApplyOf kind left right) db inner keyed = Unit {0}
-HasInput (UnionOf all left right) db inner keyed = Unit {0}
-HasInput (IntersectOf all left right) db inner keyed = Unit {0}
-HasInput (ExceptOf all left right) db inner keyed = Unit {0}
-HasInput (DistinctOf input) db inner keyed = Unit {0}
-HasInput (AggregateOf input groups aggregates) db inner keyed = Unit {0}
-HasInput (LimitOf input keys count) db inner keyed = Unit {0}
-HasInput (ProvOf input) db inner keyed = Unit {0}
+-- the same of the filter so many Filters and Projects down
+abbrev pub HasInput : Query → ℕ → Database → List Row → Keyed → Type 0
+HasInput (Table id kinds) depth db inner keyed = Unit {0}
+HasInput Single depth db inner keyed = Unit {0}
+HasInput (BaseOf input places label) depth db inner keyed = Unit {0}
+HasInput (FilterOf input condition _ subs) zero db inner keyed = IsInput input condition db inner keyed
+HasInput (FilterOf input condition _ subs) (suc depth) db inner keyed = HasInput input depth db inner keyed
+HasInput (ProjectOf input items _ subs) zero db inner keyed = Unit {0}
+HasInput (ProjectOf input items _ subs) (suc depth) db inner keyed = HasInput input depth db inner keyed
+HasInput (JoinOf kind left right condition _ subs) depth db inner keyed = Unit {0}
+HasInput (ApplyOf kind left right) depth db inner keyed = Unit {0}
+HasInput (UnionOf all left right) depth db inner keyed = Unit {0}
+HasInput (IntersectOf all left right) depth db inner keyed = Unit {0}
+HasInput (ExceptOf all left right) depth db inner keyed = Unit {0}
+HasInput (DistinctOf input) depth db inner keyed = Unit {0}
+HasInput (AggregateOf input groups aggregates) depth db inner keyed = Unit {0}
+HasInput (LimitOf input keys count) depth db inner keyed = Unit {0}
+HasInput (ProvOf input) depth db inner keyed = Unit {0}
 
--- the query is a filter that a key answers under the outer rows, or items of one
-pub record IsKeyed (q : Query) (db : Database) (inner : List Row) (keyed : Keyed) : Type 0 where
+-- so many nodes down stands a filter that a key answers under the outer rows
+pub record IsKeyed (q : Query) (depth : ℕ) (db : Database) (inner : List Row) (keyed : Keyed) : Type 0 where
   pub reach : ℕ
-  pub filters : Filters q reach
-  pub input : HasInput q db inner keyed
+  pub filter_is : keyed_at q depth ≡ Some reach
+  pub input : HasInput q depth db inner keyed
 
 -- the same under outer rows of which the row is the nearest
-pub record KeyedUnder (q : Query) (db : Database) (u : Row) (inner : List Row) (keyed : Keyed) : Type 0 where
+pub record KeyedUnder (q : Query) (depth : ℕ) (db : Database) (u : Row) (inner : List Row) (keyed : Keyed) : Type 0 where
   pub env : List Row
   pub front : inner ≡ u ∷ env
-  pub on : IsKeyed q db inner keyed
+  pub on : IsKeyed q depth db inner keyed
 
 -- what answers for the query under these outer rows
 abbrev pub Answers : Database → List Row → Query → Bool → Answer → Type 0
 Answers db inner q in_cells by.Nothing = Unit {0}
 Answers db inner q in_cells (by.Rows rows) = IsWhole db inner q in_cells (by.Rows rows)
 Answers db inner q in_cells (by.Cells cells) = IsWhole db inner q in_cells (by.Cells cells)
-Answers db inner q in_cells (by.Keyed keyed) = IsKeyed q db inner keyed
+Answers db inner q in_cells (by.Keyed depth keyed) = IsKeyed q depth db inner keyed
 
--- what may be found of a query's filter under the outer rows
-abbrev pub FindsInput : Query → Database → List Row → Answer → Type 0
-FindsInput q db inner by.Nothing = Unit {0}
-FindsInput q db inner (by.Rows rows) = ⊥
-FindsInput q db inner (by.Cells cells) = ⊥
-FindsInput q db inner (by.Keyed keyed) = HasInput q db inner keyed
+-- what may be found of the query's filter so many nodes down
+abbrev pub FindsInput : Query → ℕ → Database → List Row → Answer → Type 0
+FindsInput q depth db inner by.Nothing = Unit {0}
+FindsInput q depth db inner (by.Rows rows) = ⊥
+FindsInput q depth db inner (by.Cells cells) = ⊥
+FindsInput q depth db inner (by.Keyed at keyed) = (at ≡ depth) × HasInput q depth db inner keyed
 
-abbrev pub IsInputFound : Query → Database → List Row → Result Answer ExecError → Type 0
-IsInputFound q db inner (Ok answer) = FindsInput q db inner answer
-IsInputFound q db inner (Err error) = Refuses (meaning q db inner) error
+abbrev pub IsInputFound : Query → ℕ → Database → List Row → Result (Option Keyed) ExecError → Type 0
+IsInputFound q depth db inner (Ok None) = Unit {0}
+IsInputFound q depth db inner (Ok (Some keyed)) = HasInput q depth db inner keyed
+IsInputFound q depth db inner (Err error) = Refuses (meaning q db inner) error
+
+abbrev pub keyed_answer : ℕ → Option Keyed → Answer
+keyed_answer depth None = by.Nothing
+keyed_answer depth (Some keyed) = by.Keyed depth keyed
 
 -- what may be found under the outer rows, where this is to be kept
 abbrev pub FindsNothing : Answer → Type 0
 FindsNothing by.Nothing = Unit {0}
 FindsNothing (by.Rows rows) = ⊥
 FindsNothing (by.Cells cells) = ⊥
-FindsNothing (by.Keyed keyed) = ⊥
+FindsNothing (by.Keyed depth keyed) = ⊥
 
 abbrev pub Finds : Keeping → Database → List Row → Query → Bool → Answer → Type 0
 Finds of.Nothing db inner q in_cells answer = FindsNothing answer
 Finds (of.Rows n) db inner q in_cells answer = IsWhole db inner q in_cells answer
-Finds (of.Input n) db inner q in_cells answer = FindsInput q db inner answer
+Finds (of.Input n depth) db inner q in_cells answer = FindsInput q depth db inner answer
 
 abbrev pub IsFound : Keeping → Database → List Row → Query → Bool → Result Answer ExecError → Type 0
 IsFound keeping db inner q in_cells (Ok answer) = Finds keeping db inner q in_cells answer
@@ -153,3 +161,36 @@ AllKnown db env [] [] = Unit {0}
 AllKnown db env [] (known ∷ more) = ⊥
 AllKnown db env (sub ∷ subs) [] = ⊥
 AllKnown db env (sub ∷ subs) (known ∷ more) = KnowsSub db env sub known × AllKnown db env subs more
+
+-- ---- from row to row
+
+abbrev pub is_nothing : Answer → Bool
+is_nothing by.Nothing = true
+is_nothing (by.Rows rows) = false
+is_nothing (by.Cells cells) = false
+is_nothing (by.Keyed depth keyed) = false
+
+-- nothing is known yet
+pub record IsNew (is_hashed : Bool) (q : Query) (known : Known) : Type 0 where
+  pub keeping_is : KeptOf is_hashed q known.keeping
+  pub columns_are : known.columns ≡ []
+  pub answer_is : known.answer ≡ by.Nothing
+
+-- of each sublink's query
+abbrev pub AllNew : Bool → List Sublink → List Known → Type 0
+AllNew is_hashed [] [] = Unit {0}
+AllNew is_hashed [] (known ∷ more) = ⊥
+AllNew is_hashed (sub ∷ subs) [] = ⊥
+AllNew is_hashed (sub ∷ subs) (known ∷ more) = IsNew is_hashed sub.query known × AllNew is_hashed subs more
+
+-- whether the row begins with the columns of what is known
+abbrev pub begins : Known → Row → Bool
+begins known u = same_row (take (kept_reach known.keeping) u) known.columns
+
+-- it is asked for where the row begins with the columns, something is to be kept, and nothing was found
+abbrev pub asks : Known → Row → Bool
+asks known u = begins known u && (is_kept known.keeping && is_nothing known.answer)
+
+-- what is known behind a step to a row: the same where the row begins with the columns, else only its own columns
+abbrev pub gone_on : Known → Row → Known
+gone_on known u = cond (begins known u) known (record { keeping = known.keeping; columns = take (kept_reach known.keeping) u; answer = by.Nothing })

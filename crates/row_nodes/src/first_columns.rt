@@ -1,5 +1,6 @@
 //! The first columns of rows.
-ghost use Rattle.std.specs.Prelude.{◌≡◌, IsTrue, IfOk, take};
+ghost use Rattle.std.specs.Prelude.{◌≡◌, IfOk, take};
+ghost use Rattle.perm_values.specs.Rows.{same_row};
 
 use perm_values::{Copyable, NoMemory, Row, Value};
 use std::alloc::Global;
@@ -17,7 +18,7 @@ pub(crate) fn first_columns(row: &Row, count: usize) -> &[Value]
 }
 
 pub(crate) fn same_values(left: &[Value], right: &[Value]) -> bool
-    ensures { IsTrue result → left.now ≡ right.now }
+    ensures { result ≡ same_row left.now right.now }
 {
     left == right
 }

@@ -1,21 +1,23 @@
 //! What of a sublink's query may be kept from row to row.
-ghost use Rattle.std.specs.Prelude.{◌≡◌, ◌↔◌, [], ℕ, Some, IsTrue};
+ghost use Rattle.std.specs.Prelude.{◌≡◌, ◌↔◌, ◌^◌, ◌≤◌, [], ℕ, Some, IfNone, IsTrue};
 ghost use Rattle.bag_algebra.specs.FaultFree.{faultless};
-ghost use Rattle.row_nodes.specs.Keeping.{Filters, Keeps, kept_reach};
+ghost use Rattle.bag_algebra.specs.declared.query.Query.{Query as SeenQuery};
+ghost use Rattle.query_reach.specs.Reach.{reach_of};
+ghost use Rattle.row_nodes.specs.Keeping.{IsBelow, KeptOf, Leads, better, is_kept, kept_reach};
 
 use bag_algebra::{Expr, Query, Sublink, faultless};
 use query_reach::reach;
 
-/// What of a query is kept for as long as the rows under which it is run begin with the same columns, so many that no more of
-/// them are read.
+/// What of a query is kept for as long as the rows under which it is run begin with the same columns, so many
+/// that no more of them are read.
 #[derive(Clone, Copy, PartialEq, Eq)]
 pub enum Keeping {
     /// Nothing: it is run on each row.
     Nothing,
     /// Its rows.
     Rows(usize),
-    /// The rows over which it, or the query below its items, is a filter.
-    Input(usize),
+    /// The rows that a filter is over, which stands so many Filters and Projects down: 0 where it is the query.
+    Input(usize, usize),
 }
 
 impl Keeping {
@@ -26,59 +28,107 @@ impl Keeping {
         match self {
             Keeping::Nothing => 0,
             Keeping::Rows(reach) => reach,
-            Keeping::Input(reach) => reach,
+            Keeping::Input(reach, _) => reach,
         }
     }
 
     /// Whether anything is kept.
-    pub(crate) fn keeps(self) -> bool {
+    pub(crate) fn keeps(self) -> bool
+        ensures { result ≡ is_kept self }
+    {
         match self {
             Keeping::Nothing => false,
             Keeping::Rows(_) => true,
-            Keeping::Input(_) => true,
+            Keeping::Input(_, _) => true,
         }
     }
 }
 
-/// Where there is hashing, the query's rows if no more columns are read for them than for the rows of a filter's input, and
-/// else these.
+/// Where there is hashing, the input of the topmost filter that a key may answer whose input reads the fewest
+/// first columns, if that reads fewer than the query, and else the query's rows. Only Filters and Projects stand
+/// above it. Nothing where no `usize` holds how many the query reads.
 pub(crate) fn kept_of(is_hashed: bool, query: &Query) -> Keeping
-    ensures { Keeps query.now result }
+    ensures { KeptOf is_hashed query.now result }
 {
     if !is_hashed {
         return Keeping::Nothing;
     }
-    let Some(whole) = reach(query) else {
-        return Keeping::Nothing;
-    };
-    let Some(input) = input_reach(query) else {
-        return Keeping::Rows(whole);
-    };
-    if input < whole {
-        Keeping::Input(input)
-    } else {
-        Keeping::Rows(whole)
+    match reach(query) {
+        Some(whole) => least(query, 0, Keeping::Rows(whole)),
+        None => Keeping::Nothing,
     }
 }
 
-/// Of a query that is a filter which a key may answer, or items of one: how many of the first columns its input reads.
-fn input_reach(query: &Query) -> Option<usize>
-    ensures { (n : ℕ) → result ≡ Some n → Filters query.now n }
+/// The best so far, or of the filters from the query on, which stands so many nodes down, the topmost whose input
+/// reads the fewest first columns. It goes no further down than to an input that reads none.
+fn least(query: &Query, depth: usize, best: Keeping) -> Keeping
+    ensures { (top : SeenQuery) → IsBelow top depth query.now → Leads top depth best
+        → Leads top (2 ^ 64) result }
 {
+    if best.reach() == 0 {
+        return best;
+    }
     match query {
         Query::Filter {
             input,
             condition,
             subs,
         } => {
-            if can_key(condition, subs.as_slice()) {
-                reach(input.get())
+            let reach = input_reach(input.get(), condition, subs.as_slice());
+            let best = better(best, depth, reach);
+            if depth == usize::MAX {
+                return best;
+            }
+            least(input.get(), depth + 1, best)
+        }
+        Query::Project { input, .. } => {
+            if depth == usize::MAX {
+                return best;
+            }
+            least(input.get(), depth + 1, best)
+        }
+        Query::Table { .. } => best,
+        Query::Single => best,
+        Query::Base { .. } => best,
+        Query::Join { .. } => best,
+        Query::Apply { .. } => best,
+        Query::Union { .. } => best,
+        Query::Intersect { .. } => best,
+        Query::Except { .. } => best,
+        Query::Distinct { .. } => best,
+        Query::Aggregate { .. } => best,
+        Query::Limit { .. } => best,
+        Query::Prov { .. } => best,
+    }
+}
+
+/// The filter at the depth, if its input reads fewer columns than are read for the best so far.
+fn better(best: Keeping, depth: usize, reach: Option<usize>) -> Keeping
+    ensures { result ≡ better best depth reach }
+{
+    match reach {
+        Some(reach) => {
+            if reach < best.reach() {
+                Keeping::Input(reach, depth)
             } else {
-                None
+                best
             }
         }
-        Query::Project { input, .. } => input_reach(input.get()),
-        _ => None,
+        None => best,
+    }
+}
+
+/// How many of the first columns a filter's input reads, if a key may answer the filter.
+fn input_reach(input: &Query, condition: &Expr, subs: &[Sublink]) -> Option<usize>
+    ensures some { (n : ℕ) → result ≡ Some n →
+        IsTrue (faultless condition.now) × (subs.now ≡ []) × (n ≡ reach_of input.now) }
+    ensures none { IfNone result (IsTrue (faultless condition.now) → subs.now ≡ []
+        → 2 ^ 64 ≤ reach_of input.now) }
+{
+    if can_key(condition, subs) {
+        reach(input)
+    } else {
+        None
     }
 }
 

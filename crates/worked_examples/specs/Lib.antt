@@ -8,6 +8,7 @@ pub mod GroupRows
 pub mod HeldRows
 pub mod IrregularTrees
 pub mod JoinRows
+pub mod Keys
 pub mod LongTexts
 pub mod NamedCatalog
 pub mod NamedQueries
