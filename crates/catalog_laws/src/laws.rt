@@ -13,12 +13,12 @@ ghost use Rattle.perm_catalog.specs.declared.entries.Mark.{Mark};
 ghost use Rattle.perm_catalog.specs.declared.entries.TableEntry.{TableEntry as Table};
 ghost use Rattle.perm_catalog.specs.declared.entries.ViewEntry.{ViewEntry as View};
 
-/// An empty catalog is sound, and `create`, `insert_rows`, `delete_rows`, `add_view`, `drop_table` and `drop_view` keep a
-/// sound catalog sound: their contracts say that they make of it what stands here.
+/// An empty catalog is sound, and `create`, `insert_rows`, `delete_rows`, `add_view`, `drop_table` and
+/// `drop_view` keep a sound catalog sound: their contracts say that they make of it what stands here.
 pub fn catalogs_stay_sound()
     ensures new { (next : ℕ) → IsSound (nothing_held next) }
-    ensures create { (c : Contents) (name : List ℕ) (columns : List Column) (rows : Bag) (stored : Option Mark)
-        → IsSound c → is_free c name ≡ true → IsNewTable columns rows
+    ensures create { (c : Contents) (name : List ℕ) (columns : List Column) (rows : Bag)
+        (stored : Option Mark) → IsSound c → is_free c name ≡ true → IsNewTable columns rows
         → IfSome stored (IsSoundMark c columns rows)
         → IsSound (with_table c name columns rows stored) }
     ensures insert_rows { (c : Contents) (name : List ℕ) (table : Table) (rows : Bag)

@@ -1,6 +1,5 @@
 -- The rule of a selection with sublinks.
 use Rattle.std.proofs.Common.{◌≡◌, ◌↔◌, ℕ, true, List, ◌∷◌, ◌++◌, Contains, append_assoc, refl, sym, ap, ◌∙◌, subst}
-use Rattle.std.proofs.lemmas.Bool.{and_from}
 use Rattle.perm_values.specs.declared.kind.Kind.{Kind}
 use Rattle.perm_values.specs.declared.kind.Kind.TheVariants.{Boolean}
 use Rattle.perm_values.specs.declared.value.Value.{Value}
@@ -17,7 +16,7 @@ use Rattle.bag_algebra.specs.Kinds.{kinds_of, place_kinds, shape}
 use Rattle.bag_algebra.specs.Meaning.{Database, meaning, witnesses, condition_on}
 use Rattle.bag_algebra.specs.Means.{Witness, flat, good_rows, is_met, kept}
 use Rattle.bag_algebra.specs.Outcome.{Faults, Outcome, Good, Bad, and_then, gather}
-use Rattle.bag_algebra.specs.Rewriting.{IsRewrite, SameSet, is_plain}
+use Rattle.bag_algebra.specs.Rewriting.{IsRewrite, SameSet, Stands}
 use Rattle.bag_algebra.specs.TablesRead.{EachTable, tables_read}
 use Rattle.bag_algebra.specs.WellFormed.{WellFormed, HasKind, FilterForm}
 use Rattle.bag_algebra.specs.declared.expr.Expr.{Expr}
@@ -26,122 +25,103 @@ use Rattle.bag_algebra.specs.declared.query.Query.TheVariants.{Filter, Prov}
 use Rattle.bag_algebra.specs.declared.query.Sublink.{Sublink}
 use Rattle.contribution.proofs.AddedColumns.{columns-added, condition_with_subs-same}
 use Rattle.contribution.proofs.GoodRows.{from-gather, from-kept}
-use Rattle.contribution.proofs.Growth.{row_begins-longer}
 use Rattle.contribution.proofs.JoinMembers.{in-gather, in-kept}
-use Rattle.contribution.proofs.LongerKinds.{NamesAlso, has_kind-longer, names-more}
+use Rattle.contribution.proofs.LongerKinds.{has_kind-longer}
 use Rattle.contribution.specs.Fitting.{Fitting}
 use Rattle.rewrite_base.proofs.JoinedOutcomes.{rewritten-from_related}
 use Rattle.rewrite_base.proofs.KeptRewriting.{rewriting-related}
-use Rattle.rewrite_base.proofs.KeptRows.{flat-append}
-use Rattle.query_laws.proofs.StandingSublinks.{answers-same}
-use Rattle.bag_algebra.specs.built.Scopes.{all_plain, is_plain-Filter}
 use Rattle.rewrite_base.proofs.BesideLists.{same-from_rewritten}
 use Rattle.rewrite_base.specs.Rewritten.{Beside}
-use Rattle.rewrite_sublink.proofs.AllSublinks.{Ready, AllGoodOn, Reached, good-longer, contributes-longer, contributes-shorter, kinds-all, bad-all, plain-all, tables-all, formed-all, reached, stand-plain, stand-tables, stand-form, stand-kinds, stand-agree}
-use Rattle.rewrite_sublink.proofs.Extending.{Extended}
-use Rattle.rewrite_sublink.proofs.Forming.{by}
 use Rattle.rewrite_base.proofs.Faults.{SameFaults, kept-alike, gather-bad_alike}
 use Rattle.rewrite_base.proofs.FlatRows.{Flattened, flattened, row-begins, stands_beside}
-use Rattle.rewrite_sublink.proofs.NodeRows.{first-good, Reaching, reaching-over}
-use Rattle.rewrite_sublink.specs.Candidates.{all_contributed}
+use Rattle.rewrite_sublink.proofs.LongerRows.{by, flat-behind, names-rewriting, subs-named, values-longer, contributes-longer, contributes-shorter}
+use Rattle.rewrite_sublink.proofs.NodeRows.{first-good, kinds-whole, tables-whole, formed-whole, good-whole, bad-whole, Reaching, reaching-over}
+use Rattle.rewrite_sublink.proofs.Steps.{SubsFitting, HasValues, Reached, Steps}
 use Rattle.query_laws.proofs.NodeLists.{filter-lists}
 use Rattle.query_laws.specs.ListsOfNodes.{Followed}
 use Rattle.query_laws.specs.SublinkLists.{InAnswer, EachContributes}
 
-module _ (q r : Query) (condition : Expr) (subs standing : List Sublink) (rewritings : List Query) (given : IsRewrite q r) (are : Ready subs standing rewritings) where
+-- first stands for the selection over the rewriting of its input
+module _ (q r first : Query) (condition : Expr) (subs : List Sublink) (whole : Query → Query) (given : IsRewrite q r) (stands : Stands (Filter r condition subs) first)
+    (steps : Steps subs whole) where
   abbrev node : Query
   node = Filter q condition subs
 
-  abbrev first : Query
-  first = Filter r condition standing
+  abbrev over : Query
+  over = Filter r condition subs
 
   abbrev p : Query
-  p = all_contributed first subs standing rewritings
+  p = whole first
 
-  plain-first : is_plain first ≡ true
-  plain-first = is_plain-Filter r condition standing ∙ and_from (is_plain r) (all_plain standing) given.plain (stand-plain are)
-
-  tables-first : (P : ℕ → List Kind → Type 0) → EachTable P node → EachTable P first × EachTableOfSubs P subs
-  tables-first P h =
+  tables-over : (P : ℕ → List Kind → Type 0) → EachTable P node → EachTable P over × EachTableOfSubs P subs
+  tables-over P h =
       let of_node = by (EachTable-Filter P q condition subs) h in
-      (by (sym (EachTable-Filter P r condition standing)) (reads_among-each P r q given.tables of_node.0, stand-tables P are of_node.1), of_node.1)
+      (by (sym (EachTable-Filter P r condition subs)) (reads_among-each P r q given.tables of_node.0, of_node.1), of_node.1)
 
   tables-made : (P : ℕ → List Kind → Type 0) → EachTable P node → EachTable P p
-  tables-made P h = let found = tables-first P h in tables-all P are first found.0 found.1
+  tables-made P h = let found = tables-over P h in tables-whole stands steps P found.0 found.1
 
   module _ (outer : List (List Kind)) (formed : WellFormed outer node) where
     form : FilterForm (WellFormed outer q) (AllSubsForm (kinds_of q ∷ outer) subs) (HasKind (kinds_of q ∷ outer) (subs_kinds subs) condition Boolean)
     form = by (WellFormed-Filter outer q condition subs) formed
 
-    begins-first : kinds_of first ≡ kinds_of q ++ place_kinds (shape q)
-    begins-first = kinds_of-Filter r condition standing ∙ given.kinds outer form.input
+    begins-over : kinds_of over ≡ kinds_of q ++ place_kinds (shape q)
+    begins-over = kinds_of-Filter r condition subs ∙ given.kinds outer form.input
 
-    names : NamesAlso (kinds_of q ∷ outer) (kinds_of r ∷ outer)
-    names = subst (λ ks. NamesAlso (kinds_of q ∷ outer) (ks ∷ outer)) (sym (given.kinds outer form.input)) (names-more (kinds_of q) (place_kinds (shape q)) outer)
-
-    formed-first : WellFormed outer first
-    formed-first = by (sym (WellFormed-Filter outer r condition standing)) (record {
-      input = given.formed outer form.input;
-      subs = stand-form (kinds_of q ∷ outer) (kinds_of r ∷ outer) names are form.subs;
-      condition = has_kind-longer names (subs_kinds standing) condition Boolean
-          (subst (λ ks. HasKind (kinds_of q ∷ outer) ks condition Boolean) (stand-kinds (kinds_of q ∷ outer) are form.subs) form.condition);
-    })
+    formed-over : WellFormed outer over
+    formed-over =
+        let names = names-rewriting q r outer given form.input in
+        by (sym (WellFormed-Filter outer r condition subs)) (record {
+          input = given.formed outer form.input;
+          subs = subs-named subs (kinds_of q ∷ outer) (kinds_of r ∷ outer) names form.subs;
+          condition = has_kind-longer names (subs_kinds subs) condition Boolean form.condition;
+        })
 
     kinds-made : kinds_of p ≡ kinds_of node ++ place_kinds (shape node)
     kinds-made =
-        kinds-all are first
-        ∙ ap (λ ks. ks ++ place_kinds (subs_shape subs)) begins-first
+        kinds-whole stands steps outer (kinds_of q ∷ outer) formed-over form.subs
+        ∙ ap (λ ks. ks ++ place_kinds (subs_shape subs)) begins-over
         ∙ append_assoc (kinds_of q) (place_kinds (shape q)) (place_kinds (subs_shape subs))
         ∙ (λ i. sym (kinds_of-Filter q condition subs) i ++ (sym (place_kinds-append (shape q) (subs_shape subs)) ∙ ap place_kinds (sym (shape-Filter q condition subs))) i)
 
     formed-made : WellFormed outer p
-    formed-made = formed-all (kinds_of q) outer are form.subs first (place_kinds (shape q)) begins-first formed-first
+    formed-made = formed-whole stands steps (kinds_of q) outer (place_kinds (shape q)) form.subs begins-over formed-over
 
     module _ (db : Database) (env : List Row) (tables : TablesFit db node) (fits : env_fits env outer ≡ true) where
       abbrev on : Row → Outcome Value
       on = condition_on condition env (subs_denote subs db env)
 
-      abbrev on_stand : Row → Outcome Value
-      on_stand = condition_on condition env (subs_denote standing db env)
-
       of_node : EachTable (λ id ks. bag_fits (db id) ks ≡ true) q × EachTableOfSubs (λ id ks. bag_fits (db id) ks ≡ true) subs
       of_node = by (EachTable-Filter (λ id ks. bag_fits (db id) ks ≡ true) q condition subs) tables
-
-      fitting-first : TablesFit db first
-      fitting-first = (tables-first (λ id ks. bag_fits (db id) ks ≡ true) tables).0
 
       input-fits : Fitting outer q db env
       input-fits = record { formed = form.input; tables = of_node.0; outer_rows = fits }
 
-      bad : (faults : Faults) → meaning first db env ≡ Bad faults → meaning p db env ≡ Bad faults
-      bad faults e = bad-all are first db env faults e
+      over-fits : Fitting outer over db env
+      over-fits = record { formed = formed-over; tables = (tables-over (λ id ks. bag_fits (db id) ks ≡ true) tables).0; outer_rows = fits }
+
+      subs-fit : SubsFitting (kinds_of q) outer subs db env
+      subs-fit = record { form = form.subs; tables = of_node.1; outer_rows = fits }
+
+      bad : (faults : Faults) → meaning over db env ≡ Bad faults → meaning p db env ≡ Bad faults
+      bad = bad-whole stands steps (kinds_of q) outer db env subs-fit over-fits
 
       module _ (us vs : Bag) (good : meaning q db env ≡ Good us) (b : Beside (witnesses q db env) us vs) where
         begins : (t : Row) → IsIn t us → row_begins t (kinds_of q) ≡ true
         begins t i = row-begins outer q db env input-fits us good t i
 
-        -- on a longer row the condition is the same, and so it is with what stands for the sublinks
         on-longer : (t more : Row) → IsIn t us → on (t ++ more) ≡ on t
         on-longer t more i =
             sym (condition_with_subs-same (kinds_of q ∷ outer) subs db t (t ++ more) env env condition (subs_kinds subs)
             (by (sym (SubsForm-row_of_subs (kinds_of q ∷ outer) subs)) form.subs) form.condition (columns-added (kinds_of q) outer t more env (begins t i)))
 
-        on-standing : (t more : Row) → IsIn t us → on_stand (t ++ more) ≡ on (t ++ more)
-        on-standing t more i =
-            let here = and_from (row_begins (t ++ more) (kinds_of q)) (env_fits env outer) (row_begins-longer t more (kinds_of q) (begins t i)) fits in
-            ap (λ answers. and_then answers (value condition (t ++ more) env))
-            (sym (answers-same db env (t ++ more) subs standing (stand-agree (kinds_of q ∷ outer) db env (t ++ more) here are form.subs of_node.1)))
-
-        on-same : (t more : Row) → IsIn t us → on_stand (t ++ more) ≡ on t
-        on-same t more i = on-standing t more i ∙ on-longer t more i
-
-        alike : (t : Row) (w : Witness) → IsIn t us → SameFaults (kept on t) (kept on_stand (t ++ flat w))
-        alike t w i = kept-alike on on_stand t (t ++ flat w) (on-same t (flat w) i)
+        alike : (t : Row) (w : Witness) → IsIn t us → SameFaults (kept on t) (kept on (t ++ flat w))
+        alike t w i = kept-alike on on t (t ++ flat w) (on-longer t (flat w) i)
 
         beside_rows : Flattened (witnesses q db env) us vs
         beside_rows = flattened (witnesses q db env) us vs b
 
-        module _ (ts zs : Bag) (e : gather (kept on) us ≡ Good ts) (f : gather (kept on_stand) vs ≡ Good zs) where
+        module _ (ts zs : Bag) (e : gather (kept on) us ≡ Good ts) (f : gather (kept on) vs ≡ Good zs) where
           -- the rows of the input on which the condition is true
           chosen : (t : Row) → IsIn t ts → IsIn t us × (is_met (on t) ≡ true)
           chosen t i =
@@ -152,55 +132,48 @@ module _ (q r : Query) (condition : Expr) (subs standing : List Sublink) (rewrit
           chosen-back : (t : Row) → IsIn t us → is_met (on t) ≡ true → IsIn t ts
           chosen-back t i met = in-gather (kept on) t t us ts e i (in-kept on t met)
 
-          first-there : (t : Row) (w : Witness) → IsIn t ts → Contains (witnesses q db env t) w → IsIn (t ++ flat w) zs
-          first-there t w i c =
+          over-there : (t : Row) (w : Witness) → IsIn t ts → Contains (witnesses q db env t) w → IsIn (t ++ flat w) zs
+          over-there t w i c =
               let h = chosen t i in
-              in-gather (kept on_stand) (t ++ flat w) (t ++ flat w) vs zs f (beside_rows.there t w h.0 c)
-              (in-kept on_stand (t ++ flat w) (ap is_met (on-same t (flat w) h.0) ∙ h.1))
+              in-gather (kept on) (t ++ flat w) (t ++ flat w) vs zs f (beside_rows.there t w h.0 c)
+              (in-kept on (t ++ flat w) (ap is_met (on-longer t (flat w) h.0) ∙ h.1))
 
-          first-back : (z : Row) → IsIn z zs → (t : Row) × (w : Witness) × IsIn t ts × Contains (witnesses q db env t) w × (t ++ flat w ≡ z)
-          first-back z j =
-              let found = from-gather (kept on_stand) z vs (subst (λ o. IsIn z (good_rows o)) (sym f) j) in
-              let origin = from-kept on_stand found.0 z found.2 in
+          over-back : (z : Row) → IsIn z zs → (t : Row) × (w : Witness) × IsIn t ts × Contains (witnesses q db env t) w × (t ++ flat w ≡ z)
+          over-back z j =
+              let found = from-gather (kept on) z vs (subst (λ o. IsIn z (good_rows o)) (sym f) j) in
+              let origin = from-kept on found.0 z found.2 in
               let row = beside_rows.back z (subst (λ u. IsIn u vs) origin.0 found.1) in
-              let met = subst (λ u. is_met (on_stand u) ≡ true) (origin.0 ∙ sym row.4) origin.1 in
-              (row.0, row.1, chosen-back row.0 row.2 (ap is_met (sym (on-same row.0 (flat row.1) row.2)) ∙ met), row.3, row.4)
+              let met = subst (λ u. is_met (on u) ≡ true) (origin.0 ∙ sym row.4) origin.1 in
+              (row.0, row.1, chosen-back row.0 row.2 (ap is_met (sym (on-longer row.0 (flat row.1) row.2)) ∙ met), row.3, row.4)
 
-          answers : (t : Row) → IsIn t ts → (values : List Value) × ((subs_denote subs db env).answers t ≡ Good values)
-          answers t i = first-good ((subs_denote subs db env).answers t) (value condition t env) (chosen t i).1
+          values : (t : Row) → IsIn t ts → HasValues db env subs t
+          values t i = first-good ((subs_denote subs db env).answers t) (value condition t env) (chosen t i).1
 
-          goods : (z : Row) → IsIn z zs → AllGoodOn (kinds_of q) outer db env fits subs z
-          goods z j =
-              let row = first-back z j in
-              let values = answers row.0 row.2 in
-              subst (AllGoodOn (kinds_of q) outer db env fits subs) row.4
-              (good-longer (kinds_of q) outer db env fits subs form.subs row.0 (flat row.1) (begins row.0 (chosen row.0 row.2).0) values.0 values.1)
+          values-over : (z : Row) → IsIn z zs → HasValues db env subs z
+          values-over z j =
+              let row = over-back z j in
+              subst (HasValues db env subs) row.4 (values-longer subs-fit row.0 (begins row.0 (chosen row.0 row.2).0) (values row.0 row.2) (flat row.1))
 
-          first-good_rows : meaning first db env ≡ Good zs → Reached (kinds_of q) outer db env fits p subs zs
-          first-good_rows is_first =
-              reached (kinds_of q) outer db env fits are form.subs of_node.1 first (place_kinds (shape q)) begins-first formed-first fitting-first zs is_first goods
+          reached : meaning over db env ≡ Good zs → Reached p db env (λ z w. EachContributes db env z subs w) zs
+          reached is_over =
+              good-whole stands steps (kinds_of q) outer db env subs-fit zs (record { more = place_kinds (shape q); begins = begins-over; fitting = over-fits; good = is_over }) values-over
 
           lists_are : (t : Row) (w : Witness) → Contains (witnesses node db env t) w ↔ (InAnswer node db env t × Followed q subs db env t w)
           lists_are t w = filter-lists db env t w q condition subs
 
-          module _ (ys : Bag) (extended : Extended (λ z w. EachContributes db env z subs w) zs ys) (is_node : meaning node db env ≡ Good ts) where
-            joined-list : (t : Row) (l c w : Witness) → l ++ c ≡ w → t ++ flat l ++ flat c ≡ t ++ flat w
-            joined-list t l c w same = append_assoc t (flat l) (flat c) ∙ ap (λ row. t ++ row) (sym (flat-append l c) ∙ ap flat same)
-
-            all-rows : Flattened (witnesses node db env) ts ys
+          module _ (made : Reached p db env (λ z w. EachContributes db env z subs w) zs) (is_node : meaning node db env ≡ Good ts) where
+            all-rows : Flattened (witnesses node db env) ts made.bag
             all-rows = record {
               there = λ t w i c.
                   let list = ((lists_are t w).0 c).1 in
-                  let values = answers t i in
-                  subst (λ x. IsIn x ys) (joined-list t list.list list.contributions w list.whole)
-                  (extended.there (t ++ flat list.list) list.contributions (first-there t list.list i list.is_list)
-                  (contributes-longer (kinds_of q) outer db env fits subs form.subs t (flat list.list) (begins t (chosen t i).0) values.0 values.1 list.contributions list.contribute));
+                  subst (λ x. IsIn x made.bag) (flat-behind t list.list list.contributions ∙ ap (λ w. t ++ flat w) list.whole)
+                  (made.extended.there (t ++ flat list.list) list.contributions (over-there t list.list i list.is_list)
+                  (contributes-longer subs-fit t (begins t (chosen t i).0) (values t i) (flat list.list) list.contributions list.contribute));
               back = λ y j.
-                  let last = extended.back y j in
-                  let row = first-back last.0 last.2 in
+                  let last = made.extended.back y j in
+                  let row = over-back last.0 last.2 in
                   let t = row.0 in
-                  let values = answers t row.2 in
-                  let contribute = contributes-shorter (kinds_of q) outer db env fits subs form.subs t (flat row.1) (begins t (chosen t row.2).0) values.0 values.1 last.1
+                  let contribute = contributes-shorter subs-fit t (begins t (chosen t row.2).0) (values t row.2) (flat row.1) last.1
                   (subst (λ z. EachContributes db env z subs last.1) (sym row.4) last.3) in
                   let answer : InAnswer node db env t = record { bag = ts; good = is_node; row = in-member t ts row.2 } in
                   let followed : Followed q subs db env t (row.1 ++ last.1) =
@@ -209,35 +182,35 @@ module _ (q r : Query) (condition : Expr) (subs standing : List Sublink) (rewrit
                     row.1 ++ last.1,
                     row.2,
                     (lists_are t (row.1 ++ last.1)).1 (answer, followed),
-                    sym (joined-list t row.1 last.1 (row.1 ++ last.1) refl) ∙ ap (λ z. z ++ flat last.1) row.4 ∙ last.4,
+                    sym (flat-behind t row.1 last.1) ∙ ap (λ z. z ++ flat last.1) row.4 ∙ last.4,
                   );
             }
 
-        reaching : meaning r db env ≡ Good vs → Reaching node first p db env bad (gather (kept on) us) (gather (kept on_stand) vs)
+        reaching : meaning r db env ≡ Good vs → Reaching node over p db env bad (gather (kept on) us) (gather (kept on) vs)
         reaching is_rewriting = record {
-          faults = gather-bad_alike (kept on) (kept on_stand) us vs (record {
+          faults = gather-bad_alike (kept on) (kept on) us vs (record {
             there = λ t i. let s = stands_beside (witnesses q db env) us vs b t i in (t ++ flat s.list, s.row, alike t s.list i);
             back = λ x j.
                 let row = beside_rows.back x j in
-                (row.0, row.2, subst (λ y. SameFaults (kept on row.0) (kept on_stand y)) row.4 (alike row.0 row.1 row.2));
+                (row.0, row.2, subst (λ y. SameFaults (kept on row.0) (kept on y)) row.4 (alike row.0 row.1 row.2));
           });
           rows = λ ts zs e f.
               let is_node = meaning-Filter db env q condition subs ∙ ap (λ o. and_then o (gather (kept on))) good ∙ e in
-              let is_first = meaning-Filter db env r condition standing ∙ ap (λ o. and_then o (gather (kept on_stand))) is_rewriting ∙ f in
-              let found = first-good_rows ts zs e f is_first in
-              (found.bag, found.good, all-rows ts zs e f found.bag found.extended is_node);
+              let is_over = meaning-Filter db env r condition subs ∙ ap (λ o. and_then o (gather (kept on))) is_rewriting ∙ f in
+              let found = reached ts zs e f is_over in
+              (found.bag, found.good, all-rows ts zs e f found is_node);
         }
 
       same_rows : SameSet (meaning (Prov node) db env) (meaning p db env)
       same_rows =
           same-from_rewritten node p db env
           (rewritten-from_related (witnesses node db env) (meaning node db env) (meaning p db env)
-          (reaching-over node first p db env bad q r (gather (kept on)) (gather (kept on_stand)) (meaning-Filter db env q condition subs) (meaning-Filter db env r condition standing)
+          (reaching-over node over p db env bad q r (gather (kept on)) (gather (kept on)) (meaning-Filter db env q condition subs) (meaning-Filter db env r condition subs)
           (λ us vs good is_rewriting b. reaching us vs good b is_rewriting) (rewriting-related outer q r db env input-fits given)))
 
   pub rewrite-Filter_with : IsRewrite node p
   rewrite-Filter_with = record {
-    plain = plain-all are first plain-first;
+    plain = steps.plain first stands.plain;
     kinds = kinds-made;
     formed = formed-made;
     tables = tables-made (λ id ks. Contains (tables_read node) (record { id = id; kinds = ks })) (reads_among-itself node);

@@ -13,89 +13,72 @@ use Rattle.bag_algebra.specs.Kinds.{kinds_of, kind_in, place_kinds, shape, width
 use Rattle.bag_algebra.specs.Meaning.{Database, meaning, condition_on}
 use Rattle.bag_algebra.specs.Means.{kept, joined_rows, no_subs}
 use Rattle.bag_algebra.specs.Outcome.{Faults, Bad, and_then, both_then, gather}
-use Rattle.bag_algebra.specs.Rewriting.{IsRewrite, Stands, is_plain}
-use Rattle.bag_algebra.specs.Scoped.{over_tables}
+use Rattle.bag_algebra.specs.Rewriting.{is_plain}
 use Rattle.bag_algebra.specs.TablesRead.{EachTable}
 use Rattle.bag_algebra.specs.WellFormed.{WellFormed, HasKind, sub_form}
 use Rattle.bag_algebra.specs.declared.expr.Expr.{Expr}
 use Rattle.bag_algebra.specs.declared.expr.Expr.TheVariants.{Sub}
 use Rattle.bag_algebra.specs.declared.query.JoinKind.TheVariants.{Inner, Left}
-use Rattle.bag_algebra.specs.declared.query.Query.{Query, more_of-Sublink, end_of-Sublink}
+use Rattle.bag_algebra.specs.declared.query.Query.{Query}
 use Rattle.bag_algebra.specs.declared.query.Query.TheVariants.{Single}
 use Rattle.bag_algebra.specs.declared.query.SubKind.{SubKind}
 use Rattle.bag_algebra.specs.declared.query.SubKind.TheVariants.{Exists, Any, All, Scalar}
 use Rattle.bag_algebra.specs.declared.query.Sublink.{Sublink}
 use Rattle.contribution.proofs.CrossBases.{meaning-cross_base, kinds_of-cross_base, plain-cross_base, formed-cross_base}
-use Rattle.contribution.proofs.LongerKinds.{NamesAlso, names-more, subs_form-longer, well_formed-longer}
+use Rattle.contribution.proofs.LongerKinds.{NamesAlso, well_formed-longer}
 use Rattle.contribution.specs.Conjunctions.{always}
-use Rattle.contribution.specs.CrossBase.{cross_base_of}
 use Rattle.rewrite_base.specs.KeptColumns.{pairs_of}
 use Rattle.bag_algebra.specs.built.Scopes.{all_plain, is_plain-Filter}
 use Rattle.contribution.proofs.ColumnQueries.{all-first, all-nothing, formed-columns}
 use Rattle.contribution.proofs.NodeQueries.{meaning-pairs, formed-pairs, plain-pairs, plain-chosen, plain-projected}
 use Rattle.bag_algebra.specs.ColumnItems.{column_items}
+use Rattle.query_laws.proofs.SameExpressions.{tested-formed}
+use Rattle.rewrite_sublink.proofs.LongerRows.{by, names-begin, subs-named}
 use Rattle.rewrite_sublink.proofs.MatchingRows.{formed-matching}
+use Rattle.rewrite_sublink.proofs.Ready.{Ready, stand_of, base_of}
 use Rattle.rewrite_sublink.specs.Candidates.{matching, or_nulls, same_as_outer, first_column, deciding, deciding_arm, test_condition, test_subs, contributed}
 
--- what one type has, an equal one has
-pub by : {A B : Type 0} → A ≡ B → A → B
-by e a = subst (λ (X : Type 0). X) e a
-
--- what stands for a sublink's query has its form, also where more columns are named
-pub fitting-longer : (sub : Sublink) (s : Query) → Stands sub.query s → (scopes longer : List (List Kind)) → NamesAlso scopes longer → WellFormed scopes sub.query →
-    sub_form sub.kind sub.tested scopes (kinds_of sub.query) → sub_form sub.kind sub.tested longer (kinds_of s)
-fitting-longer sub s stands scopes longer names formed fitting =
-    subst (sub_form sub.kind sub.tested longer) (sym (stands.kinds scopes formed))
-    (subs_form-longer (more_of-Sublink sub.kind sub.tested sub.query end_of-Sublink) scopes longer names
-    (record { query = formed; fitting = fitting; others = tt })).fitting
-
-module _ (sub : Sublink) (s r : Query) (stands : Stands sub.query s) (rewritten : IsRewrite sub.query r) (over : over_tables sub.query ≡ true) (rows : Query) where
-  abbrev pub stand : Sublink
-  stand = record { kind = sub.kind; tested = sub.tested; query = s }
-
-  abbrev pub base : Query
-  base = cross_base_of sub.query
-
+module _ {sub : Sublink} {tested : Option Expr} {s r : Query} (is : Ready sub tested s r) (rows : Query) where
   abbrev pairs : Query
-  pairs = pairs_of Inner rows base always
+  pairs = pairs_of Inner rows (base_of is) always
 
   abbrev found : Query
-  found = matching (width_of base) (width_of rows) (width_of s) r
+  found = matching (width_of (base_of is)) (width_of rows) (width_of s) r
 
   abbrev test_of : Expr
   test_of = test_condition (deciding sub.kind)
 
-  abbrev pub whole : Query
-  whole = contributed rows base stand r
+  abbrev whole : Query
+  whole = contributed rows (base_of is) (stand_of is) r
 
   pub kinds-contributed : kinds_of whole ≡ kinds_of rows ++ place_kinds (shape sub.query)
   kinds-contributed =
-      kinds_of-Filter pairs test_of (test_subs (deciding sub.kind) stand found) ∙ ap (λ ks. kinds_of rows ++ ks) (kinds_of-cross_base sub.query over)
+      kinds_of-Filter pairs test_of (test_subs (deciding sub.kind) (stand_of is) found) ∙ ap (λ ks. kinds_of rows ++ ks) (kinds_of-cross_base sub.query is.over)
 
   pub bad-contributed : (db : Database) (env : List Row) (faults : Faults) → meaning rows db env ≡ Bad faults → meaning whole db env ≡ Bad faults
   bad-contributed db env faults bad =
-      meaning-Filter db env pairs test_of (test_subs (deciding sub.kind) stand found)
-      ∙ ap (λ o. and_then o (gather (kept (condition_on test_of env (subs_denote (test_subs (deciding sub.kind) stand found) db env)))))
-      (meaning-pairs Inner rows base always db env
-      ∙ (λ i. both_then (bad i) ((meaning-cross_base sub.query over db env).1 i) (joined_rows Inner (condition_on always env no_subs) (width_of rows) (width_of base))))
+      meaning-Filter db env pairs test_of (test_subs (deciding sub.kind) (stand_of is) found)
+      ∙ ap (λ o. and_then o (gather (kept (condition_on test_of env (subs_denote (test_subs (deciding sub.kind) (stand_of is) found) db env)))))
+      (meaning-pairs Inner rows (base_of is) always db env
+      ∙ (λ i. both_then (bad i) ((meaning-cross_base sub.query is.over db env).1 i) (joined_rows Inner (condition_on always env no_subs) (width_of rows) (width_of (base_of is)))))
 
   -- ---- plain
 
   plain-found : is_plain found ≡ true
-  plain-found = plain-chosen (or_nulls r) (same_as_outer (width_of base) (width_of rows) (width_of s)) ∙ plain-pairs Left Single r always ∙ rewritten.plain
+  plain-found = plain-chosen (or_nulls r) (same_as_outer (width_of (base_of is)) (width_of rows) (width_of s)) ∙ plain-pairs Left Single r always ∙ is.rewritten.plain
 
-  plain-tests : (truth : Option Truth) → all_plain (test_subs truth stand found) ≡ true
+  plain-tests : (truth : Option Truth) → all_plain (test_subs truth (stand_of is) found) ≡ true
   plain-tests None = and_from (is_plain found) true plain-found refl
   plain-tests (Some truth) =
       let column = plain-projected found (column_items (kinds_of found) (0 ∷ [])) ∙ plain-found in
       and_from (is_plain found) (is_plain s && (is_plain (first_column found) && true)) plain-found
-      (and_from (is_plain s) (is_plain (first_column found) && true) stands.plain (and_from (is_plain (first_column found)) true column refl))
+      (and_from (is_plain s) (is_plain (first_column found) && true) is.stands.plain (and_from (is_plain (first_column found)) true column refl))
 
   pub plain-contributed : is_plain rows ≡ true → is_plain whole ≡ true
   plain-contributed plain =
-      is_plain-Filter pairs test_of (test_subs (deciding sub.kind) stand found)
-      ∙ and_from (is_plain pairs) (all_plain (test_subs (deciding sub.kind) stand found))
-      (plain-pairs Inner rows base always ∙ and_from (is_plain rows) (is_plain base) plain (plain-cross_base sub.query)) (plain-tests (deciding sub.kind))
+      is_plain-Filter pairs test_of (test_subs (deciding sub.kind) (stand_of is) found)
+      ∙ and_from (is_plain pairs) (all_plain (test_subs (deciding sub.kind) (stand_of is) found))
+      (plain-pairs Inner rows (base_of is) always ∙ and_from (is_plain rows) (is_plain (base_of is)) plain (plain-cross_base sub.query)) (plain-tests (deciding sub.kind))
 
   -- ---- tables
 
@@ -103,40 +86,41 @@ module _ (sub : Sublink) (s r : Query) (stands : Stands sub.query s) (rewritten 
     tables-found : EachTable P found
     tables-found = ((tt, of_rewriting, tt), tt)
 
-    tables-tests : (truth : Option Truth) → EachTableOfSubs P (test_subs truth stand found)
+    tables-tests : (truth : Option Truth) → EachTableOfSubs P (test_subs truth (stand_of is) found)
     tables-tests None = (tables-found, tt)
     tables-tests (Some truth) = (tables-found, (of_stand, ((tables-found, tt), tt)))
 
-    pub tables-contributed : EachTable P rows → EachTable P base → EachTable P whole
+    pub tables-contributed : EachTable P rows → EachTable P (base_of is) → EachTable P whole
     tables-contributed of_rows of_base =
-        by (sym (EachTable-Filter P pairs test_of (test_subs (deciding sub.kind) stand found))) ((of_rows, of_base, tt), tables-tests (deciding sub.kind))
+        by (sym (EachTable-Filter P pairs test_of (test_subs (deciding sub.kind) (stand_of is) found))) ((of_rows, of_base, tt), tables-tests (deciding sub.kind))
 
   -- ---- well formed
 
-  module _ (kinds : List Kind) (outer : List (List Kind)) (formed : WellFormed (kinds ∷ outer) sub.query) (fitting : sub_form sub.kind sub.tested (kinds ∷ outer) (kinds_of sub.query))
-      (more : List Kind) (begins : kinds_of rows ≡ kinds ++ more) where
+  module _ (columns : List Kind) (outer : List (List Kind)) (more : List Kind) (f : AllSubsForm (columns ∷ outer) (sub ∷ [])) (begins : kinds_of rows ≡ columns ++ more) where
     abbrev scopes : List (List Kind)
-    scopes = (kinds_of rows ++ kinds_of base) ∷ outer
+    scopes = (kinds_of rows ++ kinds_of (base_of is)) ∷ outer
 
-    names : NamesAlso (kinds ∷ outer) scopes
+    names : NamesAlso (columns ∷ outer) scopes
     names =
-        subst (λ ks. NamesAlso (kinds ∷ outer) (ks ∷ outer)) (sym (append_assoc kinds more (kinds_of base)) ∙ ap (λ ks. ks ++ kinds_of base) (sym begins))
-        (names-more kinds (more ++ kinds_of base) outer)
+        names-begin columns (more ++ kinds_of (base_of is)) (kinds_of rows ++ kinds_of (base_of is)) outer
+        (ap (λ ks. ks ++ kinds_of (base_of is)) begins ∙ append_assoc columns more (kinds_of (base_of is)))
 
     kinds-are : kinds_of r ≡ kinds_of s ++ place_kinds (shape sub.query)
-    kinds-are = rewritten.kinds (kinds ∷ outer) formed ∙ ap (λ ks. ks ++ place_kinds (shape sub.query)) (sym (stands.kinds (kinds ∷ outer) formed))
+    kinds-are = is.rewritten.kinds (columns ∷ outer) f.query ∙ ap (λ ks. ks ++ place_kinds (shape sub.query)) (sym (is.stands.kinds (columns ∷ outer) f.query))
 
     formed-found : WellFormed scopes found
     formed-found =
-        formed-matching r (kinds_of rows) (kinds_of base) outer (kinds_of s) (place_kinds (shape sub.query)) (width_of base) (width_of rows) (width_of s) kinds-are refl
-        (sym (ap length (kinds_of-cross_base sub.query over))) refl (kinds_of-cross_base sub.query over)
-        (well_formed-longer r (kinds ∷ outer) scopes names (rewritten.formed (kinds ∷ outer) formed))
+        formed-matching r (kinds_of rows) (kinds_of (base_of is)) outer (kinds_of s) (place_kinds (shape sub.query)) (width_of (base_of is)) (width_of rows) (width_of s) kinds-are refl
+        (sym (ap length (kinds_of-cross_base sub.query is.over))) refl (kinds_of-cross_base sub.query is.over)
+        (well_formed-longer r (columns ∷ outer) scopes names (is.rewritten.formed (columns ∷ outer) f.query))
 
     formed-stand : WellFormed scopes s
-    formed-stand = well_formed-longer s (kinds ∷ outer) scopes names (stands.formed (kinds ∷ outer) formed)
+    formed-stand = well_formed-longer s (columns ∷ outer) scopes names (is.stands.formed (columns ∷ outer) f.query)
 
-    fitting-stand : sub_form sub.kind sub.tested scopes (kinds_of s)
-    fitting-stand = fitting-longer sub s stands (kinds ∷ outer) scopes names formed fitting
+    fitting-stand : sub_form sub.kind tested scopes (kinds_of s)
+    fitting-stand =
+        tested-formed sub.kind sub.tested tested is.same scopes (kinds_of s)
+        (subst (sub_form sub.kind sub.tested scopes) (sym (is.stands.kinds (columns ∷ outer) f.query)) (subs-named (sub ∷ []) (columns ∷ outer) scopes names f).fitting)
 
     module _ (column : Kind) (one : kinds_of s ≡ column ∷ []) where
       column-is : kind_in (kinds_of found) 0 ≡ column
@@ -206,8 +190,8 @@ module _ (sub : Sublink) (s r : Query) (stands : Stands sub.query s) (rewritten 
 
     pub formed-contributed : WellFormed outer rows → WellFormed outer whole
     formed-contributed w =
-        by (sym (WellFormed-Filter outer pairs test_of (test_subs (deciding sub.kind) stand found))) (record {
-          input = formed-pairs Inner rows base always outer w (formed-cross_base sub.query (kinds ∷ outer) outer formed) (record { fitting = refl; gives = refl });
-          subs = formed-tests sub.kind sub.tested fitting-stand;
-          condition = formed-condition sub.kind sub.tested;
+        by (sym (WellFormed-Filter outer pairs test_of (test_subs (deciding sub.kind) (stand_of is) found))) (record {
+          input = formed-pairs Inner rows (base_of is) always outer w (formed-cross_base sub.query (columns ∷ outer) outer f.query) (record { fitting = refl; gives = refl });
+          subs = formed-tests sub.kind tested fitting-stand;
+          condition = formed-condition sub.kind tested;
         })

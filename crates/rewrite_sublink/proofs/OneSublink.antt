@@ -12,15 +12,14 @@ use Rattle.bag_algebra.proofs.Members.{IsIn, in-member, member-in}
 use Rattle.bag_algebra.proofs.Outcomes.{both_then-parts}
 use Rattle.bag_algebra.proofs.TablesRead.{reads_among-fit}
 use Rattle.bag_algebra.specs.Bags.{Row, Bag, member}
-use Rattle.bag_algebra.specs.Children.{subs_denote, sublink_value}
-use Rattle.bag_algebra.specs.Fits.{TablesFit, env_fits, row_begins}
+use Rattle.bag_algebra.specs.Children.{subs_denote}
+use Rattle.bag_algebra.specs.Fits.{env_fits, row_begins}
 use Rattle.bag_algebra.specs.Kinds.{kinds_of, place_kinds, shape, width_of}
 use Rattle.bag_algebra.specs.Meaning.{Database, meaning, witnesses, optional_value, condition_on}
 use Rattle.bag_algebra.specs.Means.{Means, Witness, flat, all_empty, cell, chosen, good_rows, good_value, is_met, is_some_row, sub_value}
 use Rattle.bag_algebra.specs.Outcome.{Outcome, Good, Bad, both_then}
-use Rattle.bag_algebra.specs.Rewriting.{IsRewrite, SameRows, Stands}
-use Rattle.bag_algebra.specs.Scoped.{over_tables}
-use Rattle.bag_algebra.specs.WellFormed.{WellFormed, sub_form}
+use Rattle.bag_algebra.specs.Rewriting.{SameRows}
+use Rattle.bag_algebra.specs.WellFormed.{sub_form}
 use Rattle.bag_algebra.specs.declared.place.Place.{Place}
 use Rattle.bag_algebra.specs.declared.query.Query.{Query}
 use Rattle.bag_algebra.specs.declared.expr.Expr.{Expr}
@@ -34,7 +33,6 @@ use Rattle.contribution.proofs.EntriesAtPlaces.{blank-at}
 use Rattle.contribution.proofs.Growth.{denote-same, tested-same}
 use Rattle.contribution.proofs.ListsInBases.{lists-in_cross_base}
 use Rattle.contribution.proofs.OrderOfQueries.{sub_value-permuted}
-use Rattle.contribution.specs.CrossBase.{cross_base_of}
 use Rattle.contribution.specs.Fitting.{Fitting}
 use Rattle.contribution.specs.HeldRows.{held_rows}
 use Rattle.contribution.specs.SameColumns.{SameColumns}
@@ -47,6 +45,9 @@ use Rattle.rewrite_sublink.proofs.Contributing.{matching_rows, contributions, is
 use Rattle.rewrite_sublink.proofs.MatchingRows.{meaning-matching}
 use Rattle.rewrite_sublink.proofs.TestValues.{passes_of, chosen-passing, test-value}
 use Rattle.rewrite_sublink.specs.Candidates.{deciding, matching, test_condition, test_subs}
+use Rattle.query_laws.proofs.SameExpressions.{optional-same}
+use Rattle.rewrite_sublink.proofs.Ready.{Ready, stand_of, base_of}
+use Rattle.rewrite_sublink.proofs.Steps.{SubsFitting, HasValue}
 use Rattle.query_laws.proofs.Contributed.{contributed, contributes-from, in-contributed}
 use Rattle.query_laws.specs.SublinkLists.{Contributes, by_row, by_no_row}
 
@@ -76,18 +77,11 @@ passes-first (All c) None scopes kinds f x v more e = absurd f
 passes-first (All c) (Some tested) scopes kinds f x v more e = ap (passes_of (All c) x) (cell-first v more (e ∙ ap length f.one))
 passes-first Scalar tested scopes kinds f x v more e = refl
 
--- a sublink of a node whose row begins with columns of these kinds; what stands for its query, and a rewriting of it
-module _ (kinds : List Kind) (outer : List (List Kind)) (db : Database) (env : List Row) (fits : env_fits env outer ≡ true)
-    (sub : Sublink) (s r : Query) (stands : Stands sub.query s) (rewritten : IsRewrite sub.query r) (over : over_tables sub.query ≡ true)
-    (formed : WellFormed (kinds ∷ outer) sub.query) (fitting : sub_form sub.kind sub.tested (kinds ∷ outer) (kinds_of sub.query)) (tables : TablesFit db sub.query) where
-  abbrev pub stand : Sublink
-  stand = record { kind = sub.kind; tested = sub.tested; query = s }
-
-  abbrev pub base : Query
-  base = cross_base_of sub.query
-
+-- a sublink of a node whose row begins with columns of these kinds
+module _ {columns : List Kind} {outer : List (List Kind)} {db : Database} {env : List Row} {sub : Sublink} {tested : Option Expr} {s r : Query}
+    (is : Ready sub tested s r) (f : SubsFitting columns outer (sub ∷ []) db env) where
   abbrev count : ℕ
-  count = width_of base
+  count = width_of (base_of is)
 
   abbrev own : ℕ
   own = width_of s
@@ -97,33 +91,33 @@ module _ (kinds : List Kind) (outer : List (List Kind)) (db : Database) (env : L
 
   -- ---- the base
 
-  abbrev pub base-rows : (found : Bag) × (meaning base db env ≡ Good found) × ((u : Row) → IsTrue (member u found) ↔ FlatAt places (held_rows sub.query db None) u)
-  base-rows = meaning-cross_base sub.query over db env
+  abbrev pub base-rows : (found : Bag) × (meaning (base_of is) db env ≡ Good found) × ((u : Row) → IsTrue (member u found) ↔ FlatAt places (held_rows sub.query db None) u)
+  base-rows = meaning-cross_base sub.query is.over db env
 
-  base-fits : Fitting outer base db env
+  base-fits : Fitting outer (base_of is) db env
   base-fits = record {
-    formed = formed-cross_base sub.query (kinds ∷ outer) outer formed;
-    tables = reads_among-fit base sub.query db (tables-cross_base sub.query) tables;
-    outer_rows = fits;
+    formed = formed-cross_base sub.query (columns ∷ outer) outer f.form.query;
+    tables = reads_among-fit (base_of is) sub.query db (tables-cross_base sub.query) f.tables.0;
+    outer_rows = f.outer_rows;
   }
 
   pub candidate-width : (k : Row) → IsIn k base-rows.0 → length k ≡ count
-  candidate-width k h = row-width outer base db env base-fits base-rows.0 k base-rows.1 (in-member k base-rows.0 h)
+  candidate-width k h = row-width outer (base_of is) db env base-fits base-rows.0 k base-rows.1 (in-member k base-rows.0 h)
 
   -- ---- widths
 
   pub own-is : length (kinds_of sub.query) ≡ own
-  own-is = sym (ap length (stands.kinds (kinds ∷ outer) formed))
+  own-is = sym (ap length (is.stands.kinds (columns ∷ outer) f.form.query))
 
   pub count-is : length (place_kinds places) ≡ count
-  count-is = sym (ap length (kinds_of-cross_base sub.query over))
+  count-is = sym (ap length (kinds_of-cross_base sub.query is.over))
 
   pub whole-is : width_of r ≡ length (kinds_of sub.query ++ place_kinds places)
-  whole-is = ap length (rewritten.kinds (kinds ∷ outer) formed)
+  whole-is = ap length (is.rewritten.kinds (columns ∷ outer) f.form.query)
 
-  module _ (b : Row) (begins : row_begins b kinds ≡ true) (v : Value) (good : sublink_value db env b sub ≡ Good v) where
+  module _ (b : Row) (begins : row_begins b columns ≡ true) (v : HasValue db env sub b) where
     pub parts : (x : Value) × (vs : Bag) × (optional_value sub.tested env b ≡ Good x) × (meaning sub.query db (b ∷ env) ≡ Good vs)
-    parts = both_then-parts (optional_value sub.tested env b) (meaning sub.query db (b ∷ env)) (sub_value sub.kind) v good
+    parts = both_then-parts (optional_value sub.tested env b) (meaning sub.query db (b ∷ env)) (sub_value sub.kind) v.0 v.1
 
     abbrev x : Value
     x = parts.0
@@ -134,13 +128,13 @@ module _ (kinds : List Kind) (outer : List (List Kind)) (db : Database) (env : L
     abbrev lists : Row → List Witness
     lists = witnesses sub.query db (b ∷ env)
 
-    inner : Fitting (kinds ∷ outer) sub.query db (b ∷ env)
-    inner = record { formed = formed; tables = tables; outer_rows = and_from (row_begins b kinds) (env_fits env outer) begins fits }
+    inner : Fitting (columns ∷ outer) sub.query db (b ∷ env)
+    inner = record { formed = f.form.query; tables = f.tables.0; outer_rows = and_from (row_begins b columns) (env_fits env outer) begins f.outer_rows }
 
     pub rewriting-rows : (rs : Bag) × (meaning r db (b ∷ env) ≡ Good rs) × Beside lists vs rs
     rewriting-rows =
         good-related (Beside lists) vs (meaning r db (b ∷ env))
-        (subst (λ o. Related (Beside lists) o (meaning r db (b ∷ env))) parts.3 (rewriting-related (kinds ∷ outer) sub.query r db (b ∷ env) inner rewritten))
+        (subst (λ o. Related (Beside lists) o (meaning r db (b ∷ env))) parts.3 (rewriting-related (columns ∷ outer) sub.query r db (b ∷ env) inner is.rewritten))
 
     abbrev rs : Bag
     rs = rewriting-rows.0
@@ -151,22 +145,25 @@ module _ (kinds : List Kind) (outer : List (List Kind)) (db : Database) (env : L
       abbrev z : Row
       z = b ++ k
 
-      same : SameColumns (kinds ∷ outer) (b ∷ env) (z ∷ env)
-      same = columns-added kinds outer b k env begins
+      same : SameColumns (columns ∷ outer) (b ∷ env) (z ∷ env)
+      same = columns-added columns outer b k env begins
 
       rewriting-there : meaning r db (z ∷ env) ≡ Good rs
       rewriting-there =
-          sym (ap (λ (m : Means). m.rows) (denote-same r (kinds ∷ outer) db (b ∷ env) (z ∷ env) (rewritten.formed (kinds ∷ outer) formed) same)) ∙ rewriting-rows.1
+          sym (ap (λ (m : Means). m.rows) (denote-same r (columns ∷ outer) db (b ∷ env) (z ∷ env) (is.rewritten.formed (columns ∷ outer) f.form.query) same)) ∙ rewriting-rows.1
 
-      tested-there : optional_value sub.tested env z ≡ Good x
-      tested-there = sym (tested-same (kinds ∷ outer) b z env env same sub.kind sub.tested (kinds_of sub.query) fitting) ∙ parts.2
+      tested-there : optional_value tested env z ≡ Good x
+      tested-there =
+          sym (optional-same sub.tested tested is.same env z)
+          ∙ sym (tested-same (columns ∷ outer) b z env env same sub.kind sub.tested (kinds_of sub.query) f.form.fitting)
+          ∙ parts.2
 
       stand-rows : SameRows (Good vs) (meaning s db (z ∷ env))
       stand-rows =
-          subst (SameRows (Good vs)) (ap (λ (m : Means). m.rows) (denote-same s (kinds ∷ outer) db (b ∷ env) (z ∷ env) (stands.formed (kinds ∷ outer) formed) same))
-          (subst (λ o. SameRows o (meaning s db (b ∷ env))) parts.3 (stands.rows (kinds ∷ outer) db (b ∷ env) formed tables inner.outer_rows))
+          subst (SameRows (Good vs)) (ap (λ (m : Means). m.rows) (denote-same s (columns ∷ outer) db (b ∷ env) (z ∷ env) (is.stands.formed (columns ∷ outer) f.form.query) same))
+          (subst (λ o. SameRows o (meaning s db (b ∷ env))) parts.3 (is.stands.rows (columns ∷ outer) db (b ∷ env) f.form.query f.tables.0 inner.outer_rows))
 
-      stand-value : both_then (optional_value sub.tested env z) (meaning s db (z ∷ env)) (sub_value sub.kind) ≡ sub_value sub.kind x vs
+      stand-value : both_then (optional_value tested env z) (meaning s db (z ∷ env)) (sub_value sub.kind) ≡ sub_value sub.kind x vs
       stand-value =
           ap (λ o. both_then o (meaning s db (z ∷ env)) (sub_value sub.kind)) tested-there
           ∙ same-answer sub.kind x vs (meaning s db (z ∷ env)) stand-rows
@@ -180,15 +177,15 @@ module _ (kinds : List Kind) (outer : List (List Kind)) (db : Database) (env : L
     decided = list_any (λ row. passes (cell row)) vs
 
     pub wide : (row : Row) → IsIn row vs → length row ≡ own
-    wide row h = row-width (kinds ∷ outer) sub.query db (b ∷ env) inner vs row parts.3 (in-member row vs h) ∙ own-is
+    wide row h = row-width (columns ∷ outer) sub.query db (b ∷ env) inner vs row parts.3 (in-member row vs h) ∙ own-is
 
     pub long : (row : Row) (w : Witness) → Contains (lists row) w → length (flat w) ≡ count
-    long row w c = list-width (kinds ∷ outer) sub.query db (b ∷ env) inner row w c ∙ count-is
+    long row w c = list-width (columns ∷ outer) sub.query db (b ∷ env) inner row w c ∙ count-is
 
     pub first : (row more : Row) → IsIn row vs → passes (cell (row ++ more)) ≡ passes (cell row)
     first row more h =
-        passes-first sub.kind sub.tested (kinds ∷ outer) (kinds_of sub.query) fitting x row more
-        (row-width (kinds ∷ outer) sub.query db (b ∷ env) inner vs row parts.3 (in-member row vs h))
+        passes-first sub.kind sub.tested (columns ∷ outer) (kinds_of sub.query) f.form.fitting x row more
+        (row-width (columns ∷ outer) sub.query db (b ∷ env) inner vs row parts.3 (in-member row vs h))
 
     abbrev is_one : Row → Bool
     is_one k = is_candidate passes (kinds_of sub.query) places vs rs lists rewriting-rows.2 own count (width_of r) own-is count-is whole-is wide long first decided k
@@ -204,7 +201,7 @@ module _ (kinds : List Kind) (outer : List (List Kind)) (db : Database) (env : L
 
     abbrev pub test : ℕ → Row → Outcome Value
     test from z =
-        condition_on (test_condition (deciding sub.kind)) env (subs_denote (test_subs (deciding sub.kind) stand (matching count from own r)) db env) z
+        condition_on (test_condition (deciding sub.kind)) env (subs_denote (test_subs (deciding sub.kind) (stand_of is) (matching count from own r)) db env) z
 
     module _ (from : ℕ) (from_is : length b ≡ from) where
       pub test-good : (k : Row) → length k ≡ count → test from (b ++ k) ≡ Good (Boolean (is_one k))
@@ -213,7 +210,7 @@ module _ (kinds : List Kind) (outer : List (List Kind)) (db : Database) (env : L
           ap (λ xs. picked (range_with_len from count) (b ++ xs)) (sym (append-nil k)) ∙ at-between Null b k [] from count from_is e in
           let found_there : meaning (matching count from own r) db ((b ++ k) ∷ env) ≡ Good (matching_rows k own count (width_of r) rs) =
           meaning-matching r db (b ++ k) env rs count from own (rewriting-there k) ∙ ap (λ c. Good (matching_rows c own count (width_of r) rs)) candidate in
-          test-value sub.tested s (matching count from own r) db env (b ++ k) x vs (matching_rows k own count (width_of r) rs) (tested-there k) found_there sub.kind (stand-value k)
+          test-value tested s (matching count from own r) db env (b ++ k) x vs (matching_rows k own count (width_of r) rs) (tested-there k) found_there sub.kind (stand-value k)
 
       pub passing-contributes : (k : Row) → length k ≡ count → is_met (test from (b ++ k)) ≡ true → (c : Witness) × Contributes db env b sub c × (flat c ≡ k)
       passing-contributes k e met =
@@ -233,7 +230,7 @@ module _ (kinds : List Kind) (outer : List (List Kind)) (db : Database) (env : L
     -- each contribution is a candidate
     pub contributing-in_base : (c : Witness) → Contributes db env b sub c → IsIn (flat c) base-rows.0
     contributing-in_base c (by_row y bag row tested_good rows_good is_chosen listed) =
-        let found = lists-in_cross_base sub.query over db (b ∷ env) env row c listed in
+        let found = lists-in_cross_base sub.query is.over db (b ∷ env) env row c listed in
         member-in (flat c) base-rows.0 (subst (λ o. IsTrue (member (flat c) (good_rows o))) (sym found.1 ∙ base-rows.1) found.2)
     contributing-in_base c (by_no_row none e) =
         member-in (flat c) base-rows.0 ((base-rows.2 (flat c)).1 (all_empty places, (blank-at sub.query db None).stand, ap flat e))

@@ -1,6 +1,5 @@
 -- The rule of a projection with sublinks.
 use Rattle.std.proofs.Common.{◌≡◌, ◌↔◌, ℕ, ◌+◌, ◌-◌, ◌≤◌, ◌<◌, true, slice_index_or, All, List, [], ◌∷◌, ◌++◌, map, length, Contains, append_assoc, append-nil, length-append, refl, sym, ap, ◌∙◌, subst, arith}
-use Rattle.std.proofs.lemmas.Bool.{and_from}
 use Rattle.std.proofs.lemmas.List.{map-append, length-map}
 use Rattle.std.proofs.lemmas.List.Elements.{All-append}
 use Rattle.std.specs.List.{range_with_len}
@@ -24,7 +23,7 @@ use Rattle.bag_algebra.specs.Kinds.{kinds_of, kinds_in, place_kinds, shape, widt
 use Rattle.bag_algebra.specs.Meaning.{Database, meaning, witnesses, items_on}
 use Rattle.bag_algebra.specs.Means.{SubMeans, Witness, flat, good_rows}
 use Rattle.bag_algebra.specs.Outcome.{Faults, Outcome, Good, Bad, and_then, both, each, mapped}
-use Rattle.bag_algebra.specs.Rewriting.{IsRewrite, SameSet, is_plain}
+use Rattle.bag_algebra.specs.Rewriting.{IsRewrite, SameSet, Stands, is_plain}
 use Rattle.bag_algebra.specs.TablesRead.{EachTable, tables_read}
 use Rattle.bag_algebra.specs.WellFormed.{WellFormed, HasKind, ItemsForm, PlacesIn, ProjectForm}
 use Rattle.bag_algebra.specs.declared.expr.Item.{Item}
@@ -33,27 +32,23 @@ use Rattle.bag_algebra.specs.declared.query.Query.TheVariants.{Project, Prov}
 use Rattle.bag_algebra.specs.declared.query.Sublink.{Sublink}
 use Rattle.contribution.proofs.AddedColumns.{columns-added, items_with_subs-same}
 use Rattle.contribution.proofs.GoodRows.{from-each}
-use Rattle.contribution.proofs.Growth.{row_begins-longer}
-use Rattle.contribution.proofs.LongerKinds.{NamesAlso, all-kept, has_kind-longer, names-more}
+use Rattle.contribution.proofs.LongerKinds.{all-kept, has_kind-longer}
 use Rattle.contribution.specs.Fitting.{Fitting}
 use Rattle.rewrite_base.proofs.JoinedOutcomes.{rewritten-from_related}
 use Rattle.rewrite_base.proofs.KeptRewriting.{rewriting-related}
-use Rattle.rewrite_base.proofs.KeptRows.{flat-append, row-width, list-width}
+use Rattle.rewrite_base.proofs.KeptRows.{row-width, list-width}
 use Rattle.rewrite_base.proofs.Places.{at-between, within-range}
-use Rattle.query_laws.proofs.StandingSublinks.{answers-same}
-use Rattle.bag_algebra.specs.built.Scopes.{all_plain, is_plain-Project}
 use Rattle.contribution.proofs.ColumnQueries.{all-first, all-nothing, all-rest, column_items-kinds, kind_there, kinds_of-columns, meaning-columns, formed-columns}
 use Rattle.contribution.proofs.NodeQueries.{plain-projected}
 use Rattle.contribution.specs.ItemKinds.{item_kinds}
 use Rattle.rewrite_base.proofs.BesideLists.{same-from_rewritten}
 use Rattle.rewrite_base.specs.Rewritten.{Beside}
-use Rattle.rewrite_sublink.proofs.AllSublinks.{Ready, AllGoodOn, Reached, good-longer, contributes-longer, contributes-shorter, kinds-all, bad-all, plain-all, tables-all, formed-all, reached, stand-plain, stand-tables, stand-form, stand-kinds, stand-agree}
-use Rattle.rewrite_sublink.proofs.Extending.{Extended}
-use Rattle.rewrite_sublink.proofs.Forming.{by}
 use Rattle.rewrite_base.proofs.Faults.{SameFaults, same_faults-made, each-bad_alike, in-each}
 use Rattle.rewrite_base.proofs.FlatRows.{Flattened, flattened, row-begins, stands_beside}
-use Rattle.rewrite_sublink.proofs.NodeRows.{first-of_good, Reaching, reaching-over}
-use Rattle.rewrite_sublink.specs.Candidates.{all_contributed, beside_row, answer_places, answer_columns}
+use Rattle.rewrite_sublink.proofs.LongerRows.{by, flat-behind, names-rewriting, subs-named, values-longer, contributes-longer, contributes-shorter}
+use Rattle.rewrite_sublink.proofs.NodeRows.{first-of_good, kinds-whole, tables-whole, formed-whole, good-whole, bad-whole, Reaching, reaching-over}
+use Rattle.rewrite_sublink.proofs.Steps.{SubsFitting, HasValues, Reached, Steps}
+use Rattle.rewrite_sublink.specs.Candidates.{beside_row, answer_places, answer_columns}
 use Rattle.query_laws.proofs.AnswerRows.{answer-in, answer-from}
 use Rattle.query_laws.proofs.NodeLists.{project-lists}
 use Rattle.query_laws.specs.ListsOfNodes.{Followed, ProjectList}
@@ -141,18 +136,20 @@ answer-within o r m a e f =
     (All-append (λ place. place < a) (range_with_len r m) (range_with_len o (r - o)) (within-range a r m (omega (arith, f))) (within-range a o (r - o) (omega (arith, e, f))))
     (within-range a (r + m) (a - (r + m)) (omega (arith, f)))
 
-module _ (q r : Query) (items : List Item) (subs standing : List Sublink) (rewritings : List Query) (given : IsRewrite q r) (are : Ready subs standing rewritings) where
+-- first stands for the row and the items over the rewriting of the input
+module _ (q r first : Query) (items : List Item) (subs : List Sublink) (whole : Query → Query) (given : IsRewrite q r)
+    (stands : Stands (Project r (beside_row r items) subs) first) (steps : Steps subs whole) where
   abbrev node : Query
   node = Project q items subs
 
   abbrev all_items : List Item
   all_items = beside_row r items
 
-  abbrev first : Query
-  first = Project r all_items standing
+  abbrev over : Query
+  over = Project r all_items subs
 
   abbrev middle : Query
-  middle = all_contributed first subs standing rewritings
+  middle = whole first
 
   abbrev p : Query
   p = answer_columns middle (width_of q) (width_of r) (length items)
@@ -160,29 +157,26 @@ module _ (q r : Query) (items : List Item) (subs standing : List Sublink) (rewri
   plain-made : is_plain p ≡ true
   plain-made =
       plain-projected middle (column_items (kinds_of middle) (answer_places (width_of q) (width_of r) (length items) (width_of middle)))
-      ∙ plain-all are first (is_plain-Project r all_items standing ∙ and_from (is_plain r) (all_plain standing) given.plain (stand-plain are))
+      ∙ steps.plain first stands.plain
 
-  tables-first : (P : ℕ → List Kind → Type 0) → EachTable P node → EachTable P first × EachTableOfSubs P subs
-  tables-first P h =
+  tables-over : (P : ℕ → List Kind → Type 0) → EachTable P node → EachTable P over × EachTableOfSubs P subs
+  tables-over P h =
       let of_node = by (EachTable-Project P q items subs) h in
-      (by (sym (EachTable-Project P r all_items standing)) (reads_among-each P r q given.tables of_node.0, stand-tables P are of_node.1), of_node.1)
+      (by (sym (EachTable-Project P r all_items subs)) (reads_among-each P r q given.tables of_node.0, of_node.1), of_node.1)
 
   tables-made : (P : ℕ → List Kind → Type 0) → EachTable P node → EachTable P p
-  tables-made P h = let found = tables-first P h in (tables-all P are first found.0 found.1, tt)
+  tables-made P h = let found = tables-over P h in (tables-whole stands steps P found.0 found.1, tt)
 
   module _ (outer : List (List Kind)) (formed : WellFormed outer node) where
     form : ProjectForm (WellFormed outer q) (AllSubsForm (kinds_of q ∷ outer) subs) (ItemsForm (kinds_of q ∷ outer) (subs_kinds subs) items)
     form = by (WellFormed-Project outer q items subs) formed
 
-    kinds-first : kinds_of first ≡ kinds_of q ++ place_kinds (shape q) ++ item_kinds items
-    kinds-first =
-        kinds_of-Project r all_items standing ∙ beside_row-kinds r items ∙ ap (λ ks. ks ++ item_kinds items) (given.kinds outer form.input)
+    kinds-over : kinds_of over ≡ kinds_of q ++ place_kinds (shape q) ++ item_kinds items
+    kinds-over =
+        kinds_of-Project r all_items subs ∙ beside_row-kinds r items ∙ ap (λ ks. ks ++ item_kinds items) (given.kinds outer form.input)
 
-    begins-first : kinds_of first ≡ kinds_of q ++ (place_kinds (shape q) ++ item_kinds items)
-    begins-first = kinds-first ∙ append_assoc (kinds_of q) (place_kinds (shape q)) (item_kinds items)
-
-    kinds-middle : kinds_of middle ≡ (kinds_of q ++ place_kinds (shape q)) ++ item_kinds items ++ place_kinds (subs_shape subs)
-    kinds-middle = kinds-all are first ∙ ap (λ ks. ks ++ place_kinds (subs_shape subs)) kinds-first
+    begins-over : kinds_of over ≡ kinds_of q ++ (place_kinds (shape q) ++ item_kinds items)
+    begins-over = kinds-over ∙ append_assoc (kinds_of q) (place_kinds (shape q)) (item_kinds items)
 
     row-is : length (kinds_of q ++ place_kinds (shape q)) ≡ width_of r
     row-is = sym (ap length (given.kinds outer form.input))
@@ -190,20 +184,24 @@ module _ (q r : Query) (items : List Item) (subs standing : List Sublink) (rewri
     made-is : length (item_kinds items) ≡ length items
     made-is = length-map items (λ (item : Item). item.kind)
 
-    names : NamesAlso (kinds_of q ∷ outer) (kinds_of r ∷ outer)
-    names = subst (λ ks. NamesAlso (kinds_of q ∷ outer) (ks ∷ outer)) (sym (given.kinds outer form.input)) (names-more (kinds_of q) (place_kinds (shape q)) outer)
+    formed-over : WellFormed outer over
+    formed-over =
+        let names = names-rewriting q r outer given form.input in
+        by (sym (WellFormed-Project outer r all_items subs)) (record {
+          input = given.formed outer form.input;
+          subs = subs-named subs (kinds_of q ∷ outer) (kinds_of r ∷ outer) names form.subs;
+          items =
+              All-append (λ (item : Item). HasKind (kinds_of r ∷ outer) (subs_kinds subs) item.expr item.kind) (column_items (kinds_of r) (range_with_len 0 (width_of r))) items
+              (columns-formed (kinds_of r) outer (subs_kinds subs) (range_with_len 0 (width_of r)) (within-range (width_of r) 0 (width_of r) (omega arith)))
+              (all-kept (λ (item : Item). HasKind (kinds_of q ∷ outer) (subs_kinds subs) item.expr item.kind) (λ (item : Item). HasKind (kinds_of r ∷ outer) (subs_kinds subs) item.expr item.kind) items
+              (λ item h. has_kind-longer names (subs_kinds subs) item.expr item.kind h) form.items);
+        })
 
-    formed-first : WellFormed outer first
-    formed-first = by (sym (WellFormed-Project outer r all_items standing)) (record {
-      input = given.formed outer form.input;
-      subs = stand-form (kinds_of q ∷ outer) (kinds_of r ∷ outer) names are form.subs;
-      items =
-          All-append (λ (item : Item). HasKind (kinds_of r ∷ outer) (subs_kinds standing) item.expr item.kind) (column_items (kinds_of r) (range_with_len 0 (width_of r))) items
-          (columns-formed (kinds_of r) outer (subs_kinds standing) (range_with_len 0 (width_of r)) (within-range (width_of r) 0 (width_of r) (omega arith)))
-          (all-kept (λ (item : Item). HasKind (kinds_of q ∷ outer) (subs_kinds standing) item.expr item.kind) (λ (item : Item). HasKind (kinds_of r ∷ outer) (subs_kinds standing) item.expr item.kind) items
-          (λ item h. has_kind-longer names (subs_kinds standing) item.expr item.kind h)
-          (subst (λ ks. ItemsForm (kinds_of q ∷ outer) ks items) (stand-kinds (kinds_of q ∷ outer) are form.subs) form.items));
-    })
+    kinds-middle : kinds_of middle ≡ (kinds_of q ++ place_kinds (shape q)) ++ item_kinds items ++ place_kinds (subs_shape subs)
+    kinds-middle = kinds-whole stands steps outer (kinds_of q ∷ outer) formed-over form.subs ∙ ap (λ ks. ks ++ place_kinds (subs_shape subs)) kinds-over
+
+    formed-middle : WellFormed outer middle
+    formed-middle = formed-whole stands steps (kinds_of q) outer (place_kinds (shape q) ++ item_kinds items) form.subs begins-over formed-over
 
     kinds-made : kinds_of p ≡ kinds_of node ++ place_kinds (shape node)
     kinds-made =
@@ -219,28 +217,34 @@ module _ (q r : Query) (items : List Item) (subs standing : List Sublink) (rewri
         formed-columns middle (answer_places (width_of q) (width_of r) (length items) (width_of middle))
         (answer-within (width_of q) (width_of r) (length items) (width_of middle) (omega (arith, row-is, length-append (kinds_of q) (place_kinds (shape q))))
         (omega (arith, wide, row-is, made-is, length-append ((kinds_of q ++ place_kinds (shape q)) ++ item_kinds items) (place_kinds (subs_shape subs)), length-append (kinds_of q ++ place_kinds (shape q)) (item_kinds items))))
-        outer (formed-all (kinds_of q) outer are form.subs first (place_kinds (shape q) ++ item_kinds items) begins-first formed-first)
+        outer formed-middle
 
     module _ (db : Database) (env : List Row) (tables : TablesFit db node) (fits : env_fits env outer ≡ true) where
       abbrev on : Row → Outcome Row
       on = items_on items env (subs_denote subs db env)
 
       abbrev all_on : Row → Outcome Row
-      all_on = items_on all_items env (subs_denote standing db env)
+      all_on = items_on all_items env (subs_denote subs db env)
 
       of_node : EachTable (λ id ks. bag_fits (db id) ks ≡ true) q × EachTableOfSubs (λ id ks. bag_fits (db id) ks ≡ true) subs
       of_node = by (EachTable-Project (λ id ks. bag_fits (db id) ks ≡ true) q items subs) tables
 
-      fitting-first : TablesFit db first
-      fitting-first = (tables-first (λ id ks. bag_fits (db id) ks ≡ true) tables).0
-
       input-fits : Fitting outer q db env
       input-fits = record { formed = form.input; tables = of_node.0; outer_rows = fits }
 
-      bad : (faults : Faults) → meaning first db env ≡ Bad faults → meaning p db env ≡ Bad faults
+      over-fits : Fitting outer over db env
+      over-fits = record { formed = formed-over; tables = (tables-over (λ id ks. bag_fits (db id) ks ≡ true) tables).0; outer_rows = fits }
+
+      middle-fits : Fitting outer middle db env
+      middle-fits = record { formed = formed-middle; tables = tables-whole stands steps (λ id ks. bag_fits (db id) ks ≡ true) over-fits.tables of_node.1; outer_rows = fits }
+
+      subs-fit : SubsFitting (kinds_of q) outer subs db env
+      subs-fit = record { form = form.subs; tables = of_node.1; outer_rows = fits }
+
+      bad : (faults : Faults) → meaning over db env ≡ Bad faults → meaning p db env ≡ Bad faults
       bad faults e =
           meaning-columns middle (answer_places (width_of q) (width_of r) (length items) (width_of middle)) db env
-          ∙ ap (mapped (map (picked (answer_places (width_of q) (width_of r) (length items) (width_of middle))))) (bad-all are first db env faults e)
+          ∙ ap (mapped (map (picked (answer_places (width_of q) (width_of r) (length items) (width_of middle))))) (bad-whole stands steps (kinds_of q) outer db env subs-fit over-fits faults e)
 
       module _ (us vs : Bag) (good : meaning q db env ≡ Good us) (b : Beside (witnesses q db env) us vs) where
         begins : (u : Row) → IsIn u us → row_begins u (kinds_of q) ≡ true
@@ -258,16 +262,9 @@ module _ (q r : Query) (items : List Item) (subs standing : List Sublink) (rewri
             sym (items_with_subs-same (kinds_of q ∷ outer) subs db u (u ++ more) env env items (subs_kinds subs)
             (by (sym (SubsForm-row_of_subs (kinds_of q ∷ outer) subs)) form.subs) form.items (columns-added (kinds_of q) outer u more env (begins u i)))
 
-        on-standing : (u more : Row) → IsIn u us → items_on items env (subs_denote standing db env) (u ++ more) ≡ on (u ++ more)
-        on-standing u more i =
-            let here = and_from (row_begins (u ++ more) (kinds_of q)) (env_fits env outer) (row_begins-longer u more (kinds_of q) (begins u i)) fits in
-            ap (λ answers. and_then answers (λ found. each (λ (item : Item). value item.expr (u ++ more) env found) items))
-            (sym (answers-same db env (u ++ more) subs standing (stand-agree (kinds_of q ∷ outer) db env (u ++ more) here are form.subs of_node.1)))
-
         all_on-is : (u : Row) (w : Witness) → IsIn u us → Contains (witnesses q db env u) w → all_on (u ++ flat w) ≡ mapped (λ t. (u ++ flat w) ++ t) (on u)
         all_on-is u w i c =
-            beside_row-value r items env (subs_denote standing db env) (u ++ flat w) (whole-width u w i c)
-            ∙ ap (mapped (λ t. (u ++ flat w) ++ t)) (on-standing u (flat w) i ∙ on-longer u (flat w) i)
+            beside_row-value r items env (subs_denote subs db env) (u ++ flat w) (whole-width u w i c) ∙ ap (mapped (λ t. (u ++ flat w) ++ t)) (on-longer u (flat w) i)
 
         alike : (u : Row) (w : Witness) → IsIn u us → Contains (witnesses q db env u) w → SameFaults (on u) (all_on (u ++ flat w))
         alike u w i c = subst (SameFaults (on u)) (sym (all_on-is u w i c)) (same_faults-made (λ t. (u ++ flat w) ++ t) (on u))
@@ -284,107 +281,99 @@ module _ (q r : Query) (items : List Item) (subs standing : List Sublink) (rewri
             here : IsIn origin us
             is_list : Contains (witnesses q db env origin) list
             makes : on origin ≡ Good made
-            whole : (origin ++ flat list) ++ made ≡ z
+            same : (origin ++ flat list) ++ made ≡ z
 
-          first-there : (u : Row) (w : Witness) (t : Row) → IsIn u us → Contains (witnesses q db env u) w → on u ≡ Good t → IsIn ((u ++ flat w) ++ t) zs
-          first-there u w t i c makes =
+          over-there : (u : Row) (w : Witness) (t : Row) → IsIn u us → Contains (witnesses q db env u) w → on u ≡ Good t → IsIn ((u ++ flat w) ++ t) zs
+          over-there u w t i c makes =
               in-each all_on ((u ++ flat w) ++ t) (u ++ flat w) vs zs f (beside_rows.there u w i c) (all_on-is u w i c ∙ ap (mapped (λ t. (u ++ flat w) ++ t)) makes)
 
-          first-back : (z : Row) → IsIn z zs → Base z
-          first-back z j =
+          over-back : (z : Row) → IsIn z zs → Base z
+          over-back z j =
               let found = from-each all_on z vs (subst (λ o. IsIn z (good_rows o)) (sym f) j) in
               let row = beside_rows.back found.0 found.1 in
               let made = mapped-is (λ t. (row.0 ++ flat row.1) ++ t) (on row.0) z (sym (all_on-is row.0 row.1 row.2 row.3) ∙ ap all_on row.4 ∙ found.2) in
-              record { origin = row.0; list = row.1; made = made.0; here = row.2; is_list = row.3; makes = made.1; whole = made.2 }
+              record { origin = row.0; list = row.1; made = made.0; here = row.2; is_list = row.3; makes = made.1; same = made.2 }
 
-          answers : (u t : Row) → on u ≡ Good t → (values : List Value) × ((subs_denote subs db env).answers u ≡ Good values)
-          answers u t makes = first-of_good ((subs_denote subs db env).answers u) (λ found. each (λ (item : Item). value item.expr u env found) items) t makes
+          values : (u t : Row) → on u ≡ Good t → HasValues db env subs u
+          values u t makes = first-of_good ((subs_denote subs db env).answers u) (λ found. each (λ (item : Item). value item.expr u env found) items) t makes
 
-          goods : (z : Row) → IsIn z zs → AllGoodOn (kinds_of q) outer db env fits subs z
-          goods z j =
-              let row = first-back z j in
-              let values = answers row.origin row.made row.makes in
-              subst (AllGoodOn (kinds_of q) outer db env fits subs) (sym (append_assoc row.origin (flat row.list) row.made) ∙ row.whole)
-              (good-longer (kinds_of q) outer db env fits subs form.subs row.origin (flat row.list ++ row.made) (begins row.origin row.here) values.0 values.1)
+          values-over : (z : Row) → IsIn z zs → HasValues db env subs z
+          values-over z j =
+              let row = over-back z j in
+              subst (HasValues db env subs) (sym (append_assoc row.origin (flat row.list) row.made) ∙ row.same)
+              (values-longer subs-fit row.origin (begins row.origin row.here) (values row.origin row.made row.makes) (flat row.list ++ row.made))
 
-          middle-rows : meaning first db env ≡ Good zs → Reached (kinds_of q) outer db env fits middle subs zs
-          middle-rows is_first =
-              reached (kinds_of q) outer db env fits are form.subs of_node.1 first (place_kinds (shape q) ++ item_kinds items) begins-first formed-first fitting-first zs is_first goods
+          reached : meaning over db env ≡ Good zs → Reached middle db env (λ z w. EachContributes db env z subs w) zs
+          reached is_over =
+              good-whole stands steps (kinds_of q) outer db env subs-fit zs
+              (record { more = place_kinds (shape q) ++ item_kinds items; begins = begins-over; fitting = over-fits; good = is_over }) values-over
 
           lists_are : (t : Row) (w : Witness) → Contains (witnesses node db env t) w ↔ (InAnswer node db env t × ProjectList q items subs db env t w)
           lists_are t w = project-lists db env t w q items subs
 
-          module _ (ys : Bag) (middle_good : meaning middle db env ≡ Good ys) (extended : Extended (λ z w. EachContributes db env z subs w) zs ys) (is_node : meaning node db env ≡ Good ts)
-              (is_first : meaning first db env ≡ Good zs) where
+          module _ (found : Reached middle db env (λ z w. EachContributes db env z subs w) zs) (is_node : meaning node db env ≡ Good ts) (is_over : meaning over db env ≡ Good zs) where
             abbrev move : Row → Row
             move = picked (answer_places (width_of q) (width_of r) (length items) (width_of middle))
 
             made-width : (z : Row) (row : Base z) → IsIn z zs → length row.made ≡ length items
             made-width z row j =
-                let all = row-width outer first db env (record { formed = formed-first; tables = fitting-first; outer_rows = fits }) zs z is_first (in-member z zs j) in
+                let all = row-width outer over db env over-fits zs z is_over (in-member z zs j) in
                 omega (
                   arith,
-                  ap length row.whole,
+                  ap length row.same,
                   all,
                   length-append (row.origin ++ flat row.list) row.made,
                   whole-width row.origin row.list row.here row.is_list,
-                  ap length kinds-first,
+                  ap length kinds-over,
                   length-append (kinds_of q ++ place_kinds (shape q)) (item_kinds items),
                   row-is,
                   made-is,
                 )
 
             -- the columns of the answer of a row beside contributions
-            moved : (z : Row) (row : Base z) (c : Witness) → IsIn z zs → IsIn (z ++ flat c) ys → move (z ++ flat c) ≡ row.made ++ flat (row.list ++ c)
+            moved : (z : Row) (row : Base z) (c : Witness) → IsIn z zs → IsIn (z ++ flat c) found.bag → move (z ++ flat c) ≡ row.made ++ flat (row.list ++ c)
             moved z row c j k =
-                let wide = row-width outer middle db env (record {
-                  formed = formed-all (kinds_of q) outer are form.subs first (place_kinds (shape q) ++ item_kinds items) begins-first formed-first;
-                  tables = tables-all (λ id ks. bag_fits (db id) ks ≡ true) are first fitting-first of_node.1;
-                  outer_rows = fits;
-                }) ys (z ++ flat c) middle_good (in-member (z ++ flat c) ys k) in
-                ap (λ x. move (x ++ flat c)) (sym row.whole)
+                let wide = row-width outer middle db env middle-fits found.bag (z ++ flat c) found.good (in-member (z ++ flat c) found.bag k) in
+                ap (λ x. move (x ++ flat c)) (sym row.same)
                 ∙ at-answer Null row.origin (flat row.list) row.made (flat c) (width_of q) (width_of r) (length items) (width_of middle)
                 (row-width outer q db env input-fits us row.origin good (in-member row.origin us row.here)) (whole-width row.origin row.list row.here row.is_list) (made-width z row j)
-                (ap (λ x. length (x ++ flat c)) row.whole ∙ wide)
-                ∙ append_assoc row.made (flat row.list) (flat c)
-                ∙ ap (λ x. row.made ++ x) (sym (flat-append row.list c))
+                (ap (λ x. length (x ++ flat c)) row.same ∙ wide)
+                ∙ flat-behind row.made row.list c
 
-            all-rows : Flattened (witnesses node db env) ts (map move ys)
+            all-rows : Flattened (witnesses node db env) ts (map move found.bag)
             all-rows = record {
               there = λ t w i c.
                   let list = ((lists_are t w).0 c).1 in
                   let u = list.origin in
                   let here = subst (λ o. IsIn u (good_rows o)) good (answer-in q db env u list.there) in
                   let l = list.followed in
-                  let values = answers u t list.makes in
                   let z = (u ++ flat l.list) ++ t in
-                  let base = first-there u l.list t here l.is_list list.makes in
+                  let base = over-there u l.list t here l.is_list list.makes in
                   let contribute = subst (λ z. EachContributes db env z subs l.contributions) (sym (append_assoc u (flat l.list) t))
-                  (contributes-longer (kinds_of q) outer db env fits subs form.subs u (flat l.list ++ t) (begins u here) values.0 values.1 l.contributions l.contribute) in
-                  let there = extended.there z l.contributions base contribute in
-                  subst (λ x. IsIn x (map move ys))
-                  (moved z (record { origin = u; list = l.list; made = t; here = here; is_list = l.is_list; makes = list.makes; whole = refl }) l.contributions base there ∙ ap (λ w. t ++ flat w) l.whole)
-                  (in-map move (z ++ flat l.contributions) ys there);
+                  (contributes-longer subs-fit u (begins u here) (values u t list.makes) (flat l.list ++ t) l.contributions l.contribute) in
+                  let there = found.extended.there z l.contributions base contribute in
+                  subst (λ x. IsIn x (map move found.bag))
+                  (moved z (record { origin = u; list = l.list; made = t; here = here; is_list = l.is_list; makes = list.makes; same = refl }) l.contributions base there ∙ ap (λ w. t ++ flat w) l.whole)
+                  (in-map move (z ++ flat l.contributions) found.bag there);
               back = λ x j.
-                  let found = from-map move x ys j in
-                  let last = extended.back found.0 found.1 in
-                  let row = first-back last.0 last.2 in
+                  let moved_from = from-map move x found.bag j in
+                  let last = found.extended.back moved_from.0 moved_from.1 in
+                  let row = over-back last.0 last.2 in
                   let u = row.origin in
                   let t = row.made in
-                  let values = answers u t row.makes in
-                  let there = subst (λ y. IsIn y ys) (sym last.4) found.1 in
-                  let contribute = contributes-shorter (kinds_of q) outer db env fits subs form.subs u (flat row.list ++ t) (begins u row.here) values.0 values.1 last.1
-                  (subst (λ z. EachContributes db env z subs last.1) (sym row.whole ∙ append_assoc u (flat row.list) t) last.3) in
+                  let there = subst (λ y. IsIn y found.bag) (sym last.4) moved_from.1 in
+                  let contribute = contributes-shorter subs-fit u (begins u row.here) (values u t row.makes) (flat row.list ++ t) last.1
+                  (subst (λ z. EachContributes db env z subs last.1) (sym row.same ∙ append_assoc u (flat row.list) t) last.3) in
                   let here = in-each on t u us ts e row.here row.makes in
                   let answer : InAnswer node db env t = record { bag = ts; good = is_node; row = in-member t ts here } in
                   let followed : Followed q subs db env u (row.list ++ last.1) =
                   record { list = row.list; contributions = last.1; is_list = row.is_list; contribute = contribute; whole = refl } in
                   let list : ProjectList q items subs db env t (row.list ++ last.1) =
                   record { origin = u; there = answer-from q db env u (subst (λ o. IsIn u (good_rows o)) (sym good) row.here); makes = row.makes; followed = followed } in
-                  (t, row.list ++ last.1, here, (lists_are t (row.list ++ last.1)).1 (answer, list), sym (moved last.0 row last.1 last.2 there) ∙ ap move last.4 ∙ found.2);
+                  (t, row.list ++ last.1, here, (lists_are t (row.list ++ last.1)).1 (answer, list), sym (moved last.0 row last.1 last.2 there) ∙ ap move last.4 ∙ moved_from.2);
             }
 
-        reaching : meaning r db env ≡ Good vs → Reaching node first p db env bad (each on us) (each all_on vs)
+        reaching : meaning r db env ≡ Good vs → Reaching node over p db env bad (each on us) (each all_on vs)
         reaching is_rewriting = record {
           faults = each-bad_alike on all_on us vs (record {
             there = λ u i. let s = stands_beside (witnesses q db env) us vs b u i in (u ++ flat s.list, s.row, alike u s.list i s.is_list);
@@ -394,12 +383,12 @@ module _ (q r : Query) (items : List Item) (subs standing : List Sublink) (rewri
           });
           rows = λ ts zs e f.
               let is_node = meaning-Project db env q items subs ∙ ap (λ o. and_then o (each on)) good ∙ e in
-              let is_first = meaning-Project db env r all_items standing ∙ ap (λ o. and_then o (each all_on)) is_rewriting ∙ f in
-              let found = middle-rows ts zs e f is_first in
+              let is_over = meaning-Project db env r all_items subs ∙ ap (λ o. and_then o (each all_on)) is_rewriting ∙ f in
+              let found = reached ts zs e f is_over in
               let places = answer_places (width_of q) (width_of r) (length items) (width_of middle) in (
                 map (picked places) found.bag,
                 meaning-columns middle places db env ∙ ap (mapped (map (picked places))) found.good,
-                all-rows ts zs e f found.bag found.good found.extended is_node is_first,
+                all-rows ts zs e f found is_node is_over,
               );
         }
 
@@ -407,7 +396,7 @@ module _ (q r : Query) (items : List Item) (subs standing : List Sublink) (rewri
       same_rows =
           same-from_rewritten node p db env
           (rewritten-from_related (witnesses node db env) (meaning node db env) (meaning p db env)
-          (reaching-over node first p db env bad q r (each on) (each all_on) (meaning-Project db env q items subs) (meaning-Project db env r all_items standing)
+          (reaching-over node over p db env bad q r (each on) (each all_on) (meaning-Project db env q items subs) (meaning-Project db env r all_items subs)
           (λ us vs good is_rewriting b. reaching us vs good b is_rewriting) (rewriting-related outer q r db env input-fits given)))
 
   pub rewrite-Project_with : IsRewrite node p

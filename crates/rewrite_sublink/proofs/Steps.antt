@@ -1,33 +1,82 @@
--- One sublink more, as the loop takes them.
-use Rattle.std.proofs.Common.{◌≡◌, ℕ, zero, suc, ◌+◌, ◌<◌, ◌≤◌, true, List, [], ◌∷◌, length, drop, get_or, sym, ap, ◌∙◌, arith}
-use Rattle.std.proofs.Math.Seq.{drop-cons}
-use Rattle.std.proofs.lemmas.List.{drop_all}
-use Rattle.bag_algebra.proofs.Truths.{left-true, right-true}
-use Rattle.bag_algebra.specs.Scoped.{over_tables}
+-- Steps of a rule for sublinks. A step adds to the rows of a query what one sublink of the node contributes on them, and the
+-- rule of the node asks nothing else of it.
+use Rattle.std.proofs.Common.{◌≡◌, ℕ, true, List, [], ◌∷◌, ◌++◌}
+use Rattle.perm_values.specs.declared.kind.Kind.{Kind}
+use Rattle.perm_values.specs.declared.value.Value.{Value}
+use Rattle.bag_algebra.proofs.Members.{IsIn}
+use Rattle.bag_algebra.specs.Bags.{Row, Bag}
+use Rattle.bag_algebra.specs.built.Forms.{AllSubsForm, EachTableOfSubs}
+use Rattle.bag_algebra.specs.Children.{subs_denote, sublink_value, subs_shape}
+use Rattle.bag_algebra.specs.Fits.{bag_fits, env_fits}
+use Rattle.bag_algebra.specs.Kinds.{kinds_of, place_kinds, shape}
+use Rattle.bag_algebra.specs.Meaning.{Database, meaning}
+use Rattle.bag_algebra.specs.Means.{Witness, flat}
+use Rattle.bag_algebra.specs.Outcome.{Faults, Good, Bad}
+use Rattle.bag_algebra.specs.Rewriting.{is_plain}
+use Rattle.bag_algebra.specs.TablesRead.{EachTable}
+use Rattle.bag_algebra.specs.WellFormed.{WellFormed}
 use Rattle.bag_algebra.specs.declared.query.Query.{Query}
 use Rattle.bag_algebra.specs.declared.query.Sublink.{Sublink}
-use Rattle.contribution.specs.CrossBase.{cross_base_of}
-use Rattle.bag_algebra.specs.built.Scopes.{all_over_tables}
-use Rattle.rewrite_sublink.specs.Candidates.{all_contributed, contributed}
+use Rattle.contribution.specs.Fitting.{Fitting}
+use Rattle.query_laws.specs.SublinkLists.{Contributes, EachContributes}
 
-opened : {X : Type 0} (xs : List X) (at : ℕ) (x : X) → at < length xs → x ≡ get_or xs at x → drop at xs ≡ x ∷ drop (at + 1) xs
-opened xs at x within e =
-    let next : suc at ≡ at + 1 = omega arith in
-    drop-cons xs at x within ∙ (λ i. sym e i ∷ drop (next i) xs)
+-- ---- what a step is given
 
-pub next : (whole : Query) (subs standing : List Sublink) (rewritings : List Query) (at : ℕ) (sub stand : Sublink) (rewriting : Query) →
-    at < length subs → at < length standing → at < length rewritings →
-    sub ≡ get_or subs at sub → stand ≡ get_or standing at stand → rewriting ≡ get_or rewritings at rewriting →
-    all_contributed (contributed whole (cross_base_of sub.query) stand rewriting) (drop (at + 1) subs) (drop (at + 1) standing) (drop (at + 1) rewritings)
-    ≡ all_contributed whole (drop at subs) (drop at standing) (drop at rewritings)
-next whole subs standing rewritings at sub stand rewriting h g k e f d =
-    sym (λ i. all_contributed whole (opened subs at sub h e i) (opened standing at stand g f i) (opened rewritings at rewriting k d i))
+-- sublinks of a node whose columns are of these kinds are well formed, and a database and outer rows fit them
+pub record SubsFitting (columns : List Kind) (outer : List (List Kind)) (subs : List Sublink) (db : Database) (env : List Row) : Type 0 where
+  pub form : AllSubsForm (columns ∷ outer) subs
+  pub tables : EachTableOfSubs (λ id kinds. bag_fits (db id) kinds ≡ true) subs
+  pub outer_rows : env_fits env outer ≡ true
 
-pub last : (whole : Query) (subs standing : List Sublink) (rewritings : List Query) (at : ℕ) → length subs ≤ at →
-    all_contributed whole (drop at subs) (drop at standing) (drop at rewritings) ≡ whole
-last whole subs standing rewritings at h = ap (λ subs. all_contributed whole subs (drop at standing) (drop at rewritings)) (drop_all at subs h)
+-- a query that has the rows us, which begin with the node's columns
+pub record Begun (columns : List Kind) (outer : List (List Kind)) (db : Database) (env : List Row) (rows : Query) (us : Bag) : Type 0 where
+  pub more : List Kind
+  pub begins : kinds_of rows ≡ columns ++ more
+  pub fitting : Fitting outer rows db env
+  pub good : meaning rows db env ≡ Good us
 
-pub over-at : (subs : List Sublink) (at : ℕ) (sub : Sublink) → all_over_tables subs ≡ true → at < length subs → sub ≡ get_or subs at sub → over_tables sub.query ≡ true
-over-at [] at sub over h e = absurd (omega (arith, h))
-over-at (s ∷ subs) zero sub over h e = ap (λ (sub : Sublink). over_tables sub.query) e ∙ left-true (over_tables s.query) (all_over_tables subs) over
-over-at (s ∷ subs) (suc at) sub over h e = over-at subs at sub (right-true (over_tables s.query) (all_over_tables subs) over) (omega (arith, h)) e
+abbrev pub HasValue : Database → List Row → Sublink → Row → Type 0
+HasValue db env sub b = (v : Value) × (sublink_value db env b sub ≡ Good v)
+
+abbrev pub HasValues : Database → List Row → List Sublink → Row → Type 0
+HasValues db env subs b = (values : List Value) × ((subs_denote subs db env).answers b ≡ Good values)
+
+-- ---- what it makes
+
+-- each row of us beside each of its contributions is in ys, and nothing else is
+pub record Extended (contributes : Row → Witness → Type 0) (us ys : Bag) : Type 0 where
+  pub there : (b : Row) (c : Witness) → IsIn b us → contributes b c → IsIn (b ++ flat c) ys
+  pub back : (y : Row) → IsIn y ys → (b : Row) × (c : Witness) × IsIn b us × contributes b c × (b ++ flat c ≡ y)
+
+-- the query has these rows
+pub record Reached (p : Query) (db : Database) (env : List Row) (contributes : Row → Witness → Type 0) (us : Bag) : Type 0 where
+  pub bag : Bag
+  pub good : meaning p db env ≡ Good bag
+  pub extended : Extended contributes us bag
+
+-- ---- steps
+
+-- of one sublink: the columns of its places stand behind the rows', where the rows are bad so is what is made of them, and
+-- where they are good and the sublink has a value on each, they stand there beside their contributions
+pub record Step (sub : Sublink) (next : Query → Query) : Type 1 where
+  pub kinds : (scopes : List (List Kind)) (rows : Query) → AllSubsForm scopes (sub ∷ []) → kinds_of (next rows) ≡ kinds_of rows ++ place_kinds (shape sub.query)
+  pub plain : (rows : Query) → is_plain rows ≡ true → is_plain (next rows) ≡ true
+  pub tables : (P : ℕ → List Kind → Type 0) (rows : Query) → EachTable P rows → EachTable P sub.query → EachTable P (next rows)
+  pub formed : (columns : List Kind) (outer : List (List Kind)) (rows : Query) (more : List Kind) → AllSubsForm (columns ∷ outer) (sub ∷ []) →
+      kinds_of rows ≡ columns ++ more → WellFormed outer rows → WellFormed outer (next rows)
+  pub bad : (columns : List Kind) (outer : List (List Kind)) (db : Database) (env : List Row) → SubsFitting columns outer (sub ∷ []) db env → (rows : Query) (faults : Faults) →
+      meaning rows db env ≡ Bad faults → meaning (next rows) db env ≡ Bad faults
+  pub good : (columns : List Kind) (outer : List (List Kind)) (db : Database) (env : List Row) → SubsFitting columns outer (sub ∷ []) db env → (rows : Query) (us : Bag) →
+      Begun columns outer db env rows us → ((b : Row) → IsIn b us → HasValue db env sub b) → Reached (next rows) db env (λ b c. Contributes db env b sub c) us
+
+-- of all sublinks of a node
+pub record Steps (subs : List Sublink) (whole : Query → Query) : Type 1 where
+  pub kinds : (scopes : List (List Kind)) (rows : Query) → AllSubsForm scopes subs → kinds_of (whole rows) ≡ kinds_of rows ++ place_kinds (subs_shape subs)
+  pub plain : (rows : Query) → is_plain rows ≡ true → is_plain (whole rows) ≡ true
+  pub tables : (P : ℕ → List Kind → Type 0) (rows : Query) → EachTable P rows → EachTableOfSubs P subs → EachTable P (whole rows)
+  pub formed : (columns : List Kind) (outer : List (List Kind)) (rows : Query) (more : List Kind) → AllSubsForm (columns ∷ outer) subs →
+      kinds_of rows ≡ columns ++ more → WellFormed outer rows → WellFormed outer (whole rows)
+  pub bad : (columns : List Kind) (outer : List (List Kind)) (db : Database) (env : List Row) → SubsFitting columns outer subs db env → (rows : Query) (faults : Faults) →
+      meaning rows db env ≡ Bad faults → meaning (whole rows) db env ≡ Bad faults
+  pub good : (columns : List Kind) (outer : List (List Kind)) (db : Database) (env : List Row) → SubsFitting columns outer subs db env → (rows : Query) (us : Bag) →
+      Begun columns outer db env rows us → ((b : Row) → IsIn b us → HasValues db env subs b) → Reached (whole rows) db env (λ b w. EachContributes db env b subs w) us

@@ -122,6 +122,16 @@ left_join-rows = refl
 left_join-rows_replaced : printed (replaced (kept_left t)) fresh ≡ Good ((num 2 ∷ num 2 ∷ num 2 ∷ y ∷ []) ∷ (num 3 ∷ Null ∷ Null ∷ Null ∷ []) ∷ [])
 left_join-rows_replaced = refl
 
+-- a table that is read with fewer columns gives fewer NULLs
+abbrev narrow : Query
+narrow = Table 3 (kind.Integer ∷ [])
+
+narrow-rows : printed (kept_left narrow) fresh ≡ Good ((num 2 ∷ num 2 ∷ num 2 ∷ y ∷ []) ∷ (num 3 ∷ Null ∷ []) ∷ [])
+narrow-rows = refl
+
+narrow-rows_replaced : printed (replaced (kept_left narrow)) fresh ≡ Good ((num 2 ∷ num 2 ∷ num 2 ∷ y ∷ []) ∷ (num 3 ∷ Null ∷ Null ∷ Null ∷ []) ∷ [])
+narrow-rows_replaced = refl
+
 -- ---- at the right of a dependent join: SELECT s.c, x.a FROM s CROSS JOIN LATERAL (SELECT a FROM t WHERE a = s.c) x
 
 abbrev under_s : Query → Query
@@ -161,3 +171,13 @@ prov-rows = refl
 prov-rows_replaced : printed (replaced (ProvOf (with_s t))) fresh
     ≡ Good ((num 1 ∷ num 1 ∷ x ∷ Null ∷ []) ∷ (num 2 ∷ num 2 ∷ y ∷ Null ∷ []) ∷ (num 2 ∷ Null ∷ Null ∷ num 2 ∷ []) ∷ (num 3 ∷ Null ∷ Null ∷ num 3 ∷ []) ∷ [])
 prov-rows_replaced = refl
+
+-- a query with places gives entries where a table gives none: SELECT a FROM r in the place of a table of its rows
+abbrev copied : Database
+copied = storing ((num 1 ∷ []) ∷ []) ((num 1 ∷ x ∷ []) ∷ []) []
+
+places-lists : witnesses narrow copied [] (num 1 ∷ []) ≡ [] ∷ []
+places-lists = refl
+
+places-lists_replaced : witnesses (over_queries (standing 3 (select_a r)) narrow) copied [] (num 1 ∷ []) ≡ (Held (num 1 ∷ x ∷ []) ∷ []) ∷ []
+places-lists_replaced = refl

@@ -1,5 +1,5 @@
 use Rattle.std.proofs.Common.{◌∙◌, ◌+◌, drop, sym, ap, arith}
-use Rattle.rewrite_sublink.proofs.Steps.{next, last, over-at}
+use Rattle.rewrite_sublink.proofs.OneMore.{next, last, over-at}
 use Rattle.rewrite_sublink.proofs.candidates.with_contributions.Goals as goal
 use Rattle.rewrite_sublink.specs.Candidates.{all_contributed}
 

@@ -1,0 +1,3 @@
+pub mod KeptOnce
+pub mod NewMarks
+pub mod Reading

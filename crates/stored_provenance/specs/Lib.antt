@@ -1,0 +1,3 @@
+pub mod Freshness
+pub mod Held
+pub mod Reads
