@@ -1,3 +1,2 @@
 pub mod Selected
-pub mod Shown
 pub mod Unfiled

@@ -1,7 +1,6 @@
--- The run of a query, by a query that stands for it, and the turns of the statements that run one.
+-- The run of a query, by a query that stands for it, and the turn of a query.
 use mathlib.Core.Bool.{true≢false}
 use Rattle.std.proofs.Common.{◌≡◌, ◌∙◌, ℕ, true, List, [], Option, Some, None, Result, Ok, Err, IfOk, Ordering, refl, sym, ap, subst}
-use Rattle.std.specs.Prelude.{IfSome}
 use Rattle.perm_values.specs.Rows.{printed_cmp}
 use Rattle.perm_values.specs.declared.value.Value.{Value}
 use Rattle.bag_algebra.proofs.BagLaws.{same_bag-trans}
@@ -19,13 +18,12 @@ use Rattle.row_values.specs.Answers.{Refuses}
 use Rattle.row_values.specs.declared.error.ExecError.{ExecError}
 use Rattle.row_values.specs.declared.error.ExecError.TheVariants.{Fault, NoMemory}
 use Rattle.perm_catalog.specs.Contents.{Contents}
-use Rattle.perm_catalog.specs.declared.column.Column.{Column}
-use Rattle.statement_meaning.specs.Answers.{IsText, IsTurn, Names, met}
+use Rattle.statement_meaning.specs.Answers.{IsText, Names, met}
 use Rattle.statement_meaning.specs.Ready.{CanRun}
-use Rattle.statement_meaning.specs.Turns.{Turn, Accepted, answered, create_table_as, on_good, select, store_answer}
+use Rattle.statement_meaning.specs.Turns.{Turn, Accepted, answered, on_good, select}
 use Rattle.statement_meaning.specs.declared.refusal.StepRefusal.{StepRefusal}
 use Rattle.statement_steps.specs.Printed.{IsPrinted}
-use Rattle.statement_steps.specs.Runs.{AnswersBy, IsAnswered, IsRun, Keeps, Runs, RunsFor, run_of}
+use Rattle.statement_steps.specs.Runs.{IsAnswered, Keeps, Runs, RunsFor, run_of}
 use Rattle.statement_steps.specs.declared.ran.Ran.{Ran}
 
 -- a run with these rows
@@ -125,22 +123,3 @@ module _ (c : Contents) (at : ℕ) (answer : Answer) where
   answer-run (Ok done) None result runs printed = absurd runs
   answer-run (Err error) last (Ok text) runs printed = absurd printed
   answer-run (Err error) last (Err refusal) runs printed = tt
-
-  -- a table holds the run's rows
-  module _ (name : List ℕ) (columns : List Column) (places : Option (List ℕ)) (new : Contents) (result : Result (List ℕ) StepRefusal) where
-    pub stored-turn : (last : Option Ran) → Runs c answer (Ok tt) last
-        → IfSome last (λ (ran : Ran). IsTurn (store_answer c at name columns answer places ran.rows) c new result)
-        → IsTurn (create_table_as c at name columns answer places) c new result
-    stored-turn None runs h = absurd runs
-    stored-turn (Some ran) runs h =
-        subst (λ (turn : Turn). IsTurn turn c new result)
-        (sym (good-turn (meaning answer.query (rows_in c.rows) []) (store_answer c at name columns answer places) ran.rows runs.1)) h
-
-    pub stored-run : (last : Option Ran) → Runs c answer (Ok tt) last → IsRun c answer last
-    stored-run None runs = absurd runs
-    stored-run (Some ran) runs = runs.0
-
-    pub unstored-turn : (last : Option Ran) (error : ExecError) → Runs c answer (Err error) last
-        → IsTurn (create_table_as c at name columns answer places) c c (Err (met at error))
-    unstored-turn last error runs =
-        (bad-turn (meaning answer.query (rows_in c.rows) []) (λ rows. store_answer c at name columns answer places (sorted (printed_cmp answer.keys) rows)) error runs, refl)
