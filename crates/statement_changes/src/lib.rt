@@ -9,6 +9,7 @@ mod dropping;
 mod inserting;
 mod loading;
 mod refusing;
+mod storing;
 mod text;
 
 pub use copying::copy;
@@ -17,3 +18,4 @@ pub use deleting::delete;
 pub use dropping::{drop_table, drop_view};
 pub use inserting::insert;
 pub use loading::RowFile;
+pub use storing::{NewTable, store_answer};

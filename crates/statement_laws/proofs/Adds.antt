@@ -38,7 +38,8 @@ use Rattle.name_laws.specs.Formed.{IsAnswer, IsFormedExpr}
 use Rattle.name_laws.specs.Standing.{StandAt, AggregatesStand}
 use Rattle.name_laws.proofs.TreeLaws.{expr-formed, query-answer, query-closed, query-wide}
 use Rattle.name_laws.proofs.Named.{view-reads}
-use Rattle.statement_laws.proofs.Ready.{names-whole, unbroken, not-false}
+use Rattle.statement_laws.proofs.Ready.{names-whole, unbroken, not-false, left-false, right-false}
+use Rattle.statement_laws.proofs.Stored.{answer-adds}
 use Rattle.statement_laws.specs.Sounder.{AddsSoundly, HaveKinds, RowsHaveKinds}
 use Rattle.name_meaning.specs.declared.rule.Rule.TheVariants as rule
 
@@ -46,14 +47,6 @@ all-of : {X : Type 0} (P : X → Type 0) (xs : List X) → Each P xs → All P x
 all-of P xs each = All-weaker (Contains xs) P (λ x among. each x among) xs (All-contains_itself xs)
 
 -- ---- columns
-
-left-false : (a b : Bool) → (a || b) ≡ false → a ≡ false
-left-false true b h = absurd (cc h)
-left-false false b h = refl
-
-right-false : (a b : Bool) → (a || b) ≡ false → b ≡ false
-right-false true b h = absurd (cc h)
-right-false false b h = h
 
 -- no name behind another is it, nor one of the earlier ones
 module _ (name : List ℕ) (earlier : List (List ℕ)) where
@@ -195,7 +188,7 @@ module _ (c : Contents) (sound : IsSound c) where
   body-adds : (body : StatementBody) → RegularStatementBody body → name_breaks c body ≡ [] → AddsSoundly c (resolved_body c body)
   body-adds (st.CreateTable table columns) regular whole =
       table-columns columns regular.0 regular.1 (back-none (taken c table) (repeated_columns [] columns) whole)
-  body-adds (st.CreateTableAs table query) regular whole = tt
+  body-adds (st.CreateTableAs table query) regular whole = answer-adds c sound table query regular whole
   body-adds (st.CreateView name query) regular whole =
       let more : List Break = named_query_breaks query.at (query_meant c query) in
       view-sound query regular

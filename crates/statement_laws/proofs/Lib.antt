@@ -7,6 +7,7 @@ pub mod Nested
 pub mod Provenance
 pub mod Ready
 pub mod Sounder
+mod Stored
 pub mod Unspent
 mod Untraced
 mod UntracedCores

@@ -1,5 +1,5 @@
 -- A statement that breaks no rule names what is there, and its query can run.
-use Rattle.std.proofs.Common.{◌≡◌, ℕ, Bool, true, false, cond, not, List, [], ◌∷◌, ◌++◌, Option, Some, None, IsSome, refl, sym, ap}
+use Rattle.std.proofs.Common.{◌≡◌, ℕ, Bool, true, false, cond, not, ◌||◌, List, [], ◌∷◌, ◌++◌, Option, Some, None, IsSome, refl, sym, ap}
 use Rattle.std.specs.Option.{option_map_or}
 use Rattle.std.specs.Prelude.{is_none, is_some}
 use Rattle.bag_algebra.specs.declared.query.Query.{Query}
@@ -15,7 +15,8 @@ use Rattle.sql_tree.specs.declared.statement.Statement.{Statement}
 use Rattle.sql_tree.specs.declared.statement.StatementBody.{StatementBody}
 use Rattle.sql_tree.specs.declared.statement.StatementBody.TheVariants as st
 use Rattle.name_meaning.specs.Meanings.{broken, broken_if, is_whole}
-use Rattle.name_meaning.specs.Statements.{alone, answer_of, query_meant, breaks, name_breaks, limit_breaks, named_query_breaks, on_table, repeated_columns, resolved, resolved_body, taken, unknown_table, unknown_view, used}
+use Rattle.name_meaning.specs.Froms.{names_of}
+use Rattle.name_meaning.specs.Statements.{alone, answer_of, columns_of, has_boolean, query_meant, breaks, name_breaks, limit_breaks, named_query_breaks, on_table, repeated_columns, repeats, resolved, resolved_body, taken, unknown_table, unknown_view, used}
 use Rattle.name_meaning.specs.declared.answer.Break.{Break}
 use Rattle.name_laws.proofs.Every.{front-none, back-none}
 use Rattle.name_laws.proofs.Trees.{query-in_scope}
@@ -39,6 +40,14 @@ unbroken false which at e = refl
 pub not-false : (b : Bool) → not b ≡ false → b ≡ true
 not-false true e = refl
 not-false false e = absurd (cc e)
+
+pub left-false : (a b : Bool) → (a || b) ≡ false → a ≡ false
+left-false true b h = absurd (cc h)
+left-false false b h = refl
+
+pub right-false : (a b : Bool) → (a || b) ≡ false → b ≡ false
+right-false true b h = absurd (cc h)
+right-false false b h = h
 
 there : {X : Type 0} (o : Option X) → is_none o ≡ false → IsSome o
 there None e = absurd (cc e)
@@ -75,10 +84,27 @@ module _ (c : Contents) where
     fitting = tables-fit c tree alone sound [];
   }
 
+  -- what breaks no rule of CREATE TABLE AS
+  pub named-whole : (table : Name) (tree : QueryTree) → name_breaks c (st.CreateTableAs table tree) ≡ []
+      → named_query_breaks tree.at (query_meant c tree) ≡ []
+  named-whole table tree whole =
+      back-none (taken c table) (named_query_breaks tree.at (query_meant c tree))
+      (front-none (taken c table ++ named_query_breaks tree.at (query_meant c tree))
+      (broken_if (has_boolean (columns_of (query_meant c tree))) rule.UnfitKind tree.at) whole)
+
+  pub query-whole : (tree : QueryTree) → named_query_breaks tree.at (query_meant c tree) ≡ [] → (query_meant c tree).breaks ≡ []
+  query-whole tree whole =
+      front-none (query_meant c tree).breaks (broken_if (repeats (names_of (columns_of (query_meant c tree)))) rule.RepeatedColumn tree.at) whole
+
   body-ready : (body : StatementBody) → IsSound c → RegularStatementBody body → name_breaks c body ≡ []
       → IsReady c (resolved_body c body)
   body-ready (st.CreateTable table columns) sound regular whole = free table (front-none (taken c table) (repeated_columns [] columns) whole)
-  body-ready (st.CreateTableAs table query) sound regular whole = tt
+  body-ready (st.CreateTableAs table query) sound regular whole =
+      let named : List Break = named_query_breaks query.at (query_meant c query) in (
+        free table (front-none (taken c table) named
+            (front-none (taken c table ++ named) (broken_if (has_boolean (columns_of (query_meant c query))) rule.UnfitKind query.at) whole)),
+        can_run query sound regular (query-whole query (named-whole table query whole)),
+      )
   body-ready (st.CreateView view query) sound regular whole =
       free view (front-none (taken c view) (named_query_breaks query.at (query_meant c query)) whole)
   body-ready (st.Copy table file header null_field) sound regular whole = known table whole
@@ -90,7 +116,7 @@ module _ (c : Contents) where
       (known-view view (front-none (unknown_view c view) (used c view) whole), unused view (back-none (unknown_view c view) (used c view) whole))
   body-ready (st.Select query) sound regular whole = can_run query sound regular whole
   body-ready (st.Explain query) sound regular whole = tt
-  body-ready (st.ShowFresh table) sound regular whole = tt
+  body-ready (st.ShowFresh table) sound regular whole = known table whole
 
 pub whole-ready : (c : Contents) (statement : Statement) → IsSound c → RegularStatement statement
     → breaks c statement ≡ [] → IsReady c (resolved c statement)

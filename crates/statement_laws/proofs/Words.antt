@@ -111,7 +111,7 @@ traced c body = (set_of_tree c body).means (record alone { trace = in_provenance
 abbrev whole_query : QueryTree → QueryMeant → Query
 whole_query tree m = limited tree.limit (keys_of m.columns tree.order) (m.make [])
 
-opened : (c : Contents) (tree : QueryTree) → query_meant c tree ≡ query_seen alone tree.at (set_of_tree c tree.body) tree.order tree.limit
+pub opened : (c : Contents) (tree : QueryTree) → query_meant c tree ≡ query_seen alone tree.at (set_of_tree c tree.body) tree.order tree.limit
 unfolding query_means_at token
 opened c tree = ap (λ (part : QueryPart). part.means alone) (querytree-record c tree.at tree.body tree.order tree.limit)
 

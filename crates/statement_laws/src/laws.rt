@@ -18,6 +18,8 @@ ghost use Rattle.statement_meaning.specs.Asking.{asks};
 ghost use Rattle.statement_meaning.specs.Ready.{IsReady};
 ghost use Rattle.statement_meaning.specs.Turns.{goes};
 
+use stored_provenance::a_new_mark_is_sound;
+
 /// Over a sound catalog, a statement that breaks no rule of names and kinds can be carried out.
 pub fn whole_statements_are_ready()
     ensures { (c : Contents) (statement : Statement) → IsSound c → RegularStatement statement
@@ -35,10 +37,12 @@ pub fn delete_leaves_the_other_rows()
 pub fn statements_keep_catalogs_sound()
     ensures { (c : Contents) → IsSound c → (at : ℕ) (statement : Resolved)
         → IsReady c statement → AddsSoundly c statement → KeepsSound (asks c at statement) }
-{}
+{
+    a_new_mark_is_sound();
+}
 
 /// Over a sound catalog, a statement that breaks no rule adds columns of a table, rows of the kinds of their table's columns,
-/// and a sound view.
+/// a sound view, and what a query gives that reads the catalog's tables.
 pub fn whole_statements_add_soundly()
     ensures { (c : Contents) (statement : Statement) → IsSound c → RegularStatement statement
         → breaks c statement ≡ [] → AddsSoundly c (resolved c statement) }

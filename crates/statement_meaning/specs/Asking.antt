@@ -10,7 +10,7 @@ use Rattle.name_meaning.specs.Statements.{breaks, resolved}
 use Rattle.name_meaning.specs.declared.answer.Break.{Break}
 use Rattle.name_meaning.specs.declared.answer.Resolved.{Resolved}
 use Rattle.name_meaning.specs.declared.answer.Resolved.TheVariants as r
-use Rattle.statement_meaning.specs.Turns.{Turn, Refused, Broken, create_table, view_created, table_dropped, view_dropped, insert, copy, delete, select}
+use Rattle.statement_meaning.specs.Turns.{Turn, Refused, Broken, create_table, view_created, table_dropped, view_dropped, insert, copy, delete, select, create_table_as, show_fresh}
 use Rattle.name_meaning.specs.declared.rule.Rule.TheVariants as rule
 
 -- it is settled, or it begins the file of this name and goes on by what became of that
@@ -28,7 +28,7 @@ unbuilt_turn at = Refused (Broken (unbuilt at))
 -- what a statement at this offset asks for, whose names are looked up and which breaks no rule of names and kinds
 abbrev pub asks : Contents → ℕ → Resolved → Asked
 asks c at (r.CreateTable name columns) = Settled (create_table c at name columns)
-asks c at (r.CreateTableAs name columns answer places) = Settled (unbuilt_turn at)
+asks c at (r.CreateTableAs name columns answer places) = Settled (create_table_as c at name columns answer places)
 asks c at (r.CreateView name entry) = Settled (view_created c name entry)
 asks c at (r.Copy name kinds file null_field header) = Begins file (copy c at name kinds null_field header)
 asks c at (r.Insert name rows) = Settled (insert c at name rows)
@@ -37,12 +37,12 @@ asks c at (r.DropTable name) = Settled (table_dropped c name)
 asks c at (r.DropView name) = Settled (view_dropped c name)
 asks c at (r.Select answer) = Settled (select c at answer)
 asks c at (r.Explain answer) = Settled (unbuilt_turn at)
-asks c at (r.ShowFresh name) = Settled (unbuilt_turn at)
+asks c at (r.ShowFresh name) = Settled (show_fresh c name)
 
--- CREATE TABLE AS, EXPLAIN REWRITE and SHOW FRESH
+-- EXPLAIN REWRITE alone
 abbrev pub is_unbuilt : StatementBody → Bool
 is_unbuilt (st.CreateTable table columns) = false
-is_unbuilt (st.CreateTableAs table query) = true
+is_unbuilt (st.CreateTableAs table query) = false
 is_unbuilt (st.CreateView view query) = false
 is_unbuilt (st.Copy table file header null_field) = false
 is_unbuilt (st.Insert table rows) = false
@@ -51,7 +51,7 @@ is_unbuilt (st.DropTable table) = false
 is_unbuilt (st.DropView view) = false
 is_unbuilt (st.Select query) = false
 is_unbuilt (st.Explain query) = true
-is_unbuilt (st.ShowFresh table) = true
+is_unbuilt (st.ShowFresh table) = false
 
 -- all breaks of a statement; that it isn't run yet hides every other
 abbrev pub all_breaks : Contents → Statement → List Break

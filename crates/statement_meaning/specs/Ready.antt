@@ -19,7 +19,7 @@ pub record CanRun (c : Contents) (answer : Answer) : Type 0 where
 
 abbrev pub IsReady : Contents → Resolved → Type 0
 IsReady c (r.CreateTable name columns) = is_free c name ≡ true
-IsReady c (r.CreateTableAs name columns answer places) = Unit {0}
+IsReady c (r.CreateTableAs name columns answer places) = (is_free c name ≡ true) × CanRun c answer
 IsReady c (r.CreateView name entry) = is_free c name ≡ true
 IsReady c (r.Copy name kinds file null_field header) = IsSome (table_named c name)
 IsReady c (r.Insert name rows) = IsSome (table_named c name)
@@ -28,4 +28,4 @@ IsReady c (r.DropTable name) = IsSome (table_named c name) × (first_user c name
 IsReady c (r.DropView name) = IsSome (view_named c name) × (first_user c name ≡ None)
 IsReady c (r.Select answer) = CanRun c answer
 IsReady c (r.Explain answer) = Unit {0}
-IsReady c (r.ShowFresh name) = Unit {0}
+IsReady c (r.ShowFresh name) = IsSome (table_named c name)

@@ -3,7 +3,7 @@
 use Rattle.std.specs.Prelude.{ℕ, Bool, true, cond, nat_eq, List, [], ◌∷◌, ◌++◌, length, Option, Some, None, codes}
 use Rattle.std.specs.Fmt.{decimal}
 use Rattle.std.specs.List.{count_by}
-use Rattle.std.specs.Option.{option_map_or}
+use Rattle.std.specs.Option.{option_map, option_map_or, option_and_then}
 use Rattle.perm_values.specs.Numbers.{last_number}
 use Rattle.perm_values.specs.Rows.{printed_cmp}
 use Rattle.perm_values.specs.declared.kind.Kind.{Kind}
@@ -20,7 +20,10 @@ use Rattle.csv_tables.specs.Loading.{broken_rules, spelled_rows}
 use Rattle.csv_tables.specs.declared.data_error.DataError.{DataError}
 use Rattle.perm_catalog.specs.Changes.{table_named, rows_at, with_table, with_more_rows, with_fewer_rows, with_view, without_table, without_view}
 use Rattle.perm_catalog.specs.Contents.{Contents}
+use Rattle.perm_catalog.specs.Stored.{first_changed, mark_of}
 use Rattle.perm_catalog.specs.declared.column.Column.{Column}
+use Rattle.perm_catalog.specs.declared.entries.Kept.{Kept}
+use Rattle.perm_catalog.specs.declared.entries.Mark.{Mark}
 use Rattle.perm_catalog.specs.declared.entries.TableEntry.{TableEntry}
 use Rattle.perm_catalog.specs.declared.entries.ViewEntry.{ViewEntry}
 use Rattle.perm_io.specs.Found.{Found}
@@ -136,3 +139,42 @@ answered c answer rows = Accepted (answer_text answer rows) c
 
 abbrev pub select : Contents → ℕ → Answer → Turn
 select c at answer = on_good at (meaning answer.query (rows_in c.rows) []) (answered c answer)
+
+-- ---- CREATE TABLE AS: the table holds the rows of its query, in the order of the query's keys, then of all columns
+
+-- a query with PROVENANCE, whose provenance columns have places, is remembered with what it reads now
+abbrev pub remembered : Contents → Answer → Option (List ℕ) → Option Mark
+remembered c answer places = option_map (mark_of c answer.query) places
+
+abbrev pub with_answer : Contents → List ℕ → List Column → Answer → Option (List ℕ) → Bag → Contents
+with_answer c name columns answer places rows = with_table c name columns rows (remembered c answer places)
+
+-- the rows in their order
+abbrev pub answer_stored : Contents → List ℕ → List Column → Answer → Option (List ℕ) → Bag → Turn
+answer_stored c name columns answer places rows =
+    Accepted (counting (codes "CREATE TABLE AS ") (length rows)) (with_answer c name columns answer places rows)
+
+abbrev pub store_answer : Contents → ℕ → List ℕ → List Column → Answer → Option (List ℕ) → Bag → Turn
+store_answer c at name columns answer places rows = drawing c at (answer_stored c name columns answer places rows)
+
+abbrev pub create_table_as : Contents → ℕ → List ℕ → List Column → Answer → Option (List ℕ) → Turn
+create_table_as c at name columns answer places = on_good at (meaning answer.query (rows_in c.rows) [])
+    (λ rows. store_answer c at name columns answer places (sorted (printed_cmp answer.keys) rows))
+
+-- ---- SHOW FRESH
+
+-- by the first table, in the order in which the stored query reads them, that isn't what it was
+abbrev pub freshness_told : Option Kept → List ℕ
+freshness_told None = codes "fresh\n"
+freshness_told (Some kept) = codes "stale " ++ kept.table ++ codes "\n"
+
+-- by what the table stores of provenance
+abbrev pub freshness_text : Contents → Option Mark → List ℕ
+freshness_text c None = codes "not stored\n"
+freshness_text c (Some stored) = freshness_told (first_changed c stored)
+
+abbrev pub stored_at : Contents → List ℕ → Option Mark
+stored_at c name = option_and_then (λ (entry : TableEntry). entry.stored) (table_named c name)
+
+abbrev pub show_fresh : Contents → List ℕ → Turn
+show_fresh c name = Accepted (freshness_text c (stored_at c name)) c

@@ -3,6 +3,8 @@ use mathlib.Core.Bool.{true≢false}
 use Rattle.std.proofs.Common.{◌≡◌, ◌∙◌, ℕ, Bool, true, false, cond, nat_eq, List, [], length, None, Result, Ok, Err, codes, refl, sym, ap, subst}
 use Rattle.std.specs.List.{count_by}
 use Rattle.perm_values.specs.Numbers.{last_number}
+use Rattle.perm_values.specs.Rows.{printed_cmp}
+use Rattle.bag_algebra.specs.Bags.{Bag, sorted}
 use Rattle.bag_algebra.specs.Meaning.{meaning}
 use Rattle.bag_algebra.specs.Outcome.{Outcome, Good, Bad, each}
 use Rattle.bag_algebra.specs.TableRows.{rows_in}
@@ -18,7 +20,7 @@ use Rattle.name_meaning.specs.declared.answer.Resolved.TheVariants as r
 use Rattle.statement_meaning.specs.Answers.{Files, Names, IsTurn, IsText, IsBacked, RestsOn, TakesTurn, can_be, failed, has_failed, over}
 use Rattle.statement_meaning.specs.Asking.{Asked, Settled, Begins, asks}
 use Rattle.statement_meaning.specs.Carrying.{IsCarriedOut}
-use Rattle.statement_meaning.specs.Turns.{Turn, Accepted, Refused, Broken, Meets, Missing, TooLarge, Unfit, Failed, on_good, drawing, counting, identity_of, add_rows, answered, goes, row_value, rows_deleted, with_added}
+use Rattle.statement_meaning.specs.Turns.{Turn, Accepted, Refused, Broken, Meets, Missing, TooLarge, Unfit, Failed, on_good, drawing, counting, identity_of, add_rows, answered, goes, row_value, rows_deleted, store_answer, with_added, with_answer}
 use Rattle.statement_meaning.specs.declared.refusal.StepRefusal.{StepRefusal}
 use Rattle.statement_meaning.specs.declared.refusal.StepRefusal.TheVariants as refusal
 use Rattle.statement_steps.specs.Settling.{IsSettled}
@@ -49,7 +51,11 @@ Unfiled (Begins name after) = Unit {0}
 
 pub asks-unfiled : (c : Contents) (at : ℕ) (statement : Resolved) → Unfiled (asks c at statement)
 asks-unfiled c at (r.CreateTable name columns) = drawn c at (codes "CREATE TABLE\n") (with_table c name columns [] None)
-asks-unfiled c at (r.CreateTableAs name columns answer places) = refl
+asks-unfiled c at (r.CreateTableAs name columns answer places) =
+    waited at (meaning answer.query (rows_in c.rows) []) (λ rows. store_answer c at name columns answer places (sorted (printed_cmp answer.keys) rows))
+    (λ rows.
+    let ordered : Bag = sorted (printed_cmp answer.keys) rows in
+    drawn c at (counting (codes "CREATE TABLE AS ") (length ordered)) (with_answer c name columns answer places ordered))
 asks-unfiled c at (r.CreateView name entry) = refl
 asks-unfiled c at (r.Copy name kinds file null_field header) = tt
 asks-unfiled c at (r.Insert name rows) = waited at (each row_value rows) (add_rows (codes "INSERT ") c at name)

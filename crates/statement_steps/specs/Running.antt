@@ -4,13 +4,14 @@ use Rattle.perm_catalog.specs.Contents.{Contents}
 use Rattle.name_meaning.specs.declared.answer.Resolved.{Resolved}
 use Rattle.name_meaning.specs.declared.answer.Resolved.TheVariants as r
 use Rattle.statement_meaning.specs.declared.refusal.StepRefusal.{StepRefusal}
-use Rattle.statement_steps.specs.Runs.{IsAnswered}
+use Rattle.statement_steps.specs.Runs.{IsAnswered, IsRun}
 use Rattle.statement_steps.specs.declared.ran.Ran.{Ran}
 
--- a query that is answered is answered by the last run, of which nothing is said after a refusal; no other statement changes it
+-- a query that is answered is answered by the last run, and what CREATE TABLE AS stores is what the last run gave; after a
+-- refusal of theirs nothing is said of it, and no other statement changes it
 abbrev pub KeepsRun : Contents → Resolved → Result (List ℕ) StepRefusal → Option Ran → Option Ran → Type 0
 KeepsRun c (r.CreateTable name columns) result before after = after ≡ before
-KeepsRun c (r.CreateTableAs name columns answer places) result before after = after ≡ before
+KeepsRun c (r.CreateTableAs name columns answer places) result before after = IfOk result (λ text. IsRun c answer after)
 KeepsRun c (r.CreateView name entry) result before after = after ≡ before
 KeepsRun c (r.Copy name kinds file null_field header) result before after = after ≡ before
 KeepsRun c (r.Insert name rows) result before after = after ≡ before

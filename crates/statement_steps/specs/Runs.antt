@@ -2,7 +2,7 @@
 use Rattle.std.specs.Prelude.{◌≡◌, ℕ, true, List, [], Option, Some, None, Result, Ok, Err}
 use Rattle.perm_values.specs.Rows.{printed_cmp}
 use Rattle.perm_values.specs.declared.key.Key.{Key}
-use Rattle.bag_algebra.specs.Bags.{sorted}
+use Rattle.bag_algebra.specs.Bags.{Bag, sorted}
 use Rattle.bag_algebra.specs.Closed.{is_closed}
 use Rattle.bag_algebra.specs.Fits.{TablesFit}
 use Rattle.bag_algebra.specs.Kinds.{kinds_of}
@@ -31,10 +31,9 @@ Keeps run (Ok done) None = ⊥
 Keeps run (Err error) (Some ran) = ⊥
 Keeps run (Err error) None = Refuses run error
 
--- The text answers a query by this run: of a query without PROVENANCE that reads no outer row, has the answered one's kinds
--- and, on every database that fits that, its rows, as often, or its faults. What was run and what is answered have the run's
--- rows over the catalog's tables, as often, and they are what the text tells.
-pub record AnswersBy (c : Contents) (answer : Answer) (text : List ℕ) (ran : Ran) : Type 0 where
+-- The run of a query without PROVENANCE that reads no outer row, has the kinds of the one that is run for and, on every
+-- database that fits that, its rows, as often, or its faults. Both have the run's rows over the catalog's tables, as often.
+pub record RunsFor (c : Contents) (answer : Answer) (ran : Ran) : Type 0 where
   pub plain : is_plain ran.query ≡ true
   pub closed : is_closed ran.query ≡ true
   pub formed : WellFormed [] ran.query
@@ -43,9 +42,28 @@ pub record AnswersBy (c : Contents) (answer : Answer) (text : List ℕ) (ran : R
   pub means : (db : Database) → TablesFit db answer.query → SameRows (meaning answer.query db []) (meaning ran.query db [])
   pub run : SameRows (meaning ran.query (rows_in c.rows) []) (Good ran.rows)
   pub rows : SameRows (meaning answer.query (rows_in c.rows) []) (Good ran.rows)
+
+-- the text answers a query by a run for it, whose rows it tells
+pub record AnswersBy (c : Contents) (answer : Answer) (text : List ℕ) (ran : Ran) : Type 0 where
+  pub runs : RunsFor c answer ran
   pub told : text ≡ answer_bytes answer.names ran.rows
 
 -- the last run is one by which the text answers
 abbrev pub IsAnswered : Contents → Answer → List ℕ → Option Ran → Type 0
 IsAnswered c answer text (Some ran) = AnswersBy c answer text ran
 IsAnswered c answer text None = ⊥
+
+-- the last run is one for this query
+abbrev pub IsRun : Contents → Answer → Option Ran → Type 0
+IsRun c answer (Some ran) = RunsFor c answer ran
+IsRun c answer None = ⊥
+
+-- the rows of a query over the catalog, in the order of its keys, then of all columns
+abbrev pub ordered_rows : Contents → Answer → Outcome Bag
+ordered_rows c answer = mapped (sorted (printed_cmp answer.keys)) (meaning answer.query (rows_in c.rows) [])
+
+-- the last run is one for this query, with its rows in their order; or a fault is named that the query meets
+abbrev pub Runs : Contents → Answer → Result Unit ExecError → Option Ran → Type 0
+Runs c answer (Ok done) (Some ran) = RunsFor c answer ran × (ordered_rows c answer ≡ Good ran.rows)
+Runs c answer (Ok done) None = ⊥
+Runs c answer (Err error) last = Refuses (meaning answer.query (rows_in c.rows) []) error

@@ -3,13 +3,15 @@
 
 mod answering;
 mod forms;
+mod fresh;
 mod order;
 mod ran;
 mod runner;
 mod stepping;
 
-pub use answering::select;
+pub use answering::{create_table_as, select};
 pub use forms::is_unbuilt;
+pub use fresh::show_fresh;
 pub use ran::Ran;
 pub use runner::Runner;
 pub use stepping::step;

@@ -8,21 +8,22 @@ ghost use Rattle.statement_meaning.specs.Ready.{IsReady};
 ghost use Rattle.statement_steps.specs.Running.{KeepsRun};
 ghost use Rattle.statement_steps.specs.Settling.{IsSettled};
 
-use crate::answering::select;
+use crate::answering::{create_table_as, select};
+use crate::fresh::show_fresh;
 use crate::runner::Runner;
 use name_meaning::{Break, Resolved, Rule};
 use perm_catalog::Catalog;
 use perm_io::Files;
 use perm_values::Bytes;
 use statement_changes::{
-    RowFile, copy, create_table, create_view, delete, drop_table, drop_view, insert,
+    NewTable, RowFile, copy, create_table, create_view, delete, drop_table, drop_view, insert,
 };
 use statement_meaning::StepRefusal;
 use std::alloc::Global;
 
 /// Carries out a resolved statement at an offset, which can be, and gives its text. COPY begins its file, and no other
-/// statement begins any. After a refusal the catalog is as before. A query is run by the runner, and no other statement
-/// changes that.
+/// statement begins any. After a refusal the catalog is as before. A query is run by the runner, that of CREATE TABLE AS
+/// too, and no other statement changes that.
 pub fn step<F: Files>(
     alloc: Global,
     catalog: &mut Catalog,
@@ -101,18 +102,31 @@ fn settled(
 {
     match statement {
         Resolved::CreateTable { name, columns } => create_table(alloc, catalog, at, name, columns),
+        Resolved::CreateTableAs {
+            name,
+            columns,
+            answer,
+            places,
+        } => {
+            let table = NewTable {
+                name,
+                columns,
+                answer,
+                places,
+            };
+            create_table_as(alloc, catalog, at, &table, runner)
+        }
         Resolved::CreateView { name, entry } => create_view(alloc, catalog, name, entry),
         Resolved::Insert { name, rows } => insert(alloc, catalog, at, name, rows),
         Resolved::Delete { name, condition } => delete(alloc, catalog, at, name, condition),
         Resolved::DropTable { name } => drop_table(alloc, catalog, name),
         Resolved::DropView { name } => drop_view(alloc, catalog, name),
         Resolved::Select { answer } => select(alloc, catalog, at, answer, runner),
-        Resolved::CreateTableAs { .. } | Resolved::Explain { .. } | Resolved::ShowFresh { .. } => {
-            Err(StepRefusal::Break(Break {
-                rule: Rule::UnbuiltForm,
-                at,
-            }))
-        }
+        Resolved::Explain { .. } => Err(StepRefusal::Break(Break {
+            rule: Rule::UnbuiltForm,
+            at,
+        })),
+        Resolved::ShowFresh { name } => Ok(show_fresh(alloc, catalog, name)?),
         Resolved::Copy { .. } => unreachable!(),
     }
 }
