@@ -25,3 +25,12 @@ SELECT PROVENANCE d.name, t.due
 FROM debtors d JOIN dues t ON d.id = t.debtor
 WHERE EXISTS (SELECT 1 FROM invoices i WHERE i.debtor = d.id AND i.issued LIKE '2024-02%')
 ORDER BY due DESC;
+
+-- The auditor keeps the figure with its sources, and asks later whether the books are those that it was made of.
+CREATE TABLE figure AS
+    SELECT PROVENANCE d.name, t.due
+    FROM debtors d JOIN dues t ON d.id = t.debtor
+    WHERE EXISTS (SELECT 1 FROM invoices i WHERE i.debtor = d.id AND i.issued LIKE '2024-02%');
+SHOW FRESH figure;
+INSERT INTO lines VALUES (11, 'rubber', 1, 80);
+SHOW FRESH figure;
