@@ -77,7 +77,7 @@ const SCRIPTS: [(&[u8], &str, Status); 8] = [
         Status::Syntax,
     ),
     (
-        b"CREATE TABLE r (a TEXT);; SHOW FRESH r; SELECT a FROM r",
+        b"CREATE TABLE r (a TEXT);; EXPLAIN REWRITE SELECT a FROM r; SELECT a FROM r",
         "CREATE TABLE\nerror E29 at 26\n",
         Status::Refused,
     ),

@@ -3,7 +3,8 @@ use Rattle.std.proofs.Common.{◌≡◌, ◌≢◌, ◌∙◌, ℕ, Bool, true, 
 use Rattle.std.specs.List.{count_by}
 use Rattle.perm_values.specs.Numbers.{last_number}
 use Rattle.perm_values.specs.declared.kind.Kind.{Kind}
-use Rattle.bag_algebra.specs.Bags.{Row, Bag}
+use Rattle.perm_values.specs.Rows.{printed_cmp}
+use Rattle.bag_algebra.specs.Bags.{Row, Bag, sorted}
 use Rattle.bag_algebra.specs.Expressions.{value}
 use Rattle.bag_algebra.specs.Meaning.{meaning}
 use Rattle.bag_algebra.specs.Means.{holds_of}
@@ -24,7 +25,7 @@ use Rattle.name_meaning.specs.declared.answer.Resolved.{Resolved}
 use Rattle.name_meaning.specs.declared.answer.Resolved.TheVariants as r
 use Rattle.statement_meaning.specs.Answers.{Names}
 use Rattle.statement_meaning.specs.Asking.{Asked, Settled, Begins, all_breaks, asked, asks, unbuilt, unless_broken}
-use Rattle.statement_meaning.specs.Turns.{Turn, Accepted, Refused, Broken, on_good, drawing, counting, identity_of, add_rows, add_unbroken, answered, copy, goes, row_value, rows_deleted, with_added}
+use Rattle.statement_meaning.specs.Turns.{Turn, Accepted, Refused, Broken, on_good, drawing, counting, identity_of, add_rows, add_unbroken, answered, copy, goes, row_value, rows_deleted, store_answer, with_added, with_answer}
 use Rattle.statement_meaning.specs.declared.refusal.StepRefusal.{StepRefusal}
 use Rattle.statement_meaning.specs.declared.refusal.StepRefusal.TheVariants as refusal
 use Rattle.bag_algebra.proofs.Outcomes.{union-first}
@@ -105,7 +106,12 @@ AsksNamed (Begins name after) = (file : Found) → HasName (after file)
 
 asks-named : (c : Contents) (at : ℕ) (statement : Resolved) → AsksNamed (asks c at statement)
 asks-named c at (r.CreateTable name columns) = drawing-named c at (codes "CREATE TABLE\n") (with_table c name columns [] None)
-asks-named c at (r.CreateTableAs name columns answer places) = broken-named (unbuilt at)
+asks-named c at (r.CreateTableAs name columns answer places) =
+    on_good-named at (meaning answer.query (rows_in c.rows) []) (λ rows. store_answer c at name columns answer places (sorted (printed_cmp answer.keys) rows))
+    (caused-denote answer.query (rows_in c.rows) [])
+    (λ rows.
+    let ordered : Bag = sorted (printed_cmp answer.keys) rows in
+    drawing-named c at (counting (codes "CREATE TABLE AS ") (length ordered)) (with_answer c name columns answer places ordered))
 asks-named c at (r.CreateView name entry) = tt
 asks-named c at (r.Copy name kinds file null_field header) = copy-named c at name kinds null_field header
 asks-named c at (r.Insert name rows) =
@@ -121,7 +127,7 @@ asks-named c at (r.DropView name) = tt
 asks-named c at (r.Select answer) =
     on_good-named at (meaning answer.query (rows_in c.rows) []) (answered c answer) (caused-denote answer.query (rows_in c.rows) []) (λ rows. tt)
 asks-named c at (r.Explain answer) = broken-named (unbuilt at)
-asks-named c at (r.ShowFresh name) = broken-named (unbuilt at)
+asks-named c at (r.ShowFresh name) = tt
 
 unless-named : (breaks : List Break) (a : Asked) → AsksNamed a → AsksNamed (unless_broken breaks a)
 unless-named [] a h = h

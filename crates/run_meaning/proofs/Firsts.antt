@@ -5,14 +5,17 @@ use Rattle.std.proofs.lemmas.Bool.Decides.{nat_tests}
 use Rattle.std.specs.List.{count_by}
 use Rattle.perm_values.specs.Numbers.{last_number}
 use Rattle.perm_values.specs.declared.kind.Kind.{Kind}
-use Rattle.bag_algebra.specs.Bags.{Bag}
+use Rattle.perm_values.specs.Rows.{printed_cmp}
+use Rattle.bag_algebra.specs.Bags.{Bag, sorted}
 use Rattle.bag_algebra.specs.Meaning.{meaning}
 use Rattle.bag_algebra.specs.Outcome.{Outcome, Good, Bad, each}
 use Rattle.bag_algebra.specs.TableRows.{rows_in}
+use Rattle.bag_algebra.specs.declared.query.Answer.{Answer}
 use Rattle.csv_tables.specs.Loading.{broken_rules, spelled_rows}
 use Rattle.csv_tables.specs.declared.data_error.DataError.{DataError}
 use Rattle.perm_catalog.specs.Changes.{rows_at, with_table, with_fewer_rows}
 use Rattle.perm_catalog.specs.Contents.{Contents}
+use Rattle.perm_catalog.specs.declared.column.Column.{Column}
 use Rattle.perm_io.specs.Found.{Found}
 use Rattle.perm_io.specs.Found as found
 use Rattle.sql_tree.specs.declared.statement.Statement.{Statement}
@@ -20,12 +23,12 @@ use Rattle.sql_tree.specs.declared.statement.StatementBody.{StatementBody}
 use Rattle.sql_tree.specs.declared.statement.StatementBody.TheVariants as st
 use Rattle.name_laws.proofs.Every.{Every}
 use Rattle.name_seen_parts.specs.Seen.{first_or}
-use Rattle.name_meaning.specs.Meanings.{broken}
-use Rattle.name_meaning.specs.Statements.{answer_of, breaks, defined_columns, delete_made, kinds_of_table, query_meant, resolved, resolved_body, rows_made}
+use Rattle.name_meaning.specs.Meanings.{QueryMeant, broken}
+use Rattle.name_meaning.specs.Statements.{answer_of, breaks, columns_of, defined_columns, delete_made, kinds_of_table, query_meant, resolved, resolved_body, rows_made, stored_columns}
 use Rattle.name_meaning.specs.declared.answer.Break.{Break}
 use Rattle.statement_meaning.specs.Answers.{TakesTurn}
 use Rattle.statement_meaning.specs.Asking.{Asked, Settled, Begins, all_breaks, asked, asks, is_unbuilt, unbuilt, unless_broken}
-use Rattle.statement_meaning.specs.Turns.{Turn, Accepted, Refused, Broken, Meets, Missing, TooLarge, Unfit, Failed, on_good, drawing, counting, identity_of, add_rows, add_unbroken, answered, copy, goes, row_value, rows_deleted, with_added}
+use Rattle.statement_meaning.specs.Turns.{Turn, Accepted, Refused, Broken, Meets, Missing, TooLarge, Unfit, Failed, on_good, drawing, counting, identity_of, add_rows, add_unbroken, answered, copy, goes, row_value, rows_deleted, store_answer, with_added, with_answer}
 use Rattle.statement_meaning.specs.declared.refusal.StepRefusal.{StepRefusal}
 use Rattle.statement_meaning.specs.declared.refusal.StepRefusal.TheVariants as refusal
 use Rattle.run_meaning.specs.Run.{StopsBy, StopsAsked, StopsAt}
@@ -81,7 +84,15 @@ module _ (c : Contents) where
   -- of a form that is run
   thrifty-asks : (at : ℕ) (body : StatementBody) → is_unbuilt body ≡ false → IsThrifty c (asks c at (resolved_body c body))
   thrifty-asks at (st.CreateTable table columns) e = frugal-drawing at (codes "CREATE TABLE\n") (with_table c table.text (defined_columns columns) [] None) refl
-  thrifty-asks at (st.CreateTableAs table query) e = true_false e
+  thrifty-asks at (st.CreateTableAs table query) e =
+      let m : QueryMeant = query_meant c query in
+      let answer : Answer = answer_of m in
+      let columns : List Column = stored_columns (columns_of m) in
+      frugal-on_good at (meaning answer.query (rows_in c.rows) [])
+      (λ rows. store_answer c at table.text columns answer m.places (sorted (printed_cmp answer.keys) rows))
+      (λ rows.
+      let ordered : Bag = sorted (printed_cmp answer.keys) rows in
+      frugal-drawing at (counting (codes "CREATE TABLE AS ") (length ordered)) (with_answer c table.text columns answer m.places ordered) refl)
   thrifty-asks at (st.CreateView view query) e = omega arith
   thrifty-asks at (st.Copy table file header null_field) e = frugal-copy at table.text (kinds_of_table c table) null_field header
   thrifty-asks at (st.Insert table rows) e =
@@ -95,7 +106,7 @@ module _ (c : Contents) where
   thrifty-asks at (st.Select query) e =
       frugal-on_good at (meaning (answer_of (query_meant c query)).query (rows_in c.rows) []) (answered c (answer_of (query_meant c query))) (λ rows. omega arith)
   thrifty-asks at (st.Explain query) e = true_false e
-  thrifty-asks at (st.ShowFresh table) e = true_false e
+  thrifty-asks at (st.ShowFresh table) e = omega arith
 
   -- a statement that breaks nothing is of such a form
   thrifty-whole : (statement : Statement) → all_breaks c statement ≡ [] → IsThrifty c (asks c statement.at (resolved c statement))

@@ -151,7 +151,7 @@ begins-made c statement made m = ap begins (sym (asked-made c statement made m))
 -- a refusal before the statement is carried out leaves it
 pub refused-ran : (c : Contents) (made : Resolved) (refused : StepRefusal) (last : Option Ran) → KeepsRun c made (Err refused) last last
 refused-ran c (r.CreateTable name columns) refused last = refl
-refused-ran c (r.CreateTableAs name columns answer places) refused last = refl
+refused-ran c (r.CreateTableAs name columns answer places) refused last = tt
 refused-ran c (r.CreateView name entry) refused last = refl
 refused-ran c (r.Copy name kinds file null_field header) refused last = refl
 refused-ran c (r.Insert name rows) refused last = refl

@@ -25,6 +25,7 @@ use Rattle.name_meaning.specs.Meanings.{broken}
 use Rattle.name_meaning.specs.declared.answer.Resolved.TheVariants as r
 use Rattle.statement_meaning.specs.Asking.{Asked, Settled, asked, asks}
 use Rattle.statement_meaning.specs.Turns.{Cause, Accepted, Refused, Broken, Meets, Missing, TooLarge, Unfit, Failed, copy}
+use Rattle.worked_examples.specs.NamedCatalog.{stored}
 use Rattle.worked_examples.specs.NamedTrees.{name, statement, defined, values, query, core, from, table}
 use Rattle.worked_examples.specs.NamedTrees as tree
 use Rattle.worked_examples.specs.HeldRows.{answering, column, compared, drawing_next, holding, item, number, reckoned, rows-r, rows-s, select, selected, source_s, text, whole, with_v}
@@ -67,19 +68,19 @@ pub width : asked (holding [] []) (statement (st.Insert (name 12 (codes "r")) (v
     ≡ refused (Broken (broken rule.UnfitWidth 21))
 width = refl
 
+-- the name comes first: CREATE TABLE r AS SELECT 1
+pub taken_as : asked (holding [] []) (standing 7 (st.CreateTableAs (name 20 (codes "r")) (query 25 (core (tree.select 25 (tree.item (tree.number 32 1) ∷ []) []))))) ≡ refused (Broken (broken rule.TakenName 20))
+taken_as = refl
+
+-- SHOW FRESH nosuch
+pub unknown_fresh : asked (holding [] []) (standing 7 (st.ShowFresh (name 18 (codes "nosuch")))) ≡ refused (Broken (broken rule.UnknownRelation 18))
+unknown_fresh = refl
+
 -- ---- what isn't run yet hides every other break
 
 -- EXPLAIN REWRITE SELECT 1 FROM nosuch
 pub unbuilt_explain : asked (holding [] []) (standing 7 (st.Explain (query 23 (core (tree.select 23 (tree.item (tree.number 30 1) ∷ []) (from (table 37 (codes "nosuch")) [] ∷ [])))))) ≡ refused (Broken (broken rule.UnbuiltForm 7))
 unbuilt_explain = refl
-
--- CREATE TABLE r AS SELECT 1
-pub unbuilt_stored : asked (holding [] []) (standing 7 (st.CreateTableAs (name 20 (codes "r")) (query 25 (core (tree.select 25 (tree.item (tree.number 32 1) ∷ []) []))))) ≡ refused (Broken (broken rule.UnbuiltForm 7))
-unbuilt_stored = refl
-
--- SHOW FRESH nosuch
-pub unbuilt_fresh : asked (holding [] []) (standing 7 (st.ShowFresh (name 18 (codes "nosuch")))) ≡ refused (Broken (broken rule.UnbuiltForm 7))
-unbuilt_fresh = refl
 
 -- ---- faults, at the statement's offset
 
@@ -158,3 +159,13 @@ file_before_spent = refl
 pub copy_spent : copy (drawing_next last_number [] []) 7 (codes "r") kinds [] false (found.Read (codes "1,1\n")) ≡ Refused (Broken (broken rule.NumbersSpent 7))
 unfolding records_from strip_bom next_record
 copy_spent = refl
+
+-- CREATE TABLE t AS SELECT 1
+pub spent_by_query : asks (nothing_held last_number) 3 (r.CreateTableAs (codes "t") (stored (codes "column1") kind.Integer ∷ []) (answering (select (item kind.Integer (number 1) ∷ []) Single) (codes "column1" ∷ []) []) None)
+    ≡ refused (Broken (broken rule.NumbersSpent 3))
+spent_by_query = refl
+
+-- CREATE TABLE t AS SELECT 1 / 0
+pub fault_before_stored : asks (nothing_held last_number) 3 (r.CreateTableAs (codes "t") (stored (codes "column1") kind.Integer ∷ []) (answering (select (item kind.Integer divided ∷ []) Single) (codes "column1" ∷ []) []) None)
+    ≡ refused (Meets (record faults { divides = true }) 3)
+fault_before_stored = refl

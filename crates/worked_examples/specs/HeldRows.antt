@@ -14,7 +14,8 @@ use Rattle.perm_values.specs.declared.kind.Kind.{Kind}
 use Rattle.perm_values.specs.declared.kind.Kind.TheVariants as kind
 use Rattle.perm_values.specs.declared.value.Value.{Value}
 use Rattle.perm_values.specs.declared.value.Value.TheVariants as v
-use Rattle.bag_algebra.specs.Bags.{Bag}
+use Rattle.perm_values.specs.Rows.{printed_cmp}
+use Rattle.bag_algebra.specs.Bags.{Bag, sorted}
 use Rattle.bag_algebra.specs.Meaning.{Database, meaning}
 use Rattle.bag_algebra.specs.TableRows.{rows_in}
 use Rattle.bag_algebra.specs.built.Patterns.{OpOf, ChainOf, BaseOf, ProjectOf}
@@ -26,10 +27,11 @@ use Rattle.bag_algebra.specs.declared.query.Label.TheVariants.{Relation}
 use Rattle.bag_algebra.specs.declared.query.Query.{Query, end_of-Sublink}
 use Rattle.bag_algebra.specs.declared.query.Query.TheVariants.{Table}
 use Rattle.perm_catalog.specs.Contents.{Contents}
+use Rattle.perm_catalog.specs.declared.column.Column.{Column}
 use Rattle.perm_catalog.specs.declared.entries.ViewEntry.{ViewEntry}
 use Rattle.name_meaning.specs.declared.answer.Resolved.TheVariants as r
 use Rattle.statement_meaning.specs.Asking.{Settled, asks}
-use Rattle.statement_meaning.specs.Turns.{answered, on_good}
+use Rattle.statement_meaning.specs.Turns.{answered, on_good, store_answer}
 use Rattle.worked_examples.specs.NamedCatalog.{table_r, table_s, a_of_r, view_of}
 
 abbrev pub whole : ℕ → Value
@@ -92,6 +94,15 @@ rows-of rs ss id =
 pub selected : (rs ss : Bag) (at : ℕ) (answer : Answer) → asks (holding rs ss) at (r.Select answer)
     ≡ Settled (on_good at (meaning answer.query (read_of rs ss) []) (answered (holding rs ss) answer))
 selected rs ss at answer i = Settled (on_good at (meaning answer.query (λ (id : ℕ). rows-of rs ss id i) []) (answered (holding rs ss) answer))
+
+-- so does what becomes of CREATE TABLE AS
+pub stored-as : (rs ss : Bag) (at : ℕ) (name : List ℕ) (columns : List Column) (answer : Answer) (places : Option (List ℕ))
+    → asks (holding rs ss) at (r.CreateTableAs name columns answer places)
+    ≡ Settled (on_good at (meaning answer.query (read_of rs ss) [])
+    (λ (rows : Bag). store_answer (holding rs ss) at name columns answer places (sorted (printed_cmp answer.keys) rows)))
+stored-as rs ss at name columns answer places i =
+    Settled (on_good at (meaning answer.query (λ (id : ℕ). rows-of rs ss id i) [])
+    (λ (rows : Bag). store_answer (holding rs ss) at name columns answer places (sorted (printed_cmp answer.keys) rows)))
 
 -- ---- resolved expressions and queries
 
