@@ -1,5 +1,7 @@
 pub mod Adds
 pub mod Answered
+pub mod Freshened
+pub mod Freshness
 pub mod Headline
 pub mod Kept
 pub mod Left

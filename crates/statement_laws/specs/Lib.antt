@@ -1,5 +1,6 @@
 pub mod Asks
 pub mod Beside
+pub mod Freshened
 pub mod Kept
 pub mod Printed
 pub mod Sounder

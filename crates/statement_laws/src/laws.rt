@@ -1,5 +1,5 @@
 //! Each law is the contract of a function that does nothing.
-ghost use Rattle.std.specs.Prelude.{◌≡◌, ◌≢◌, ℕ, Bool, List, [], Option, Contains};
+ghost use Rattle.std.specs.Prelude.{◌≡◌, ◌≢◌, ℕ, Bool, List, [], Option, Some, IfSome, Contains};
 ghost use Rattle.bag_algebra.specs.Bags.{Bag};
 ghost use Rattle.bag_algebra.specs.Outcome.{Good, each};
 ghost use Rattle.bag_algebra.specs.declared.expr.Expr.{Expr};
@@ -9,9 +9,13 @@ ghost use Rattle.name_meaning.specs.declared.rule.Rule.TheVariants.{NumbersSpent
 ghost use Rattle.name_meaning.specs.declared.answer.Resolved.{Resolved};
 ghost use Rattle.perm_catalog.specs.Contents.{Contents};
 ghost use Rattle.perm_catalog.specs.Sound.{IsSound};
+ghost use Rattle.perm_catalog.specs.Stored.{IsFresh};
+ghost use Rattle.perm_catalog.specs.declared.entries.Mark.{Mark};
+ghost use Rattle.perm_catalog.specs.declared.entries.TableEntry.{TableEntry};
 ghost use Rattle.perm_values.specs.Marked.{unmarked};
 ghost use Rattle.sql_tree.specs.Regular.{RegularStatement};
 ghost use Rattle.sql_tree.specs.declared.statement.Statement.{Statement};
+ghost use Rattle.statement_laws.specs.Freshened.{IsRead, IsUnread, Leaves, MeetsStored, written};
 ghost use Rattle.statement_laws.specs.Kept.{rows_left};
 ghost use Rattle.statement_laws.specs.Sounder.{AddsSoundly, KeepsSound};
 ghost use Rattle.statement_meaning.specs.Asking.{asks};
@@ -53,3 +57,22 @@ pub fn no_rule_wants_a_number()
     ensures { (c : Contents) (statement : Statement) (b : Break)
         → Contains (breaks c statement) b → b.rule ≢ NumbersSpent }
 {}
+
+/// Over a sound catalog, of a table that stores provenance and a statement that can be carried out: where the statement writes or
+/// drops none of the tables that the stored query read, what is fresh stays so; where it writes or drops one, it isn't fresh
+/// then; and what isn't fresh never is again.
+pub fn fresh_tables_stay_fresh()
+    ensures kept { (c : Contents) (at : ℕ) (statement : Resolved) (name : List ℕ) (table : TableEntry) (stored : Mark)
+        → MeetsStored c statement name table stored → IsFresh c stored
+        → IfSome (written statement) (IsUnread c stored)
+        → Leaves (λ d. IsFresh d stored) (asks c at statement) }
+    ensures ended { (c : Contents) (at : ℕ) (statement : Resolved) (name : List ℕ) (table : TableEntry) (stored : Mark)
+        → MeetsStored c statement name table stored
+        → (changed : List ℕ) → written statement ≡ Some changed → IsRead c stored changed
+        → Leaves (λ d. IsFresh d stored → ⊥) (asks c at statement) }
+    ensures for_good { (c : Contents) (at : ℕ) (statement : Resolved) (name : List ℕ) (table : TableEntry) (stored : Mark)
+        → MeetsStored c statement name table stored
+        → Leaves (λ d. IsFresh d stored → IsFresh c stored) (asks c at statement) }
+{
+    statements_keep_catalogs_sound();
+}

@@ -8,4 +8,5 @@ pub mod Provenance
 pub mod Refused
 pub mod ResolvedItems
 pub mod ResolvedQueries
+pub mod StoredTables
 pub mod Written

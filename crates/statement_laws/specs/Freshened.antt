@@ -1,0 +1,60 @@
+-- What a statement leaves of tables that store provenance.
+use Rattle.std.specs.Prelude.{◌≡◌, ◌≢◌, ℕ, ⊤, List, Option, Some, None, All, Contains, IfSome}
+use Rattle.perm_catalog.specs.Changes.{table_named}
+use Rattle.perm_catalog.specs.Contents.{Contents}
+use Rattle.perm_catalog.specs.Sound.{IsSound}
+use Rattle.perm_catalog.specs.declared.entries.Kept.{Kept}
+use Rattle.perm_catalog.specs.declared.entries.Mark.{Mark}
+use Rattle.perm_catalog.specs.declared.entries.TableEntry.{TableEntry}
+use Rattle.perm_io.specs.Found.{Found}
+use Rattle.name_meaning.specs.declared.answer.Resolved.{Resolved}
+use Rattle.name_meaning.specs.declared.answer.Resolved.TheVariants as r
+use Rattle.statement_meaning.specs.Asking.{Asked, Settled, Begins}
+use Rattle.statement_meaning.specs.Ready.{IsReady}
+use Rattle.statement_meaning.specs.Turns.{Turn, Accepted, Refused}
+use Rattle.statement_laws.specs.Sounder.{AddsSoundly}
+
+-- where the turn is accepted, this holds of what the catalog holds then
+abbrev pub TurnLeaves : (Contents → Type 0) → Turn → Type 0
+TurnLeaves P (Accepted text c) = P c
+TurnLeaves P (Refused cause) = ⊤
+
+-- whatever became of the file that it begins
+abbrev pub Leaves : (Contents → Type 0) → Asked → Type 0
+Leaves P (Settled turn) = TurnLeaves P turn
+Leaves P (Begins name after) = (found : Found) → TurnLeaves P (after found)
+
+-- the table of this name, if any, to which the statement adds rows, from which it takes some, or which it drops
+abbrev pub written : Resolved → Option (List ℕ)
+written (r.CreateTable name columns) = None
+written (r.CreateTableAs name columns answer places) = None
+written (r.CreateView name entry) = None
+written (r.Copy name kinds file null_field header) = Some name
+written (r.Insert name rows) = Some name
+written (r.Delete name condition) = Some name
+written (r.DropTable name) = Some name
+written (r.DropView name) = None
+written (r.Select answer) = None
+written (r.Explain answer) = None
+written (r.ShowFresh name) = None
+
+-- it is none of the tables that the stored query read
+abbrev pub IsUnread : Contents → Mark → List ℕ → Type 0
+IsUnread c stored name =
+    IfSome (table_named c name) (λ (table : TableEntry). All (λ (kept : Kept). kept.id ≢ table.id) stored.kept)
+
+-- it is one of them
+pub record IsRead (c : Contents) (stored : Mark) (name : List ℕ) : Type 0 where
+  pub table : TableEntry
+  pub named : table_named c name ≡ Some table
+  pub kept : Kept
+  pub among : Contains stored.kept kept
+  pub same : kept.id ≡ table.id
+
+-- over a sound catalog a table of this name stores this, and the statement can be carried out and adds what is sound
+pub record MeetsStored (c : Contents) (statement : Resolved) (name : List ℕ) (table : TableEntry) (stored : Mark) : Type 0 where
+  pub sound : IsSound c
+  pub ready : IsReady c statement
+  pub adds : AddsSoundly c statement
+  pub named : table_named c name ≡ Some table
+  pub stores : table.stored ≡ Some stored
