@@ -60,7 +60,7 @@ pub(crate) fn run(alloc: Global, given: &Given<'_>) -> Result<Ended, NoMemory> {
 }
 
 /// Scripts with what they write and how they end: those that are none, then one that is refused behind a statement.
-const SCRIPTS: [(&[u8], &str, Status); 8] = [
+const SCRIPTS: [(&[u8], &str, Status); 9] = [
     (b"", "", Status::Done),
     (b"SELECT \xff", "error E01 at 7\n", Status::Syntax),
     (b"SELECT ?", "error E02 at 7\n", Status::Syntax),
@@ -75,6 +75,11 @@ const SCRIPTS: [(&[u8], &str, Status); 8] = [
         b"SELECT a FROM r; SELECT",
         "error E05 at 23\n",
         Status::Syntax,
+    ),
+    (
+        b"CREATE TABLE r AS SELECT PROVENANCE 1 / 0;",
+        "error E30 at 0\n",
+        Status::RunFault,
     ),
     (
         b"CREATE TABLE r (a TEXT);; EXPLAIN REWRITE SELECT a FROM r; SELECT a FROM r",
