@@ -1,5 +1,5 @@
 -- What a statement leaves of tables that store provenance: whether they are fresh then.
-use Rattle.std.proofs.Common.{◌≡◌, ◌≢◌, ℕ, ◌<◌, Bool, true, false, cond, List, [], ◌∷◌, length, Option, Some, None, IsSome, IfSome, codes, refl, sym, ap, subst, ◌∙◌, arith, nat_eq}
+use Rattle.std.proofs.Common.{◌≡◌, ◌≢◌, ℕ, Bool, true, false, cond, List, [], ◌∷◌, length, Option, Some, None, IsSome, IfSome, codes, refl, sym, ap, subst, arith, nat_eq}
 use Rattle.std.specs.Prelude.{All}
 use Rattle.std.specs.FinMap.{FinMap}
 use Rattle.std.specs.List.{count_by}
@@ -27,7 +27,6 @@ use Rattle.name_meaning.specs.Meanings.{broken}
 use Rattle.name_meaning.specs.declared.answer.Resolved.{Resolved}
 use Rattle.name_meaning.specs.declared.answer.Resolved.TheVariants as r
 use Rattle.name_meaning.specs.declared.rule.Rule.TheVariants as rule
-use Rattle.catalog_laws.proofs.Marks.{AreApart}
 use Rattle.catalog_laws.proofs.Soundness.{are-apart, free-table}
 use Rattle.statement_meaning.specs.Asking.{Asked, Settled, Begins, asks}
 use Rattle.statement_meaning.specs.Ready.{IsReady}
@@ -39,7 +38,7 @@ use Rattle.statement_laws.specs.Sounder.{KeepsSound, StandsSound}
 -- ---- turns
 
 module _ (P : Contents → Type 0) where
-  leaves-drawing : (c : Contents) (at : ℕ) (text : List ℕ) (d : Contents) → P d → TurnLeaves P (drawing c at (Accepted text d))
+  pub leaves-drawing : (c : Contents) (at : ℕ) (text : List ℕ) (d : Contents) → P d → TurnLeaves P (drawing c at (Accepted text d))
   leaves-drawing c at text d h = chosen (nat_eq c.next last_number) where
     chosen : (spent : Bool) → TurnLeaves P (cond spent (Refused (Broken (broken rule.NumbersSpent at))) (Accepted text d))
     chosen true = tt
@@ -63,7 +62,7 @@ module _ (P : Contents → Type 0) where
   leaves-copy c at name kinds null_field header h Failed = tt
 
   -- it holds of all that the statement may leave
-  abbrev Cases : Contents → Resolved → Type 0
+  abbrev pub Cases : Contents → Resolved → Type 0
   Cases c (r.CreateTable name columns) = P (with_table c name columns [] None)
   Cases c (r.CreateTableAs name columns answer places) = (rows : Bag) → P (with_answer c name columns answer places rows)
   Cases c (r.CreateView name entry) = P (with_view c name entry)
@@ -76,7 +75,7 @@ module _ (P : Contents → Type 0) where
   Cases c (r.Explain answer) = P c
   Cases c (r.ShowFresh name) = P c
 
-  leaves : (c : Contents) (at : ℕ) (statement : Resolved) → Cases c statement → Leaves P (asks c at statement)
+  pub leaves : (c : Contents) (at : ℕ) (statement : Resolved) → Cases c statement → Leaves P (asks c at statement)
   leaves c at (r.CreateTable name columns) h = leaves-drawing c at (codes "CREATE TABLE\n") (with_table c name columns [] None) h
   leaves c at (r.CreateTableAs name columns answer places) h =
       leaves-on_good at (meaning answer.query (rows_in c.rows) []) (λ rows. store_answer c at name columns answer places (sorted (printed_cmp answer.keys) rows))
@@ -117,7 +116,7 @@ module _ (P Q : Contents → Type 0) (weaker : (d : Contents) → P d → Q d) w
 
 -- ---- freshness
 
-known : {X : Type 0} (o : Option X) → IsSome o → (x : X) × (o ≡ Some x)
+pub known : {X : Type 0} (o : Option X) → IsSome o → (x : X) × (o ≡ Some x)
 known None some = absurd (cc some)
 known (Some x) some = (x, refl)
 
@@ -125,10 +124,10 @@ some_same : {X : Type 0} (x y : X) → Some x ≡ Some y → x ≡ y
 some_same x y e = cc
 
 -- what a change of the table of this name, if any, leaves of what is stored
-record Keeps (c : Contents) (stored : Mark) (changed : Option (List ℕ)) (d : Contents) : Type 0 where
-  never : IsFresh d stored → IsFresh c stored
-  stays : IfSome changed (IsUnread c stored) → IsFresh c stored → IsFresh d stored
-  ends : IfSome changed (λ (name : List ℕ). IsRead c stored name → IsFresh d stored → ⊥)
+pub record Keeps (c : Contents) (stored : Mark) (changed : Option (List ℕ)) (d : Contents) : Type 0 where
+  pub never : IsFresh d stored → IsFresh c stored
+  pub stays : IfSome changed (IsUnread c stored) → IsFresh c stored → IsFresh d stored
+  pub ends : IfSome changed (λ (name : List ℕ). IsRead c stored name → IsFresh d stored → ⊥)
 
 module _ (c : Contents) (sound : IsSound c) (stored : Mark) (drawn : All (IsDrawn c) stored.kept) where
   keeps-same : (d : Contents) → d.tables ≡ c.tables → Keeps c stored None d
@@ -145,7 +144,7 @@ module _ (c : Contents) (sound : IsSound c) (stored : Mark) (drawn : All (IsDraw
     none : table_named c name ≡ None
     none = free-table (table_named c name) (view_named c name) free
 
-    keeps-created : IsSound (with_table c name columns rows mark) → Keeps c stored None (with_table c name columns rows mark)
+    pub keeps-created : IsSound (with_table c name columns rows mark) → Keeps c stored None (with_table c name columns rows mark)
     keeps-created after =
         let d : Contents = with_table c name columns rows mark in
         let change = λ (q : List ℕ). named-last name q made c.tables none in record {

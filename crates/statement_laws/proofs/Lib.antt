@@ -10,6 +10,7 @@ pub mod Provenance
 pub mod Ready
 pub mod Sounder
 mod Stored
+pub mod StoredThen
 pub mod Unspent
 mod Untraced
 mod UntracedCores

@@ -95,7 +95,7 @@ if-some : {X : Type 0} (P : X → Type 0) (o : Option X) (x : X) → o ≡ Some 
 if-some {X = X} P o x e h = subst (λ (found : Option X). IfSome found P) e h
 
 -- a bag that is good is what it is
-itself : {X : Type 0} (o : Outcome X) → WhereGood (λ (x : X). o ≡ Good x) o
+pub itself : {X : Type 0} (o : Outcome X) → WhereGood (λ (x : X). o ≡ Good x) o
 itself (Good x) = refl
 itself (Bad faults) = tt
 
@@ -108,7 +108,7 @@ sorted-fit : (cmp : Row → Row → Ordering) (rows : Bag) (kinds : List Kind) �
 sorted-fit cmp rows kinds h = each-fit kinds (sorted cmp rows) (each-sorted (MadeRowFits kinds) cmp rows h)
 
 -- what is made of a query with PROVENANCE is remembered soundly, and is fresh
-abbrev MarkHolds : Contents → List Column → Bag → List ℕ → Query → Type 0
+abbrev pub MarkHolds : Contents → List Column → Bag → List ℕ → Query → Type 0
 MarkHolds c columns rows places query = IsSoundMark c columns rows (mark_of c query places) × IsFresh c (mark_of c query places)
 
 abbrev pub NewMark : Type 0
@@ -163,7 +163,7 @@ module _ (new_mark : NewMark) (c : Contents) (sound : IsSound c) where
     same-ordered : SameRows (meaning answer.query (rows_in c.rows) []) (Good ordered)
     same-ordered = subst (λ (o : Outcome Bag). SameRows o (Good ordered)) (sym good) (same_bag-sorted (printed_cmp answer.keys) rows)
 
-    mark-at : (there : List ℕ) → AsksAt columns answer.query there
+    pub mark-at : (there : List ℕ) → AsksAt columns answer.query there
         → IsSoundMark c columns ordered (mark_of c answer.query there) × IsFresh c (mark_of c answer.query there)
     mark-at there at =
         subst (MarkHolds c columns ordered there) (sym at.asks)
@@ -175,7 +175,7 @@ module _ (new_mark : NewMark) (c : Contents) (sound : IsSound c) where
     marks-sound None asks = tt
     marks-sound (Some there) asks = (mark-at there asks).0
 
-    stored-sound : IsSound (with_answer c name columns answer places ordered)
+    pub stored-sound : IsSound (with_answer c name columns answer places ordered)
     stored-sound =
         sound-created c name columns ordered (remembered c answer places) sound free
         (record { columns_are = adds.columns_are; fitting = ordered-fit }) (marks-sound places adds.asks)
