@@ -4,6 +4,7 @@ pub mod Freshened
 pub mod Freshness
 pub mod Headline
 pub mod Kept
+pub mod Leaving
 pub mod Left
 pub mod Nested
 pub mod Provenance

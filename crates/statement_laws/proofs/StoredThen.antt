@@ -6,11 +6,10 @@ use Rattle.std.specs.Option.{option_and_then}
 use Rattle.perm_values.specs.Rows.{printed_cmp}
 use Rattle.bag_algebra.specs.Bags.{Bag, sorted}
 use Rattle.bag_algebra.specs.Meaning.{meaning}
-use Rattle.bag_algebra.specs.Outcome.{Outcome, Good, Bad}
+use Rattle.bag_algebra.specs.Outcome.{Good}
 use Rattle.bag_algebra.specs.TableRows.{rows_in}
 use Rattle.bag_algebra.specs.declared.query.Answer.{Answer}
 use Rattle.bag_algebra.specs.declared.query.Query.{Query}
-use Rattle.contribution.proofs.WhereGood.{WhereGood}
 use Rattle.perm_catalog.proofs.Named.{found-apart, found-here, named-changed, named-last, named-without}
 use Rattle.perm_catalog.specs.Changes.{is_free, renewed, rows_with, rows_without, table_named, view_named, with_rows_of, with_table, without_table}
 use Rattle.perm_catalog.specs.Contents.{Contents}
@@ -21,21 +20,18 @@ use Rattle.perm_catalog.specs.declared.entries.Mark.{Mark}
 use Rattle.perm_catalog.specs.declared.entries.TableEntry.{TableEntry}
 use Rattle.name_meaning.specs.declared.answer.Resolved.{Resolved}
 use Rattle.name_meaning.specs.declared.answer.Resolved.TheVariants as r
-use Rattle.catalog_laws.proofs.Soundness.{free-table}
+use Rattle.catalog_laws.proofs.Soundness.{free-table, none_is_some, some_is_some}
 use Rattle.statement_meaning.specs.Asking.{asks}
 use Rattle.statement_meaning.specs.Ready.{IsReady}
-use Rattle.statement_meaning.specs.Turns.{Turn, Accepted, counting, freshness_told, freshness_text, identity_of, on_good, show_fresh, stored_at, store_answer, with_answer}
-use Rattle.statement_laws.proofs.Freshened.{Cases, keeps-created, known, leaves, leaves-drawing}
-use Rattle.statement_laws.proofs.Sounder.{NewMark, itself, mark-at, stored-sound}
-use Rattle.statement_laws.specs.Freshened.{IsStill, Leaves, StoresFresh, StoresNothing, TurnLeaves, filled, written}
+use Rattle.statement_meaning.specs.Turns.{Accepted, counting, freshness_told, freshness_text, identity_of, show_fresh, stored_at, store_answer, with_answer}
+use Rattle.statement_laws.proofs.Freshened.{keeps-created}
+use Rattle.statement_laws.proofs.Leaving.{Cases, leaves, leaves-drawing, leaves-good}
+use Rattle.statement_laws.proofs.Sounder.{NewMark, itself, known, mark-at, stored-sound}
+use Rattle.statement_laws.specs.Freshened.{IsStill, StoresFresh, StoresNothing, filled, written}
+use Rattle.statement_laws.specs.Leaving.{Leaves}
 use Rattle.statement_laws.specs.Sounder.{AddsSoundly}
 
 -- ---- a table that is made of a query with PROVENANCE
-
-leaves-good : {X : Type 0} (P : Contents → Type 0) (Q : X → Type 0) (at : ℕ) (o : Outcome X) (next : X → Turn) → WhereGood Q o
-    → ((x : X) → Q x → TurnLeaves P (next x)) → TurnLeaves P (on_good at o next)
-leaves-good P Q at (Good x) next h keeps = keeps x h
-leaves-good P Q at (Bad faults) next h keeps = tt
 
 module _ (new_mark : NewMark) (c : Contents) (at : ℕ) (name : List ℕ) (columns : List Column) (answer : Answer) (places : List ℕ) (sound : IsSound c)
     (ready : IsReady c (r.CreateTableAs name columns answer (Some places))) (adds : AddsSoundly c (r.CreateTableAs name columns answer (Some places))) where
@@ -91,32 +87,26 @@ module _ (c : Contents) (name : List ℕ) where
         nothing = refl;
       }
 
-some_name : (a b : List ℕ) → Some a ≡ Some b → a ≡ b
-some_name a b e = cc
-
-no_name : {X : Type 0} (b : List ℕ) → None ≡ Some b → X
-no_name b e = absurd (cc e)
-
 forgets : (c : Contents) (name written_name : List ℕ) → written_name ≡ name → (table : TableEntry) → table_named c written_name ≡ Some table
     → (rows : FinMap nat_cmp Bag) → StoresNothing name (with_rows_of c written_name rows)
 forgets c name written_name same table is rows =
     subst (λ (n : List ℕ). StoresNothing n (with_rows_of c written_name rows)) same (nothing-stored c written_name table is rows)
 
 forgets-cases : (c : Contents) (name : List ℕ) (statement : Resolved) → IsReady c statement → filled statement ≡ Some name → Cases (StoresNothing name) c statement
-forgets-cases c name (r.CreateTable other columns) ready is = no_name name is
-forgets-cases c name (r.CreateTableAs other columns answer places) ready is = no_name name is
-forgets-cases c name (r.CreateView other entry) ready is = no_name name is
+forgets-cases c name (r.CreateTable other columns) ready is = none_is_some is
+forgets-cases c name (r.CreateTableAs other columns answer places) ready is = none_is_some is
+forgets-cases c name (r.CreateView other entry) ready is = none_is_some is
 forgets-cases c name (r.Copy other kinds file null_field header) some is =
-    let t = known (table_named c other) some in λ rows. forgets c name other (some_name other name is) t.0 t.1 _
+    let t = known (table_named c other) some in λ rows. forgets c name other (some_is_some other name is) t.0 t.1 _
 forgets-cases c name (r.Insert other rows) some is =
-    let t = known (table_named c other) some in λ made. forgets c name other (some_name other name is) t.0 t.1 _
+    let t = known (table_named c other) some in λ made. forgets c name other (some_is_some other name is) t.0 t.1 _
 forgets-cases c name (r.Delete other condition) some is =
-    let t = known (table_named c other) some in λ doomed. forgets c name other (some_name other name is) t.0 t.1 _
-forgets-cases c name (r.DropTable other) ready is = no_name name is
-forgets-cases c name (r.DropView other) ready is = no_name name is
-forgets-cases c name (r.Select answer) ready is = no_name name is
-forgets-cases c name (r.Explain answer) ready is = no_name name is
-forgets-cases c name (r.ShowFresh other) ready is = no_name name is
+    let t = known (table_named c other) some in λ doomed. forgets c name other (some_is_some other name is) t.0 t.1 _
+forgets-cases c name (r.DropTable other) ready is = none_is_some is
+forgets-cases c name (r.DropView other) ready is = none_is_some is
+forgets-cases c name (r.Select answer) ready is = none_is_some is
+forgets-cases c name (r.Explain answer) ready is = none_is_some is
+forgets-cases c name (r.ShowFresh other) ready is = none_is_some is
 
 pub leaves-nothing : (c : Contents) (at : ℕ) (statement : Resolved) (name : List ℕ) → IsReady c statement → filled statement ≡ Some name
     → Leaves (StoresNothing name) (asks c at statement)
@@ -130,7 +120,7 @@ module _ (c : Contents) (sound : IsSound c) (name : List ℕ) (table : TableEntr
       let made : TableEntry = record { id = c.next; version = c.next; columns = columns; stored = mark } in
       let none : table_named c other ≡ None = free-table (table_named c other) (view_named c other) free in
       found-apart (Some made) (table_named c name) (table_named d name) other name (named-last other name made c.tables none)
-      (λ same. let e : None ≡ Some table = sym none ∙ ap (table_named c) same ∙ is in absurd (cc e)) ∙ is
+      (λ same. none_is_some (sym none ∙ ap (table_named c) same ∙ is)) ∙ is
 
   beside-written : (other : List ℕ) (entry : TableEntry) → table_named c other ≡ Some entry → other ≢ name → (rows : FinMap nat_cmp Bag)
       → IsStill name table (with_rows_of c other rows)

@@ -1,5 +1,5 @@
 -- What a statement leaves of tables that store provenance.
-use Rattle.std.specs.Prelude.{◌≡◌, ◌≢◌, ℕ, ⊤, List, Option, Some, None, All, Contains, IfSome}
+use Rattle.std.specs.Prelude.{◌≡◌, ◌≢◌, ℕ, List, Option, Some, None, All, Contains, IfSome}
 use Rattle.bag_algebra.specs.declared.query.Query.{Query}
 use Rattle.perm_catalog.specs.Changes.{table_named}
 use Rattle.perm_catalog.specs.Contents.{Contents}
@@ -8,23 +8,10 @@ use Rattle.perm_catalog.specs.Stored.{IsFresh}
 use Rattle.perm_catalog.specs.declared.entries.Kept.{Kept}
 use Rattle.perm_catalog.specs.declared.entries.Mark.{Mark}
 use Rattle.perm_catalog.specs.declared.entries.TableEntry.{TableEntry}
-use Rattle.perm_io.specs.Found.{Found}
 use Rattle.name_meaning.specs.declared.answer.Resolved.{Resolved}
 use Rattle.name_meaning.specs.declared.answer.Resolved.TheVariants as r
-use Rattle.statement_meaning.specs.Asking.{Asked, Settled, Begins}
 use Rattle.statement_meaning.specs.Ready.{IsReady}
-use Rattle.statement_meaning.specs.Turns.{Turn, Accepted, Refused}
 use Rattle.statement_laws.specs.Sounder.{AddsSoundly}
-
--- where the turn is accepted, this holds of what the catalog holds then
-abbrev pub TurnLeaves : (Contents → Type 0) → Turn → Type 0
-TurnLeaves P (Accepted text c) = P c
-TurnLeaves P (Refused cause) = ⊤
-
--- whatever became of the file that it begins
-abbrev pub Leaves : (Contents → Type 0) → Asked → Type 0
-Leaves P (Settled turn) = TurnLeaves P turn
-Leaves P (Begins name after) = (found : Found) → TurnLeaves P (after found)
 
 -- the table of this name, if any, to which the statement adds rows, from which it takes some, or which it drops
 abbrev pub written : Resolved → Option (List ℕ)

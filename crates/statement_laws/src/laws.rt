@@ -20,18 +20,9 @@ ghost use Rattle.perm_catalog.specs.declared.entries.TableEntry.{TableEntry};
 ghost use Rattle.perm_values.specs.Marked.{unmarked};
 ghost use Rattle.sql_tree.specs.Regular.{RegularStatement};
 ghost use Rattle.sql_tree.specs.declared.statement.Statement.{Statement};
-ghost use Rattle.statement_laws.specs.Freshened.{
-  IsRead,
-  IsStill,
-  IsUnread,
-  Leaves,
-  MeetsStored,
-  StoresFresh,
-  StoresNothing,
-  filled,
-  written,
-};
+ghost use Rattle.statement_laws.specs.Freshened.{IsRead, IsStill, IsUnread, MeetsStored, StoresFresh, StoresNothing, filled, written};
 ghost use Rattle.statement_laws.specs.Kept.{rows_left};
+ghost use Rattle.statement_laws.specs.Leaving.{Leaves};
 ghost use Rattle.statement_laws.specs.Sounder.{AddsSoundly, KeepsSound};
 ghost use Rattle.statement_meaning.specs.Asking.{asks};
 ghost use Rattle.statement_meaning.specs.Ready.{IsReady};
