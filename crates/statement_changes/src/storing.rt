@@ -12,8 +12,8 @@ use statement_meaning::StepRefusal;
 use std::alloc::Global;
 use stored_provenance::store;
 
-/// What CREATE TABLE AS makes a table of: its name and columns, the query, and the places of its provenance columns, where it
-/// asks for provenance.
+/// What CREATE TABLE AS makes a table of: its name and columns, the query, and the places of its provenance
+/// columns, where it asks for provenance.
 #[derive(Drop)]
 pub struct NewTable<'a> {
     pub name: &'a Chars,
@@ -22,8 +22,8 @@ pub struct NewTable<'a> {
     pub places: &'a Option<List<usize>>,
 }
 
-/// CREATE TABLE AS at an offset, of a free name, where the query gives these rows, in their order. With provenance the table
-/// remembers the query and what that reads.
+/// CREATE TABLE AS at an offset, of a free name, where the query gives these rows, in their order. With
+/// provenance the table remembers the query and what that reads.
 pub fn store_answer(
     alloc: Global,
     catalog: &mut Catalog,

@@ -1,5 +1,5 @@
 -- The rows that a DELETE leaves are those that it doesn't flag.
-use Rattle.std.proofs.Common.{◌≡◌, ◌∙◌, Bool, true, false, cond, not, List, [], ◌∷◌, Option, filter, refl, sym, ap, subst}
+use Rattle.std.proofs.Common.{◌≡◌, Bool, true, false, not, List, [], ◌∷◌, Option, filter, refl, ap, subst}
 use Rattle.perm_values.specs.Marked.{unmarked}
 use Rattle.bag_algebra.proofs.Outcomes.{both-is, same_good}
 use Rattle.bag_algebra.specs.Bags.{Row, Bag}

@@ -4,12 +4,14 @@ pub mod Freshened
 pub mod Freshness
 pub mod Headline
 pub mod Kept
+pub mod Leaving
 pub mod Left
 pub mod Nested
 pub mod Provenance
 pub mod Ready
 pub mod Sounder
 mod Stored
+pub mod StoredThen
 pub mod Unspent
 mod Untraced
 mod UntracedCores

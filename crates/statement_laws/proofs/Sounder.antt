@@ -1,9 +1,8 @@
 -- A resolved statement keeps a sound catalog sound.
-use Rattle.std.proofs.Common.{◌≡◌, ◌∙◌, ℕ, Bool, true, false, cond, nat_eq, List, [], ◌∷◌, length, Option, Some, None, IsSome, IfSome, codes, refl, sym, ap, subst, Ordering}
+use Rattle.std.proofs.Common.{◌≡◌, ◌∙◌, ℕ, Bool, true, List, [], ◌∷◌, length, Option, Some, None, IsSome, IfSome, codes, refl, sym, ap, subst, Ordering}
 use Rattle.std.proofs.lemmas.Bool.{and_from}
 use Rattle.std.specs.List.{count_by}
 use Rattle.std.specs.Option.{option_map_or}
-use Rattle.perm_values.specs.Numbers.{last_number}
 use Rattle.perm_values.specs.Rows.{row_fits, bag_fits, printed_cmp}
 use Rattle.perm_values.specs.Values.{fits}
 use Rattle.perm_values.specs.declared.kind.Kind.{Kind}
@@ -38,28 +37,14 @@ use Rattle.perm_catalog.specs.Stored.{IsFresh, IsSoundMark, mark_of}
 use Rattle.perm_catalog.specs.declared.column.Column.{Column}
 use Rattle.perm_catalog.specs.declared.entries.TableEntry.{TableEntry}
 use Rattle.perm_io.specs.Found.{Found, Read, Missing, TooLong, Failed}
-use Rattle.name_meaning.specs.Meanings.{broken}
 use Rattle.name_meaning.specs.declared.answer.Resolved.{Resolved}
 use Rattle.name_meaning.specs.declared.answer.Resolved.TheVariants as r
 use Rattle.statement_meaning.specs.Asking.{asks}
 use Rattle.stored_provenance.specs.Held.{IsHeldTable}
 use Rattle.statement_meaning.specs.Ready.{CanRun, IsReady}
-use Rattle.statement_meaning.specs.Turns.{Turn, Accepted, Refused, Broken, on_good, drawing, counting, identity_of, with_added, add_rows, add_unbroken, answered, copy, goes, row_value, rows_deleted, remembered, store_answer, with_answer}
+use Rattle.statement_meaning.specs.Turns.{drawing, counting, identity_of, with_added, add_rows, add_unbroken, answered, copy, goes, row_value, rows_deleted, remembered, store_answer, with_answer}
+use Rattle.statement_laws.proofs.Leaving.{leaves-drawing, leaves-good}
 use Rattle.statement_laws.specs.Sounder.{AddsAnswer, AsksAt, HaveKinds, RowsHaveKinds, AddsSoundly, StandsSound, KeepsSound}
-use Rattle.name_meaning.specs.declared.rule.Rule.TheVariants as rule
-
--- ---- turns
-
-drawn-sound : (c : Contents) (at : ℕ) (text : List ℕ) (new : Contents) → IsSound new → StandsSound (drawing c at (Accepted text new))
-drawn-sound c at text new sound = chosen (nat_eq c.next last_number) where
-  chosen : (spent : Bool) → StandsSound (cond spent (Refused (Broken (broken rule.NumbersSpent at))) (Accepted text new))
-  chosen true = tt
-  chosen false = sound
-
-waited-sound : {X : Type 0} (P : X → Type 0) (at : ℕ) (o : Outcome X) (next : X → Turn) → WhereGood P o → ((x : X) → P x → StandsSound (next x))
-    → StandsSound (on_good at o next)
-waited-sound P at (Good x) next h keeps = keeps x h
-waited-sound P at (Bad faults) next h keeps = tt
 
 -- ---- rows that expressions make
 
@@ -87,7 +72,7 @@ rows-fit (row ∷ rows) kinds h =
 
 -- ---- changes
 
-known : {X : Type 0} (o : Option X) → IsSome o → (x : X) × (o ≡ Some x)
+pub known : {X : Type 0} (o : Option X) → IsSome o → (x : X) × (o ≡ Some x)
 known None some = absurd (cc some)
 known (Some x) some = (x, refl)
 
@@ -95,7 +80,7 @@ if-some : {X : Type 0} (P : X → Type 0) (o : Option X) (x : X) → o ≡ Some 
 if-some {X = X} P o x e h = subst (λ (found : Option X). IfSome found P) e h
 
 -- a bag that is good is what it is
-itself : {X : Type 0} (o : Outcome X) → WhereGood (λ (x : X). o ≡ Good x) o
+pub itself : {X : Type 0} (o : Outcome X) → WhereGood (λ (x : X). o ≡ Good x) o
 itself (Good x) = refl
 itself (Bad faults) = tt
 
@@ -108,7 +93,7 @@ sorted-fit : (cmp : Row → Row → Ordering) (rows : Bag) (kinds : List Kind) �
 sorted-fit cmp rows kinds h = each-fit kinds (sorted cmp rows) (each-sorted (MadeRowFits kinds) cmp rows h)
 
 -- what is made of a query with PROVENANCE is remembered soundly, and is fresh
-abbrev MarkHolds : Contents → List Column → Bag → List ℕ → Query → Type 0
+abbrev pub MarkHolds : Contents → List Column → Bag → List ℕ → Query → Type 0
 MarkHolds c columns rows places query = IsSoundMark c columns rows (mark_of c query places) × IsFresh c (mark_of c query places)
 
 abbrev pub NewMark : Type 0
@@ -128,7 +113,7 @@ module _ (new_mark : NewMark) (c : Contents) (sound : IsSound c) where
 
   added-turn : (word : List ℕ) (at : ℕ) (name : List ℕ) (table : TableEntry) (rows : Bag) → table_named c name ≡ Some table
       → RowsFit (column_kinds table.columns) rows → StandsSound (add_rows word c at name rows)
-  added-turn word at name table rows e fit = drawn-sound c at (counting word (length rows)) (with_added c name rows) (added-sound name table rows e fit)
+  added-turn word at name table rows e fit = leaves-drawing IsSound c at (counting word (length rows)) (with_added c name rows) (added-sound name table rows e fit)
 
   copy-sound : (at : ℕ) (name : List ℕ) (table : TableEntry) (kinds : List Kind) (null_field : List ℕ) (header : Bool) → table_named c name ≡ Some table
       → kinds ≡ column_kinds table.columns → (found : Found) → StandsSound (copy c at name kinds null_field header found)
@@ -163,7 +148,7 @@ module _ (new_mark : NewMark) (c : Contents) (sound : IsSound c) where
     same-ordered : SameRows (meaning answer.query (rows_in c.rows) []) (Good ordered)
     same-ordered = subst (λ (o : Outcome Bag). SameRows o (Good ordered)) (sym good) (same_bag-sorted (printed_cmp answer.keys) rows)
 
-    mark-at : (there : List ℕ) → AsksAt columns answer.query there
+    pub mark-at : (there : List ℕ) → AsksAt columns answer.query there
         → IsSoundMark c columns ordered (mark_of c answer.query there) × IsFresh c (mark_of c answer.query there)
     mark-at there at =
         subst (MarkHolds c columns ordered there) (sym at.asks)
@@ -175,21 +160,21 @@ module _ (new_mark : NewMark) (c : Contents) (sound : IsSound c) where
     marks-sound None asks = tt
     marks-sound (Some there) asks = (mark-at there asks).0
 
-    stored-sound : IsSound (with_answer c name columns answer places ordered)
+    pub stored-sound : IsSound (with_answer c name columns answer places ordered)
     stored-sound =
         sound-created c name columns ordered (remembered c answer places) sound free
         (record { columns_are = adds.columns_are; fitting = ordered-fit }) (marks-sound places adds.asks)
 
   pub keeps-sound : (at : ℕ) (statement : Resolved) → IsReady c statement → AddsSoundly c statement → KeepsSound (asks c at statement)
   keeps-sound at (r.CreateTable name columns) free adds =
-      drawn-sound c at (codes "CREATE TABLE\n") (with_table c name columns [] None)
+      leaves-drawing IsSound c at (codes "CREATE TABLE\n") (with_table c name columns [] None)
       (sound-created c name columns [] None sound free (record { columns_are = adds; fitting = refl }) tt)
   keeps-sound at (r.CreateTableAs name columns answer places) ready adds =
-      waited-sound (λ (rows : Bag). meaning answer.query (rows_in c.rows) [] ≡ Good rows) at (meaning answer.query (rows_in c.rows) [])
+      leaves-good IsSound (λ (rows : Bag). meaning answer.query (rows_in c.rows) [] ≡ Good rows) at (meaning answer.query (rows_in c.rows) [])
       (λ rows. store_answer c at name columns answer places (sorted (printed_cmp answer.keys) rows)) (itself (meaning answer.query (rows_in c.rows) []))
       (λ rows good.
       let ordered : Bag = sorted (printed_cmp answer.keys) rows in
-      drawn-sound c at (counting (codes "CREATE TABLE AS ") (length ordered)) (with_answer c name columns answer places ordered)
+      leaves-drawing IsSound c at (counting (codes "CREATE TABLE AS ") (length ordered)) (with_answer c name columns answer places ordered)
       (stored-sound name columns answer places rows ready.0 ready.1 adds good))
   keeps-sound at (r.CreateView name entry) free adds = sound-more_views c name entry sound free adds
   keeps-sound at (r.Copy name kinds file null_field header) some adds =
@@ -198,21 +183,21 @@ module _ (new_mark : NewMark) (c : Contents) (sound : IsSound c) where
   keeps-sound at (r.Insert name rows) some adds =
       let table = known (table_named c name) some in
       let kinds : List Kind = column_kinds table.0.columns in
-      waited-sound (RowsFit kinds) at (each row_value rows) (add_rows (codes "INSERT ") c at name)
+      leaves-good IsSound (RowsFit kinds) at (each row_value rows) (add_rows (codes "INSERT ") c at name)
       (rows-fit rows kinds (if-some (λ (t : TableEntry). RowsHaveKinds rows (column_kinds t.columns)) (table_named c name) table.0 table.1 adds))
       (λ made fit. added-turn (codes "INSERT ") at name table.0 made table.1 fit)
   keeps-sound at (r.Delete name condition) some adds =
       let table = known (table_named c name) some in
       let flags : Outcome (List Bool) = each (goes condition) (rows_at c (identity_of c name)) in
-      waited-sound (λ (doomed : List Bool). Unit {0}) at flags (λ doomed. drawing c at (rows_deleted c name doomed)) (any_value flags)
-      (λ doomed h. drawn-sound c at (counting (codes "DELETE ") (count_by (λ flag. flag) doomed)) (with_fewer_rows c name (identity_of c name) doomed)
+      leaves-good IsSound (λ (doomed : List Bool). Unit {0}) at flags (λ doomed. drawing c at (rows_deleted c name doomed)) (any_value flags)
+      (λ doomed h. leaves-drawing IsSound c at (counting (codes "DELETE ") (count_by (λ flag. flag) doomed)) (with_fewer_rows c name (identity_of c name) doomed)
       (fewer-sound name table.0 doomed table.1))
   keeps-sound at (r.DropTable name) ready adds =
       let table = known (table_named c name) ready.0 in
       subst (λ (id : ℕ). IsSound (without_table c name id)) (sym (identity name table.0 table.1)) (sound-dropped_table c name table.0 sound table.1 ready.1)
   keeps-sound at (r.DropView name) ready adds = sound-dropped_view c name sound
   keeps-sound at (r.Select answer) ready adds =
-      waited-sound (λ (rows : Bag). Unit {0}) at (meaning answer.query (rows_in c.rows) []) (answered c answer)
+      leaves-good IsSound (λ (rows : Bag). Unit {0}) at (meaning answer.query (rows_in c.rows) []) (answered c answer)
       (any_value (meaning answer.query (rows_in c.rows) [])) (λ rows h. sound)
   keeps-sound at (r.Explain answer) ready adds = tt
   keeps-sound at (r.ShowFresh name) ready adds = sound

@@ -10,7 +10,6 @@ use Rattle.bag_algebra.proofs.Members.{IsIn}
 use Rattle.bag_algebra.proofs.MembersByIndex.{in-from_contains}
 use Rattle.bag_algebra.specs.declared.expr.Expr.{Expr}
 use Rattle.bag_algebra.specs.declared.expr.Expr.TheVariants.{Op, IsNull, IsTruth, Same}
-use Rattle.bag_algebra.specs.declared.query.Query.{Query}
 use Rattle.bag_algebra.specs.declared.query.SubKind.{SubKind}
 use Rattle.perm_catalog.specs.Changes.{table_named, view_named, is_free}
 use Rattle.perm_catalog.specs.Columns.{column_kinds}
@@ -35,21 +34,20 @@ use Rattle.sql_tree.specs.declared.statement.StatementBody.{StatementBody}
 use Rattle.sql_tree.specs.declared.statement.StatementBody.TheVariants as st
 use Rattle.sql_tree.specs.declared.statement.ValuesRow.{ValuesRow}
 use Rattle.name_meaning.proofs.Equations.{ExprBodyFrame, SelectItemFrame, SetTreeFrame, FromSourceFrame, CoreFrame}
-use Rattle.name_meaning.specs.Cores.{BodyPart, core_step, core_trace, core_over, core_clauses, core_seen, has_some, group_scope, group_break, group_found, in_clause, optional_breaks, optional_meant, word_breaks}
-use Rattle.name_meaning.specs.Expressions.{Body, ArmPart, StepPart, body_step, first_of, second_of, negated_if, times, chain_made, step_operand, first_need, chain_gives, in_kind, arm_operands, else_operand, case_made, null_meant}
-use Rattle.name_meaning.specs.Froms.{Read, SourcePart, named, inner, FromItemPart, FromMeant, FromPart, ItemMeant, JoinPart, attribute_breaks, column_breaks, condition_breaks, first_item, from_all, from_more, beside_from, in_on, item_meant, join_all, join_item, joined, label_of, marked, mark_breaks, named_so, names_of, on_breaks, on_meant, both_known, scope_items, read_of, read_named, read_table, read_view, read_nothing, read_names, scope_break, scope_name, source_step, trace_under, is_out_of_scope}
-use Rattle.name_meaning.specs.Items.{SelectMeant, SelectPart, columns_meant, item_step, no_columns, star_meant, table_star_meant, items_breaks, is_ungrouped}
+use Rattle.name_meaning.specs.Cores.{BodyPart, core_step, core_trace, core_over, core_seen, has_some, group_scope, group_break, group_found, in_clause, optional_breaks, optional_meant, word_breaks}
+use Rattle.name_meaning.specs.Expressions.{Body, ArmPart, StepPart, body_step, first_of, second_of, negated_if, times, chain_made, step_operand, first_need, chain_gives, in_kind, arm_operands, else_operand, case_made}
+use Rattle.name_meaning.specs.Froms.{Read, SourcePart, named, inner, FromItemPart, FromMeant, FromPart, JoinPart, attribute_breaks, column_breaks, condition_breaks, first_item, from_all, from_more, beside_from, in_on, item_meant, join_all, join_item, label_of, marked, mark_breaks, named_so, names_of, on_breaks, on_meant, both_known, scope_items, read_of, read_named, read_table, read_view, read_nothing, read_names, scope_break, scope_name, source_step, is_out_of_scope}
+use Rattle.name_meaning.specs.Items.{SelectPart, columns_meant, item_step, no_columns, star_meant, table_star_meant, items_breaks, is_ungrouped}
 use Rattle.name_meaning.specs.Meanings.{Around, Meant, OutColumn, Part, QueryMeant, QueryPart, Surroundings, broken, broken_if, is_whole, means_at, query_means_at, seen_kind, unites}
 use Rattle.name_meaning.specs.Operands.{Operand, first_unfit, gives_of, need_of, node, operand, operated, parts_breaks, unfit_break}
-use Rattle.name_meaning.specs.Queries.{SetStepPart, columns_so_far, do_unite, is_named, is_position, asks_provenance, key_break, keys_breaks, keys_of, limited, operand_breaks, plain_query, query_with_provenance, query_seen, set_chain, set_joined, set_step, may_not_ask}
-use Rattle.name_meaning.specs.Scopes.{KnownColumn, ScopeItem, item_columns, look_up, placed, scope_of}
-use Rattle.name_meaning.specs.Statements.{alone, bare, breaks, columns_of, delete_breaks, greatest_height, has_boolean, limit_breaks, most_query_columns, most_table_columns, name_breaks, named_query_breaks, on_table, query_limits, query_meant, repeated_columns, repeats, row_breaks, size_limit, table_limit, table_scope, taken, unknown_table, unknown_view, used, value_breaks, values_breaks, width_limit}
-use Rattle.name_meaning.specs.Sublinks.{aggregate_meant, aggregated, around_of, breaking, column_meant, exists_meant, first_kind, if_standing, in_argument, in_tested, is_one_column, rows_counted, scalar_meant, takes_kind, tested_break, tested_looked, tested_meant, tested_unlooked}
+use Rattle.name_meaning.specs.Queries.{SetStepPart, do_unite, is_named, is_position, asks_provenance, key_break, keys_breaks, operand_breaks, query_seen, set_chain, set_joined, set_step, may_not_ask}
+use Rattle.name_meaning.specs.Scopes.{ScopeItem, item_columns, look_up, placed, scope_of}
+use Rattle.name_meaning.specs.Statements.{alone, bare, breaks, columns_of, delete_breaks, has_boolean, limit_breaks, most_query_columns, most_table_columns, name_breaks, named_query_breaks, query_limits, query_meant, repeated_columns, repeats, row_breaks, size_limit, table_scope, taken, unknown_table, used, value_breaks, values_breaks, width_limit}
+use Rattle.name_meaning.specs.Sublinks.{aggregate_meant, around_of, breaking, column_meant, exists_meant, first_kind, if_standing, in_argument, in_tested, is_one_column, scalar_meant, takes_kind, tested_break, tested_looked, tested_meant, tested_unlooked}
 use Rattle.name_meaning.specs.Trees.{part_of, query_of}
 use Rattle.name_meaning.specs.declared.answer.Break.{Break}
 use Rattle.name_meaning.specs.declared.need.Gives.{Gives}
 use Rattle.name_meaning.specs.declared.need.Gives.TheVariants.{Always as always, Common as common}
-use Rattle.name_meaning.specs.declared.need.Need.{Need}
 use Rattle.name_meaning.specs.declared.need.Need.TheVariants.{OfKind as of_kind, Alike as alike, Free as free}
 use Rattle.name_meaning.specs.declared.scope.Found.{Found}
 use Rattle.name_meaning.specs.declared.scope.Found.TheVariants as column

@@ -1,28 +1,17 @@
 -- What a statement leaves of tables that store provenance.
-use Rattle.std.specs.Prelude.{◌≡◌, ◌≢◌, ℕ, ⊤, List, Option, Some, None, All, Contains, IfSome}
+use Rattle.std.specs.Prelude.{◌≡◌, ◌≢◌, ℕ, List, Option, Some, None, All, Contains, IfSome}
+use Rattle.bag_algebra.specs.declared.query.Query.{Query}
 use Rattle.perm_catalog.specs.Changes.{table_named}
 use Rattle.perm_catalog.specs.Contents.{Contents}
 use Rattle.perm_catalog.specs.Sound.{IsSound}
+use Rattle.perm_catalog.specs.Stored.{IsFresh}
 use Rattle.perm_catalog.specs.declared.entries.Kept.{Kept}
 use Rattle.perm_catalog.specs.declared.entries.Mark.{Mark}
 use Rattle.perm_catalog.specs.declared.entries.TableEntry.{TableEntry}
-use Rattle.perm_io.specs.Found.{Found}
 use Rattle.name_meaning.specs.declared.answer.Resolved.{Resolved}
 use Rattle.name_meaning.specs.declared.answer.Resolved.TheVariants as r
-use Rattle.statement_meaning.specs.Asking.{Asked, Settled, Begins}
 use Rattle.statement_meaning.specs.Ready.{IsReady}
-use Rattle.statement_meaning.specs.Turns.{Turn, Accepted, Refused}
 use Rattle.statement_laws.specs.Sounder.{AddsSoundly}
-
--- where the turn is accepted, this holds of what the catalog holds then
-abbrev pub TurnLeaves : (Contents → Type 0) → Turn → Type 0
-TurnLeaves P (Accepted text c) = P c
-TurnLeaves P (Refused cause) = ⊤
-
--- whatever became of the file that it begins
-abbrev pub Leaves : (Contents → Type 0) → Asked → Type 0
-Leaves P (Settled turn) = TurnLeaves P turn
-Leaves P (Begins name after) = (found : Found) → TurnLeaves P (after found)
 
 -- the table of this name, if any, to which the statement adds rows, from which it takes some, or which it drops
 abbrev pub written : Resolved → Option (List ℕ)
@@ -58,3 +47,38 @@ pub record MeetsStored (c : Contents) (statement : Resolved) (name : List ℕ) (
   pub adds : AddsSoundly c statement
   pub named : table_named c name ≡ Some table
   pub stores : table.stored ≡ Some stored
+
+-- ---- tables then
+
+-- the table of this name stores what the query gives, and is fresh
+pub record StoresFresh (name : List ℕ) (query : Query) (c : Contents) : Type 0 where
+  pub table : TableEntry
+  pub named : table_named c name ≡ Some table
+  pub stored : Mark
+  pub stores : table.stored ≡ Some stored
+  pub asks : stored.query ≡ query
+  pub fresh : IsFresh c stored
+
+-- the table of this name stores no provenance
+pub record StoresNothing (name : List ℕ) (c : Contents) : Type 0 where
+  pub table : TableEntry
+  pub named : table_named c name ≡ Some table
+  pub nothing : table.stored ≡ None
+
+-- the table of this name is this one
+abbrev pub IsStill : List ℕ → TableEntry → Contents → Type 0
+IsStill name table c = table_named c name ≡ Some table
+
+-- the table of this name, if any, to which the statement adds rows, or from which it takes some
+abbrev pub filled : Resolved → Option (List ℕ)
+filled (r.CreateTable name columns) = None
+filled (r.CreateTableAs name columns answer places) = None
+filled (r.CreateView name entry) = None
+filled (r.Copy name kinds file null_field header) = Some name
+filled (r.Insert name rows) = Some name
+filled (r.Delete name condition) = Some name
+filled (r.DropTable name) = None
+filled (r.DropView name) = None
+filled (r.Select answer) = None
+filled (r.Explain answer) = None
+filled (r.ShowFresh name) = None

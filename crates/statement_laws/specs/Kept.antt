@@ -1,5 +1,5 @@
 -- The rows that a DELETE leaves.
-use Rattle.std.specs.Prelude.{Bool, true, false, not, filter, Option}
+use Rattle.std.specs.Prelude.{Bool, false, not, filter, Option}
 use Rattle.bag_algebra.specs.Bags.{Row, Bag}
 use Rattle.bag_algebra.specs.Outcome.{Outcome, Good, Bad}
 use Rattle.bag_algebra.specs.declared.expr.Expr.{Expr}

@@ -2,5 +2,6 @@ pub mod Asks
 pub mod Beside
 pub mod Freshened
 pub mod Kept
+pub mod Leaving
 pub mod Printed
 pub mod Sounder

@@ -14,11 +14,11 @@ use Rattle.perm_catalog.specs.Sound.{IsSound, IsSoundView}
 use Rattle.perm_catalog.specs.declared.column.Column.{Column}
 use Rattle.perm_catalog.specs.declared.entries.TableEntry.{TableEntry}
 use Rattle.stored_provenance.specs.Held.{IsHeldTable}
-use Rattle.perm_io.specs.Found.{Found}
 use Rattle.name_meaning.specs.declared.answer.Resolved.{Resolved}
 use Rattle.name_meaning.specs.declared.answer.Resolved.TheVariants as r
-use Rattle.statement_meaning.specs.Asking.{Asked, Settled, Begins}
-use Rattle.statement_meaning.specs.Turns.{Turn, Accepted, Refused}
+use Rattle.statement_meaning.specs.Asking.{Asked}
+use Rattle.statement_meaning.specs.Turns.{Turn}
+use Rattle.statement_laws.specs.Leaving.{Leaves, TurnLeaves}
 
 -- an expression for each of the kinds, which has it where no column is seen
 abbrev pub HaveKinds : List Expr → List Kind → Type 0
@@ -62,10 +62,8 @@ AddsSoundly c (r.ShowFresh name) = ⊤
 
 -- where the statement stands, the catalog is sound then
 abbrev pub StandsSound : Turn → Type 0
-StandsSound (Accepted text c) = IsSound c
-StandsSound (Refused cause) = ⊤
+StandsSound turn = TurnLeaves IsSound turn
 
 -- whatever became of the file that it begins
 abbrev pub KeepsSound : Asked → Type 0
-KeepsSound (Settled turn) = StandsSound turn
-KeepsSound (Begins name after) = (found : Found) → StandsSound (after found)
+KeepsSound asked = Leaves IsSound asked

@@ -11,6 +11,7 @@ pub use answers::{
     provenance_stands_beside_the_plain_answer, the_word_asks_for_provenance,
 };
 pub use laws::{
-    delete_leaves_the_other_rows, fresh_tables_stay_fresh, no_rule_wants_a_number,
-    statements_keep_catalogs_sound, whole_statements_add_soundly, whole_statements_are_ready,
+    a_stored_query_is_fresh, a_written_table_stores_nothing, delete_leaves_the_other_rows,
+    fresh_tables_stay_fresh, no_rule_wants_a_number, statements_keep_catalogs_sound,
+    whole_statements_add_soundly, whole_statements_are_ready,
 };

@@ -34,8 +34,8 @@ pub fn select(
     text_of(alloc, at, answer.names.as_slice(), told, runner)
 }
 
-/// CREATE TABLE AS at an offset, of a free name: the table holds the rows of the runner's last run, of a plain query that stands
-/// for the given one. `Run` names a fault that it meets, and nothing is stored then.
+/// CREATE TABLE AS at an offset, of a free name: the table holds the rows of the runner's last run, of a
+/// plain query that stands for the given one. `Run` names a fault that it meets, and nothing is stored then.
 pub fn create_table_as(
     alloc: Global,
     catalog: &mut Catalog,
@@ -55,8 +55,8 @@ pub fn create_table_as(
     }
 }
 
-/// Runs a plain query that stands for the given one, and keeps it with its rows in the order of the given one's keys, then of all
-/// columns.
+/// Runs a plain query that stands for the given one, and keeps it with its rows in the order of the given
+/// one's keys, then of all columns.
 fn run(
     alloc: Global,
     catalog: &Catalog,

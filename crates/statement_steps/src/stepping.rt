@@ -21,9 +21,9 @@ use statement_changes::{
 use statement_meaning::StepRefusal;
 use std::alloc::Global;
 
-/// Carries out a resolved statement at an offset, which can be, and gives its text. COPY begins its file, and no other
-/// statement begins any. After a refusal the catalog is as before. A query is run by the runner, that of CREATE TABLE AS
-/// too, and no other statement changes that.
+/// Carries out a resolved statement at an offset, which can be, and gives its text. COPY begins its file, and
+/// no other statement begins any. After a refusal the catalog is as before. A query is run by the runner,
+/// that of CREATE TABLE AS too, and no other statement changes that.
 pub fn step<F: Files>(
     alloc: Global,
     catalog: &mut Catalog,
