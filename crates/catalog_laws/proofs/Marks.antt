@@ -45,13 +45,13 @@ pub record IsHere (c : Contents) (id version : ℕ) : Type 0 where
   pub held : HasId c id
   pub version_is : held.table.version ≡ version
 
-nat_same : (a b : ℕ) → nat_eq a b ≡ true → a ≡ b
+pub nat_same : (a b : ℕ) → nat_eq a b ≡ true → a ≡ b
 nat_same a b h = grind (arith, nat_tests)
 
-nat_equal : (a b : ℕ) → a ≡ b → nat_eq a b ≡ true
+pub nat_equal : (a b : ℕ) → a ≡ b → nat_eq a b ≡ true
 nat_equal a b h = grind (arith, nat_tests)
 
-some_same : {X : Type 0} (x y : X) → Some x ≡ Some y → x ≡ y
+pub some_same : {X : Type 0} (x y : X) → Some x ≡ Some y → x ≡ y
 some_same x y e = cc
 
 -- ---- the table that an identity finds

@@ -9,8 +9,8 @@ use Rattle.perm_catalog.specs.declared.entries.TableEntry.{TableEntry}
 use Rattle.perm_catalog.specs.declared.entries.ViewEntry.{ViewEntry}
 use Rattle.perm_catalog.proofs.Named.{AtName, Elsewhere, found, found-apart, named-last, named-without, distinct-last, distinct-without}
 use Rattle.bag_algebra.specs.TableRows.{rows_in}
-use Rattle.catalog_laws.proofs.Marks.{AreApart, Goes}
-use Rattle.catalog_laws.proofs.Soundness.{none_is_some, some_is_some, are-apart, kept-table, kept-view, stays, free-table, free-view}
+use Rattle.catalog_laws.proofs.Marks.{some_same, AreApart, Goes}
+use Rattle.catalog_laws.proofs.Soundness.{none_is_some, are-apart, kept-table, kept-view, stays, free-table, free-view}
 
 -- a table and a view of a catalog whose views alone change
 same-goes : (c d : Contents) → d.next ≡ c.next → d.rows ≡ c.rows → ((q : List ℕ) → table_named d q ≡ table_named c q) → Goes c d
@@ -54,7 +54,7 @@ module _ (c : Contents) (name : List ℕ) (view : ViewEntry) (s : IsSound c) (fr
   place q v h = found (Some view) (view_named c q) (view_named more q) name q v (change q) h
 
   view-sound : (q : List ℕ) (v : ViewEntry) → Place q v → IsSoundView more v
-  view-sound q v (inl here) = subst (IsSoundView more) (some_is_some view v here.is) (same-view c more view (λ n. refl) new)
+  view-sound q v (inl here) = subst (IsSoundView more) (some_same view v here.is) (same-view c more view (λ n. refl) new)
   view-sound q v (inr else) = same-view c more v (λ n. refl) (s.views q v else.was)
 
   no-table : table_named c name ≡ None

@@ -14,13 +14,10 @@ use Rattle.bag_algebra.specs.TablesRead.{TableRead}
 use Rattle.perm_catalog.specs.Sound.{IsSound, IsSoundTable, IsSoundView, IsHeldRead}
 use Rattle.perm_catalog.specs.declared.entries.TableEntry.{TableEntry}
 use Rattle.perm_catalog.specs.declared.entries.ViewEntry.{ViewEntry}
-use Rattle.catalog_laws.proofs.Marks.{AreApart, Goes, stored-goes}
+use Rattle.catalog_laws.proofs.Marks.{some_same, AreApart, Goes, stored-goes}
 
 pub none_is_some : {X : Type 0} {P : Type 0} {x : X} → None ≡ Some x → P
 none_is_some e = cc
-
-pub some_is_some : {X : Type 0} (x y : X) → Some x ≡ Some y → x ≡ y
-some_is_some x y e = cc
 
 -- ---- what stays sound where little changes
 
@@ -107,7 +104,7 @@ unused-by view name e es false is h = (is, h)
 
 picked-by : (P : ViewEntry → Type 0) (e : List ℕ × ViewEntry) (later : Option ViewEntry) (view : ViewEntry) (b : Bool) →
     P e.1 → (later ≡ Some view → P view) → cond b (Some e.1) later ≡ Some view → P view
-picked-by P e later view true first rest h = subst P (some_is_some e.1 view h) first
+picked-by P e later view true first rest h = subst P (some_same e.1 view h) first
 picked-by P e later view false first rest h = rest h
 
 unused-among : (test : List ℕ → Bool) (name : List ℕ) (view : ViewEntry) (es : List (List ℕ × ViewEntry)) →

@@ -12,17 +12,15 @@ use Rattle.perm_catalog.specs.Stored.{each_once, kept_read, kept_of}
 use Rattle.perm_catalog.specs.declared.entries.Kept.{Kept}
 use Rattle.perm_catalog.specs.declared.entries.TableEntry.{TableEntry}
 use Rattle.catalog_laws.proofs.Found.{found-passes}
+use Rattle.catalog_laws.proofs.Marks.{nat_same}
 use Rattle.stored_provenance.specs.Reads.{has_id, kept_now, listed, with_read, with_reads}
-
-same_number : (a b : ℕ) → nat_eq a b ≡ true → a ≡ b
-same_number a b h = grind (arith, nat_tests)
 
 turned : (a b : ℕ) → nat_eq a b ≡ nat_eq b a
 turned a b = grind (arith, nat_tests)
 
 -- the table that has an identity has it
 pub entry-id : (c : Contents) (id : ℕ) (e : List ℕ × TableEntry) → entry_of_id c id ≡ Some e → e.1.id ≡ id
-entry-id c id e h = same_number e.1.id id (found-passes (λ (t : TableEntry). nat_eq t.id id) c.tables e h)
+entry-id c id e h = nat_same e.1.id id (found-passes (λ (t : TableEntry). nat_eq t.id id) c.tables e h)
 
 -- ---- what adds nothing may be passed over
 
@@ -94,7 +92,7 @@ module _ (c : Contents) where
     unkept k r = not (has_id r.id k)
 
     same-id : (r : TableRead) → other r ≡ false → r.id ≡ read.id
-    same-id r h = same_number r.id read.id (not-false (nat_eq r.id read.id) h)
+    same-id r h = nat_same r.id read.id (not-false (nat_eq r.id read.id) h)
 
     new-has : (r : TableRead) (o : Option (List ℕ × TableEntry)) → other r ≡ true →
         has_id r.id (listed (option_map (λ (e : List ℕ × TableEntry). record { table = e.0; id = read.id; version = e.1.version }) o)) ≡ false

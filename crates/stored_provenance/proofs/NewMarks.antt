@@ -1,6 +1,5 @@
 -- What a new table that stores provenance remembers is sound, and it is fresh.
 use Rattle.std.proofs.Common.{◌≡◌, ◌≢◌, ℕ, zero, suc, ◌<◌, Bool, true, false, not, cond, List, [], ◌∷◌, ◌++◌, length, filter, Option, Some, None, refl, sym, ap, subst, ◌∙◌, arith, nat_eq}
-use Rattle.std.proofs.lemmas.Bool.Decides.{nat_tests}
 use Rattle.std.proofs.lemmas.List.Elements.{All-nil, All-cons, All-append, Contains-append_left, Contains-append_right}
 use Rattle.std.specs.Prelude.{All, Contains, slice_index_or}
 use Rattle.std.specs.List.{flat_map}
@@ -27,17 +26,11 @@ use Rattle.perm_catalog.specs.declared.column.Column.{Column}
 use Rattle.perm_catalog.specs.declared.entries.Kept.{Kept}
 use Rattle.perm_catalog.specs.declared.entries.TableEntry.{TableEntry}
 use Rattle.catalog_laws.proofs.Found.{found-named}
-use Rattle.catalog_laws.proofs.Marks.{has-entry, all-pass}
+use Rattle.catalog_laws.proofs.Marks.{nat_same, nat_equal, some_same, has-entry, all-pass}
 use Rattle.catalog_laws.proofs.Soundness.{are-apart}
 use Rattle.replaced_queries.specs.OverQueries.{ReadsAs}
 use Rattle.stored_provenance.specs.Held.{IsHeldTable}
 use Rattle.stored_provenance.proofs.KeptOnce.{entry-id}
-
-equal_number : (n : ℕ) → nat_eq n n ≡ true
-equal_number n = grind (arith, nat_tests)
-
-some_same : {X : Type 0} (x y : X) → Some x ≡ Some y → x ≡ y
-some_same x y e = cc
 
 -- ---- lists
 
@@ -75,9 +68,6 @@ record IsOnce (reads : List TableRead) (id : ℕ) : Type 0 where
   there : Contains reads read
   same : read.id ≡ id
 
-same_number : (a b : ℕ) → nat_eq a b ≡ true → a ≡ b
-same_number a b h = grind (arith, nat_tests)
-
 abbrev apart_from : TableRead → TableRead → Bool
 apart_from first r = not (nat_eq r.id first.id)
 
@@ -85,7 +75,7 @@ in-once : (reads : List TableRead) (read : TableRead) → Contains reads read �
 in-once [] read there = absurd (let low = there.1 in omega (arith, low))
 in-once (first ∷ reads) read there = by (in-once reads read) there.0 there.1 there.2 where
   onward : (once : IsOnce (each_once reads) read.id) (b : Bool) → nat_eq once.read.id first.id ≡ b → IsOnce (first ∷ filter (apart_from first) (each_once reads)) read.id
-  onward once true is = record { read = first; there = (0, omega arith, refl); same = sym (same_number once.read.id first.id is) ∙ once.same }
+  onward once true is = record { read = first; there = (0, omega arith, refl); same = sym (nat_same once.read.id first.id is) ∙ once.same }
   onward once false is = record {
     read = once.read;
     there = Contains-append_right (first ∷ []) (filter (apart_from first) (each_once reads)) once.read (in-filter (apart_from first) (each_once reads) once.read (ap not is) once.there);
@@ -117,7 +107,7 @@ module _ (c : Contents) (sound : IsSound c) where
   unchanged-by read (Some e) is =
       All-cons (λ kept. is_unchanged c kept ≡ true) (as_kept e) []
       (ap (λ o. option_map_or (λ (f : List ℕ × TableEntry). nat_eq f.1.version e.1.version) o false) (ap (entry_of_id c) (entry-id c read.id e is) ∙ is)
-      ∙ equal_number e.1.version)
+      ∙ nat_equal e.1.version e.1.version refl)
       (All-nil (λ kept. is_unchanged c kept ≡ true))
 
   same-table : (id : ℕ) (kinds : List Kind) (held : IsHeldTable c id kinds) (name : List ℕ) (table : TableEntry) → table_named c name ≡ Some table →
