@@ -15,7 +15,8 @@ use Rattle.perm_catalog.specs.declared.entries.Mark.{Mark}
 use Rattle.perm_catalog.specs.declared.entries.TableEntry.{TableEntry}
 use Rattle.name_meaning.specs.declared.answer.Resolved.{Resolved}
 use Rattle.name_meaning.specs.declared.answer.Resolved.TheVariants as r
-use Rattle.catalog_laws.proofs.Soundness.{are-apart, free-table, none_is_some, some_is_some}
+use Rattle.catalog_laws.proofs.Marks.{some_same}
+use Rattle.catalog_laws.proofs.Soundness.{are-apart, free-table, none_is_some}
 use Rattle.statement_meaning.specs.Asking.{asks}
 use Rattle.statement_meaning.specs.Ready.{IsReady}
 use Rattle.statement_meaning.specs.Turns.{identity_of}
@@ -55,7 +56,7 @@ module _ (c : Contents) (sound : IsSound c) (stored : Mark) (drawn : All (IsDraw
         let change = λ (q : List ℕ). named-last name q made c.tables none in record {
           never = never-again c d name (Some made) change (are-apart c sound) (are-apart d after) stored drawn
               (λ kept numbers t is id version.
-              let new : c.next ≡ t.id = ap (λ (x : TableEntry). x.id) (some_is_some made t is) in
+              let new : c.next ≡ t.id = ap (λ (x : TableEntry). x.id) (some_same made t is) in
               let low = numbers.id in
               omega (arith, low, new, id));
           stays = λ unread fresh. stays-fresh c d name (Some made) change (are-apart c sound) (are-apart d after) stored drawn
@@ -70,7 +71,7 @@ module _ (c : Contents) (sound : IsSound c) (stored : Mark) (drawn : All (IsDraw
     -- its version was drawn now
     newer-new : (kept : Kept) → IsDrawn c kept → (t : TableEntry) → Some newer ≡ Some t → t.id ≡ kept.id → t.version ≡ kept.version → ⊥
     newer-new kept numbers t e id version =
-        let new : c.next ≡ t.version = ap (λ (x : TableEntry). x.version) (some_is_some newer t e) in
+        let new : c.next ≡ t.version = ap (λ (x : TableEntry). x.version) (some_same newer t e) in
         let low = numbers.version in
         omega (arith, low, new, version)
 
