@@ -1,7 +1,6 @@
 -- A statement is refused by the first rule that it breaks. It draws one number at most, and wants the last one only where
 -- that is the next.
 use Rattle.std.proofs.Common.{◌≡◌, ◌≢◌, ◌∙◌, ℕ, ◌+◌, ◌≤◌, ◌<◌, Bool, true, false, cond, nat_eq, List, [], ◌∷◌, length, None, Ok, Err, codes, refl, ap, subst, arith}
-use Rattle.std.proofs.lemmas.Bool.Decides.{nat_tests}
 use Rattle.std.specs.List.{count_by}
 use Rattle.perm_values.specs.Numbers.{last_number}
 use Rattle.perm_values.specs.declared.kind.Kind.{Kind}
@@ -13,6 +12,7 @@ use Rattle.bag_algebra.specs.TableRows.{rows_in}
 use Rattle.bag_algebra.specs.declared.query.Answer.{Answer}
 use Rattle.csv_tables.specs.Loading.{broken_rules, spelled_rows}
 use Rattle.csv_tables.specs.declared.data_error.DataError.{DataError}
+use Rattle.catalog_laws.proofs.Marks.{nat_same}
 use Rattle.perm_catalog.specs.Changes.{rows_at, with_table, with_fewer_rows}
 use Rattle.perm_catalog.specs.Contents.{Contents}
 use Rattle.perm_catalog.specs.declared.column.Column.{Column}
@@ -54,14 +54,11 @@ abbrev IsThrifty : Contents → Asked → Type 0
 IsThrifty c (Settled turn) = IsFrugal c turn
 IsThrifty c (Begins name after) = (file : Found) → IsFrugal c (after file)
 
-same_number : (a b : ℕ) → nat_eq a b ≡ true → a ≡ b
-same_number a b h = grind (arith, nat_tests)
-
 module _ (c : Contents) where
   frugal-drawing : (at : ℕ) (text : List ℕ) (new : Contents) → new.next ≡ c.next + 1 → IsFrugal c (drawing c at (Accepted text new))
   frugal-drawing at text new h = chosen (nat_eq c.next last_number) refl where
     chosen : (spent : Bool) → nat_eq c.next last_number ≡ spent → IsFrugal c (cond spent (Refused (Broken (broken rule.NumbersSpent at))) (Accepted text new))
-    chosen true e = same_number c.next last_number e
+    chosen true e = nat_same c.next last_number e
     chosen false e = omega (arith, h)
 
   frugal-on_good : {X : Type 0} (at : ℕ) (o : Outcome X) (next : X → Turn) → ((x : X) → IsFrugal c (next x)) → IsFrugal c (on_good at o next)

@@ -1,6 +1,5 @@
 -- What a statement adds that breaks no rule: columns of a table, and values of the kinds of their columns.
 use Rattle.std.proofs.Common.{◌≡◌, ◌≢◌, ◌∙◌, ℕ, suc, Bool, true, false, cond, not, nat_eq, List, [], ◌∷◌, length, Option, Some, None, IfSome, refl, sym, ap, subst, arith}
-use Rattle.std.proofs.lemmas.Bool.Decides.{nat_tests}
 use Rattle.std.proofs.lemmas.List.Elements.{All-head, All-tail, All-map, All-weaker, All-contains_itself}
 use Rattle.std.specs.Cmp.Lexicographic.{pointwise, nat_list_eq_equiv}
 use Rattle.std.specs.List.{All, AllByRecursion, Contains, IsDistinct, flat_map, list_any}
@@ -11,6 +10,7 @@ use Rattle.bag_algebra.specs.built.Forms.{subs_kinds}
 use Rattle.bag_algebra.specs.WellFormed.{HasKind}
 use Rattle.bag_algebra.specs.declared.query.Aggr.{Aggr}
 use Rattle.bag_algebra.specs.declared.query.Sublink.{Sublink}
+use Rattle.catalog_laws.proofs.Marks.{nat_same}
 use Rattle.perm_catalog.specs.Changes.{table_named}
 use Rattle.perm_catalog.specs.Columns.{AreTableColumns, column_kinds, column_names}
 use Rattle.perm_catalog.specs.Contents.{Contents}
@@ -107,9 +107,6 @@ united-settled k (Some other) e = same-kind k other e
 seen-whole : (m : Meant) → m.breaks ≡ [] → seen_kind m ≡ m.kind
 seen-whole m whole = ap (λ (breaks : List Break). cond (is_whole breaks) m.kind None) whole
 
-same-length : (a b : ℕ) → nat_eq a b ≡ true → a ≡ b
-same-length a b e = grind (arith, nat_tests)
-
 length-names : (columns : List OutColumn) → length (names_of (settled_columns columns)) ≡ length columns
 length-names [] = refl
 length-names (column ∷ columns) = ap suc (length-names columns)
@@ -145,7 +142,7 @@ module _ (c : Contents) (sound : IsSound c) where
   row-has kinds row regular = chosen (nat_eq (length row.values) (length kinds)) refl where
     chosen : (b : Bool) → nat_eq (length row.values) (length kinds) ≡ b → cond b (values_breaks c kinds row.values) (broken rule.UnfitWidth row.at ∷ []) ≡ []
         → HaveKinds (row_made c kinds row.values) kinds
-    chosen true same e = values-have kinds row.values (same-length (length row.values) (length kinds) same) (all-of RegularExpr row.values regular.1) e
+    chosen true same e = values-have kinds row.values (nat_same (length row.values) (length kinds) same) (all-of RegularExpr row.values regular.1) e
     chosen false same e = absurd (cc e)
 
   rows-have : (kinds : List Kind) (rows : List ValuesRow) → All RegularRow rows

@@ -4,6 +4,7 @@ use Rattle.std.proofs.Common.{◌≡◌, ◌⊎◌, inl, inr, ℕ, Bool, true, f
 use Rattle.std.proofs.lemmas.Bool.Decides.{nat_tests}
 use Rattle.std.specs.List.{flat_map, list_any}
 use Rattle.std.specs.Option.{option_map, option_map_or}
+use Rattle.bag_algebra.proofs.Truths.{or_associates, or_false}
 use Rattle.bag_algebra.specs.TablesRead.{TableRead, tables_read}
 use Rattle.bag_algebra.specs.declared.query.Query.{Query}
 use Rattle.perm_catalog.specs.Contents.{Contents}
@@ -50,17 +51,9 @@ module _ {X Y : Type 0} (f : X → List Y) (here there apart : X → Bool)
 
 -- ---- identities of what is kept
 
-or-assoc : (a b c : Bool) → ((a || b) || c) ≡ (a || (b || c))
-or-assoc true b c = refl
-or-assoc false b c = refl
-
-or-false : (a : Bool) → (a || false) ≡ a
-or-false true = refl
-or-false false = refl
-
 has_id-append : (id : ℕ) (xs ys : List Kept) → has_id id (xs ++ ys) ≡ (has_id id xs || has_id id ys)
 has_id-append id [] ys = refl
-has_id-append id (x ∷ xs) ys = ap (λ b. nat_eq x.id id || b) (has_id-append id xs ys) ∙ sym (or-assoc (nat_eq x.id id) (has_id id xs) (has_id id ys))
+has_id-append id (x ∷ xs) ys = ap (λ b. nat_eq x.id id || b) (has_id-append id xs ys) ∙ sym (or_associates (nat_eq x.id id) (has_id id xs) (has_id id ys))
 
 or-true : (a : Bool) → (a || true) ≡ true
 or-true true = refl
@@ -97,12 +90,12 @@ module _ (c : Contents) where
     new-has : (r : TableRead) (o : Option (List ℕ × TableEntry)) → other r ≡ true →
         has_id r.id (listed (option_map (λ (e : List ℕ × TableEntry). record { table = e.0; id = read.id; version = e.1.version }) o)) ≡ false
     new-has r None apart = refl
-    new-has r (Some e) apart = or-false (nat_eq read.id r.id) ∙ turned read.id r.id ∙ not-true (nat_eq r.id read.id) apart
+    new-has r (Some e) apart = or_false (nat_eq read.id r.id) ∙ turned read.id r.id ∙ not-true (nat_eq r.id read.id) apart
 
     alike-new : (r : TableRead) → other r ≡ true → unkept (kept ++ listed (kept_now c read.id)) r ≡ unkept kept r
     alike-new r apart =
         ap not (has_id-append r.id kept (listed (kept_now c read.id))
-        ∙ ap (λ b. has_id r.id kept || b) (new-has r (entry_of_id c read.id) apart) ∙ or-false (has_id r.id kept))
+        ∙ ap (λ b. has_id r.id kept || b) (new-has r (entry_of_id c read.id) apart) ∙ or_false (has_id r.id kept))
 
     gone-by : (r : TableRead) (o : Option (List ℕ × TableEntry)) → entry_of_id c read.id ≡ o → other r ≡ false →
         (unkept (kept ++ listed (option_map (λ (e : List ℕ × TableEntry). record { table = e.0; id = read.id; version = e.1.version }) o)) r ≡ false)
