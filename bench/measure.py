@@ -19,7 +19,7 @@ PATIENCE = 20
 
 def need_program():
     if not os.access(PROGRAM, os.X_OK):
-        sys.exit("bench: the program isn't built: run ./perm examples/first.sql once")
+        sys.exit("bench: the program isn't built: run ./build once")
 
 
 class Run:

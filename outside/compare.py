@@ -105,7 +105,7 @@ def kinds_in(node, depth=0):
 
 
 def make_case(made, totals):
-    """A query with the reference's answer, or None where it is refused by another rule than E25 or too large."""
+    """A query with the reference's answer, or None where it is refused or too large."""
     try:
         query = made.statement()
         text, is_traced = write_query(query), asks_for_provenance(query.body)
@@ -120,8 +120,6 @@ def make_case(made, totals):
         kinds = kinds_in(node) | {word for word, pattern in WRITTEN.items() if re.search(pattern, text)}
         return Case(text, kinds | {f"fault {code}" for code in codes or ()}, is_traced, lines, codes)
     except Refused as refused:
-        if refused.code == "E25":
-            return Case(text, {"refused, E25"}, is_traced, None, {"E25"})
         totals.left_out["refused by the reference, " + refused.code] += 1
     except (TooMuch, RecursionError):
         totals.left_out["too large"] += 1
@@ -144,8 +142,6 @@ def is_expected(case, setup, given, status):
     """Whether the program says of a case alone what the reference does: each line in its place, or one of its faults."""
     if case.lines is not None:
         return (given, status) == (case.lines, 0)
-    if case.codes == {"E25"}:
-        return status == 4 and len(given) == 1 and given[0].startswith("error E25 at ")
     return status == 5 and given in [[f"error {code} at {len(setup.encode())}"] for code in case.codes]
 
 
@@ -220,7 +216,7 @@ def asked_for(description, more=()):
         words.add_argument(word, nargs="*")
     asked = words.parse_args()
     if not os.access(PROGRAM, os.X_OK):
-        sys.exit("outside: the program isn't built: run ./perm examples/first.sql once")
+        sys.exit("outside: the program isn't built: run ./build once")
     return asked
 
 

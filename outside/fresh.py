@@ -150,7 +150,7 @@ def main():
     words.add_argument("--wrong", choices=RULES)
     asked = words.parse_args()
     if not os.access(PROGRAM, os.X_OK):
-        sys.exit("outside: the program isn't built: run ./perm examples/first.sql once")
+        sys.exit("outside: the program isn't built: run ./build once")
     chance, differing, shown = random.Random(asked.seed), [], 0
     with tempfile.TemporaryDirectory() as folder:
         for _ in range(asked.scripts):

@@ -108,22 +108,6 @@ def shape(node):
     return places + [place for sublink in sublinks_of(node) for place in shape(sublink.query)]
 
 
-def can_be_traced(node):
-    """Whether PROVENANCE stands only where it can be traced: each source in the sublinks below it is a table itself."""
-    def only_tables(inner):
-        if isinstance(inner, Base):
-            return isinstance(inner.input, Table)
-        return isinstance(inner, Provenance) or all(map(only_tables, children(inner) + queries_in(inner)))
-
-    def below(inner):
-        if isinstance(inner, (Base, Provenance)):
-            return True
-        return all(map(below, children(inner))) and all(map(only_tables, queries_in(inner)))
-
-    inside = all(map(can_be_traced, children(node) + queries_in(node)))
-    return inside and (not isinstance(node, Provenance) or below(node.input))
-
-
 def queries_in(node):
     """The queries of a node's sublinks."""
     return [sublink.query for sublink in sublinks_of(node)]

@@ -11,6 +11,12 @@ const SCRIPT: &[u8] =
 const ANSWER: &str =
     "CREATE TABLE\nINSERT 2\n\"b\",\"prov_r_a\",\"prov_r_b\"\n\"x\",1,\"x\"\n\"x\",2,\"x\"\n(2 rows)\n";
 
+const USAGE: &str = "usage: perm (SCRIPT | --generate N)\n";
+
+/// What the script that is made from 2 answers.
+const GENERATED: &str =
+    "CREATE TABLE\nCREATE TABLE\nINSERT 2\nINSERT 10\n\"count\",\"sum\"\n2,3\n(1 rows)\n\"count\"\n2\n(1 rows)\n\"count\"\n2\n(1 rows)\n\"count\"\n2\n(1 rows)\n";
+
 /// How a run ended, and the output with what it took.
 #[derive(Drop)]
 pub(crate) struct Ended {
@@ -111,9 +117,12 @@ fn scripts_and_their_answers(rt: HostRuntime) -> Result<(), Fail> {
 fn words_files_and_failures(rt: HostRuntime) -> Result<(), Fail> {
     let alloc = rt.alloc();
     // The words, the failing calls on the file, and those on the output.
-    let cases: [(&[&str], &[u64], &[u64], &str, Status); 11] = [
-        (&[], &[], &[], "usage: perm SCRIPT\n", Status::Usage),
-        (&["s", "s"], &[], &[], "usage: perm SCRIPT\n", Status::Usage),
+    let cases: [(&[&str], &[u64], &[u64], &str, Status); 14] = [
+        (&[], &[], &[], USAGE, Status::Usage),
+        (&["s", "s"], &[], &[], USAGE, Status::Usage),
+        (&["s", "--generate", "1"], &[], &[], USAGE, Status::Usage),
+        (&["--generate", "100001"], &[], &[], USAGE, Status::Usage),
+        (&["--generate=2"], &[1], &[], GENERATED, Status::Done),
         (&["t"], &[], &[], "error E40 script\n", Status::BadData),
         (&["s"], &[1], &[], "error E50\n", Status::ReadFault),
         (&["s"], &[2], &[], "error E50\n", Status::ReadFault),

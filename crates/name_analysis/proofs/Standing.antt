@@ -23,7 +23,7 @@ use Rattle.name_meaning.specs.Scopes.{KnownColumn}
 use Rattle.name_meaning.specs.Statements as words
 use Rattle.name_meaning.specs.declared.answer.Break.{Break}
 use Rattle.name_laws.proofs.Every.{back-none, front-none}
-use Rattle.name_laws.proofs.Trees.{query-in_scope, query-known}
+use Rattle.name_laws.proofs.Trees.{query-known}
 use Rattle.name_laws.specs.Formed.{IsAnswer}
 use Rattle.name_laws.proofs.TreeLaws.{query-answer, query-closed}
 use Rattle.name_laws.proofs.Named.{view-reads}
@@ -75,7 +75,6 @@ module _ (c : Contents) (sound : IsSound c) where
       record {
         formed = closed.0;
         closed = closed.1;
-        scoped = (query-in_scope c tree words.alone sound whole []).scoped;
         kinds_are = known.kinds [] ∙ kinds-settled known.columns ∙ ap known_kinds (sym (shown m known.columns known.known));
         named = ap (λ (columns : List KnownColumn). length (names_of columns)) (shown m answer.columns answer.known)
             ∙ names-many answer.columns ∙ answer.named [];

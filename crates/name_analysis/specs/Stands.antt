@@ -3,7 +3,6 @@ use Rattle.std.specs.Prelude.{◌≡◌, ⊤, ℕ, true, List, [], length, map, 
 use Rattle.perm_values.specs.declared.kind.Kind.{Kind}
 use Rattle.bag_algebra.specs.Closed.{is_closed}
 use Rattle.bag_algebra.specs.Kinds.{kinds_of, width_of}
-use Rattle.bag_algebra.specs.Scoped.{is_scoped}
 use Rattle.bag_algebra.specs.TablesRead.{EachTable}
 use Rattle.bag_algebra.specs.WellFormed.{KeysIn, WellFormed}
 use Rattle.bag_algebra.specs.declared.query.Answer.{Answer}
@@ -27,12 +26,11 @@ pub record IsHeldTable (c : Contents) (id : ℕ) (kinds : List Kind) : Type 0 wh
   pub id_is : table.id ≡ id
   pub kinds_are : column_kinds table.columns ≡ kinds
 
--- well formed under no outer rows, closed and scoped; columns of these kinds, a name for each, keys among them; each table
+-- well formed under no outer rows, and closed; columns of these kinds, a name for each, keys among them; each table
 -- is the catalog's, with its kinds
 pub record AnswerStands (c : Contents) (kinds : List Kind) (answer : Answer) : Type 0 where
   pub formed : WellFormed [] answer.query
   pub closed : is_closed answer.query ≡ true
-  pub scoped : is_scoped answer.query ≡ true
   pub kinds_are : kinds_of answer.query ≡ kinds
   pub named : length answer.names ≡ width_of answer.query
   pub keys : KeysIn (width_of answer.query) answer.keys

@@ -7,8 +7,8 @@ ghost use Rattle.perm_catalog.specs.Sound.{IsSound};
 ghost use Rattle.sql_tree.specs.Regular.{RegularStatement};
 ghost use Rattle.sql_tree.specs.declared.statement.Statement.{Statement};
 
-/// Over a sound catalog, the query in what a regular statement resolves to that breaks no rule is well formed, closed and
-/// scoped, has the kinds of its columns, a name for each of them and keys among them, and reads the catalog's tables with
+/// Over a sound catalog, the query in what a regular statement resolves to that breaks no rule is well formed and closed,
+/// has the kinds of its columns, a name for each of them and keys among them, and reads the catalog's tables with
 /// their kinds.
 pub fn resolved_queries_stand()
     ensures { (c : Contents) (statement : Statement) → IsSound c → RegularStatement statement

@@ -21,8 +21,8 @@ use Rattle.sql_tree.specs.declared.source.FromTree.{FromTree, out-FromTree}
 use Rattle.sql_tree.specs.declared.source.JoinStep.{JoinStep, out-JoinStep}
 use Rattle.sql_tree.specs.declared.source.ScopeMark.{ScopeMark}
 use Rattle.name_meaning.proofs.Equations.{token, selectitem-star, selectitem-tablestar, selectitem-value, fromsource-named, fromsource-inner}
-use Rattle.name_meaning.specs.Cores.{BodyPart, Clauses, clause_breaks, core_clauses, core_over, core_seen, core_trace, core_unlooked, group_break, group_scope, has_some, in_clause, optional_breaks, optional_inside, optional_meant, word_breaks}
-use Rattle.name_meaning.specs.Froms.{FromMeant, FromPart, ItemMeant, JoinPart, Read, SourcePart, beside_from, both_known, first_item, from_all, from_more, in_on, item_meant, join_all, join_item, label_of, on_breaks, on_meant, read_named, read_of, scope_items, scope_name, trace_under}
+use Rattle.name_meaning.specs.Cores.{BodyPart, Clauses, clause_breaks, core_clauses, core_over, core_seen, core_unlooked, group_break, group_scope, has_some, in_clause, optional_breaks, optional_inside, optional_meant, word_breaks}
+use Rattle.name_meaning.specs.Froms.{FromMeant, FromPart, ItemMeant, JoinPart, Read, SourcePart, beside_from, both_known, first_item, from_all, from_more, in_on, item_meant, join_all, join_item, label_of, on_breaks, on_meant, read_named, read_of, scope_items, scope_name}
 use Rattle.name_meaning.specs.Items.{SelectPart, columns_meant, items_breaks, items_inside, no_columns, star_meant, table_star_meant}
 use Rattle.name_meaning.specs.Meanings.{Around, Inside, Meant, Part, QueryMeant, Surroundings, both_inside, is_whole, means_at, nothing_inside, query_means_at}
 use Rattle.name_meaning.specs.Queries.{SetStepPart, count_columns, asks_provenance, keys_breaks, keys_of, limited, operand_breaks, plain_query, query_with_provenance, query_seen, set_chain, set_joined, may_not_ask}
@@ -30,8 +30,6 @@ use Rattle.name_meaning.specs.Scopes.{Placed, ScopeItem, item_columns, scope_of}
 use Rattle.name_meaning.specs.Trees.{core_of, from_item_of, from_of, item_of, join_of, part_of, query_of, set_of_tree, set_step_of, source_of}
 use Rattle.name_meaning.specs.declared.answer.Break.{Break}
 use Rattle.name_meaning.specs.declared.scope.Scope.{Scope}
-use Rattle.name_meaning.specs.declared.trace.Trace.{Trace}
-use Rattle.name_meaning.specs.declared.trace.Trace.TheVariants.{InProvenance as in_provenance}
 use Rattle.name_laws.proofs.Every.{Every, front-none, back-none, whole-none, none-whole}
 use Rattle.name_meaning.proofs.Opened.{core-is, join-is, opened_from, opened_from_item}
 use Rattle.name_inside.specs.Held.{Adds, Held, all_breaks, all_inside, clauses_of, condition_of, having_of, held_at, held_clauses, held_from, held_froms, held_item, held_items, held_joins, held_operand, held_optional, held_query, held_read, held_select, inside_in, items_of, query_alone, sources_of}
@@ -40,7 +38,6 @@ use Rattle.name_inside.specs.declared.gathered.Gathered.{Gathered}
 use Rattle.name_inside.proofs.Bare.{bare-tree}
 use Rattle.name_inside.proofs.Forms.{BarePart}
 use Rattle.name_inside.proofs.Over.{IsOver, adds-both, adds-broken, adds-nothing, adds-over, adds-this, breaks-append, breaks-one, both-nothing, inside-append, inside-one, over-alike, over-front, over-pair, over-self}
-use Rattle.name_seen_parts.specs.Standing.{around_body, around_core}
 use Rattle.name_seen_cores.proofs.Opened.{set-is, paren-means, chain-means, step-operand, query-means}
 
 -- ---- set operations
@@ -99,26 +96,26 @@ proved-over at m order limit query =
     (λ none. (λ i. none i ++ front-none m.breaks (keys_breaks m.columns order) none i)) (λ none. refl)
 
 seen-over : (around : Around) (at : ℕ) (body : BodyPart) (order : List OrderTree) (limit : Option ℤ)
-    → IsOver (held_query (query_seen around at body order limit)) (held_alone at (query_seen around at body order limit) ∷ held_query (body.means (around_body (asks_provenance around body) around)) ∷ [])
+    → IsOver (held_query (query_seen around at body order limit)) (held_alone at (query_seen around at body order limit) ∷ held_query (body.means around) ∷ [])
 seen-over around at body order limit = chosen (asks_provenance around body) where
   chosen : (b : Bool) → IsOver (held_query (cond b
-      (let m = body.means (record around { trace = in_provenance }) in query_with_provenance at m order limit (limited limit (keys_of m.columns order) (m.make [])))
+      (let m = body.means around in query_with_provenance at m order limit (limited limit (keys_of m.columns order) (m.make [])))
       (plain_query at (body.means around) order limit)))
       (held_alone at (cond b
-      (let m = body.means (record around { trace = in_provenance }) in query_with_provenance at m order limit (limited limit (keys_of m.columns order) (m.make [])))
+      (let m = body.means around in query_with_provenance at m order limit (limited limit (keys_of m.columns order) (m.make [])))
       (plain_query at (body.means around) order limit))
-      ∷ held_query (body.means (around_body b around)) ∷ [])
+      ∷ held_query (body.means around) ∷ [])
   chosen true =
-      let m = body.means (record around { trace = in_provenance }) in
+      let m = body.means around in
       proved-over at m order limit (limited limit (keys_of m.columns order) (m.make []))
   chosen false = plain-over at (body.means around) order limit
 
 pub query-adds : (c : Contents) (around : Around) (tree : QueryTree) (width : ℕ) (old middle new : Gathered)
     → HasWidth (query_means_at (query_of c tree) around) (Some width) → inside_in middle ≡ both_inside (inside_in old) (query_alone tree.at width)
-    → Adds (held_query ((set_of_tree c tree.body).means (around_body (asks_provenance around (set_of_tree c tree.body)) around)) ∷ []) middle new
+    → Adds (held_query ((set_of_tree c tree.body).means around) ∷ []) middle new
     → Adds (held_query (query_means_at (query_of c tree) around) ∷ []) old new
 query-adds c around tree width old middle new wide first body = adds-over
-    (subst (λ (m : QueryMeant). IsOver (held_query m) (held_alone tree.at m ∷ held_query ((set_of_tree c tree.body).means (around_body (asks_provenance around (set_of_tree c tree.body)) around)) ∷ []))
+    (subst (λ (m : QueryMeant). IsOver (held_query m) (held_alone tree.at m ∷ held_query ((set_of_tree c tree.body).means around) ∷ []))
     (sym (query-means c tree around)) (seen-over around tree.at (set_of_tree c tree.body) tree.order tree.limit))
     (adds-both (adds-this (λ none. first ∙ ap (λ n. both_inside (inside_in old) (query_alone tree.at n)) (sym (wide none)))) body)
 
@@ -127,17 +124,17 @@ query-adds c around tree width old middle new wide first body = adds-over
 beside-over : (left right : FromMeant) → IsOver (held_from (beside_from left right)) (held_from left ∷ held_from right ∷ [])
 beside-over left right = over-pair (held_from (beside_from left right)) (held_from left) (held_from right) (λ none. none) (λ none. refl)
 
-more-over : (outer : List Scope) (trace : Trace) (left : FromMeant) (parts : List FromPart)
-    → IsOver (held_from (from_more outer trace left parts)) (held_from left ∷ held_froms outer trace left.names parts)
-more-over outer trace left [] = over-self (held_from left)
-more-over outer trace left (part ∷ parts) =
-    let right = part.means outer trace left.names in
-    over-front (held_from left ∷ held_from right ∷ []) (held_froms outer trace right.names parts)
-    (more-over outer trace (beside_from left right) parts) (beside-over left right)
+more-over : (outer : List Scope) (left : FromMeant) (parts : List FromPart)
+    → IsOver (held_from (from_more outer left parts)) (held_from left ∷ held_froms outer left.names parts)
+more-over outer left [] = over-self (held_from left)
+more-over outer left (part ∷ parts) =
+    let right = part.means outer left.names in
+    over-front (held_from left ∷ held_from right ∷ []) (held_froms outer right.names parts)
+    (more-over outer (beside_from left right) parts) (beside-over left right)
 
-all-over : (outer : List Scope) (trace : Trace) (parts : List FromPart) → IsOver (held_from (from_all outer trace parts)) (held_froms outer trace [] parts)
-all-over outer trace [] = record { breaks = λ none. refl; inside = λ none. refl }
-all-over outer trace (part ∷ parts) = more-over outer trace (part.means outer trace []) parts
+all-over : (outer : List Scope) (parts : List FromPart) → IsOver (held_from (from_all outer parts)) (held_froms outer [] parts)
+all-over outer [] = record { breaks = λ none. refl; inside = λ none. refl }
+all-over outer (part ∷ parts) = more-over outer (part.means outer []) parts
 
 abbrev BareOn : Option Part → Type 0
 BareOn None = ⊤
@@ -146,31 +143,31 @@ BareOn (Some condition) = BarePart condition
 abbrev BareJoin : JoinPart → Type 0
 BareJoin step = BareOn step.condition
 
-on-nothing : (outer : List Scope) (trace : Trace) (items : Option (List ScopeItem)) (condition : Option Part) → BareOn condition
-    → on_breaks condition (on_meant outer trace items condition) ≡ []
-    → option_map_or (λ (m : Meant). m.inside) (on_meant outer trace items condition) nothing_inside ≡ nothing_inside
-on-nothing outer trace None condition bare none = refl
-on-nothing outer trace (Some items) None bare none = refl
-on-nothing outer trace (Some items) (Some condition) bare none =
-    bare (in_on items outer trace) refl (front-none (condition.means (in_on items outer trace)).breaks _ none)
+on-nothing : (outer : List Scope) (items : Option (List ScopeItem)) (condition : Option Part) → BareOn condition
+    → on_breaks condition (on_meant outer items condition) ≡ []
+    → option_map_or (λ (m : Meant). m.inside) (on_meant outer items condition) nothing_inside ≡ nothing_inside
+on-nothing outer None condition bare none = refl
+on-nothing outer (Some items) None bare none = refl
+on-nothing outer (Some items) (Some condition) bare none =
+    bare (in_on items outer) refl (front-none (condition.means (in_on items outer)).breaks _ none)
 
-join-over : (outer : List Scope) (trace : Trace) (left : FromMeant) (step : JoinPart) (m : ItemMeant) → BareJoin step
-    → IsOver (held_from (join_item outer trace left step m)) (held_from left ∷ held_item m ∷ [])
-join-over outer trace left step m bare =
+join-over : (outer : List Scope) (left : FromMeant) (step : JoinPart) (m : ItemMeant) → BareJoin step
+    → IsOver (held_from (join_item outer left step m)) (held_from left ∷ held_item m ∷ [])
+join-over outer left step m bare =
     let items = both_known left.items (scope_items m) in
-    over-pair (held_from (join_item outer trace left step m)) (held_from left) (held_item m)
-    (λ none. front-none (left.breaks ++ m.breaks) (on_breaks step.condition (on_meant outer trace items step.condition)) none)
+    over-pair (held_from (join_item outer left step m)) (held_from left) (held_item m)
+    (λ none. front-none (left.breaks ++ m.breaks) (on_breaks step.condition (on_meant outer items step.condition)) none)
     (λ none. ap (both_inside left.inside)
-    (ap (both_inside m.inside) (on-nothing outer trace items step.condition bare
-    (back-none (left.breaks ++ m.breaks) (on_breaks step.condition (on_meant outer trace items step.condition)) none)) ∙ both-nothing m.inside))
+    (ap (both_inside m.inside) (on-nothing outer items step.condition bare
+    (back-none (left.breaks ++ m.breaks) (on_breaks step.condition (on_meant outer items step.condition)) none)) ∙ both-nothing m.inside))
 
-joins-over : (outer : List Scope) (trace : Trace) (left : FromMeant) (steps : List JoinPart) → Every BareJoin steps
-    → IsOver (held_from (join_all outer trace left steps)) (held_from left ∷ held_joins outer trace left.names steps)
-joins-over outer trace left [] bare = over-self (held_from left)
-joins-over outer trace left (step ∷ steps) bare =
-    let m = step.item.means outer trace left.names in
-    over-front (held_from left ∷ held_item m ∷ []) (held_joins outer trace (left.names ++ m.name ∷ []) steps)
-    (joins-over outer trace (join_item outer trace left step m) steps bare.1) (join-over outer trace left step m bare.0)
+joins-over : (outer : List Scope) (left : FromMeant) (steps : List JoinPart) → Every BareJoin steps
+    → IsOver (held_from (join_all outer left steps)) (held_from left ∷ held_joins outer left.names steps)
+joins-over outer left [] bare = over-self (held_from left)
+joins-over outer left (step ∷ steps) bare =
+    let m = step.item.means outer left.names in
+    over-front (held_from left ∷ held_item m ∷ []) (held_joins outer (left.names ++ m.name ∷ []) steps)
+    (joins-over outer (join_item outer left step m) steps bare.1) (join-over outer left step m bare.0)
 
 module _ (c : Contents) where
   on-bare : (condition : Option ExprTree) → BareOn (option_map (part_of c) condition)
@@ -185,63 +182,63 @@ module _ (c : Contents) where
   joins-bare (step ∷ steps) = (join-bare step, joins-bare steps)
 
   -- a `from` is over its first item and those that are joined with it
-  pub from-stands : (outer : List Scope) (trace : Trace) (names : List (List ℕ)) (tree : FromTree)
-      → IsOver (held_from ((from_of c tree).means outer trace names))
-      (held_item ((from_item_of c (out-FromTree tree).first).means outer trace names)
-      ∷ held_joins outer trace (names ++ ((from_item_of c (out-FromTree tree).first).means outer trace names).name ∷ []) (map (join_of c) (out-FromTree tree).joins))
-  from-stands outer trace names tree =
-      let m = (from_item_of c (out-FromTree tree).first).means outer trace names in
-      over-alike (ap (λ (part : FromPart). held_from (part.means outer trace names)) (opened_from c tree))
-      (joins-over outer trace (first_item names m) (map (join_of c) (out-FromTree tree).joins) (joins-bare (out-FromTree tree).joins))
+  pub from-stands : (outer : List Scope) (names : List (List ℕ)) (tree : FromTree)
+      → IsOver (held_from ((from_of c tree).means outer names))
+      (held_item ((from_item_of c (out-FromTree tree).first).means outer names)
+      ∷ held_joins outer (names ++ ((from_item_of c (out-FromTree tree).first).means outer names).name ∷ []) (map (join_of c) (out-FromTree tree).joins))
+  from-stands outer names tree =
+      let m = (from_item_of c (out-FromTree tree).first).means outer names in
+      over-alike (ap (λ (part : FromPart). held_from (part.means outer names)) (opened_from c tree))
+      (joins-over outer (first_item names m) (map (join_of c) (out-FromTree tree).joins) (joins-bare (out-FromTree tree).joins))
 
-  join-stands : (outer : List Scope) (trace : Trace) (names : List (List ℕ)) (step : JoinStep)
-      → held_item ((join_of c step).item.means outer trace names) ≡ held_item ((from_item_of c (out-JoinStep step).item).means outer trace names)
-  join-stands outer trace names step = ap (λ (part : JoinPart). held_item (part.item.means outer trace names)) (join-is c step)
+  join-stands : (outer : List Scope) (names : List (List ℕ)) (step : JoinStep)
+      → held_item ((join_of c step).item.means outer names) ≡ held_item ((from_item_of c (out-JoinStep step).item).means outer names)
+  join-stands outer names step = ap (λ (part : JoinPart). held_item (part.item.means outer names)) (join-is c step)
 
-  pub from-adds : (outer : List Scope) (trace : Trace) (tree : FromTree) (read : List JoinStep) (old middle new : Gathered) → read ≡ (out-FromTree tree).joins
-      → ((names : List (List ℕ)) → Adds (held_item ((from_item_of c (out-FromTree tree).first).means outer trace names) ∷ []) old middle)
-      → ((names : List (List ℕ)) → Adds (held_joins outer trace names (map (join_of c) read)) middle new)
-      → (names : List (List ℕ)) → Adds (held_from ((from_of c tree).means outer trace names) ∷ []) old new
-  from-adds outer trace tree read old middle new same first joins names =
-      adds-over (from-stands outer trace names tree) (adds-both (first names)
-      (subst (λ (steps : List JoinStep). Adds (held_joins outer trace (names ++ ((from_item_of c (out-FromTree tree).first).means outer trace names).name ∷ []) (map (join_of c) steps)) middle new)
-      same (joins (names ++ ((from_item_of c (out-FromTree tree).first).means outer trace names).name ∷ []))))
+  pub from-adds : (outer : List Scope) (tree : FromTree) (read : List JoinStep) (old middle new : Gathered) → read ≡ (out-FromTree tree).joins
+      → ((names : List (List ℕ)) → Adds (held_item ((from_item_of c (out-FromTree tree).first).means outer names) ∷ []) old middle)
+      → ((names : List (List ℕ)) → Adds (held_joins outer names (map (join_of c) read)) middle new)
+      → (names : List (List ℕ)) → Adds (held_from ((from_of c tree).means outer names) ∷ []) old new
+  from-adds outer tree read old middle new same first joins names =
+      adds-over (from-stands outer names tree) (adds-both (first names)
+      (subst (λ (steps : List JoinStep). Adds (held_joins outer (names ++ ((from_item_of c (out-FromTree tree).first).means outer names).name ∷ []) (map (join_of c) steps)) middle new)
+      same (joins (names ++ ((from_item_of c (out-FromTree tree).first).means outer names).name ∷ []))))
 
-  pub join-adds : (outer : List Scope) (trace : Trace) (step : JoinStep) {old new : Gathered}
-      → ((names : List (List ℕ)) → Adds (held_item ((from_item_of c (out-JoinStep step).item).means outer trace names) ∷ []) old new)
-      → (names : List (List ℕ)) → Adds (held_item ((join_of c step).item.means outer trace names) ∷ []) old new
-  join-adds outer trace step {old = old} {new = new} added names =
-      subst (λ (h : Held). Adds (h ∷ []) old new) (sym (join-stands outer trace names step)) (added names)
+  pub join-adds : (outer : List Scope) (step : JoinStep) {old new : Gathered}
+      → ((names : List (List ℕ)) → Adds (held_item ((from_item_of c (out-JoinStep step).item).means outer names) ∷ []) old new)
+      → (names : List (List ℕ)) → Adds (held_item ((join_of c step).item.means outer names) ∷ []) old new
+  join-adds outer step {old = old} {new = new} added names =
+      subst (λ (h : Held). Adds (h ∷ []) old new) (sym (join-stands outer names step)) (added names)
 
-  item-over : (at : ℕ) (mark : ScopeMark) (trace : Trace) (earlier : List (List ℕ)) (name label : List ℕ) (read : Read)
-      → IsOver (held_item (item_meant at mark trace earlier name label read)) (held_read read ∷ [])
-  item-over at mark trace earlier name label read = record {
-    breaks = λ none. breaks-one (held_read read) ∙ front-none read.breaks _ (front-none _ _ (front-none _ _ none));
+  item-over : (at : ℕ) (mark : ScopeMark) (earlier : List (List ℕ)) (name label : List ℕ) (read : Read)
+      → IsOver (held_item (item_meant at mark earlier name label read)) (held_read read ∷ [])
+  item-over at mark earlier name label read = record {
+    breaks = λ none. breaks-one (held_read read) ∙ front-none read.breaks _ (front-none _ _ none);
     inside = λ none. sym (inside-one (held_read read));
   }
 
-  module _ (outer : List Scope) (trace : Trace) (names : List (List ℕ)) (item : FromItem) where
-    item-stands : IsOver (held_item ((from_item_of c item).means outer trace names)) (held_read (read_of c item.mark outer trace (source_of c item.source)) ∷ [])
-    item-stands = over-alike (ap (λ part. held_item (part.means outer trace names)) (opened_from_item c item))
-        (item-over item.at item.mark trace names (scope_name (source_of c item.source) item.alias) (label_of (source_of c item.source) item.alias)
-        (read_of c item.mark outer trace (source_of c item.source)))
+  module _ (outer : List Scope) (names : List (List ℕ)) (item : FromItem) where
+    item-stands : IsOver (held_item ((from_item_of c item).means outer names)) (held_read (read_of c outer (source_of c item.source)) ∷ [])
+    item-stands = over-alike (ap (λ part. held_item (part.means outer names)) (opened_from_item c item))
+        (item-over item.at item.mark names (scope_name (source_of c item.source) item.alias) (label_of (source_of c item.source) item.alias)
+        (read_of c outer (source_of c item.source)))
 
     pub named-adds : (name read : Name) (old new : Gathered) → item.source ≡ source.Named name → read ≡ name
         → Adds (held_read (read_named c read) ∷ []) old new
-        → Adds (held_item ((from_item_of c item).means outer trace names) ∷ []) old new
+        → Adds (held_item ((from_item_of c item).means outer names) ∷ []) old new
     unfolding token
     named-adds name read old new is same added = adds-over item-stands
         (subst (λ (r : Read). Adds (held_read r ∷ []) old new)
-        (ap (read_named c) same ∙ sym (ap (read_of c item.mark outer trace) (ap (source_of c) is ∙ fromsource-named c name))) added)
+        (ap (read_named c) same ∙ sym (ap (read_of c outer) (ap (source_of c) is ∙ fromsource-named c name))) added)
 
     pub inner-adds : (query read : QueryTree) (old new : Gathered) → item.source ≡ source.Inner query → read ≡ query
-        → Adds (held_query (query_means_at (query_of c read) (record { outer = outer; trace = trace_under item.mark trace; may_ask = true })) ∷ []) old new
-        → Adds (held_item ((from_item_of c item).means outer trace names) ∷ []) old new
+        → Adds (held_query (query_means_at (query_of c read) (record { outer = outer; may_ask = true })) ∷ []) old new
+        → Adds (held_item ((from_item_of c item).means outer names) ∷ []) old new
     unfolding token query_means_at
     inner-adds query read old new is same added = adds-over item-stands
         (subst (λ (h : Held). Adds (h ∷ []) old new)
-        (ap (λ (q : QueryTree). held_query (query_means_at (query_of c q) (record { outer = outer; trace = trace_under item.mark trace; may_ask = true }))) same
-        ∙ sym (ap (λ (part : SourcePart). held_read (read_of c item.mark outer trace part)) (ap (source_of c) is ∙ fromsource-inner c query))) added)
+        (ap (λ (q : QueryTree). held_query (query_means_at (query_of c q) (record { outer = outer; may_ask = true }))) same
+        ∙ sym (ap (λ (part : SourcePart). held_read (read_of c outer part)) (ap (source_of c) is ∙ fromsource-inner c query))) added)
 
 -- ---- the SELECT list
 
@@ -312,11 +309,8 @@ four-inside hs ks ls ms a b c d e f g h =
 
 module _ (around : Around) (word : Option ℕ) (has_from is_distinct : Bool) (items : List SelectPart) (sources : List FromPart)
     (condition : Option Part) (groups : List ColRef) (having : Option Part) where
-  abbrev own : Around
-  own = around_core around word
-
   abbrev input : FromMeant
-  input = from_all around.outer (core_trace around word) sources
+  input = from_all around.outer sources
 
   abbrev known_items : List ScopeItem
   known_items = option_map_or (λ (known : List ScopeItem). known) input.items []
@@ -328,17 +322,17 @@ module _ (around : Around) (word : Option ℕ) (has_from is_distinct : Bool) (it
   wide_scope = group_scope plain_scope groups having items
 
   abbrev where_here : Surroundings
-  where_here = in_clause plain_scope around.outer (core_trace around word) false
+  where_here = in_clause plain_scope around.outer false
 
   abbrev list_here : Surroundings
-  list_here = in_clause wide_scope around.outer (core_trace around word) true
+  list_here = in_clause wide_scope around.outer true
 
   abbrev seen_clauses : Clauses
   seen_clauses = core_clauses where_here list_here wide_scope has_from input condition having items
 
   looked-over : input.breaks ≡ []
-      → IsOver (held_query (core_over around.outer (core_trace around word) (word_breaks around word) input has_from is_distinct items condition groups having known_items))
-      (held_clauses own wide_scope has_from items sources condition having)
+      → IsOver (held_query (core_over around.outer (word_breaks around word) input has_from is_distinct items condition groups having known_items))
+      (held_clauses around wide_scope has_from items sources condition having)
   looked-over from_none = record {
     breaks = λ none.
         let clauses : clause_breaks plain_scope condition groups having seen_clauses ≡ [] = back-none (word_breaks around word) _ none in
@@ -346,31 +340,31 @@ module _ (around : Around) (word : Option ℕ) (has_from is_distinct : Bool) (it
         let before : (optional_breaks condition seen_clauses.where_meant ++ flat_map (group_break plain_scope) groups) ++ optional_breaks having seen_clauses.having_meant ≡ [] =
         front-none _ (items_breaks seen_clauses.list) clauses in
         appended-none (held_items has_from wide_scope list_here items) _ (list-breaks has_from wide_scope list_here items ∙ listed)
-        (appended-none (held_froms around.outer (core_trace around word) [] sources) _ ((all-over around.outer (core_trace around word) sources).breaks from_none)
+        (appended-none (held_froms around.outer [] sources) _ ((all-over around.outer sources).breaks from_none)
         (appended-none (held_optional where_here condition) _
         (optional-none where_here condition (front-none _ (flat_map (group_break plain_scope) groups) (front-none _ (optional_breaks having seen_clauses.having_meant) before)))
         (optional-none list_here having (back-none _ (optional_breaks having seen_clauses.having_meant) before))));
     inside = λ none.
-        four-inside (held_items has_from wide_scope list_here items) (held_froms around.outer (core_trace around word) [] sources)
+        four-inside (held_items has_from wide_scope list_here items) (held_froms around.outer [] sources)
         (held_optional where_here condition) (held_optional list_here having)
         (items_inside seen_clauses.list) input.inside (optional_inside seen_clauses.where_meant) (optional_inside seen_clauses.having_meant)
-        (list-inside has_from wide_scope list_here items) ((all-over around.outer (core_trace around word) sources).inside from_none)
+        (list-inside has_from wide_scope list_here items) ((all-over around.outer sources).inside from_none)
         (optional-inside where_here condition) (optional-inside list_here having);
   }
 
   core_seen-over : (scope : Scope) → HasScope input groups having items (Some scope)
       → IsOver (held_query (core_seen around word input has_from is_distinct items condition groups having))
-      (held_clauses own scope has_from items sources condition having)
+      (held_clauses around scope has_from items sources condition having)
   core_seen-over scope is = chosen (is_whole input.breaks) refl where
     chosen : (b : Bool) → is_whole input.breaks ≡ b
         → IsOver (held_query (cond b
-        (core_over around.outer (core_trace around word) (word_breaks around word) input has_from is_distinct items condition groups having known_items)
+        (core_over around.outer (word_breaks around word) input has_from is_distinct items condition groups having known_items)
         (core_unlooked (word_breaks around word) input)))
-        (held_clauses own scope has_from items sources condition having)
+        (held_clauses around scope has_from items sources condition having)
     chosen true e =
         let from_none : input.breaks ≡ [] = whole-none input.breaks e in
-        subst (λ (s : Scope). IsOver (held_query (core_over around.outer (core_trace around word) (word_breaks around word) input has_from is_distinct items condition groups having known_items))
-        (held_clauses own s has_from items sources condition having)) (sym (is from_none)) (looked-over from_none)
+        subst (λ (s : Scope). IsOver (held_query (core_over around.outer (word_breaks around word) input has_from is_distinct items condition groups having known_items))
+        (held_clauses around s has_from items sources condition having)) (sym (is from_none)) (looked-over from_none)
     chosen false e = record {
       breaks = λ none. absurd (true≢false (sym (none-whole input.breaks (back-none (word_breaks around word) input.breaks none)) ∙ e));
       inside = λ none. absurd (true≢false (sym (none-whole input.breaks (back-none (word_breaks around word) input.breaks none)) ∙ e));
@@ -381,54 +375,42 @@ module _ (around : Around) (word : Option ℕ) (has_from is_distinct : Bool) (it
   core_seen-broken broken = chosen (is_whole input.breaks) refl where
     chosen : (b : Bool) → is_whole input.breaks ≡ b
         → (held_query (cond b
-        (core_over around.outer (core_trace around word) (word_breaks around word) input has_from is_distinct items condition groups having known_items)
+        (core_over around.outer (word_breaks around word) input has_from is_distinct items condition groups having known_items)
         (core_unlooked (word_breaks around word) input))).breaks ≡ [] → ⊥
     chosen true e none = broken (whole-none input.breaks e)
     chosen false e none = broken (back-none (word_breaks around word) input.breaks none)
 
 module _ (c : Contents) (around : Around) (core : Core) where
   abbrev seen_core : QueryMeant
-  seen_core = core_seen around (out-Core core).provenance (from_all around.outer (core_trace around (out-Core core).provenance) (sources_of c core))
+  seen_core = core_seen around (out-Core core).provenance (from_all around.outer (sources_of c core))
       (has_some (sources_of c core)) (out-Core core).distinct (items_of c core) (condition_of c core) (out-Core core).groups (having_of c core)
 
   core-stands-so : (core_of c core).means around ≡ seen_core
   core-stands-so = ap (λ (body : BodyPart). body.means around) (core-is c core)
 
-  module _ (own : Around) (k : Contents) (same : own ≡ around_core around (out-Core core).provenance) (held_same : k ≡ c) where
-    abbrev Found : Option Scope → Type 0
-    Found found = HasScope (from_all own.outer own.trace (sources_of k core)) (out-Core core).groups (having_of k core) (items_of k core) found
+  abbrev Found : Option Scope → Type 0
+  Found found = HasScope (from_all around.outer (sources_of c core)) (out-Core core).groups (having_of c core) (items_of c core) found
 
-    found-here : (found : Option Scope) → Found found
-        → HasScope (from_all around.outer (core_trace around (out-Core core).provenance) (sources_of c core)) (out-Core core).groups (having_of c core) (items_of c core) found
-    found-here found is =
-        subst (λ (a : Around). HasScope (from_all a.outer a.trace (sources_of c core)) (out-Core core).groups (having_of c core) (items_of c core) found) same
-        (subst (λ (h : Contents). HasScope (from_all own.outer own.trace (sources_of h core)) (out-Core core).groups (having_of h core) (items_of h core) found) held_same is)
+  pub core-adds : (found : Option Scope) (scope : Scope) (old new : Gathered) → Found found → found ≡ Some scope → Adds (clauses_of c around scope core) old new
+      → Adds (held_query ((core_of c core).means around) ∷ []) old new
+  core-adds found scope old new is some added = adds-over
+      (over-alike (ap held_query core-stands-so)
+      (core_seen-over around (out-Core core).provenance (has_some (sources_of c core)) (out-Core core).distinct (items_of c core) (sources_of c core)
+      (condition_of c core) (out-Core core).groups (having_of c core) scope (subst Found some is)))
+      added
 
-    clauses-here : (scope : Scope) (old new : Gathered) → Adds (clauses_of k own scope core) old new
-        → Adds (clauses_of c (around_core around (out-Core core).provenance) scope core) old new
-    clauses-here scope old new added =
-        subst (λ (a : Around). Adds (clauses_of c a scope core) old new) same (subst (λ (h : Contents). Adds (clauses_of h own scope core) old new) held_same added)
-
-    pub core-adds : (found : Option Scope) (scope : Scope) (old new : Gathered) → Found found → found ≡ Some scope → Adds (clauses_of k own scope core) old new
-        → Adds (held_query ((core_of c core).means around) ∷ []) old new
-    core-adds found scope old new is some added = adds-over
-        (over-alike (ap held_query core-stands-so)
-        (core_seen-over around (out-Core core).provenance (has_some (sources_of c core)) (out-Core core).distinct (items_of c core) (sources_of c core)
-        (condition_of c core) (out-Core core).groups (having_of c core) scope (found-here (Some scope) (subst Found some is))))
-        (clauses-here scope old new added)
-
-    pub core-broken : (found : Option Scope) (old : Gathered) → Found found → found ≡ None → Adds (held_query ((core_of c core).means around) ∷ []) old old
-    core-broken found old is none = adds-broken old
-        (λ whole. core_seen-broken around (out-Core core).provenance (has_some (sources_of c core)) (out-Core core).distinct (items_of c core) (sources_of c core)
-        (condition_of c core) (out-Core core).groups (having_of c core) (found-here None (subst Found none is)) (ap (λ (m : QueryMeant). m.breaks) (sym core-stands-so) ∙ whole))
+  pub core-broken : (found : Option Scope) (old : Gathered) → Found found → found ≡ None → Adds (held_query ((core_of c core).means around) ∷ []) old old
+  core-broken found old is none = adds-broken old
+      (λ whole. core_seen-broken around (out-Core core).provenance (has_some (sources_of c core)) (out-Core core).distinct (items_of c core) (sources_of c core)
+      (condition_of c core) (out-Core core).groups (having_of c core) (subst Found none is) (ap (λ (m : QueryMeant). m.breaks) (sym core-stands-so) ∙ whole))
 
 -- the clauses of a core one after the other
 pub clauses-adds : (c : Contents) (around : Around) (scope : Scope) (core : Core) (in_list in_where : Surroundings) (items : List SelectItem) (sources : List FromTree)
-    (old first second third new : Gathered) → in_list ≡ in_clause scope around.outer around.trace true
-    → in_where ≡ in_clause (record scope { groups = None }) around.outer around.trace false
+    (old first second third new : Gathered) → in_list ≡ in_clause scope around.outer true
+    → in_where ≡ in_clause (record scope { groups = None }) around.outer false
     → items ≡ (out-Core core).items → sources ≡ (out-Core core).sources
     → ((has_from : Bool) (sight : Scope) → Adds (held_items has_from sight in_list (map (item_of c) items)) old first)
-    → ((names : List (List ℕ)) → Adds (held_froms around.outer around.trace names (map (from_of c) sources)) first second)
+    → ((names : List (List ℕ)) → Adds (held_froms around.outer names (map (from_of c) sources)) first second)
     → Adds (held_optional in_where (condition_of c core)) second third → Adds (held_optional in_list (having_of c core)) third new
     → Adds (clauses_of c around scope core) old new
 clauses-adds c around scope core in_list in_where items sources old first second third new list_is where_is same same_too listed from condition having =
@@ -436,6 +418,6 @@ clauses-adds c around scope core in_list in_where items sources old first second
     (subst (λ (here : Surroundings). Adds (held_items (has_some (sources_of c core)) scope here (items_of c core)) old first) list_is
     (subst (λ (items : List SelectItem). Adds (held_items (has_some (sources_of c core)) scope in_list (map (item_of c) items)) old first) same
     (listed (has_some (sources_of c core)) scope)))
-    (adds-both (subst (λ (sources : List FromTree). Adds (held_froms around.outer around.trace [] (map (from_of c) sources)) first second) same_too (from []))
+    (adds-both (subst (λ (sources : List FromTree). Adds (held_froms around.outer [] (map (from_of c) sources)) first second) same_too (from []))
     (adds-both (subst (λ (here : Surroundings). Adds (held_optional here (condition_of c core)) second third) where_is condition)
     (subst (λ (here : Surroundings). Adds (held_optional here (having_of c core)) third new) list_is having)))

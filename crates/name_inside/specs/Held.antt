@@ -12,7 +12,6 @@ use Rattle.name_meaning.specs.Statements.{most_query_columns}
 use Rattle.name_meaning.specs.Trees.{from_of, item_of, part_of}
 use Rattle.name_meaning.specs.declared.answer.Break.{Break}
 use Rattle.name_meaning.specs.declared.scope.Scope.{Scope}
-use Rattle.name_meaning.specs.declared.trace.Trace.{Trace}
 use Rattle.name_inside.specs.declared.gathered.Gathered.{Gathered}
 
 abbrev pub inside_in : Gathered → Inside
@@ -85,17 +84,17 @@ abbrev pub held_operand : Around → SetStepPart → Held
 held_operand around step = held_query (step.operand.means (may_not_ask around))
 
 -- each item behind those of these names
-abbrev pub held_joins : List Scope → Trace → List (List ℕ) → List JoinPart → List Held
-held_joins outer trace names [] = []
-held_joins outer trace names (step ∷ steps) =
-    let m = step.item.means outer trace names in
-    held_item m ∷ held_joins outer trace (names ++ m.name ∷ []) steps
+abbrev pub held_joins : List Scope → List (List ℕ) → List JoinPart → List Held
+held_joins outer names [] = []
+held_joins outer names (step ∷ steps) =
+    let m = step.item.means outer names in
+    held_item m ∷ held_joins outer (names ++ m.name ∷ []) steps
 
-abbrev pub held_froms : List Scope → Trace → List (List ℕ) → List FromPart → List Held
-held_froms outer trace names [] = []
-held_froms outer trace names (part ∷ parts) =
-    let m = part.means outer trace names in
-    held_from m ∷ held_froms outer trace m.names parts
+abbrev pub held_froms : List Scope → List (List ℕ) → List FromPart → List Held
+held_froms outer names [] = []
+held_froms outer names (part ∷ parts) =
+    let m = part.means outer names in
+    held_from m ∷ held_froms outer m.names parts
 
 abbrev pub held_items : Bool → Scope → Surroundings → List SelectPart → List Held
 held_items has_from scope here items = map (λ (item : SelectPart). held_select (item.means has_from scope here)) items
@@ -103,10 +102,10 @@ held_items has_from scope here items = map (λ (item : SelectPart). held_select 
 -- the clauses of a core in this scope: the list, FROM, WHERE and HAVING
 abbrev pub held_clauses : Around → Scope → Bool → List SelectPart → List FromPart → Option Part → Option Part → List Held
 held_clauses around scope has_from items sources condition having =
-    held_items has_from scope (in_clause scope around.outer around.trace true) items
-    ++ (held_froms around.outer around.trace [] sources
-    ++ (held_optional (in_clause (record scope { groups = None }) around.outer around.trace false) condition
-    ++ held_optional (in_clause scope around.outer around.trace true) having))
+    held_items has_from scope (in_clause scope around.outer true) items
+    ++ (held_froms around.outer [] sources
+    ++ (held_optional (in_clause (record scope { groups = None }) around.outer false) condition
+    ++ held_optional (in_clause scope around.outer true) having))
 
 -- a core where it stands, and its parts
 abbrev pub items_of : Contents → Core → List SelectPart

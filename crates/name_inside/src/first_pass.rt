@@ -33,7 +33,7 @@ pub(crate) fn width_of(tree: &QueryTree, around: &Around) -> Result<Option<usize
 /// The scope of a core's list; none where its FROM breaks a rule.
 pub(crate) fn scope_of(core: &Core, around: &Around) -> Result<Option<Scope>, NoMemory>
     requires { IsSound around.now.catalog.now }
-    ensures { IfOk result (HasScope (from_all (around_of around.now).outer around.now.trace
+    ensures { IfOk result (HasScope (from_all (around_of around.now).outer
         (sources_of around.now.catalog.now core.now))
         (out-Core core.now).groups (having_of around.now.catalog.now core.now)
         (items_of around.now.catalog.now core.now)) }

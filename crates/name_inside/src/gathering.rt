@@ -12,7 +12,7 @@ ghost use Rattle.name_meaning.specs.Sublinks.{around_of as below};
 use crate::first_pass::{scope_of, width_of};
 use crate::gathered::Gathered;
 use name_meaning::Scope;
-use name_seen_cores::{asks_provenance, in_clause};
+use name_seen_cores::in_clause;
 use name_seen_parts::{Around, Here, inside};
 use perm_values::{Boxed, NoMemory};
 use sql_tree::{
@@ -32,8 +32,7 @@ pub fn query_inside(tree: &QueryTree, around: &Around, found: &mut Gathered) -> 
         None => Ok(()),
         Some(width) => {
             found.add_query(tree.at, width)?;
-            let asking = asks_provenance(&tree.body, around);
-            set_inside(&tree.body, &around.body(asking), found)?;
+            set_inside(&tree.body, around, found)?;
             Ok(())
         }
     }
@@ -82,11 +81,10 @@ fn core_inside(core: &Core, around: &Around, found: &mut Gathered) -> Result<(),
     ensures { OnOk result (Adds (held_query
         ((core_of around.now.catalog.now core.now).means (around_of around.now)) ∷ []) found.old found.new) }
 {
-    let own = around.core(core.provenance);
-    match scope_of(core, &own)? {
+    match scope_of(core, around)? {
         None => Ok(()),
         Some(scope) => {
-            clauses_inside(core, &scope, &own, found)?;
+            clauses_inside(core, &scope, around, found)?;
             Ok(())
         }
     }
@@ -104,11 +102,11 @@ fn clauses_inside(
         found.old found.new) }
 {
     let grouped = inside(&*scope, false, &*around.outer)?;
-    let in_list = (&*around).seeing(&grouped, in_clause(around.trace, true));
+    let in_list = (&*around).seeing(&grouped, in_clause(true));
     items_inside(core.items.as_slice(), &in_list, found)?;
     sources_inside(core.sources.as_slice(), around, found)?;
     let rows = inside(&*scope, true, &*around.outer)?;
-    let in_where = (&*around).seeing(&rows, in_clause(around.trace, false));
+    let in_where = (&*around).seeing(&rows, in_clause(false));
     condition_inside(&core.condition, &in_where, found)?;
     condition_inside(&core.having, &in_list, found)?;
     Ok(())
@@ -167,7 +165,7 @@ fn condition_inside(
 fn sources_inside(trees: &[FromTree], around: &Around, found: &mut Gathered) -> Result<(), NoMemory>
     requires { IsSound around.now.catalog.now }
     ensures { OnOk result ((names : Items (Items ℕ))
-        → Adds (held_froms (around_of around.now).outer around.now.trace names
+        → Adds (held_froms (around_of around.now).outer names
         (map (from_of around.now.catalog.now) trees.now)) found.old found.new) }
 {
     for tree in trees {
@@ -180,8 +178,7 @@ fn sources_inside(trees: &[FromTree], around: &Around, found: &mut Gathered) -> 
 fn from_inside(tree: &FromTree, around: &Around, found: &mut Gathered) -> Result<(), NoMemory>
     requires { IsSound around.now.catalog.now }
     ensures { OnOk result ((names : Items (Items ℕ))
-        → Adds (held_from ((from_of around.now.catalog.now tree.now).means (around_of around.now).outer
-        around.now.trace names) ∷ []) found.old found.new) }
+        → Adds (held_from ((from_of around.now.catalog.now tree.now).means (around_of around.now).outer names) ∷ []) found.old found.new) }
 {
     source_inside(&tree.first, around, found)?;
     joins_inside(tree.joins.as_slice(), around, found)?;
@@ -192,7 +189,7 @@ fn from_inside(tree: &FromTree, around: &Around, found: &mut Gathered) -> Result
 fn joins_inside(steps: &[JoinStep], around: &Around, found: &mut Gathered) -> Result<(), NoMemory>
     requires { IsSound around.now.catalog.now }
     ensures { OnOk result ((names : Items (Items ℕ))
-        → Adds (held_joins (around_of around.now).outer around.now.trace names
+        → Adds (held_joins (around_of around.now).outer names
         (map (join_of around.now.catalog.now) steps.now)) found.old found.new) }
 {
     for step in steps {
@@ -205,8 +202,7 @@ fn joins_inside(steps: &[JoinStep], around: &Around, found: &mut Gathered) -> Re
 fn source_inside(item: &FromItem, around: &Around, found: &mut Gathered) -> Result<(), NoMemory>
     requires { IsSound around.now.catalog.now }
     ensures { OnOk result ((names : Items (Items ℕ))
-        → Adds (held_item ((from_item_of around.now.catalog.now item.now).means (around_of around.now).outer
-        around.now.trace names) ∷ []) found.old found.new) }
+        → Adds (held_item ((from_item_of around.now.catalog.now item.now).means (around_of around.now).outer names) ∷ []) found.old found.new) }
 {
     match &item.source {
         FromSource::Named(name) => {
@@ -214,7 +210,7 @@ fn source_inside(item: &FromItem, around: &Around, found: &mut Gathered) -> Resu
             Ok(())
         }
         FromSource::Inner(query) => {
-            query_inside(query.get(), &around.under(&item.mark), found)?;
+            query_inside(query.get(), &around.in_from(), found)?;
             Ok(())
         }
     }

@@ -7,7 +7,7 @@ use Rattle.perm_values.specs.declared.kind.Kind.{Kind}
 use Rattle.bag_algebra.specs.Kinds.{kinds_of}
 use Rattle.bag_algebra.specs.WellFormed.{WellFormed}
 use Rattle.sql_tree.specs.declared.name.ColRef.{ColRef}
-use Rattle.name_meaning.specs.Cores.{core_over, core_unlooked, core_seen, core_trace, word_breaks}
+use Rattle.name_meaning.specs.Cores.{core_over, core_unlooked, core_seen, word_breaks}
 use Rattle.name_meaning.specs.Froms.{FromMeant}
 use Rattle.name_meaning.specs.Items.{SelectPart}
 use Rattle.name_meaning.specs.Meanings.{Part, Around, QueryMeant, is_whole}
@@ -28,14 +28,14 @@ pub formed-core_seen : (around : Around) (word : Option ℕ) (input : FromMeant)
 formed-core_seen around word input has_from is_distinct items condition groups having from good good_condition good_having =
     chosen (is_whole input.breaks) refl where
       chosen : (b : Bool) → is_whole input.breaks ≡ b → FormedQuery around (cond b
-          (core_over around.outer (core_trace around word) (word_breaks around word) input has_from is_distinct items condition groups having
+          (core_over around.outer (word_breaks around word) input has_from is_distinct items condition groups having
           (option_map_or (λ known. known) input.items []))
           (core_unlooked (word_breaks around word) input))
       chosen true e = λ whole rows hold wanted.
           let f : FormedFrom around.outer input = from (whole-none input.breaks e) in
           let are : option_map_or (λ known. known) input.items [] ≡ f.items =
           ap (λ (known : Option (List ScopeItem)). option_map_or (λ (items : List ScopeItem). items) known []) f.known in
-          formed-clauses around.outer (core_trace around word) rows (option_map_or (λ known. known) input.items []) input
+          formed-clauses around.outer rows (option_map_or (λ known. known) input.items []) input
           (record {
             around = hold;
             formed = f.formed rows hold;

@@ -21,7 +21,6 @@ use Rattle.name_meaning.specs.Scopes.{ScopeItem, scope_of, ungrouped}
 use Rattle.name_meaning.specs.Sublinks.{nothing_before}
 use Rattle.name_meaning.specs.declared.answer.Break.{Break}
 use Rattle.name_meaning.specs.declared.scope.Scope.{Scope}
-use Rattle.name_meaning.specs.declared.trace.Trace.{Trace}
 use Rattle.name_laws.specs.Formed.{IsFormedExpr}
 use Rattle.name_laws.specs.Standing.{HoldsScope, RowsHold, aggregate_kinds, AggregatesStand}
 use Rattle.name_laws.proofs.Arms.{GoodOptional}
@@ -110,9 +109,9 @@ pub record CoreStands (outer : List Scope) (rows : List (List Kind)) (own : Scop
   pub formed : WellFormed rows input
   pub holds : HoldsScope (record own { groups = None }) (kinds_of input)
 
-module _ (outer : List Scope) (trace : Trace) (rows : List (List Kind)) (own : Scope) (input : Query) (core : CoreStands outer rows own input) where
+module _ (outer : List Scope) (rows : List (List Kind)) (own : Scope) (input : Query) (core : CoreStands outer rows own input) where
   abbrev own_here : Surroundings
-  own_here = in_clause (record own { groups = None }) outer trace false
+  own_here = in_clause (record own { groups = None }) outer false
 
   where-formed : (m : Option Meant) → FormedOptional own_here m → WellFormed rows (filtered input m)
   where-formed m formed = formed-filtered own_here input m rows formed (core.holds, core.around)
@@ -120,12 +119,12 @@ module _ (outer : List Scope) (trace : Trace) (rows : List (List Kind)) (own : S
 
   -- a core that isn't grouped
   pub plain-core : (condition : Option Meant) (list : Made) (is_distinct : Bool) → FormedOptional own_here condition
-      → IsFormedList (in_clause (record own { groups = None }) outer trace true) (record { subs = 0; aggregates = 0 }) list → list.aggregates ≡ []
+      → IsFormedList (in_clause (record own { groups = None }) outer true) (record { subs = 0; aggregates = 0 }) list → list.aggregates ≡ []
       → WellFormed rows (core_query input condition None None list is_distinct)
   plain-core condition list is_distinct formed listed none =
       let rows_made : Query = filtered input condition in
       let kinds = kinds-filtered input condition in
-      formed-project (in_clause (record own { groups = None }) outer trace true) rows_made list 0 rows is_distinct listed
+      formed-project (in_clause (record own { groups = None }) outer true) rows_made list 0 rows is_distinct listed
       (subst (HoldsScope (record own { groups = None })) (sym kinds) core.holds, core.around)
       (subst (λ aggregates. AggregatesStand (record own { groups = None } ∷ outer) 0 aggregates (kinds_of rows_made ∷ rows)) (sym none) tt)
       (where-formed condition formed)
@@ -133,12 +132,12 @@ module _ (outer : List Scope) (trace : Trace) (rows : List (List Kind)) (own : S
   -- a grouped core
   pub grouped-core : (condition : Option Meant) (groups : List ℕ) (having : Option Meant) (list : Made) (is_distinct : Bool)
       → FormedOptional own_here condition → PlacesIn (width_of input) groups
-      → FormedOptional (in_clause (record own { groups = Some groups }) outer trace true) having
-      → IsFormedList (in_clause (record own { groups = Some groups }) outer trace true)
+      → FormedOptional (in_clause (record own { groups = Some groups }) outer true) having
+      → IsFormedList (in_clause (record own { groups = Some groups }) outer true)
       (record { subs = 0; aggregates = 0 + length (optional_built having).aggregates }) list
       → WellFormed rows (core_query input condition (Some groups) having list is_distinct)
   grouped-core condition groups having list is_distinct formed within has listed =
-      let here : Surroundings = in_clause (record own { groups = Some groups }) outer trace true in
+      let here : Surroundings = in_clause (record own { groups = Some groups }) outer true in
       let before : List Aggr = (optional_built having).aggregates in
       let aggregates : List Aggr = before ++ list.aggregates in
       let seen : Query = filtered input condition in
@@ -173,7 +172,7 @@ module _ (outer : List Scope) (trace : Trace) (rows : List (List Kind)) (own : S
 
 -- ---- its clauses
 
-module _ (outer : List Scope) (trace : Trace) (rows : List (List Kind)) (scope_items : List ScopeItem) (from : FromMeant)
+module _ (outer : List Scope) (rows : List (List Kind)) (scope_items : List ScopeItem) (from : FromMeant)
     (core : CoreStands outer rows (scope_of scope_items) from.query) (has_from is_distinct : Bool) (items : List SelectPart) (good : Every GoodItem items)
     (condition : Option Part) (good_condition : GoodOptional condition) (groups : List ColRef) (wanted : List Kind) where
   abbrev own : Scope
@@ -184,7 +183,7 @@ module _ (outer : List Scope) (trace : Trace) (rows : List (List Kind)) (scope_i
 
   abbrev clauses : Option (List ℕ) → Option Part → Clauses
   clauses places having =
-      core_clauses (in_clause own outer trace false) (in_clause (with_groups places) outer trace true) (with_groups places) has_from from condition having items
+      core_clauses (in_clause own outer false) (in_clause (with_groups places) outer true) (with_groups places) has_from from condition having items
 
   abbrev own_list : Option (List ℕ) → Option Part → Made
   own_list places having =
@@ -197,15 +196,15 @@ module _ (outer : List Scope) (trace : Trace) (rows : List (List Kind)) (scope_i
       → WellFormed rows (clauses_query (clauses (Some group_places) having) is_distinct wanted)
   grouped-clauses having good_having whole =
       let k : Clauses = clauses (Some group_places) having in
-      let here : Surroundings = in_clause (with_groups (Some group_places)) outer trace true in
+      let here : Surroundings = in_clause (with_groups (Some group_places)) outer true in
       let in_where : List Break = optional_breaks condition k.where_meant in
       let in_groups : List Break = flat_map (group_break own) groups in
       let in_having : List Break = optional_breaks having k.having_meant in
       let in_list : List Break = items_breaks k.list in
       let first = front-none ((in_where ++ in_groups) ++ in_having) in_list whole in
       let second = front-none (in_where ++ in_groups) in_having first in
-      grouped-core outer trace rows own from.query core k.where_meant group_places k.having_meant (own_list (Some group_places) having) is_distinct
-      (formed-optional (in_clause own outer trace false) condition good_condition (front-none in_where in_groups second))
+      grouped-core outer rows own from.query core k.where_meant group_places k.having_meant (own_list (Some group_places) having) is_distinct
+      (formed-optional (in_clause own outer false) condition good_condition (front-none in_where in_groups second))
       (groups-in own (kinds_of from.query) groups core.holds)
       (formed-optional here having good_having (back-none (in_where ++ in_groups) in_having first))
       (good-list here k.list (settle_known (list_columns k) wanted) (before_list k)
@@ -217,14 +216,14 @@ module _ (outer : List Scope) (trace : Trace) (rows : List (List Kind)) (scope_i
   plain-clauses (Some part) none alone whole = absurd (true≢false none)
   plain-clauses None none alone whole =
       let k : Clauses = clauses None None in
-      let here : Surroundings = in_clause own outer trace true in
+      let here : Surroundings = in_clause own outer true in
       let in_where : List Break = optional_breaks condition k.where_meant in
       let in_groups : List Break = flat_map (group_break own) groups in
       let in_list : List Break = items_breaks k.list in
       let first = front-none ((in_where ++ in_groups) ++ []) in_list whole in
       let second = front-none (in_where ++ in_groups) [] first in
-      plain-core outer trace rows own from.query core k.where_meant (own_list None None) is_distinct
-      (formed-optional (in_clause own outer trace false) condition good_condition (front-none in_where in_groups second))
+      plain-core outer rows own from.query core k.where_meant (own_list None None) is_distinct
+      (formed-optional (in_clause own outer false) condition good_condition (front-none in_where in_groups second))
       (good-list here k.list (settle_known (list_columns k) wanted) (before_list k) (items-good has_from own outer here refl items good)
       (back-none ((in_where ++ in_groups) ++ []) in_list whole))
       (plain-list k.list (settle_known (list_columns k) wanted) (before_list k) (items-plain has_from own here items good alone))

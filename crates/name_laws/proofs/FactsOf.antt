@@ -1,13 +1,10 @@
 -- The facts of each node, of the facts of its parts.
 use Rattle.std.specs.Prelude.{◌≡◌, ℕ, Bool, List, [], ◌∷◌, ◌++◌, ℤ, nat_abs, true, false, Option, Some, None}
 use Rattle.std.proofs.Common.{refl, ap, sym, ◌∙◌, append_assoc, append-nil}
-use Rattle.std.proofs.Math.Bool.{and-true, and_assoc}
 use Rattle.perm_values.specs.declared.key.Key.{Key}
 use Rattle.bag_algebra.specs.built.Openings.{shape-Base, shape-Filter, shape-Project, shape-Join, shape-Union, shape-Intersect, shape-Except, shape-Distinct, shape-Aggregate, shape-Limit, shape-Prov}
 use Rattle.bag_algebra.specs.Children.{subs_shape}
 use Rattle.bag_algebra.specs.Kinds.{kinds_of, kinds_in}
-use Rattle.bag_algebra.specs.Scoped.{is_table}
-use Rattle.bag_algebra.specs.built.Scopes.{all_over_tables, all_traceable, over_tables-Base, over_tables-Filter, over_tables-Project, over_tables-Join, over_tables-Union, over_tables-Intersect, over_tables-Except, over_tables-Distinct, over_tables-Aggregate, over_tables-Limit, over_tables-Prov, traceable-Base, traceable-Filter, traceable-Project, traceable-Join, traceable-Union, traceable-Intersect, traceable-Except, traceable-Distinct, traceable-Aggregate, traceable-Limit, traceable-Prov}
 use Rattle.bag_algebra.specs.declared.expr.Expr.{Expr}
 use Rattle.bag_algebra.specs.declared.expr.Item.{Item}
 use Rattle.bag_algebra.specs.declared.place.Place.{Place}
@@ -17,7 +14,7 @@ use Rattle.bag_algebra.specs.declared.query.Label.{Label}
 use Rattle.bag_algebra.specs.declared.query.Query.{Query}
 use Rattle.bag_algebra.specs.declared.query.Query.TheVariants.{Base, Filter, Project, Join, Union, Intersect, Except, Distinct, Aggregate, Limit, Prov}
 use Rattle.bag_algebra.specs.declared.query.Sublink.{Sublink}
-use Rattle.name_laws.specs.Facts.{Facts, facts_of, no_facts, both_facts, as_sublink, sub_facts, source_facts, provenance_facts}
+use Rattle.name_laws.specs.Facts.{Facts, facts_of, no_facts, both_facts, sub_facts, source_facts}
 use Rattle.sql_tree.specs.declared.query.SetWord.{SetWord}
 use Rattle.sql_tree.specs.declared.query.SetWord.TheVariants as word
 use Rattle.name_meaning.specs.Cores.{aggregated_input, distinct_if}
@@ -25,76 +22,75 @@ use Rattle.name_meaning.specs.Queries.{set_of, limited}
 
 -- ---- facts put together
 
-abbrev pub facts_with : List Place → Bool → Bool → Facts
-facts_with places over tracing = record { places = places; over_tables = over; traceable = tracing }
+abbrev pub facts_with : List Place → Facts
+facts_with places = record { places = places }
 
-pub facts-alike : {p q : List Place} {a b s t : Bool} → p ≡ q → a ≡ b → s ≡ t → facts_with p a s ≡ facts_with q b t
-facts-alike e f g = λ i. facts_with (e i) (f i) (g i)
+pub facts-alike : {p q : List Place} → p ≡ q → facts_with p ≡ facts_with q
+facts-alike e = ap facts_with e
 
 pub both_facts-none : (a : Facts) → both_facts a no_facts ≡ a
-both_facts-none a = facts-alike (append-nil a.places) (and-true a.over_tables) (and-true a.traceable)
+both_facts-none a = facts-alike (append-nil a.places)
 
 pub both_facts-assoc : (a b c : Facts) → both_facts (both_facts a b) c ≡ both_facts a (both_facts b c)
 both_facts-assoc a b c = facts-alike (append_assoc a.places b.places c.places)
-    (and_assoc a.over_tables b.over_tables c.over_tables) (and_assoc a.traceable b.traceable c.traceable)
 
 pub sub_facts-append : (xs ys : List Sublink) → sub_facts (xs ++ ys) ≡ both_facts (sub_facts xs) (sub_facts ys)
 sub_facts-append [] ys = refl
-sub_facts-append (x ∷ xs) ys = ap (both_facts (as_sublink (facts_of x.query))) (sub_facts-append xs ys)
-    ∙ sym (both_facts-assoc (as_sublink (facts_of x.query)) (sub_facts xs) (sub_facts ys))
+sub_facts-append (x ∷ xs) ys = ap (both_facts (facts_of x.query)) (sub_facts-append xs ys)
+    ∙ sym (both_facts-assoc (facts_of x.query) (sub_facts xs) (sub_facts ys))
 
-sub_facts-is : (subs : List Sublink) → facts_with (subs_shape subs) (all_over_tables subs) (all_traceable subs) ≡ sub_facts subs
+sub_facts-is : (subs : List Sublink) → facts_with (subs_shape subs) ≡ sub_facts subs
 sub_facts-is [] = refl
-sub_facts-is (sub ∷ subs) = ap (both_facts (as_sublink (facts_of sub.query))) (sub_facts-is subs)
+sub_facts-is (sub ∷ subs) = ap (both_facts (facts_of sub.query)) (sub_facts-is subs)
 
 -- ---- the nodes
 
 pub facts-Base : (input : Query) (places : List ℕ) (label : Label) →
-    facts_of (Base input places label) ≡ source_facts (record { label = label; kinds = kinds_in (kinds_of input) places }) (is_table input)
+    facts_of (Base input places label) ≡ source_facts (record { label = label; kinds = kinds_in (kinds_of input) places })
 facts-Base input places label =
-    facts-alike (shape-Base input places label) (over_tables-Base input places label) (traceable-Base input places label)
+    facts-alike (shape-Base input places label)
 
 pub facts-Filter : (input : Query) (condition : Expr) (subs : List Sublink) →
     facts_of (Filter input condition subs) ≡ both_facts (facts_of input) (sub_facts subs)
 facts-Filter input condition subs =
-    facts-alike (shape-Filter input condition subs) (over_tables-Filter input condition subs) (traceable-Filter input condition subs)
+    facts-alike (shape-Filter input condition subs)
     ∙ ap (both_facts (facts_of input)) (sub_facts-is subs)
 
 pub facts-Project : (input : Query) (items : List Item) (subs : List Sublink) →
     facts_of (Project input items subs) ≡ both_facts (facts_of input) (sub_facts subs)
 facts-Project input items subs =
-    facts-alike (shape-Project input items subs) (over_tables-Project input items subs) (traceable-Project input items subs)
+    facts-alike (shape-Project input items subs)
     ∙ ap (both_facts (facts_of input)) (sub_facts-is subs)
 
 pub facts-Join_alone : (kind : JoinKind) (left right : Query) (condition : Expr) →
     facts_of (Join kind left right condition []) ≡ both_facts (facts_of left) (facts_of right)
 facts-Join_alone kind left right condition =
-    facts-alike (shape-Join kind left right condition []) (over_tables-Join kind left right condition []) (traceable-Join kind left right condition [])
+    facts-alike (shape-Join kind left right condition [])
     ∙ both_facts-none (both_facts (facts_of left) (facts_of right))
 
 pub facts-Union : (all : Bool) (left right : Query) → facts_of (Union all left right) ≡ both_facts (facts_of left) (facts_of right)
-facts-Union all left right = facts-alike (shape-Union all left right) (over_tables-Union all left right) (traceable-Union all left right)
+facts-Union all left right = facts-alike (shape-Union all left right)
 
 pub facts-Intersect : (all : Bool) (left right : Query) → facts_of (Intersect all left right) ≡ both_facts (facts_of left) (facts_of right)
 facts-Intersect all left right =
-    facts-alike (shape-Intersect all left right) (over_tables-Intersect all left right) (traceable-Intersect all left right)
+    facts-alike (shape-Intersect all left right)
 
 pub facts-Except : (all : Bool) (left right : Query) → facts_of (Except all left right) ≡ both_facts (facts_of left) (facts_of right)
 facts-Except all left right =
-    facts-alike (shape-Except all left right) (over_tables-Except all left right) (traceable-Except all left right)
+    facts-alike (shape-Except all left right)
 
 pub facts-Distinct : (input : Query) → facts_of (Distinct input) ≡ facts_of input
-facts-Distinct input = facts-alike (shape-Distinct input) (over_tables-Distinct input) (traceable-Distinct input)
+facts-Distinct input = facts-alike (shape-Distinct input)
 
 pub facts-Aggregate : (input : Query) (groups : List ℕ) (aggregates : List Aggr) → facts_of (Aggregate input groups aggregates) ≡ facts_of input
 facts-Aggregate input groups aggregates =
-    facts-alike (shape-Aggregate input groups aggregates) (over_tables-Aggregate input groups aggregates) (traceable-Aggregate input groups aggregates)
+    facts-alike (shape-Aggregate input groups aggregates)
 
 pub facts-Limit : (input : Query) (keys : List Key) (count : ℕ) → facts_of (Limit input keys count) ≡ facts_of input
-facts-Limit input keys count = facts-alike (shape-Limit input keys count) (over_tables-Limit input keys count) (traceable-Limit input keys count)
+facts-Limit input keys count = facts-alike (shape-Limit input keys count)
 
-pub facts-Prov : (input : Query) → facts_of (Prov input) ≡ provenance_facts (facts_of input)
-facts-Prov input = facts-alike (shape-Prov input) (over_tables-Prov input) (traceable-Prov input)
+pub facts-Prov : (input : Query) → facts_of (Prov input) ≡ no_facts
+facts-Prov input = facts-alike (shape-Prov input)
 
 -- ---- queries that clauses make
 

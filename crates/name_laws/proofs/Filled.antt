@@ -23,8 +23,8 @@ use Rattle.sql_tree.specs.declared.name.Name.{Name}
 use Rattle.sql_tree.specs.declared.query.OrderTree.{OrderTree}
 use Rattle.sql_tree.specs.declared.source.ScopeMark.{ScopeMark}
 use Rattle.name_meaning.proofs.Equations.{SelectItemFrame}
-use Rattle.name_meaning.specs.Cores.{BodyPart, core_over, core_unlooked, core_seen, core_trace, group_scope, has_some, in_clause, word_breaks}
-use Rattle.name_meaning.specs.Froms.{FromItemPart, FromMeant, FromPart, ItemMeant, JoinPart, SourcePart, named as named_source, inner as inner_source, beside_from, both_known, first_item, from_all, from_more, join_all, join_item, named_columns, read_named, read_nothing, read_of, read_table, read_view, settled_columns, trace_under}
+use Rattle.name_meaning.specs.Cores.{BodyPart, core_over, core_unlooked, core_seen, group_scope, has_some, in_clause, word_breaks}
+use Rattle.name_meaning.specs.Froms.{FromItemPart, FromMeant, FromPart, ItemMeant, JoinPart, SourcePart, named as named_source, inner as inner_source, beside_from, both_known, first_item, from_all, from_more, join_all, join_item, named_columns, read_named, read_nothing, read_of, read_table, read_view, settled_columns}
 use Rattle.name_meaning.specs.Items.{SelectMeant, SelectPart, Titled, all_known, columns_meant, item_step, named_from, no_columns, titled}
 use Rattle.name_meaning.specs.Meanings.{Around, OutColumn, Part, QueryMeant, Surroundings, is_whole}
 use Rattle.name_meaning.specs.Queries.{SetStepPart, columns_so_far, asks_provenance, keys_of, limited, plain_query, columns_with_provenance, query_with_provenance, provenance_columns, query_seen, set_chain, set_joined, united_columns, may_not_ask}
@@ -32,8 +32,6 @@ use Rattle.name_meaning.specs.Scopes.{KnownColumn, Placed, ScopeItem, columns_fr
 use Rattle.name_meaning.specs.declared.answer.Break.{Break}
 use Rattle.name_meaning.specs.declared.scope.Scope.{Scope}
 use Rattle.name_meaning.specs.declared.scope.ScopeColumn.{ScopeColumn}
-use Rattle.name_meaning.specs.declared.trace.Trace.{Trace}
-use Rattle.name_meaning.specs.declared.trace.Trace.TheVariants.{InProvenance as in_provenance}
 use Rattle.name_laws.proofs.Every.{every-append}
 use Rattle.name_laws.proofs.KindsOf.{with_known}
 
@@ -82,7 +80,7 @@ FilledSource (named_source name) = ⊤
 FilledSource (inner_source query) = (around : Around) → Shown (query.means around).columns
 
 abbrev pub FilledItem : FromItemPart → Type 0
-FilledItem item = (outer : List Scope) (trace : Trace) (earlier : List (List ℕ)) → Shown (item.means outer trace earlier).columns
+FilledItem item = (outer : List Scope) (earlier : List (List ℕ)) → Shown (item.means outer earlier).columns
 
 module _ (c : Contents) (sound : IsSound c) where
   shown-named : (name : Name) → Shown (read_named c name).columns
@@ -100,11 +98,11 @@ module _ (c : Contents) (sound : IsSound c) where
         filled-map (λ (column : Column). record { name = column.name; kind = column.kind }) table.columns
         (some-filled table.columns (sound.tables name.text table e).columns.some)
 
-  pub shown-read_of : (m : ScopeMark) (outer : List Scope) (trace : Trace) (source : SourcePart) → FilledSource source
-      → Shown (read_of c m outer trace source).columns
-  shown-read_of m outer trace (named_source name) h = shown-named name
-  shown-read_of m outer trace (inner_source query) h =
-      let around : Around = record { outer = outer; trace = trace_under m trace; may_ask = true } in
+  pub shown-read_of : (outer : List Scope) (source : SourcePart) → FilledSource source
+      → Shown (read_of c outer source).columns
+  shown-read_of outer (named_source name) h = shown-named name
+  shown-read_of outer (inner_source query) h =
+      let around : Around = record { outer = outer; may_ask = true } in
       shown-under settled_columns settled-filled (query.means around).columns (h around)
 
 -- ---- FROM
@@ -123,7 +121,7 @@ ShownFrom has_from None = ⊤
 ShownFrom has_from (Some items) = (has_from ≡ true → IsFilled items) × Every HasColumn items
 
 abbrev pub FilledFrom : FromPart → Type 0
-FilledFrom part = (outer : List Scope) (trace : Trace) (earlier : List (List ℕ)) → ShownItems (part.means outer trace earlier).items
+FilledFrom part = (outer : List Scope) (earlier : List (List ℕ)) → ShownItems (part.means outer earlier).items
 
 shown-item : (name : List ℕ) (columns : Option (List KnownColumn)) → Shown columns
     → ShownItems (option_map (λ (known : List KnownColumn). record { name = name; columns = known } ∷ []) columns)
@@ -138,31 +136,31 @@ shown-both (Some left) (Some right) h k = (filled-append left right h.0, every-a
 pub shown-first : (earlier : List (List ℕ)) (m : ItemMeant) → Shown m.columns → ShownItems (first_item earlier m).items
 shown-first earlier m h = shown-item m.name m.columns h
 
-pub shown-join_all : (outer : List Scope) (trace : Trace) (left : FromMeant) (steps : List JoinPart) → ShownItems left.items
-    → Every (λ (step : JoinPart). FilledItem step.item) steps → ShownItems (join_all outer trace left steps).items
-shown-join_all outer trace left [] l h = l
-shown-join_all outer trace left (step ∷ steps) l h =
-    let m : ItemMeant = step.item.means outer trace left.names in
-    shown-join_all outer trace (join_item outer trace left step m) steps
+pub shown-join_all : (outer : List Scope) (left : FromMeant) (steps : List JoinPart) → ShownItems left.items
+    → Every (λ (step : JoinPart). FilledItem step.item) steps → ShownItems (join_all outer left steps).items
+shown-join_all outer left [] l h = l
+shown-join_all outer left (step ∷ steps) l h =
+    let m : ItemMeant = step.item.means outer left.names in
+    shown-join_all outer (join_item outer left step m) steps
     (shown-both left.items (option_map (λ (known : List KnownColumn). record { name = m.name; columns = known } ∷ []) m.columns) l
-    (shown-item m.name m.columns (h.0 outer trace left.names))) h.1
+    (shown-item m.name m.columns (h.0 outer left.names))) h.1
 
-shown-more : (outer : List Scope) (trace : Trace) (left : FromMeant) (parts : List FromPart) → ShownItems left.items → Every FilledFrom parts
-    → ShownItems (from_more outer trace left parts).items
-shown-more outer trace left [] l h = l
-shown-more outer trace left (part ∷ parts) l h =
-    let right : FromMeant = part.means outer trace left.names in
-    shown-more outer trace (beside_from left right) parts (shown-both left.items right.items l (h.0 outer trace left.names)) h.1
+shown-more : (outer : List Scope) (left : FromMeant) (parts : List FromPart) → ShownItems left.items → Every FilledFrom parts
+    → ShownItems (from_more outer left parts).items
+shown-more outer left [] l h = l
+shown-more outer left (part ∷ parts) l h =
+    let right : FromMeant = part.means outer left.names in
+    shown-more outer (beside_from left right) parts (shown-both left.items right.items l (h.0 outer left.names)) h.1
 
 some-from : (items : Option (List ScopeItem)) → ShownItems items → ShownFrom true items
 some-from None h = tt
 some-from (Some items) h = (λ e. h.0, h.1)
 
-pub shown-from_all : (outer : List Scope) (trace : Trace) (parts : List FromPart) → Every FilledFrom parts
-    → ShownFrom (has_some parts) (from_all outer trace parts).items
-shown-from_all outer trace [] h = (λ e. absurd (true≢false (sym e)), tt)
-shown-from_all outer trace (part ∷ parts) h =
-    some-from (from_all outer trace (part ∷ parts)).items (shown-more outer trace (part.means outer trace []) parts (h.0 outer trace []) h.1)
+pub shown-from_all : (outer : List Scope) (parts : List FromPart) → Every FilledFrom parts
+    → ShownFrom (has_some parts) (from_all outer parts).items
+shown-from_all outer [] h = (λ e. absurd (true≢false (sym e)), tt)
+shown-from_all outer (part ∷ parts) h =
+    some-from (from_all outer (part ∷ parts)).items (shown-more outer (part.means outer []) parts (h.0 outer []) h.1)
 
 -- ---- the columns of a scope
 
@@ -251,15 +249,15 @@ named_from-filled (column ∷ columns) h = tt
 abbrev pub FilledBody : BodyPart → Type 0
 FilledBody body = (around : Around) → Shown (body.means around).columns
 
-shown-core_over : (outer : List Scope) (trace : Trace) (words : List Break) (input : FromMeant) (has_from is_distinct : Bool) (items : List SelectPart)
+shown-core_over : (outer : List Scope) (words : List Break) (input : FromMeant) (has_from is_distinct : Bool) (items : List SelectPart)
     (condition : Option Part) (groups : List ColRef) (having : Option Part) (scope_items : List ScopeItem)
     → ShownFrom has_from (Some scope_items) → IsFilled items → Every FilledSelect items
-    → Shown (core_over outer trace words input has_from is_distinct items condition groups having scope_items).columns
-shown-core_over outer trace words input has_from is_distinct [] condition groups having scope_items from filled each = absurd filled
-shown-core_over outer trace words input has_from is_distinct (item ∷ items) condition groups having scope_items from filled each =
+    → Shown (core_over outer words input has_from is_distinct items condition groups having scope_items).columns
+shown-core_over outer words input has_from is_distinct [] condition groups having scope_items from filled each = absurd filled
+shown-core_over outer words input has_from is_distinct (item ∷ items) condition groups having scope_items from filled each =
     let own : Scope = scope_of scope_items in
     let grouped : Scope = group_scope own groups having (item ∷ items) in
-    let here : Surroundings = in_clause grouped outer trace true in
+    let here : Surroundings = in_clause grouped outer true in
     let list : List SelectMeant = map (λ (part : SelectPart). part.means has_from grouped here) items in
     shown-under (named_from 1) named_from-filled (with_known (item.means has_from grouped here).columns (all_known list))
     (shown-list (item.means has_from grouped here).columns (all_known list)
@@ -276,12 +274,12 @@ pub shown-core_seen : (around : Around) (word : Option ℕ) (input : FromMeant) 
     → IsFilled items → Every FilledSelect items → Shown (core_seen around word input has_from is_distinct items condition groups having).columns
 shown-core_seen around word input has_from is_distinct items condition groups having known from filled each = chosen (is_whole input.breaks) known where
   chosen : (b : Bool) → (b ≡ true → (found : List ScopeItem) × (input.items ≡ Some found)) → Shown (cond b
-      (core_over around.outer (core_trace around word) (word_breaks around word) input has_from is_distinct items condition groups having
+      (core_over around.outer (word_breaks around word) input has_from is_distinct items condition groups having
       (option_map_or (λ found. found) input.items []))
       (core_unlooked (word_breaks around word) input)).columns
   chosen true are =
       let found = are refl in
-      shown-core_over around.outer (core_trace around word) (word_breaks around word) input has_from is_distinct items condition groups having
+      shown-core_over around.outer (word_breaks around word) input has_from is_distinct items condition groups having
       (option_map_or (λ (is : List ScopeItem). is) input.items []) (known-items has_from input.items found.0 found.1 from) filled each
   chosen false are = tt
 
@@ -314,10 +312,10 @@ pub shown-query_seen : (around : Around) (at : ℕ) (body : BodyPart) (order : L
     → Shown (query_seen around at body order limit).columns
 shown-query_seen around at body order limit h = chosen (asks_provenance around body) where
   chosen : (b : Bool) → Shown (cond b
-      (query_with_provenance at (body.means (record around { trace = in_provenance })) order limit
-      (limited limit (keys_of (body.means (record around { trace = in_provenance })).columns order) ((body.means (record around { trace = in_provenance })).make [])))
+      (query_with_provenance at (body.means around) order limit
+      (limited limit (keys_of (body.means around).columns order) ((body.means around).make [])))
       (plain_query at (body.means around) order limit)).columns
   chosen true =
-      let m : QueryMeant = body.means (record around { trace = in_provenance }) in
-      shown-proved m (limited limit (keys_of m.columns order) (m.make [])) (h (record around { trace = in_provenance }))
+      let m : QueryMeant = body.means around in
+      shown-proved m (limited limit (keys_of m.columns order) (m.make [])) (h around)
   chosen false = h around

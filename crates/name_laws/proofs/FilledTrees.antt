@@ -12,7 +12,7 @@ use Rattle.sql_tree.specs.declared.query.SelectItem.{SelectItem, out-SelectItem}
 use Rattle.sql_tree.specs.declared.source.FromItem.{FromItem}
 use Rattle.sql_tree.specs.declared.source.FromTree.{FromTree, out-FromTree}
 use Rattle.sql_tree.specs.declared.source.JoinStep.{JoinStep}
-use Rattle.name_meaning.specs.Cores.{BodyPart, core_trace, has_some}
+use Rattle.name_meaning.specs.Cores.{BodyPart, has_some}
 use Rattle.name_meaning.specs.Froms.{JoinPart, first_item, from_all, source_step}
 use Rattle.name_meaning.specs.Meanings.{Around, QueryPart}
 use Rattle.name_meaning.specs.Queries.{set_step, may_not_ask}
@@ -35,16 +35,16 @@ module _ (c : Contents) (sound : IsSound c) where
       → Every GoodFromPart (shown_core c (out-Core core)).sources → FilledBody (core_of c core)
   core-of_parts core items sources good around =
       let frame = shown_core c (out-Core core) in
-      let input = from_all around.outer (core_trace around frame.provenance) frame.sources in
+      let input = from_all around.outer frame.sources in
       subst (λ (body : BodyPart). Shown (body.means around).columns) (sym (opened_core c core))
       (shown-core_seen around frame.provenance input (has_some frame.sources) frame.distinct frame.items frame.condition frame.groups frame.having
-      (λ whole. let from = good-from_all around.outer (core_trace around frame.provenance) frame.sources good (whole-none input.breaks whole) in (from.items, from.known))
-      (shown-from_all around.outer (core_trace around frame.provenance) frame.sources sources)
+      (λ whole. let from = good-from_all around.outer frame.sources good (whole-none input.breaks whole) in (from.items, from.known))
+      (shown-from_all around.outer frame.sources sources)
       (filled-map (item_of c) (out-Core core).items items) (filled-list (out-Core core).items))
 
   item-of_source : (item : FromItem) → FilledSource (source_of c item.source) → FilledItem (from_item_of c item)
   item-of_source item filled = subst FilledItem (sym (opened_from_item c item))
-      (λ outer trace earlier. shown-read_of c sound item.mark outer trace (source_of c item.source) filled)
+      (λ outer earlier. shown-read_of c sound outer (source_of c item.source) filled)
 
   abbrev FilledJoin : JoinPart → Type 0
   FilledJoin step = FilledItem step.item
@@ -79,8 +79,8 @@ module _ (c : Contents) (sound : IsSound c) where
         let steps : Every FilledJoin (map (join_of c) layer.joins) =
         all-meant FilledJoin (join_of c) layer.joins (λ step in_joins. filled-join (joins step in_joins)) in
         subst FilledFrom (sym (opened_from c tree))
-        (λ outer trace earlier. shown-join_all outer trace (first_item earlier ((from_item_of c layer.first).means outer trace earlier)) (map (join_of c) layer.joins)
-        (shown-first earlier ((from_item_of c layer.first).means outer trace earlier) (item outer trace earlier)) steps)
+        (λ outer earlier. shown-join_all outer (first_item earlier ((from_item_of c layer.first).means outer earlier)) (map (join_of c) layer.joins)
+        (shown-first earlier ((from_item_of c layer.first).means outer earlier) (item outer earlier)) steps)
 
     filled-join : {step : JoinStep} → RegularJoin step → FilledJoin (join_of c step)
     filled-join (regular_join_step {step = step} same item condition) =

@@ -18,7 +18,7 @@ use Rattle.sql_tree.specs.declared.source.FromItem.{FromItem}
 use Rattle.sql_tree.specs.declared.source.FromTree.{FromTree, out-FromTree}
 use Rattle.sql_tree.specs.declared.source.JoinStep.{JoinStep, out-JoinStep}
 use Rattle.name_meaning.proofs.Equations.{SelectItemFrame}
-use Rattle.name_meaning.specs.Cores.{BodyPart, core_trace, has_some}
+use Rattle.name_meaning.specs.Cores.{BodyPart, has_some}
 use Rattle.name_meaning.specs.Expressions.{Body}
 use Rattle.name_meaning.specs.Froms.{from_all, first_item, source_step, scope_name, label_of, read_of}
 use Rattle.name_meaning.specs.Items.{item_step, title}
@@ -96,9 +96,9 @@ module _ (c : Contents) (sound : IsSound c) where
       record {
         known = core-known c core around sound;
         formed = subst (λ (body : BodyPart). FormedQuery around (body.means around)) (sym (opened_core c core))
-            (formed-core_seen around frame.provenance (from_all around.outer (core_trace around frame.provenance) frame.sources)
+            (formed-core_seen around frame.provenance (from_all around.outer frame.sources)
             (has_some frame.sources) frame.distinct frame.items frame.condition frame.groups frame.having
-            (good-from_all around.outer (core_trace around frame.provenance) frame.sources sources) items condition having);
+            (good-from_all around.outer frame.sources sources) items condition having);
       }
 
   paren-body : (query : QueryTree) (around : Around) → GoodQueryMeant (may_not_ask around) ((query_of c query).means (may_not_ask around))
@@ -117,9 +117,9 @@ module _ (c : Contents) (sound : IsSound c) where
 
   item-of_source : (item : FromItem) → GoodSource c sound (source_of c item.source) → GoodFromItem (from_item_of c item)
   item-of_source item good = subst GoodFromItem (sym (opened_from_item c item))
-      (λ outer trace earlier. good-item_meant outer item.at item.mark trace earlier (scope_name (source_of c item.source) item.alias)
-      (label_of (source_of c item.source) item.alias) (read_of c item.mark outer trace (source_of c item.source))
-      (good-read_of c sound item.mark outer trace (source_of c item.source) good))
+      (λ outer earlier. good-item_meant outer item.at item.mark earlier (scope_name (source_of c item.source) item.alias)
+      (label_of (source_of c item.source) item.alias) (read_of c outer (source_of c item.source))
+      (good-read_of c sound outer (source_of c item.source) good))
 
   -- ---- the recursion over what makes a tree regular
 
@@ -235,8 +235,8 @@ module _ (c : Contents) (sound : IsSound c) where
         let steps : Every GoodJoin (map (join_of c) layer.joins) =
         all-meant GoodJoin (join_of c) layer.joins (λ step in_joins. good-join (joins step in_joins)) in
         subst GoodFromPart (sym (opened_from c tree))
-        (λ outer trace earlier. good-join_all outer trace (first_item earlier ((from_item_of c layer.first).means outer trace earlier)) (map (join_of c) layer.joins)
-        (good-first outer earlier ((from_item_of c layer.first).means outer trace earlier) (item outer trace earlier)) steps)
+        (λ outer earlier. good-join_all outer (first_item earlier ((from_item_of c layer.first).means outer earlier)) (map (join_of c) layer.joins)
+        (good-first outer earlier ((from_item_of c layer.first).means outer earlier) (item outer earlier)) steps)
 
     good-join : {step : JoinStep} → RegularJoin step → GoodJoin (join_of c step)
     good-join (regular_join_step {step = step} same item condition) =

@@ -36,13 +36,12 @@ use Rattle.perm_catalog.specs.declared.entries.ViewEntry.{ViewEntry}
 use Rattle.sql_tree.specs.declared.name.Name.{Name}
 use Rattle.sql_tree.specs.declared.source.ScopeMark.{ScopeMark}
 use Rattle.sql_tree.specs.declared.source.ScopeMark.TheVariants as mark
-use Rattle.name_meaning.specs.Froms.{names_of, names_at, all_places, table_columns, settled_columns, named_columns, Read, external, read_table, read_view, read_nothing, read_named, read_query, named_so, place_of, column_breaks, attribute_breaks, texts_of, marked, mark_breaks, trace_under, SourcePart, named as named_source, inner as inner_source, ItemMeant, FromItemPart, read_of, read_names, scope_break, item_meant, in_on, FromMeant, JoinPart, FromPart, join_kind, scope_items, both_known, first_item, on_meant, on_breaks, on_made, join_item, join_all, beside_from, from_more, from_all, yes}
+use Rattle.name_meaning.specs.Froms.{names_of, names_at, all_places, table_columns, settled_columns, named_columns, Read, external, read_table, read_view, read_nothing, read_named, read_query, named_so, place_of, column_breaks, attribute_breaks, texts_of, marked, mark_breaks, SourcePart, named as named_source, inner as inner_source, ItemMeant, FromItemPart, read_of, read_names, item_meant, in_on, FromMeant, JoinPart, FromPart, join_kind, scope_items, both_known, first_item, on_meant, on_breaks, on_made, join_item, join_all, beside_from, from_more, from_all, yes}
 use Rattle.name_meaning.specs.Meanings.{Around, Part, OutColumn, QueryMeant, broken_if}
 use Rattle.name_meaning.specs.Scopes.{KnownColumn, ScopeItem, scope_of, numbered_columns, columns_from}
 use Rattle.name_meaning.specs.declared.answer.Break.{Break}
 use Rattle.name_meaning.specs.declared.scope.Scope.{Scope}
 use Rattle.name_meaning.specs.declared.scope.ScopeColumn.{ScopeColumn}
-use Rattle.name_meaning.specs.declared.trace.Trace.{Trace}
 use Rattle.name_laws.specs.Known.{column_kinds_of, items_kinds}
 use Rattle.name_laws.specs.Standing.{StandAt, HoldsScope, RowsHold, AggregatesStand}
 use Rattle.name_laws.proofs.Arms.{GoodOptional}
@@ -193,10 +192,10 @@ module _ (c : Contents) (sound : IsSound c) where
   GoodSource (named_source name) = ⊤
   GoodSource (inner_source query) = (around : Around) → GoodQuery around (query.means around)
 
-  pub good-read_of : (m : ScopeMark) (outer : List Scope) (trace : Trace) (source : SourcePart) → GoodSource source → GoodRead outer (read_of c m outer trace source)
-  good-read_of m outer trace (named_source name) good = good-read_named outer name
-  good-read_of m outer trace (inner_source query) good =
-      let around : Around = record { outer = outer; trace = trace_under m trace; may_ask = true } in
+  pub good-read_of : (outer : List Scope) (source : SourcePart) → GoodSource source → GoodRead outer (read_of c outer source)
+  good-read_of outer (named_source name) good = good-read_named outer name
+  good-read_of outer (inner_source query) good =
+      let around : Around = record { outer = outer; may_ask = true } in
       good-read_query around (query.means around) (good around)
 
 -- ---- items
@@ -211,7 +210,7 @@ abbrev pub GoodItemMeant : List Scope → ItemMeant → Type 0
 GoodItemMeant outer m = m.breaks ≡ [] → FormedItem outer m
 
 abbrev pub GoodFromItem : FromItemPart → Type 0
-GoodFromItem item = (outer : List Scope) (trace : Trace) (earlier : List (List ℕ)) → GoodItemMeant outer (item.means outer trace earlier)
+GoodFromItem item = (outer : List Scope) (earlier : List (List ℕ)) → GoodItemMeant outer (item.means outer earlier)
 
 marked-formed : (m : ScopeMark) (label : List ℕ) (names : List (List ℕ)) (read : Read) (rows : List (List Kind)) → WellFormed rows read.query → WellFormed rows read.plain
     → length names ≡ width_of read.query → mark_breaks m (Some names) ≡ [] → WellFormed rows (marked m label names read)
@@ -224,14 +223,12 @@ marked-formed (mark.External attributes) label names read rows f g width whole =
     (subst (λ w. PlacesIn w (map (place_of names) (texts_of attributes))) width (attributes-in names [] attributes whole))
     (sym (length-map (texts_of attributes) (place_of names)))
 
-pub good-item_meant : (outer : List Scope) (at : ℕ) (m : ScopeMark) (trace : Trace) (earlier : List (List ℕ)) (name label : List ℕ) (read : Read) → GoodRead outer read
-    → GoodItemMeant outer (item_meant at m trace earlier name label read)
-good-item_meant outer at m trace earlier name label read good whole =
+pub good-item_meant : (outer : List Scope) (at : ℕ) (m : ScopeMark) (earlier : List (List ℕ)) (name label : List ℕ) (read : Read) → GoodRead outer read
+    → GoodItemMeant outer (item_meant at m earlier name label read)
+good-item_meant outer at m earlier name label read good whole =
     let same_name : List Break = broken_if (list_any (named_so name) earlier) rule.RepeatedItem at in
     let attributes : List Break = mark_breaks m (option_map names_of read.columns) in
-    let scoped : List Break = scope_break read.breaks trace read.viewed (marked m label (read_names read) read) at in
-    let first = front-none ((read.breaks ++ same_name) ++ attributes) scoped whole in
-    let r = good (front-none read.breaks same_name (front-none (read.breaks ++ same_name) attributes first)) in
+    let r = good (front-none read.breaks same_name (front-none (read.breaks ++ same_name) attributes whole)) in
     let are : read_names read ≡ names_of r.columns = ap (λ (columns : Option (List KnownColumn)). option_map_or names_of columns []) r.known in
     let known : option_map names_of read.columns ≡ Some (read_names read) = ap (option_map names_of) r.known ∙ ap Some (sym are) in
     let width : length (read_names read) ≡ width_of read.query =
@@ -241,7 +238,7 @@ good-item_meant outer at m trace earlier name label read good whole =
       known = r.known;
       kinds = kinds-marked m label (read_names read) read (column_kinds_of r.columns) r.kinds r.plain_kinds;
       formed = λ rows hold. marked-formed m label (read_names read) read rows (r.formed rows hold) (r.plain_formed rows hold) width
-          (subst (λ (names : Option (List (List ℕ))). mark_breaks m names ≡ []) known (back-none (read.breaks ++ same_name) attributes first));
+          (subst (λ (names : Option (List (List ℕ))). mark_breaks m names ≡ []) known (back-none (read.breaks ++ same_name) attributes whole));
     }
 
 -- ---- joins
@@ -256,7 +253,7 @@ abbrev pub GoodFrom : List Scope → FromMeant → Type 0
 GoodFrom outer m = m.breaks ≡ [] → FormedFrom outer m
 
 abbrev pub GoodFromPart : FromPart → Type 0
-GoodFromPart part = (outer : List Scope) (trace : Trace) (earlier : List (List ℕ)) → GoodFrom outer (part.means outer trace earlier)
+GoodFromPart part = (outer : List Scope) (earlier : List (List ℕ)) → GoodFrom outer (part.means outer earlier)
 
 abbrev pub GoodJoin : JoinPart → Type 0
 GoodJoin step = GoodFromItem step.item × GoodOptional step.condition
@@ -278,12 +275,12 @@ yes-holds : (rows : List (List Kind)) → HasKind rows [] yes Boolean
 yes-holds rows = record { fitting = refl; gives = refl }
 
 -- a condition in the rows up to its own step
-on-holds : (outer : List Scope) (trace : Trace) (items : List ScopeItem) (condition : Option Part) (row : List Kind) (rows : List (List Kind)) → GoodOptional condition
-    → on_breaks condition (on_meant outer trace (Some items) condition) ≡ [] → row ≡ items_kinds items → RowsHold outer rows
-    → HasKind (row ∷ rows) [] (on_made (on_meant outer trace (Some items) condition)) Boolean
-on-holds outer trace items None row rows good whole is hold = yes-holds (row ∷ rows)
-on-holds outer trace items (Some part) row rows good whole is hold =
-    let here = in_on items outer trace in
+on-holds : (outer : List Scope) (items : List ScopeItem) (condition : Option Part) (row : List Kind) (rows : List (List Kind)) → GoodOptional condition
+    → on_breaks condition (on_meant outer (Some items) condition) ≡ [] → row ≡ items_kinds items → RowsHold outer rows
+    → HasKind (row ∷ rows) [] (on_made (on_meant outer (Some items) condition)) Boolean
+on-holds outer items None row rows good whole is hold = yes-holds (row ∷ rows)
+on-holds outer items (Some part) row rows good whole is hold =
+    let here = in_on items outer in
     let formed = formed-condition here part.at (part.means here) (good.formed here) whole in
     formed.holds (row ∷ rows) [] (scope-holds items row is, hold)
     (subst (λ aggregates. AggregatesStand here.scopes 0 aggregates (row ∷ rows)) (sym (formed.without_aggregates refl)) tt)
@@ -294,10 +291,10 @@ joined-formed : (kind : JoinKind) (left right : Query) (condition : Expr) (rows 
 joined-formed kind left right condition rows f g h =
     by (sym (WellFormed-Join rows kind left right condition [])) (record { left = f; right = g; subs = tt; condition = h })
 
-good-joined : (outer : List Scope) (trace : Trace) (left : FromMeant) (step : JoinPart) (m : ItemMeant) → GoodFrom outer left → GoodItemMeant outer m
-    → GoodOptional step.condition → GoodFrom outer (join_item outer trace left step m)
-good-joined outer trace left step m l r condition whole =
-    let on = on_meant outer trace (both_known left.items (scope_items m)) step.condition in
+good-joined : (outer : List Scope) (left : FromMeant) (step : JoinPart) (m : ItemMeant) → GoodFrom outer left → GoodItemMeant outer m
+    → GoodOptional step.condition → GoodFrom outer (join_item outer left step m)
+good-joined outer left step m l r condition whole =
+    let on = on_meant outer (both_known left.items (scope_items m)) step.condition in
     let operands = front-none (left.breaks ++ m.breaks) (on_breaks step.condition on) whole in
     let from = l (front-none left.breaks m.breaks operands) in
     let item = r (back-none left.breaks m.breaks operands) in
@@ -307,24 +304,24 @@ good-joined outer trace left step m l r condition whole =
     λ i. both_known (from.known i) (ap (option_map (λ (columns : List KnownColumn). item_of m columns)) item.known i) in
     let kinds : kinds_of left.query ++ kinds_of m.query ≡ items_kinds items =
     (λ i. from.kinds i ++ (item.kinds ∙ sym (append-nil (column_kinds_of item.columns))) i) ∙ sym (items_kinds-append from.items own) in
-    let on_whole : on_breaks step.condition (on_meant outer trace (Some items) step.condition) ≡ [] =
-    subst (λ (found : Option (List ScopeItem)). on_breaks step.condition (on_meant outer trace found step.condition) ≡ []) known
+    let on_whole : on_breaks step.condition (on_meant outer (Some items) step.condition) ≡ [] =
+    subst (λ (found : Option (List ScopeItem)). on_breaks step.condition (on_meant outer found step.condition) ≡ []) known
     (back-none (left.breaks ++ m.breaks) (on_breaks step.condition on) whole) in
     record {
       items = items;
       known = known;
       kinds = kinds_of-Join (join_kind step.word) left.query m.query (on_made on) [] ∙ kinds;
       formed = λ rows hold. joined-formed (join_kind step.word) left.query m.query (on_made on) rows (from.formed rows hold) (item.formed rows hold)
-          (subst (λ (found : Option (List ScopeItem)). HasKind ((kinds_of left.query ++ kinds_of m.query) ∷ rows) [] (on_made (on_meant outer trace found step.condition)) Boolean)
-          (sym known) (on-holds outer trace items step.condition (kinds_of left.query ++ kinds_of m.query) rows condition on_whole kinds hold));
+          (subst (λ (found : Option (List ScopeItem)). HasKind ((kinds_of left.query ++ kinds_of m.query) ∷ rows) [] (on_made (on_meant outer found step.condition)) Boolean)
+          (sym known) (on-holds outer items step.condition (kinds_of left.query ++ kinds_of m.query) rows condition on_whole kinds hold));
     }
 
-pub good-join_all : (outer : List Scope) (trace : Trace) (left : FromMeant) (steps : List JoinPart) → GoodFrom outer left → Every GoodJoin steps
-    → GoodFrom outer (join_all outer trace left steps)
-good-join_all outer trace left [] l h = l
-good-join_all outer trace left (step ∷ steps) l h =
-    let m : ItemMeant = step.item.means outer trace left.names in
-    good-join_all outer trace (join_item outer trace left step m) steps (good-joined outer trace left step m l (h.0.0 outer trace left.names) h.0.1) h.1
+pub good-join_all : (outer : List Scope) (left : FromMeant) (steps : List JoinPart) → GoodFrom outer left → Every GoodJoin steps
+    → GoodFrom outer (join_all outer left steps)
+good-join_all outer left [] l h = l
+good-join_all outer left (step ∷ steps) l h =
+    let m : ItemMeant = step.item.means outer left.names in
+    good-join_all outer (join_item outer left step m) steps (good-joined outer left step m l (h.0.0 outer left.names) h.0.1) h.1
 
 good-beside : (outer : List Scope) (left right : FromMeant) → GoodFrom outer left → GoodFrom outer right → GoodFrom outer (beside_from left right)
 good-beside outer left right l r whole =
@@ -337,13 +334,13 @@ good-beside outer left right l r whole =
       formed = λ rows hold. joined-formed join.Inner left.query right.query yes rows (a.formed rows hold) (b.formed rows hold) (yes-holds ((kinds_of left.query ++ kinds_of right.query) ∷ rows));
     }
 
-good-more : (outer : List Scope) (trace : Trace) (left : FromMeant) (parts : List FromPart) → GoodFrom outer left → Every GoodFromPart parts
-    → GoodFrom outer (from_more outer trace left parts)
-good-more outer trace left [] l h = l
-good-more outer trace left (part ∷ parts) l h =
-    let right : FromMeant = part.means outer trace left.names in
-    good-more outer trace (beside_from left right) parts (good-beside outer left right l (h.0 outer trace left.names)) h.1
+good-more : (outer : List Scope) (left : FromMeant) (parts : List FromPart) → GoodFrom outer left → Every GoodFromPart parts
+    → GoodFrom outer (from_more outer left parts)
+good-more outer left [] l h = l
+good-more outer left (part ∷ parts) l h =
+    let right : FromMeant = part.means outer left.names in
+    good-more outer (beside_from left right) parts (good-beside outer left right l (h.0 outer left.names)) h.1
 
-pub good-from_all : (outer : List Scope) (trace : Trace) (parts : List FromPart) → Every GoodFromPart parts → GoodFrom outer (from_all outer trace parts)
-good-from_all outer trace [] h = λ whole. record { items = []; known = refl; kinds = refl; formed = λ rows hold. tt }
-good-from_all outer trace (part ∷ parts) h = good-more outer trace (part.means outer trace []) parts (h.0 outer trace []) h.1
+pub good-from_all : (outer : List Scope) (parts : List FromPart) → Every GoodFromPart parts → GoodFrom outer (from_all outer parts)
+good-from_all outer [] h = λ whole. record { items = []; known = refl; kinds = refl; formed = λ rows hold. tt }
+good-from_all outer (part ∷ parts) h = good-more outer (part.means outer []) parts (h.0 outer []) h.1

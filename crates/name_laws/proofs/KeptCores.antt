@@ -10,7 +10,7 @@ use Rattle.bag_algebra.specs.declared.query.Aggr.{Aggr}
 use Rattle.bag_algebra.specs.declared.query.Query.{Query}
 use Rattle.bag_algebra.specs.declared.query.Query.TheVariants.{Project}
 use Rattle.sql_tree.specs.declared.name.ColRef.{ColRef}
-use Rattle.name_meaning.specs.Cores.{settle, settle_known, in_clause, optional_meant, optional_built, optional_breaks, group_break, group_scope, filtered, aggregated_input, distinct_if, core_query, Clauses, list_columns, before_list, clauses_query, core_meant, core_unlooked, core_clauses, clause_breaks, core_over, word_breaks, core_trace, core_seen}
+use Rattle.name_meaning.specs.Cores.{settle, settle_known, in_clause, optional_meant, optional_built, optional_breaks, group_break, group_scope, filtered, aggregated_input, distinct_if, core_query, Clauses, list_columns, before_list, clauses_query, core_meant, core_unlooked, core_clauses, clause_breaks, core_over, word_breaks, core_seen}
 use Rattle.name_meaning.specs.Froms.{FromMeant}
 use Rattle.name_meaning.specs.Items.{Made, SelectPart, made_items, named_from, items_breaks}
 use Rattle.name_meaning.specs.Meanings.{Surroundings, Meant, Part, Around, OutColumn, is_whole}
@@ -18,7 +18,6 @@ use Rattle.name_meaning.specs.Scopes.{ScopeItem, scope_of}
 use Rattle.name_meaning.specs.Sublinks.{nothing_before}
 use Rattle.name_meaning.specs.declared.answer.Break.{Break}
 use Rattle.name_meaning.specs.declared.scope.Scope.{Scope}
-use Rattle.name_meaning.specs.declared.trace.Trace.{Trace}
 use Rattle.name_laws.specs.Facts.{Facts, facts_of, both_facts, sub_facts}
 use Rattle.name_laws.specs.Known.{item_kinds}
 use Rattle.name_laws.proofs.Every.{Every, every-append, every-map, back-none}
@@ -151,15 +150,15 @@ module _ (Sound : Type 0) where
   good-optional here None good = tt
   good-optional here (Some part) good = good here
 
-  pub good-core_over : (outer : List Scope) (trace : Trace) (words : List Break) (input : FromMeant) (has_from is_distinct : Bool) (items : List SelectPart)
+  pub good-core_over : (outer : List Scope) (words : List Break) (input : FromMeant) (has_from is_distinct : Bool) (items : List SelectPart)
       (condition : Option Part) (groups : List ColRef) (having : Option Part) (scope_items : List ScopeItem)
       → (Sound → AreNamed (facts_of input.query).places) → Every (GoodItem Sound) items → GoodOptionalPart condition → GoodOptionalPart having
-      → GoodQuery Sound (core_over outer trace words input has_from is_distinct items condition groups having scope_items)
-  good-core_over outer trace words input has_from is_distinct items condition groups having scope_items from good_items good_condition good_having =
+      → GoodQuery Sound (core_over outer words input has_from is_distinct items condition groups having scope_items)
+  good-core_over outer words input has_from is_distinct items condition groups having scope_items from good_items good_condition good_having =
       let own : Scope = scope_of scope_items in
       let grouped : Scope = group_scope own groups having items in
-      let here : Surroundings = in_clause own outer trace false in
-      let grouped_here : Surroundings = in_clause grouped outer trace true in
+      let here : Surroundings = in_clause own outer false in
+      let grouped_here : Surroundings = in_clause grouped outer true in
       let k : Clauses = core_clauses here grouped_here grouped has_from input condition having items in
       let front = (optional_breaks condition k.where_meant ++ flat_map (group_break own) groups) ++ optional_breaks having k.having_meant in
       let good : GoodClauses k = record {
@@ -178,9 +177,9 @@ module _ (Sound : Type 0) where
   good-core_seen around word input has_from is_distinct items condition groups having from good_items good_condition good_having =
       chosen (is_whole input.breaks) refl where
         chosen : (b : Bool) → is_whole input.breaks ≡ b → GoodQuery Sound (cond b
-            (core_over around.outer (core_trace around word) (word_breaks around word) input has_from is_distinct items condition groups having
+            (core_over around.outer (word_breaks around word) input has_from is_distinct items condition groups having
             (option_map_or (λ known. known) input.items []))
             (core_unlooked (word_breaks around word) input))
-        chosen true e = good-core_over around.outer (core_trace around word) (word_breaks around word) input has_from is_distinct items condition groups having
+        chosen true e = good-core_over around.outer (word_breaks around word) input has_from is_distinct items condition groups having
             (option_map_or (λ known. known) input.items []) from good_items good_condition good_having
         chosen false e = good-core_unlooked (word_breaks around word) input e

@@ -26,12 +26,11 @@ use Rattle.sql_tree.specs.declared.name.Name.{Name}
 use Rattle.sql_tree.specs.declared.source.JoinWord.{JoinWord}
 use Rattle.sql_tree.specs.declared.source.ScopeMark.{ScopeMark}
 use Rattle.sql_tree.specs.declared.source.ScopeMark.TheVariants as mark
-use Rattle.name_meaning.specs.Froms.{names_of, names_at, all_places, table_columns, settled_columns, named_columns, Read, external, read_table, read_view, read_nothing, read_named, read_query, named_so, place_of, texts_of, marked, mark_breaks, trace_under, SourcePart, named as named_source, inner as inner_source, ItemMeant, FromItemPart, read_of, read_names, scope_break, item_meant, FromMeant, JoinPart, FromPart, join_kind, scope_items, both_known, first_item, on_meant, on_breaks, on_made, joined, join_item, join_all, beside_from, from_more, from_all, yes}
+use Rattle.name_meaning.specs.Froms.{names_of, names_at, all_places, table_columns, settled_columns, named_columns, Read, external, read_table, read_view, read_nothing, read_named, read_query, named_so, place_of, texts_of, marked, mark_breaks, SourcePart, named as named_source, inner as inner_source, ItemMeant, FromItemPart, read_of, read_names, item_meant, FromMeant, JoinPart, FromPart, join_kind, scope_items, both_known, first_item, on_meant, on_breaks, on_made, joined, join_item, join_all, beside_from, from_more, from_all, yes}
 use Rattle.name_meaning.specs.Meanings.{Around, Meant, Part, OutColumn, QueryMeant, broken_if}
 use Rattle.name_meaning.specs.Scopes.{KnownColumn, ScopeItem}
 use Rattle.name_meaning.specs.declared.answer.Break.{Break}
 use Rattle.name_meaning.specs.declared.scope.Scope.{Scope}
-use Rattle.name_meaning.specs.declared.trace.Trace.{Trace}
 use Rattle.name_laws.specs.Facts.{Facts}
 use Rattle.name_laws.specs.Known.{ReadIsKnown, ItemIsKnown, FromIsKnown, column_kinds_of}
 use Rattle.name_laws.proofs.Every.{Every, every-append, front-none, back-none}
@@ -132,11 +131,11 @@ module _ (c : Contents) where
   GoodSource (named_source name) = ⊤
   GoodSource (inner_source query) = (around : Around) → GoodQuery (IsSound c) (query.means around)
 
-  pub good-read_of : (m : ScopeMark) (outer : List Scope) (trace : Trace) (source : SourcePart) → GoodSource source → GoodRead (read_of c m outer trace source)
-  good-read_of m outer trace (named_source name) good = good-read_named name
-  good-read_of m outer trace (inner_source query) good =
-      good-read_query (query.means (record { outer = outer; trace = trace_under m trace; may_ask = true }))
-      (good (record { outer = outer; trace = trace_under m trace; may_ask = true }))
+  pub good-read_of : (outer : List Scope) (source : SourcePart) → GoodSource source → GoodRead (read_of c outer source)
+  good-read_of outer (named_source name) good = good-read_named name
+  good-read_of outer (inner_source query) good =
+      good-read_query (query.means (record { outer = outer; may_ask = true }))
+      (good (record { outer = outer; may_ask = true }))
 
   -- ---- items
 
@@ -145,7 +144,7 @@ module _ (c : Contents) where
     pub named : IsSound c → AreNamed (shape m.query)
 
   abbrev pub GoodFromItem : FromItemPart → Type 0
-  GoodFromItem item = (outer : List Scope) (trace : Trace) (earlier : List (List ℕ)) → GoodItem (item.means outer trace earlier)
+  GoodFromItem item = (outer : List Scope) (earlier : List (List ℕ)) → GoodItem (item.means outer earlier)
 
   named-marked : (m : ScopeMark) (label : List ℕ) (names : List (List ℕ)) (read : Read) → AreNamed (shape read.plain) → AreNamed (shape (marked m label names read))
   named-marked mark.Plain label names read h = h
@@ -153,16 +152,14 @@ module _ (c : Contents) where
   named-marked (mark.External attributes) label names read h =
       named-Base read.query (map (place_of names) (texts_of attributes)) (External (texts_of attributes)) (sym (length-map (texts_of attributes) (place_of names)))
 
-  pub good-item_meant : (at : ℕ) (m : ScopeMark) (trace : Trace) (earlier : List (List ℕ)) (name label : List ℕ) (read : Read) → GoodRead read
-      → GoodItem (item_meant at m trace earlier name label read)
-  good-item_meant at m trace earlier name label read good =
+  pub good-item_meant : (at : ℕ) (m : ScopeMark) (earlier : List (List ℕ)) (name label : List ℕ) (read : Read) → GoodRead read
+      → GoodItem (item_meant at m earlier name label read)
+  good-item_meant at m earlier name label read good =
       let same_name : List Break = broken_if (list_any (named_so name) earlier) rule.RepeatedItem at in
       let attributes : List Break = mark_breaks m (option_map names_of read.columns) in
-      let scoped : List Break = scope_break read.breaks trace read.viewed (marked m label (read_names read) read) at in
       record {
         known = λ sound whole.
-            let front = front-none (read.breaks ++ same_name) attributes (front-none ((read.breaks ++ same_name) ++ attributes) scoped whole) in
-            let r = good.known sound (front-none read.breaks same_name front) in
+            let r = good.known sound (front-none read.breaks same_name (front-none (read.breaks ++ same_name) attributes whole)) in
             record { columns = r.columns; known = r.known; kinds = kinds-marked m label (read_names read) read (column_kinds_of r.columns) r.kinds r.plain };
         named = λ sound. named-marked m label (read_names read) read (good.named sound);
       }
@@ -174,7 +171,7 @@ module _ (c : Contents) where
     pub named : IsSound c → AreNamed (shape m.query)
 
   abbrev pub GoodFromPart : FromPart → Type 0
-  GoodFromPart part = (outer : List Scope) (trace : Trace) (earlier : List (List ℕ)) → GoodFrom (part.means outer trace earlier)
+  GoodFromPart part = (outer : List Scope) (earlier : List (List ℕ)) → GoodFrom (part.means outer earlier)
 
   abbrev pub GoodJoin : JoinPart → Type 0
   GoodJoin step = GoodFromItem step.item
@@ -214,14 +211,14 @@ module _ (c : Contents) where
         (every-append IsNamed (shape left.query) (shape m.query) (l.named sound) (r.named sound));
   }
 
-  pub good-join_all : (outer : List Scope) (trace : Trace) (left : FromMeant) (steps : List JoinPart) → GoodFrom left → Every GoodJoin steps
-      → GoodFrom (join_all outer trace left steps)
-  good-join_all outer trace left [] l h = l
-  good-join_all outer trace left (step ∷ steps) l h =
-      let m : ItemMeant = step.item.means outer trace left.names in
-      let on : Option Meant = on_meant outer trace (both_known left.items (scope_items m)) step.condition in
-      good-join_all outer trace (join_item outer trace left step m) steps
-      (good-joined left step.word step.condition m on l (h.0 outer trace left.names)) h.1
+  pub good-join_all : (outer : List Scope) (left : FromMeant) (steps : List JoinPart) → GoodFrom left → Every GoodJoin steps
+      → GoodFrom (join_all outer left steps)
+  good-join_all outer left [] l h = l
+  good-join_all outer left (step ∷ steps) l h =
+      let m : ItemMeant = step.item.means outer left.names in
+      let on : Option Meant = on_meant outer (both_known left.items (scope_items m)) step.condition in
+      good-join_all outer (join_item outer left step m) steps
+      (good-joined left step.word step.condition m on l (h.0 outer left.names)) h.1
 
   good-beside : (left right : FromMeant) → GoodFrom left → GoodFrom right → GoodFrom (beside_from left right)
   good-beside left right l r = record {
@@ -239,16 +236,16 @@ module _ (c : Contents) where
         (every-append IsNamed (shape left.query) (shape right.query) (l.named sound) (r.named sound));
   }
 
-  good-more : (outer : List Scope) (trace : Trace) (left : FromMeant) (parts : List FromPart) → GoodFrom left → Every GoodFromPart parts
-      → GoodFrom (from_more outer trace left parts)
-  good-more outer trace left [] l h = l
-  good-more outer trace left (part ∷ parts) l h =
-      let right : FromMeant = part.means outer trace left.names in
-      good-more outer trace (beside_from left right) parts (good-beside left right l (h.0 outer trace left.names)) h.1
+  good-more : (outer : List Scope) (left : FromMeant) (parts : List FromPart) → GoodFrom left → Every GoodFromPart parts
+      → GoodFrom (from_more outer left parts)
+  good-more outer left [] l h = l
+  good-more outer left (part ∷ parts) l h =
+      let right : FromMeant = part.means outer left.names in
+      good-more outer (beside_from left right) parts (good-beside left right l (h.0 outer left.names)) h.1
 
-  pub good-from_all : (outer : List Scope) (trace : Trace) (parts : List FromPart) → Every GoodFromPart parts → GoodFrom (from_all outer trace parts)
-  good-from_all outer trace [] h = record {
+  pub good-from_all : (outer : List Scope) (parts : List FromPart) → Every GoodFromPart parts → GoodFrom (from_all outer parts)
+  good-from_all outer [] h = record {
     known = λ sound whole. record { items = []; known = refl; kinds = refl };
     named = λ sound. tt;
   }
-  good-from_all outer trace (part ∷ parts) h = good-more outer trace (part.means outer trace []) parts (h.0 outer trace []) h.1
+  good-from_all outer (part ∷ parts) h = good-more outer (part.means outer []) parts (h.0 outer []) h.1

@@ -14,8 +14,7 @@ use Rattle.name_meaning.specs.Cores.{BodyPart, settle, settle_known}
 use Rattle.name_meaning.specs.Froms.{named_columns}
 use Rattle.name_meaning.specs.Meanings.{Around, OutColumn, QueryMeant}
 use Rattle.name_meaning.specs.Queries.{SetStepPart, united_columns, columns_so_far, operand_breaks, set_joined, may_not_ask, set_chain, keys_of, keys_breaks, limited, out_column, provenance_columns, plain_query, query_with_provenance, asks_provenance, query_seen}
-use Rattle.name_meaning.specs.declared.trace.Trace.TheVariants.{InProvenance as in_provenance}
-use Rattle.name_laws.specs.Facts.{Facts, facts_of, both_facts, provenance_facts}
+use Rattle.name_laws.specs.Facts.{Facts, facts_of, both_facts}
 use Rattle.name_laws.specs.Known.{HasItsKinds}
 use Rattle.name_laws.proofs.Every.{Every, every-append, front-none, back-none}
 use Rattle.name_laws.proofs.FactsOf.{facts-Prov, facts-set, facts-limited}
@@ -117,7 +116,7 @@ module _ (Sound : Type 0) where
                   ∙ (λ i. (kinds-limited limit keys (body.make wanted) ∙ inner.kinds wanted) i ++ place_kinds (steady wanted [] i).places)
                   ∙ sym (kinds-proved inner.columns (shape (query [])) wanted (named sound));
             };
-        steady = λ w v. facts-Prov (query w) ∙ ap provenance_facts (steady w v) ∙ sym (facts-Prov (query v));
+        steady = λ w v. facts-Prov (query w) ∙ sym (facts-Prov (query v));
         named = λ sound w. subst (λ (facts : Facts). AreNamed facts.places) (sym (facts-Prov (query w))) tt;
       }
 
@@ -125,8 +124,8 @@ module _ (Sound : Type 0) where
       → GoodQuery Sound (query_seen around at body order limit)
   good-query_seen around at body order limit good = chosen (asks_provenance around body) where
     chosen : (b : Bool) → GoodQuery Sound (cond b
-        (query_with_provenance at (body.means (record around { trace = in_provenance })) order limit
-        (limited limit (keys_of (body.means (record around { trace = in_provenance })).columns order) ((body.means (record around { trace = in_provenance })).make [])))
+        (query_with_provenance at (body.means around) order limit
+        (limited limit (keys_of (body.means around).columns order) ((body.means around).make [])))
         (plain_query at (body.means around) order limit))
-    chosen true = good-query_with_provenance at (body.means (record around { trace = in_provenance })) order limit (good (record around { trace = in_provenance }))
+    chosen true = good-query_with_provenance at (body.means around) order limit (good around)
     chosen false = good-plain_query at (body.means around) order limit (good around)

@@ -16,7 +16,7 @@ use Rattle.sql_tree.specs.declared.query.SetTree.{SetTree}
 use Rattle.sql_tree.specs.declared.source.FromItem.{FromItem}
 use Rattle.sql_tree.specs.declared.source.FromTree.{FromTree}
 use Rattle.name_meaning.proofs.Equations.{ExprBodyFrame, SelectItemFrame, SetTreeFrame, FromSourceFrame, CoreFrame}
-use Rattle.name_meaning.specs.Cores.{core_step, core_trace, has_some}
+use Rattle.name_meaning.specs.Cores.{core_step, has_some}
 use Rattle.name_meaning.specs.Expressions.{Body, body_step, first_of, second_of, negated_if, times, chain_made, step_operand, first_need, chain_gives, in_kind}
 use Rattle.name_meaning.specs.Froms.{source_step, from_all, first_item, label_of, scope_name, read_of}
 use Rattle.name_meaning.specs.Items.{item_step, title}
@@ -142,9 +142,9 @@ module _ (c : Contents) where
   good-optional (Some part) h = h
 
   good-core : (frame : CoreFrame) → PartsOfCore frame → kept_queries.GoodBody S (core_step frame)
-  good-core frame h around = good-core_seen S around frame.provenance (from_all around.outer (core_trace around frame.provenance) frame.sources)
+  good-core frame h around = good-core_seen S around frame.provenance (from_all around.outer frame.sources)
       (has_some frame.sources) frame.distinct frame.items frame.condition frame.groups frame.having
-      (kept_froms.good-from_all c around.outer (core_trace around frame.provenance) frame.sources h.sources).named h.items
+      (kept_froms.good-from_all c around.outer frame.sources h.sources).named h.items
       (good-optional frame.condition h.condition) (good-optional frame.having h.having)
 
   kept : Kept
@@ -159,11 +159,11 @@ module _ (c : Contents) where
     core = good-core;
     query = λ frame body around. kept_queries.good-query_seen S around frame.at frame.body frame.order frame.limit body;
     set_operand = λ frame operand. operand;
-    from_item = λ frame source outer trace earlier. kept_froms.good-item_meant c frame.at frame.mark trace earlier (scope_name frame.source frame.alias) (label_of frame.source frame.alias)
-        (read_of c frame.mark outer trace frame.source)
-        (kept_froms.good-read_of c frame.mark outer trace frame.source source);
-    from_tree = λ frame first joins outer trace earlier. kept_froms.good-join_all c outer trace (first_item earlier (frame.first.means outer trace earlier)) frame.joins
-        (kept_froms.good-first c earlier (frame.first.means outer trace earlier) (first outer trace earlier)) joins;
+    from_item = λ frame source outer earlier. kept_froms.good-item_meant c frame.at frame.mark earlier (scope_name frame.source frame.alias) (label_of frame.source frame.alias)
+        (read_of c outer frame.source)
+        (kept_froms.good-read_of c outer frame.source source);
+    from_tree = λ frame first joins outer earlier. kept_froms.good-join_all c outer (first_item earlier (frame.first.means outer earlier)) frame.joins
+        (kept_froms.good-first c earlier (frame.first.means outer earlier) (first outer earlier)) joins;
     join = λ frame item condition. item;
   }
 

@@ -28,11 +28,6 @@ mod ReadFroms
 mod ReadMeant
 mod ReadNodes
 mod ReadTrees
-mod ScopedCores
-mod ScopedFroms
-mod ScopedMeant
-mod ScopedTrees
-mod Scopes
 pub mod Settled
 mod Standing
 mod SteadyMeant

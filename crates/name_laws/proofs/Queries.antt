@@ -23,7 +23,6 @@ use Rattle.name_meaning.specs.Cores.{BodyPart, settle, settle_known}
 use Rattle.name_meaning.specs.Meanings.{Around, OutColumn, QueryMeant, broken, broken_if, unites}
 use Rattle.name_meaning.specs.Queries.{SetStepPart, set_of, united_columns, do_unite, operand_break, operand_breaks, columns_so_far, set_joined, may_not_ask, set_chain, is_named, is_position, key_break, key_place, key_of, keys_of, keys_breaks, limited, count_columns, plain_query, query_with_provenance, asks_provenance, query_seen}
 use Rattle.name_meaning.specs.declared.answer.Break.{Break}
-use Rattle.name_meaning.specs.declared.trace.Trace.TheVariants.{InProvenance as in_provenance}
 use Rattle.name_laws.specs.Known.{HasItsKinds}
 use Rattle.name_laws.specs.Standing.{RowsHold}
 use Rattle.name_laws.proofs.Cores.{by}
@@ -250,10 +249,10 @@ pub good-query_seen : (around : Around) (at : ℕ) (body : BodyPart) (order : Li
     → GoodQueryMeant around (query_seen around at body order limit)
 good-query_seen around at body order limit fits good = chosen (asks_provenance around body) where
   chosen : (b : Bool) → GoodQueryMeant around (cond b
-      (query_with_provenance at (body.means (record around { trace = in_provenance })) order limit
-      (limited limit (keys_of (body.means (record around { trace = in_provenance })).columns order) ((body.means (record around { trace = in_provenance })).make [])))
+      (query_with_provenance at (body.means around) order limit
+      (limited limit (keys_of (body.means around).columns order) ((body.means around).make [])))
       (plain_query at (body.means around) order limit))
-  chosen true = moved (good-proved (record around { trace = in_provenance }) at (body.means (record around { trace = in_provenance })) order limit fits (good (record around { trace = in_provenance }))) where
-    moved : {m : QueryMeant} → GoodQueryMeant (record around { trace = in_provenance }) m → GoodQueryMeant around m
+  chosen true = moved (good-proved around at (body.means around) order limit fits (good around)) where
+    moved : {m : QueryMeant} → GoodQueryMeant around m → GoodQueryMeant around m
     moved g = record { formed = g.formed; places = g.places; keys = g.keys }
   chosen false = good-plain around at (body.means around) order limit fits (good around)

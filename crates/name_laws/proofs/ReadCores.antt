@@ -13,7 +13,7 @@ use Rattle.sql_tree.specs.declared.name.ColRef.{ColRef}
 use Rattle.sql_tree.specs.declared.query.OrderTree.{OrderTree}
 use Rattle.sql_tree.specs.declared.query.SetWord.{SetWord}
 use Rattle.sql_tree.specs.declared.query.SetWord.TheVariants as word
-use Rattle.name_meaning.specs.Cores.{BodyPart, settle_known, in_clause, optional_meant, optional_built, optional_inside, group_scope, filtered, aggregated_input, distinct_if, Clauses, list_columns, before_list, core_unlooked, core_clauses, core_over, word_breaks, core_trace, core_seen}
+use Rattle.name_meaning.specs.Cores.{BodyPart, settle_known, in_clause, optional_meant, optional_built, optional_inside, group_scope, filtered, aggregated_input, distinct_if, Clauses, list_columns, before_list, core_unlooked, core_clauses, core_over, word_breaks, core_seen}
 use Rattle.name_meaning.specs.Froms.{FromMeant}
 use Rattle.name_meaning.specs.Items.{Made, SelectPart, made_items, items_inside}
 use Rattle.name_meaning.specs.Meanings.{Surroundings, Part, Around, Built, QueryMeant, is_whole}
@@ -22,8 +22,6 @@ use Rattle.name_meaning.specs.Scopes.{ScopeItem, scope_of}
 use Rattle.name_meaning.specs.Sublinks.{nothing_before}
 use Rattle.name_meaning.specs.declared.answer.Break.{Break}
 use Rattle.name_meaning.specs.declared.scope.Scope.{Scope}
-use Rattle.name_meaning.specs.declared.trace.Trace.{Trace}
-use Rattle.name_meaning.specs.declared.trace.Trace.TheVariants.{InProvenance as in_provenance}
 use Rattle.name_laws.proofs.Every.{Every, every-map}
 use Rattle.name_laws.proofs.ReadMeant.{QueryReads, PartReads, SelectReads, ItemReads, reads-list}
 use Rattle.name_laws.proofs.ReadNodes.{Grows, wide-left, wide-right, subs-left, subs-right, reads-Filter, reads-Project, reads-Union, reads-Intersect, reads-Except, reads-Distinct, reads-Aggregate, reads-Limit, reads-Prov}
@@ -63,15 +61,15 @@ module _ (P : List (List ℕ) → ℕ → List Kind → Type 0) (g : Grows P) wh
       reads-Filter (P (names ++ own)) input built.expr built.subs (wide-left P g names own input h)
       (subs-right P g names own built.subs (good here kind.Boolean nothing_before))
 
-  reads-core_over : (outer : List Scope) (trace : Trace) (words : List Break) (input : FromMeant) (has_from is_distinct : Bool) (items : List SelectPart)
+  reads-core_over : (outer : List Scope) (words : List Break) (input : FromMeant) (has_from is_distinct : Bool) (items : List SelectPart)
       (condition : Option Part) (groups : List ColRef) (having : Option Part) (scope_items : List ScopeItem)
       → EachTable (P input.inside.names) input.query → Every (ItemReads P g) items → OptionalReads condition → OptionalReads having
-      → QueryReads P g (core_over outer trace words input has_from is_distinct items condition groups having scope_items)
-  reads-core_over outer trace words input has_from is_distinct items condition groups having scope_items from good_items good_condition good_having w =
+      → QueryReads P g (core_over outer words input has_from is_distinct items condition groups having scope_items)
+  reads-core_over outer words input has_from is_distinct items condition groups having scope_items from good_items good_condition good_having w =
       let own : Scope = scope_of scope_items in
       let grouped : Scope = group_scope own groups having items in
-      let here : Surroundings = in_clause own outer trace false in
-      let grouped_here : Surroundings = in_clause grouped outer trace true in
+      let here : Surroundings = in_clause own outer false in
+      let grouped_here : Surroundings = in_clause grouped outer true in
       let k : Clauses = core_clauses here grouped_here grouped has_from input condition having items in
       let list : Made = made_items k.list (settle_known (list_columns k) w) (before_list k) in
       let aggregates : List Aggr = (optional_built k.having_meant).aggregates ++ list.aggregates in
@@ -101,10 +99,10 @@ module _ (P : List (List ℕ) → ℕ → List Kind → Type 0) (g : Grows P) wh
   reads-core_seen around at input has_from is_distinct items condition groups having from good_items good_condition good_having =
       chosen (is_whole input.breaks) where
         chosen : (b : Bool) → QueryReads P g (cond b
-            (core_over around.outer (core_trace around at) (word_breaks around at) input has_from is_distinct items condition groups having
+            (core_over around.outer (word_breaks around at) input has_from is_distinct items condition groups having
             (option_map_or (λ known. known) input.items []))
             (core_unlooked (word_breaks around at) input))
-        chosen true = reads-core_over around.outer (core_trace around at) (word_breaks around at) input has_from is_distinct items condition groups having
+        chosen true = reads-core_over around.outer (word_breaks around at) input has_from is_distinct items condition groups having
             (option_map_or (λ known. known) input.items []) from good_items good_condition good_having
         chosen false = λ w. tt
 
@@ -145,10 +143,10 @@ module _ (P : List (List ℕ) → ℕ → List Kind → Type 0) (g : Grows P) wh
       → QueryReads P g (query_seen around at body order limit)
   reads-query_seen around at body order limit good = chosen (asks_provenance around body) where
     chosen : (b : Bool) → QueryReads P g (cond b
-        (query_with_provenance at (body.means (record around { trace = in_provenance })) order limit
-        (limited limit (keys_of (body.means (record around { trace = in_provenance })).columns order) ((body.means (record around { trace = in_provenance })).make [])))
+        (query_with_provenance at (body.means around) order limit
+        (limited limit (keys_of (body.means around).columns order) ((body.means around).make [])))
         (plain_query at (body.means around) order limit))
-    chosen true = reads-query_with_provenance at (body.means (record around { trace = in_provenance })) order limit
-        (limited limit (keys_of (body.means (record around { trace = in_provenance })).columns order) ((body.means (record around { trace = in_provenance })).make []))
-        (good (record around { trace = in_provenance }))
+    chosen true = reads-query_with_provenance at (body.means around) order limit
+        (limited limit (keys_of (body.means around).columns order) ((body.means around).make []))
+        (good around)
     chosen false = reads-plain_query at (body.means around) order limit (good around)

@@ -18,10 +18,9 @@ use Rattle.sql_tree.specs.declared.name.Name.{Name}
 use Rattle.sql_tree.specs.declared.source.JoinWord.{JoinWord}
 use Rattle.sql_tree.specs.declared.source.ScopeMark.{ScopeMark}
 use Rattle.sql_tree.specs.declared.source.ScopeMark.TheVariants as mark
-use Rattle.name_meaning.specs.Froms.{names_of, names_at, all_places, table_columns, settled_columns, Read, external, read_table, read_view, read_nothing, read_named, read_query, place_of, texts_of, marked, trace_under, SourcePart, named as named_source, inner as inner_source, ItemMeant, FromItemPart, read_of, read_names, item_meant, FromMeant, JoinPart, FromPart, join_kind, both_known, scope_items, on_meant, on_made, joined, join_item, join_all, beside_from, from_more, from_all, yes}
+use Rattle.name_meaning.specs.Froms.{names_of, names_at, all_places, table_columns, settled_columns, Read, external, read_table, read_view, read_nothing, read_named, read_query, place_of, texts_of, marked, SourcePart, named as named_source, inner as inner_source, ItemMeant, FromItemPart, read_of, read_names, item_meant, FromMeant, JoinPart, FromPart, join_kind, both_known, scope_items, on_meant, on_made, joined, join_item, join_all, beside_from, from_more, from_all, yes}
 use Rattle.name_meaning.specs.Meanings.{Meant, Part, QueryMeant, nothing_inside}
 use Rattle.name_meaning.specs.declared.scope.Scope.{Scope}
-use Rattle.name_meaning.specs.declared.trace.Trace.{Trace}
 use Rattle.name_laws.proofs.Every.{Every}
 use Rattle.name_laws.proofs.ReadMeant.{QueryReads, QueryPartReads}
 use Rattle.name_laws.proofs.ReadNodes.{Grows, wide-left, wide-right, reads-Base, reads-Join}
@@ -86,22 +85,22 @@ module _ (P : List (List ℕ) → ℕ → List Kind → Type 0) (g : Grows P) wh
       as_table None e = as_view (view_named c name.text) refl
       as_table (Some table) e = reads-table name.text table (held.tables name.text table e)
 
-    pub reads-read_of : (m : ScopeMark) (outer : List Scope) (t : Trace) (source : SourcePart) → SourceReads source → ReadHolds (read_of c m outer t source)
-    reads-read_of m outer t (named_source name) good = reads-named name
-    reads-read_of m outer t (inner_source query) good =
-        reads-query (query.means (record { outer = outer; trace = trace_under m t; may_ask = true })) (good (record { outer = outer; trace = trace_under m t; may_ask = true }))
+    pub reads-read_of : (outer : List Scope) (source : SourcePart) → SourceReads source → ReadHolds (read_of c outer source)
+    reads-read_of outer (named_source name) good = reads-named name
+    reads-read_of outer (inner_source query) good =
+        reads-query (query.means (record { outer = outer; may_ask = true })) (good (record { outer = outer; may_ask = true }))
 
   -- ---- items and joins
 
   abbrev pub FromItemReads : FromItemPart → Type 0
-  FromItemReads item = (outer : List Scope) (t : Trace) (earlier : List (List ℕ)) → EachTable (P (item.means outer t earlier).inside.names) (item.means outer t earlier).query
+  FromItemReads item = (outer : List Scope) (earlier : List (List ℕ)) → EachTable (P (item.means outer earlier).inside.names) (item.means outer earlier).query
 
-  pub reads-item_meant : (at : ℕ) (m : ScopeMark) (t : Trace) (earlier : List (List ℕ)) (name label : List ℕ) (read : Read) → ReadHolds read
-      → EachTable (P read.inside.names) (item_meant at m t earlier name label read).query
-  reads-item_meant at m t earlier name label read good = reads-marked m label (read_names read) read good
+  pub reads-item_meant : (at : ℕ) (m : ScopeMark) (earlier : List (List ℕ)) (name label : List ℕ) (read : Read) → ReadHolds read
+      → EachTable (P read.inside.names) (item_meant at m earlier name label read).query
+  reads-item_meant at m earlier name label read good = reads-marked m label (read_names read) read good
 
   abbrev pub FromPartReads : FromPart → Type 0
-  FromPartReads part = (outer : List Scope) (t : Trace) (earlier : List (List ℕ)) → EachTable (P (part.means outer t earlier).inside.names) (part.means outer t earlier).query
+  FromPartReads part = (outer : List Scope) (earlier : List (List ℕ)) → EachTable (P (part.means outer earlier).inside.names) (part.means outer earlier).query
 
   abbrev pub JoinReads : JoinPart → Type 0
   JoinReads step = FromItemReads step.item
@@ -118,13 +117,13 @@ module _ (P : List (List ℕ) → ℕ → List Kind → Type 0) (g : Grows P) wh
       reads-Join (P (of_left ++ (of_item ++ of_on))) (join_kind word) left.query m.query (on_made on) (wide-left P g of_left (of_item ++ of_on) left.query l)
       (wide-right P g of_left (of_item ++ of_on) m.query (wide-left P g of_item of_on m.query r))
 
-  pub reads-join_all : (outer : List Scope) (t : Trace) (left : FromMeant) (steps : List JoinPart) → FromReads left → Every JoinReads steps
-      → FromReads (join_all outer t left steps)
-  reads-join_all outer t left [] l h = l
-  reads-join_all outer t left (step ∷ steps) l h =
-      let m : ItemMeant = step.item.means outer t left.names in
-      let on : Option Meant = on_meant outer t (both_known left.items (scope_items m)) step.condition in
-      reads-join_all outer t (join_item outer t left step m) steps (reads-joined left step.word step.condition m on l (h.0 outer t left.names)) h.1
+  pub reads-join_all : (outer : List Scope) (left : FromMeant) (steps : List JoinPart) → FromReads left → Every JoinReads steps
+      → FromReads (join_all outer left steps)
+  reads-join_all outer left [] l h = l
+  reads-join_all outer left (step ∷ steps) l h =
+      let m : ItemMeant = step.item.means outer left.names in
+      let on : Option Meant = on_meant outer (both_known left.items (scope_items m)) step.condition in
+      reads-join_all outer (join_item outer left step m) steps (reads-joined left step.word step.condition m on l (h.0 outer left.names)) h.1
 
   reads-beside : (left right : FromMeant) → FromReads left → FromReads right → FromReads (beside_from left right)
   reads-beside left right l r =
@@ -132,13 +131,13 @@ module _ (P : List (List ℕ) → ℕ → List Kind → Type 0) (g : Grows P) wh
       let of_right : List (List ℕ) = right.inside.names in
       reads-Join (P (of_left ++ of_right)) join.Inner left.query right.query yes (wide-left P g of_left of_right left.query l) (wide-right P g of_left of_right right.query r)
 
-  reads-more : (outer : List Scope) (t : Trace) (left : FromMeant) (parts : List FromPart) → FromReads left → Every FromPartReads parts
-      → FromReads (from_more outer t left parts)
-  reads-more outer t left [] l h = l
-  reads-more outer t left (part ∷ parts) l h =
-      let right : FromMeant = part.means outer t left.names in
-      reads-more outer t (beside_from left right) parts (reads-beside left right l (h.0 outer t left.names)) h.1
+  reads-more : (outer : List Scope) (left : FromMeant) (parts : List FromPart) → FromReads left → Every FromPartReads parts
+      → FromReads (from_more outer left parts)
+  reads-more outer left [] l h = l
+  reads-more outer left (part ∷ parts) l h =
+      let right : FromMeant = part.means outer left.names in
+      reads-more outer (beside_from left right) parts (reads-beside left right l (h.0 outer left.names)) h.1
 
-  pub reads-from_all : (outer : List Scope) (t : Trace) (parts : List FromPart) → Every FromPartReads parts → FromReads (from_all outer t parts)
-  reads-from_all outer t [] h = tt
-  reads-from_all outer t (part ∷ parts) h = reads-more outer t (part.means outer t []) parts (h.0 outer t []) h.1
+  pub reads-from_all : (outer : List Scope) (parts : List FromPart) → Every FromPartReads parts → FromReads (from_all outer parts)
+  reads-from_all outer [] h = tt
+  reads-from_all outer (part ∷ parts) h = reads-more outer (part.means outer []) parts (h.0 outer []) h.1

@@ -12,7 +12,7 @@ use Rattle.sql_tree.specs.declared.query.Core.{Core}
 use Rattle.sql_tree.specs.declared.query.QueryTree.{QueryTree}
 use Rattle.sql_tree.specs.declared.query.SetTree.{SetTree}
 use Rattle.name_meaning.proofs.Equations.{ExprBodyFrame, SelectItemFrame, SetTreeFrame, FromSourceFrame, CoreFrame}
-use Rattle.name_meaning.specs.Cores.{core_step, core_trace, has_some}
+use Rattle.name_meaning.specs.Cores.{core_step, has_some}
 use Rattle.name_meaning.specs.Expressions.{Body, body_step, first_of, second_of, negated_if, times, chain_made, step_operand, first_need, chain_gives, in_kind}
 use Rattle.name_meaning.specs.Froms.{source_step, from_all, first_item, label_of, scope_name, read_of}
 use Rattle.name_meaning.specs.Items.{item_step, title}
@@ -133,9 +133,9 @@ module _ (P : List (List ℕ) → ℕ → List Kind → Type 0) (g : Grows P) (c
   reads-optional (Some part) h = h
 
   reads-core : (frame : CoreFrame) → PartsOfCore frame → BodyReads P g (core_step frame)
-  reads-core frame h around = reads-core_seen P g around frame.provenance (from_all around.outer (core_trace around frame.provenance) frame.sources)
+  reads-core frame h around = reads-core_seen P g around frame.provenance (from_all around.outer frame.sources)
       (has_some frame.sources) frame.distinct frame.items frame.condition frame.groups frame.having
-      (reads-from_all P g around.outer (core_trace around frame.provenance) frame.sources h.sources) h.items
+      (reads-from_all P g around.outer frame.sources h.sources) h.items
       (reads-optional frame.condition h.condition) (reads-optional frame.having h.having)
 
   kept : Kept
@@ -150,11 +150,11 @@ module _ (P : List (List ℕ) → ℕ → List Kind → Type 0) (g : Grows P) (c
     core = reads-core;
     query = λ frame body around. reads-query_seen P g around frame.at frame.body frame.order frame.limit body;
     set_operand = λ frame operand. operand;
-    from_item = λ frame source outer trace earlier. reads-item_meant P g frame.at frame.mark trace earlier (scope_name frame.source frame.alias) (label_of frame.source frame.alias)
-        (read_of c frame.mark outer trace frame.source)
-        (reads-read_of P g c held frame.mark outer trace frame.source source);
-    from_tree = λ frame first joins outer trace earlier. reads-join_all P g outer trace (first_item earlier (frame.first.means outer trace earlier)) frame.joins
-        (first outer trace earlier) joins;
+    from_item = λ frame source outer earlier. reads-item_meant P g frame.at frame.mark earlier (scope_name frame.source frame.alias) (label_of frame.source frame.alias)
+        (read_of c outer frame.source)
+        (reads-read_of P g c held outer frame.source source);
+    from_tree = λ frame first joins outer earlier. reads-join_all P g outer (first_item earlier (frame.first.means outer earlier)) frame.joins
+        (first outer earlier) joins;
     join = λ frame item condition. item;
   }
 

@@ -17,7 +17,7 @@ use Rattle.name_meaning.specs.declared.need.Gives.TheVariants.{Common as common}
 use Rattle.name_meaning.specs.declared.need.Need.{Need}
 use Rattle.name_meaning.specs.declared.scope.Found.{Found}
 use Rattle.name_meaning.specs.declared.scope.Found.TheVariants.{Absent as absent, Ambiguous as ambiguous, Column as found}
-use Rattle.name_laws.specs.Facts.{Facts, facts_of, no_facts, both_facts, as_sublink, sub_facts}
+use Rattle.name_laws.specs.Facts.{Facts, facts_of, no_facts, both_facts, sub_facts}
 use Rattle.name_laws.proofs.Every.{Every, every-append, every-map, every-flat_map}
 use Rattle.name_laws.proofs.FactsOf.{sub_facts-append}
 use Rattle.name_laws.proofs.NamedPlaces.{IsNamed, AreNamed}
@@ -125,7 +125,7 @@ module _ (Sound : Type 0) where
   one_sub sub tested q wanted = sub_facts (record { kind = sub; tested = tested; query = q.make wanted } ∷ [])
 
   same-sub : (sub : SubKind) (s t : Option Expr) (q : QueryMeant) (w v : List Kind) → GoodQuery Sound q → one_sub sub s q w ≡ one_sub sub t q v
-  same-sub sub s t q w v good = ap (λ (facts : Facts). both_facts (as_sublink facts) no_facts) (good.steady w v)
+  same-sub sub s t q w v good = ap (λ (facts : Facts). both_facts facts no_facts) (good.steady w v)
 
   named-sub : (sub : SubKind) (tested : Option Expr) (q : QueryMeant) (w : List Kind) → GoodQuery Sound q → Sound → AreNamed (one_sub sub tested q w).places
   named-sub sub tested q w good sound = every-append IsNamed (facts_of (q.make w)).places [] (good.named sound w) tt

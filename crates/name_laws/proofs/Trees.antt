@@ -12,12 +12,9 @@ use Rattle.sql_tree.specs.declared.source.FromTree.{FromTree}
 use Rattle.name_meaning.specs.Meanings.{Surroundings, Before, Around, means_at, query_means_at}
 use Rattle.name_meaning.specs.Trees.{part_of, query_of, set_of_tree, core_of, from_item_of, from_of}
 use Rattle.name_meaning.specs.declared.scope.Scope.{Scope}
-use Rattle.name_meaning.specs.declared.trace.Trace.{Trace}
 use Rattle.name_laws.specs.Facts.{facts_of, sub_facts}
 use Rattle.name_laws.specs.Known.{HasItsKinds, ItemIsKnown, FromIsKnown}
-use Rattle.name_laws.specs.Traced.{IsInScope, AreInScope}
 use Rattle.name_laws.proofs.KeptTrees.{good-part_tree, good-query_tree, good-set_tree, good-core_tree, good-from_item_tree, good-from_tree}
-use Rattle.name_laws.proofs.ScopedTrees.{fits-part_tree, fits-query_tree}
 
 -- ---- kinds
 
@@ -34,13 +31,13 @@ pub core-known : (c : Contents) (tree : Core) (around : Around) → IsSound c �
     → HasItsKinds ((core_of c tree).means around)
 core-known c tree around sound whole = (good-core_tree c tree around).known sound whole
 
-pub item-known : (c : Contents) (tree : FromItem) (outer : List Scope) (trace : Trace) (earlier : List (List ℕ)) → IsSound c
-    → ((from_item_of c tree).means outer trace earlier).breaks ≡ [] → ItemIsKnown ((from_item_of c tree).means outer trace earlier)
-item-known c tree outer trace earlier sound whole = (good-from_item_tree c tree outer trace earlier).known sound whole
+pub item-known : (c : Contents) (tree : FromItem) (outer : List Scope) (earlier : List (List ℕ)) → IsSound c
+    → ((from_item_of c tree).means outer earlier).breaks ≡ [] → ItemIsKnown ((from_item_of c tree).means outer earlier)
+item-known c tree outer earlier sound whole = (good-from_item_tree c tree outer earlier).known sound whole
 
-pub from-known : (c : Contents) (tree : FromTree) (outer : List Scope) (trace : Trace) (earlier : List (List ℕ)) → IsSound c
-    → ((from_of c tree).means outer trace earlier).breaks ≡ [] → FromIsKnown ((from_of c tree).means outer trace earlier)
-from-known c tree outer trace earlier sound whole = (good-from_tree c tree outer trace earlier).known sound whole
+pub from-known : (c : Contents) (tree : FromTree) (outer : List Scope) (earlier : List (List ℕ)) → IsSound c
+    → ((from_of c tree).means outer earlier).breaks ≡ [] → FromIsKnown ((from_of c tree).means outer earlier)
+from-known c tree outer earlier sound whole = (good-from_tree c tree outer earlier).known sound whole
 
 -- ---- facts
 
@@ -61,15 +58,3 @@ set-steady c tree around wanted = (good-set_tree c tree around).steady wanted []
 pub core-steady : (c : Contents) (tree : Core) (around : Around) (wanted : List Kind)
     → facts_of (((core_of c tree).means around).make wanted) ≡ facts_of (((core_of c tree).means around).make [])
 core-steady c tree around wanted = (good-core_tree c tree around).steady wanted []
-
--- ---- what may be traced
-
-pub part-in_scope : (c : Contents) (tree : ExprTree) (here : Surroundings) → IsSound c → (means_at (part_of c tree) here).breaks ≡ []
-    → (wanted : Kind) (before : Before) → AreInScope here.trace ((means_at (part_of c tree) here).make wanted before).subs
-unfolding means_at
-part-in_scope c tree here sound whole wanted before = fits-part_tree c tree here sound whole wanted before
-
-pub query-in_scope : (c : Contents) (tree : QueryTree) (around : Around) → IsSound c → (query_means_at (query_of c tree) around).breaks ≡ []
-    → (wanted : List Kind) → IsInScope around.trace ((query_means_at (query_of c tree) around).make wanted)
-unfolding query_means_at
-query-in_scope c tree around sound whole wanted = fits-query_tree c tree around sound whole wanted

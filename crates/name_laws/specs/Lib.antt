@@ -2,4 +2,3 @@ pub mod Facts
 pub mod Formed
 pub mod Known
 pub mod Standing
-pub mod Traced

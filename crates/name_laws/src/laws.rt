@@ -3,11 +3,9 @@ ghost use Rattle.std.specs.Prelude.{◌≡◌, ℕ, List, []};
 ghost use Rattle.bag_algebra.specs.declared.query.Query.{Query};
 ghost use Rattle.name_laws.specs.Facts.{facts_of, sub_facts};
 ghost use Rattle.name_laws.specs.Known.{HasItsKinds, FromIsKnown};
-ghost use Rattle.name_laws.specs.Traced.{IsInScope, AreInScope};
 ghost use Rattle.name_meaning.specs.Meanings.{Surroundings, Before, Around, means_at, query_means_at};
 ghost use Rattle.name_meaning.specs.Trees.{part_of, query_of, from_of};
 ghost use Rattle.name_meaning.specs.declared.scope.Scope.{Scope};
-ghost use Rattle.name_meaning.specs.declared.trace.Trace.{Trace};
 ghost use Rattle.perm_catalog.specs.Contents.{Contents};
 ghost use Rattle.perm_catalog.specs.Sound.{IsSound};
 ghost use Rattle.perm_values.specs.declared.kind.Kind.{Kind};
@@ -23,7 +21,7 @@ pub fn queries_have_their_kinds()
         → HasItsKinds (query_means_at (query_of c tree) around) }
 {}
 
-/// The places of a query, and what may be traced of it, are the same whatever kinds are wanted of its columns.
+/// The places of a query are the same whatever kinds are wanted of its columns.
 pub fn queries_keep_their_facts()
     ensures { (c : Contents) (tree : QueryTree) (around : Around) (wanted : List Kind) →
         facts_of ((query_means_at (query_of c tree) around).make wanted)
@@ -40,24 +38,8 @@ pub fn expressions_keep_their_facts()
 
 /// Over a sound catalog, the items of a FROM that breaks nothing are known, and its rows have their columns side by side.
 pub fn from_is_known()
-    ensures { (c : Contents) (tree : FromTree) (outer : List Scope) (trace : Trace) (earlier : List (List ℕ))
+    ensures { (c : Contents) (tree : FromTree) (outer : List Scope) (earlier : List (List ℕ))
         → IsSound c
-        → ((from_of c tree).means outer trace earlier).breaks ≡ []
-        → FromIsKnown ((from_of c tree).means outer trace earlier) }
-{}
-
-/// Over a sound catalog, a query that breaks nothing is made to one that is scoped, and that may be traced as it is.
-pub fn queries_are_in_scope()
-    ensures { (c : Contents) (tree : QueryTree) (around : Around) → IsSound c
-        → (query_means_at (query_of c tree) around).breaks ≡ []
-        → (wanted : List Kind) → IsInScope around.trace
-        ((query_means_at (query_of c tree) around).make wanted) }
-{}
-
-/// So are the sublinks of an expression that breaks nothing.
-pub fn sublinks_are_in_scope()
-    ensures { (c : Contents) (tree : ExprTree) (here : Surroundings) → IsSound c
-        → (means_at (part_of c tree) here).breaks ≡ []
-        → (wanted : Kind) (before : Before) → AreInScope here.trace
-        ((means_at (part_of c tree) here).make wanted before).subs }
+        → ((from_of c tree).means outer earlier).breaks ≡ []
+        → FromIsKnown ((from_of c tree).means outer earlier) }
 {}

@@ -1,4 +1,4 @@
-//! Laws of what a statement means: its kinds, the facts that its provenance rests on, and what of it may be traced; that
+//! Laws of what a statement means: its kinds, and the facts that its provenance rests on; that
 //! what names make is well formed; and that it reads tables of the catalog alone.
 #![tactic(auto)]
 
@@ -11,7 +11,6 @@ pub use forms::{
     queries_are_well_formed, queries_have_a_column,
 };
 pub use laws::{
-    expressions_keep_their_facts, from_is_known, queries_are_in_scope, queries_have_their_kinds,
-    queries_keep_their_facts, sublinks_are_in_scope,
+    expressions_keep_their_facts, from_is_known, queries_have_their_kinds, queries_keep_their_facts,
 };
 pub use tables::{tables_fit_queries, views_name_what_they_read};

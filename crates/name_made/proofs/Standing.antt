@@ -16,7 +16,6 @@ use Rattle.name_meaning.specs.Meanings.{Surroundings}
 use Rattle.name_meaning.specs.Scopes.{ScopeItem, scope_of}
 use Rattle.name_meaning.specs.Trees.{from_item_of, from_of, item_of, join_of, part_of}
 use Rattle.name_meaning.specs.declared.scope.Scope.{Scope}
-use Rattle.name_meaning.specs.declared.trace.Trace.{Trace}
 use Rattle.bag_algebra.specs.declared.query.Query.TheVariants.{Join}
 use Rattle.name_made_nodes.specs.Listed.{MakesItems}
 use Rattle.name_made_nodes.specs.declared.within.Within.{Within}
@@ -64,46 +63,46 @@ one-known m items known = of-columns m.columns known where
   of-columns None e = absurd (cc e)
   of-columns (Some columns) e = let same : items ≡ record { name = m.name; columns = columns } ∷ [] = cc e in ap length same
 
-joins-count : (outer : List Scope) (trace : Trace) (left : FromMeant) (steps : List JoinPart) (n : ℕ)
+joins-count : (outer : List Scope) (left : FromMeant) (steps : List JoinPart) (n : ℕ)
     → ((items : List ScopeItem) → left.items ≡ Some items → length items ≡ n)
-    → (items : List ScopeItem) → (join_all outer trace left steps).items ≡ Some items → length items ≡ n + length steps
-joins-count outer trace left [] n counts items known = let same = counts items known in omega (arith, same)
-joins-count outer trace left (step ∷ steps) n counts items known =
-    let m = step.item.means outer trace left.names in
-    let all = joins-count outer trace (join_item outer trace left step m) steps (n + 1) (both-count left.items (scope_items m) n 1 counts (one-known m)) items known in
+    → (items : List ScopeItem) → (join_all outer left steps).items ≡ Some items → length items ≡ n + length steps
+joins-count outer left [] n counts items known = let same = counts items known in omega (arith, same)
+joins-count outer left (step ∷ steps) n counts items known =
+    let m = step.item.means outer left.names in
+    let all = joins-count outer (join_item outer left step m) steps (n + 1) (both-count left.items (scope_items m) n 1 counts (one-known m)) items known in
     omega (arith, all)
 
-pub from-count : (c : Contents) (tree : FromTree) (outer : List Scope) (trace : Trace) (earlier : List (List ℕ)) (items : List ScopeItem)
-    → ((from_of c tree).means outer trace earlier).items ≡ Some items → length items ≡ suc (join_count tree)
-from-count c tree outer trace earlier items known =
-    let first = first_item earlier ((from_item_of c (out-FromTree tree).first).means outer trace earlier) in
+pub from-count : (c : Contents) (tree : FromTree) (outer : List Scope) (earlier : List (List ℕ)) (items : List ScopeItem)
+    → ((from_of c tree).means outer earlier).items ≡ Some items → length items ≡ suc (join_count tree)
+from-count c tree outer earlier items known =
+    let first = first_item earlier ((from_item_of c (out-FromTree tree).first).means outer earlier) in
     let steps = map (join_of c) (out-FromTree tree).joins in
-    let all = joins-count outer trace first steps 1 (one-known ((from_item_of c (out-FromTree tree).first).means outer trace earlier)) items
-    (ap (λ (m : FromMeant). m.items) (sym (from-fields c tree outer trace earlier)) ∙ known) in
+    let all = joins-count outer first steps 1 (one-known ((from_item_of c (out-FromTree tree).first).means outer earlier)) items
+    (ap (λ (m : FromMeant). m.items) (sym (from-fields c tree outer earlier)) ∙ known) in
     let size = length-map (out-FromTree tree).joins (join_of c) in
     omega (arith, all, size)
 
 -- ---- joins
 
-pub step-more : (c : Contents) (outer : List Scope) (trace : Trace) (left : FromMeant) (joins : List JoinStep) (i : ℕ) (step : JoinStep) (first : ℕ) (scope : Scope) (before after : Query)
+pub step-more : (c : Contents) (outer : List Scope) (left : FromMeant) (joins : List JoinStep) (i : ℕ) (step : JoinStep) (first : ℕ) (scope : Scope) (before after : Query)
     → i < length joins → step ≡ get_or joins i step
-    → JoinsMade (join_all outer trace left (map (join_of c) (take i joins))) first scope before i
-    → MakesJoin outer trace (join_of c step) first (i + 2) scope before after
-    → JoinsMade (join_all outer trace left (map (join_of c) (take (i + 1) joins))) first scope after (i + 1)
-step-more c outer trace left joins i step first scope before after within is so_far makes =
+    → JoinsMade (join_all outer left (map (join_of c) (take i joins))) first scope before i
+    → MakesJoin outer (join_of c step) first (i + 2) scope before after
+    → JoinsMade (join_all outer left (map (join_of c) (take (i + 1) joins))) first scope after (i + 1)
+step-more c outer left joins i step first scope before after within is so_far makes =
     let next : suc i ≡ i + 1 = omega arith in
-    subst (λ (n : ℕ). JoinsMade (join_all outer trace left (map (join_of c) (take (i + 1) joins))) first scope after n) next
+    subst (λ (n : ℕ). JoinsMade (join_all outer left (map (join_of c) (take (i + 1) joins))) first scope after n) next
     (subst (λ (m : FromMeant). JoinsMade m first scope after (suc i))
-    (sym (ap (join_all outer trace left) (mapped (join_of c) joins i step within is) ∙ joins-append outer trace left (map (join_of c) (take i joins)) (join_of c step)))
-    (join-more outer trace (join_all outer trace left (map (join_of c) (take i joins))) (join_of c step) first i scope before after so_far makes))
+    (sym (ap (join_all outer left) (mapped (join_of c) joins i step within is) ∙ joins-append outer left (map (join_of c) (take i joins)) (join_of c step)))
+    (join-more outer (join_all outer left (map (join_of c) (take i joins))) (join_of c step) first i scope before after so_far makes))
 
-pub tree-join : (c : Contents) (outer : List Scope) (trace : Trace) (tree : JoinStep) (first count : ℕ) (scope : Scope) (before right after : Query) (condition : Expr)
-    → MakesOn outer trace (option_map (part_of c) (out-JoinStep tree).condition) first count scope condition
-    → ((earlier : List (List ℕ)) → MakesSource ((from_item_of c (out-JoinStep tree).item).means outer trace earlier) right)
-    → after ≡ Join (join_kind (out-JoinStep tree).word) before right condition [] → MakesJoin outer trace (join_of c tree) first count scope before after
-tree-join c outer trace tree first count scope before right after condition on item is =
-    subst (λ (step : JoinPart). MakesJoin outer trace step first count scope before after) (sym (join-fields c tree))
-    (join-made outer trace (record {
+pub tree-join : (c : Contents) (outer : List Scope) (tree : JoinStep) (first count : ℕ) (scope : Scope) (before right after : Query) (condition : Expr)
+    → MakesOn outer (option_map (part_of c) (out-JoinStep tree).condition) first count scope condition
+    → ((earlier : List (List ℕ)) → MakesSource ((from_item_of c (out-JoinStep tree).item).means outer earlier) right)
+    → after ≡ Join (join_kind (out-JoinStep tree).word) before right condition [] → MakesJoin outer (join_of c tree) first count scope before after
+tree-join c outer tree first count scope before right after condition on item is =
+    subst (λ (step : JoinPart). MakesJoin outer step first count scope before after) (sym (join-fields c tree))
+    (join-made outer (record {
       word = (out-JoinStep tree).word;
       item = from_item_of c (out-JoinStep tree).item;
       condition = option_map (part_of c) (out-JoinStep tree).condition;

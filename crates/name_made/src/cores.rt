@@ -18,8 +18,8 @@ use crate::sources::sources_made;
 use bag_algebra::{Aggr, Item, Query};
 use name_made_nodes::{Clauses, Condition, Listed, Within, add_value, beside, core_of};
 use name_made_parts::{
-    Kept, add_star, add_table_star, behind_aggregates, clauses_of, core_trace, groups_of,
-    item_kind, kept_of, listed_of, scope_grouped, scope_or_none,
+    Kept, add_star, add_table_star, behind_aggregates, clauses_of, groups_of, item_kind, kept_of,
+    listed_of, scope_grouped, scope_or_none,
 };
 use name_meaning::Scope;
 use name_seen_cores::in_clause;
@@ -34,16 +34,9 @@ pub(crate) fn core_made(core: &Core, wanted: &[Kind], around: &Around) -> Result
     ensures { IfOk result (λ query. MakesQuery
         ((core_of around.now.catalog.now core.now).means (around_of around.now)) wanted.now query) }
 {
-    let inner = Around {
-        alloc: around.alloc,
-        catalog: &*around.catalog,
-        outer: &*around.outer,
-        trace: core_trace(around.trace, around.may_ask, core.provenance),
-        may_ask: around.may_ask,
-    };
-    match scope_or_none(core.sources.as_slice(), &inner)? {
+    match scope_or_none(core.sources.as_slice(), around)? {
         None => Ok(Query::Single),
-        Some(own) => over_items(core, wanted, &inner, own),
+        Some(own) => over_items(core, wanted, around, own),
     }
 }
 
@@ -114,8 +107,7 @@ fn condition_made(
 ) -> Result<Kept, NoMemory>
     requires { IsSound around.now.catalog.now }
     ensures { IfOk result (Keeps (optional_meant
-        (in_clause (here_only (not in_groups) scope.now) (scopes_of around.now.outer.now)
-        around.now.trace in_groups) (option_map (part_of around.now.catalog.now) condition.now))) }
+        (in_clause (here_only (not in_groups) scope.now) (scopes_of around.now.outer.now) in_groups) (option_map (part_of around.now.catalog.now) condition.now))) }
 {
     match condition {
         None => Ok(Kept {
@@ -136,15 +128,14 @@ fn kept_made(
 ) -> Result<Kept, NoMemory>
     requires { IsSound around.now.catalog.now }
     ensures { IfOk result (Keeps (Some (means_at (part_of around.now.catalog.now tree.now)
-        (in_clause (here_only (not in_groups) scope.now) (scopes_of around.now.outer.now)
-        around.now.trace in_groups)))) }
+        (in_clause (here_only (not in_groups) scope.now) (scopes_of around.now.outer.now) in_groups)))) }
 {
     let scopes = inside(scope, !in_groups, &*around.outer)?;
     let here = Here {
         alloc: around.alloc,
         catalog: &*around.catalog,
         scopes: &scopes,
-        standing: in_clause(around.trace, in_groups),
+        standing: in_clause(in_groups),
     };
     let mut found = Within::nothing(around.alloc);
     let expr = made(tree, Kind::Boolean, &here, &mut found);
@@ -172,7 +163,7 @@ fn list_made(
         alloc: around.alloc,
         catalog: &*around.catalog,
         scopes: &scopes,
-        standing: in_clause(around.trace, true),
+        standing: in_clause(true),
     };
     let mut found = behind_aggregates(around.alloc, aggregates);
     let made_items = items_made(items, wanted, scope, &here, &mut found);

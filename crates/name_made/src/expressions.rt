@@ -26,7 +26,7 @@ use name_made_parts::{
 };
 use name_meaning::{Gives, Need};
 use name_seen_cores::{in_argument, in_tested};
-use name_seen_parts::{Around, Here, gives_of, look_up, need_of, trace_below, ungrouped};
+use name_seen_parts::{Around, Here, gives_of, look_up, need_of, ungrouped};
 use null_logic::Operator;
 use perm_values::{Kind, List, NoMemory};
 use sql_tree::{AggWord, ArmTree, ExprBody, ExprStep, ExprTree, QueryTree};
@@ -394,7 +394,6 @@ fn linked(
         alloc: here.alloc,
         catalog: &*here.catalog,
         outer: &*here.scopes,
-        trace: trace_below(here.standing.trace),
         may_ask: false,
     };
     let query = query_made(query, wanted, &around);

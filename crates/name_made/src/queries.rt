@@ -11,7 +11,7 @@ ghost use Rattle.name_seen_parts.specs.Standing.{around_of};
 use crate::cores::core_made;
 use bag_algebra::Query;
 use name_made_nodes::{finished_of, with_operand};
-use name_made_parts::{chain_kinds, limit_keys, trace_inside};
+use name_made_parts::{chain_kinds, limit_keys};
 use name_seen_cores::asks_provenance;
 use name_seen_parts::Around;
 use perm_values::{Kind, NoMemory};
@@ -26,15 +26,8 @@ pub fn query_made(tree: &QueryTree, wanted: &[Kind], around: &Around) -> Result<
         (query_means_at (query_of around.now.catalog.now tree.now) (around_of around.now)) wanted.now query) }
 {
     let with_provenance = asks_provenance(&tree.body, around);
-    let inner = Around {
-        alloc: around.alloc,
-        catalog: &*around.catalog,
-        outer: &*around.outer,
-        trace: trace_inside(around.trace, with_provenance),
-        may_ask: around.may_ask,
-    };
-    let keys = limit_keys(tree, &inner)?;
-    let body = set_made(&tree.body, wanted, &inner);
+    let keys = limit_keys(tree, around)?;
+    let body = set_made(&tree.body, wanted, around);
     finished_of(around.alloc, body, keys, tree.limit, with_provenance)
 }
 
@@ -52,7 +45,6 @@ fn set_made(tree: &SetTree, wanted: &[Kind], around: &Around) -> Result<Query, N
                 alloc: around.alloc,
                 catalog: &*around.catalog,
                 outer: &*around.outer,
-                trace: around.trace,
                 may_ask: false,
             };
             query_made(query.get(), wanted, &inner)
@@ -93,7 +85,6 @@ fn chained(
         alloc: around.alloc,
         catalog: &*around.catalog,
         outer: &*around.outer,
-        trace: around.trace,
         may_ask: false,
     };
     let mut whole = first;

@@ -18,7 +18,7 @@ use name_made_parts::{
 };
 use name_meaning::Scope;
 use name_seen_cores::in_on;
-use name_seen_parts::{Around, Here, inside, trace_under};
+use name_seen_parts::{Around, Here, inside};
 use perm_values::{Kind, NoMemory};
 use sql_tree::{ExprTree, FromItem, FromSource, FromTree, JoinStep};
 
@@ -30,7 +30,7 @@ pub(crate) fn sources_made(
     scope: &Scope,
 ) -> Result<Query, NoMemory>
     requires { IsSound around.now.catalog.now }
-    ensures { IfOk result (MakesFrom (from_all (scopes_of around.now.outer.now) around.now.trace
+    ensures { IfOk result (MakesFrom (from_all (scopes_of around.now.outer.now)
         (map (from_of around.now.catalog.now) sources.now)) 0 scope.now) }
 {
     let mut whole = None;
@@ -57,8 +57,7 @@ fn source_made(
 ) -> Result<Query, NoMemory>
     requires { IsSound around.now.catalog.now }
     ensures { IfOk result (λ query. (earlier : List (List ℕ)) →
-        MakesFrom ((from_of around.now.catalog.now source.now).means (scopes_of around.now.outer.now)
-        around.now.trace earlier) first scope.now query) }
+        MakesFrom ((from_of around.now.catalog.now source.now).means (scopes_of around.now.outer.now) earlier) first scope.now query) }
 {
     let mut whole = item_made(&source.first, around)?;
     for (place, step) in source.joins.as_slice().iter().enumerate() {
@@ -78,7 +77,7 @@ fn join_made(
     scope: &Scope,
 ) -> Result<Query, NoMemory>
     requires { IsSound around.now.catalog.now }
-    ensures { IfOk result (MakesJoin (scopes_of around.now.outer.now) around.now.trace
+    ensures { IfOk result (MakesJoin (scopes_of around.now.outer.now)
         (join_of around.now.catalog.now step.now) first count scope.now whole) }
 {
     let condition = on_made(&step.condition, first, count, around, scope);
@@ -96,7 +95,7 @@ fn on_made(
     scope: &Scope,
 ) -> Result<Expr, NoMemory>
     requires { IsSound around.now.catalog.now }
-    ensures { IfOk result (MakesOn (scopes_of around.now.outer.now) around.now.trace
+    ensures { IfOk result (MakesOn (scopes_of around.now.outer.now)
         (option_map (part_of around.now.catalog.now) condition.now) first count scope.now) }
 {
     match condition {
@@ -116,16 +115,16 @@ fn on_items(tree: &ExprTree, around: &Around, own: &Scope) -> Result<Expr, NoMem
     requires { IsSound around.now.catalog.now }
     ensures { IfOk result (λ e. (items : List ScopeItem) → own.now ≡ scope_of items →
         (means_at (part_of around.now.catalog.now tree.now)
-        (in_on items (scopes_of around.now.outer.now) around.now.trace)).breaks ≡ []
+        (in_on items (scopes_of around.now.outer.now))).breaks ≡ []
         → e ≡ on_made (Some (means_at (part_of around.now.catalog.now tree.now)
-        (in_on items (scopes_of around.now.outer.now) around.now.trace)))) }
+        (in_on items (scopes_of around.now.outer.now))))) }
 {
     let scopes = inside(own, false, &*around.outer)?;
     let here = Here {
         alloc: around.alloc,
         catalog: &*around.catalog,
         scopes: &scopes,
-        standing: in_on(around.trace),
+        standing: in_on(),
     };
     let mut found = Within::nothing(around.alloc);
     let condition = made(tree, Kind::Boolean, &here, &mut found);
@@ -138,8 +137,7 @@ fn on_items(tree: &ExprTree, around: &Around, own: &Scope) -> Result<Expr, NoMem
 fn item_made(item: &FromItem, around: &Around) -> Result<Query, NoMemory>
     requires { IsSound around.now.catalog.now }
     ensures { IfOk result (λ query. (earlier : List (List ℕ)) →
-        MakesSource ((from_item_of around.now.catalog.now item.now).means (scopes_of around.now.outer.now)
-        around.now.trace earlier) query) }
+        MakesSource ((from_item_of around.now.catalog.now item.now).means (scopes_of around.now.outer.now) earlier) query) }
 {
     match &item.source {
         FromSource::Named(name) => named_item(around.alloc, &*around.catalog, name, &item.mark),
@@ -148,7 +146,6 @@ fn item_made(item: &FromItem, around: &Around) -> Result<Query, NoMemory>
                 alloc: around.alloc,
                 catalog: &*around.catalog,
                 outer: &*around.outer,
-                trace: trace_under(&item.mark, around.trace),
                 may_ask: true,
             };
             let tree = query.get();

@@ -16,7 +16,7 @@ use Rattle.sql_tree.specs.declared.name.Name.{Name}
 use Rattle.sql_tree.specs.declared.query.SelectItem.{SelectItem}
 use Rattle.sql_tree.specs.declared.query.SelectItem.TheVariants as i
 use Rattle.sql_tree.specs.declared.query.Core.{Core, out-Core}
-use Rattle.name_meaning.specs.Cores.{BodyPart, aggregated_input, before_list, clause_breaks, core_clauses, core_over, core_seen, core_trace, core_unlooked, distinct_if, filtered, group_break, group_scope, has_some, in_clause, optional_breaks, optional_built, optional_meant, settle_known, word_breaks}
+use Rattle.name_meaning.specs.Cores.{BodyPart, aggregated_input, before_list, clause_breaks, core_clauses, core_over, core_seen, core_unlooked, distinct_if, filtered, group_break, group_scope, has_some, in_clause, optional_breaks, optional_built, optional_meant, settle_known, word_breaks}
 use Rattle.name_meaning.specs.Froms.{FromMeant, from_all}
 use Rattle.name_meaning.specs.Items.{Made, SelectMeant, SelectPart, all_known, items_breaks, made_items, named_from, star_meant, table_star_meant, title, value_meant}
 use Rattle.name_meaning.specs.Meanings.{Around, Before, Built, Meant, Part, QueryMeant, Surroundings, is_whole, means_at}
@@ -26,7 +26,6 @@ use Rattle.name_meaning.specs.Sublinks.{nothing_before}
 use Rattle.name_meaning.specs.Trees.{core_of, item_of, part_of}
 use Rattle.name_meaning.specs.declared.answer.Break.{Break}
 use Rattle.name_meaning.specs.declared.scope.Scope.{Scope}
-use Rattle.name_meaning.specs.declared.trace.Trace.{Trace}
 use Rattle.name_meaning.proofs.Equations.{token, selectitem-star, selectitem-tablestar, selectitem-value}
 use Rattle.name_made_nodes.specs.Cored.{clauses_over, condition_over, listed_over}
 use Rattle.name_made_nodes.specs.Listed.{MakesItems, widths}
@@ -101,8 +100,8 @@ over-grouped c around core breaks items wanted clauses input query makes from is
     record {
       makes = λ whole.
           let grouped = group_scope (scope_of items) (out-Core core).groups (having_part c core) (select_parts c core) in
-          let here = in_clause (scope_of items) around.outer around.trace false in
-          let there = in_clause grouped around.outer around.trace true in
+          let here = in_clause (scope_of items) around.outer false in
+          let there = in_clause grouped around.outer true in
           let wm = optional_meant here (condition_part c core) in
           let hm = optional_meant there (having_part c core) in
           let has_from = has_some (source_parts c core) in
@@ -146,7 +145,7 @@ clauses-made c around core breaks items scope wanted clauses input query scoped 
 -- ---- the core
 
 opened : (c : Contents) (around : Around) (core : Core) → (core_of c core).means around
-    ≡ core_seen around (out-Core core).provenance (from_all around.outer (core_trace around (out-Core core).provenance) (source_parts c core))
+    ≡ core_seen around (out-Core core).provenance (from_all around.outer (source_parts c core))
     (has_some (source_parts c core)) (out-Core core).distinct (select_parts c core) (condition_part c core) (out-Core core).groups (having_part c core)
 opened c around core = ap (λ (body : BodyPart). body.means around) (core-is c core)
 
@@ -154,22 +153,16 @@ chosen : (whole : Bool) (a b : QueryMeant) (wanted : List Kind) (query : Query) 
 chosen true a b wanted query is makes = makes
 chosen false a b wanted query is makes = absurd (cc is)
 
-pub core-some : (c : Contents) (around : Around) (core : Core) (trace : Trace) (own : Scope) (wanted : List Kind) (query : Query) → trace ≡ core_trace around (out-Core core).provenance
-    → (s : IsScope (sources_meant c (record around { trace = trace }) core) own)
-    → ((breaks : List Break) (items : List ScopeItem) → own ≡ scope_of items → MakesQuery (core_over_items c (record around { trace = trace }) core breaks items) wanted query)
+pub core-some : (c : Contents) (around : Around) (core : Core) (own : Scope) (wanted : List Kind) (query : Query) → IsScope (sources_meant c around core) own
+    → ((breaks : List Break) (items : List ScopeItem) → own ≡ scope_of items → MakesQuery (core_over_items c around core breaks items) wanted query)
     → MakesQuery ((core_of c core).means around) wanted query
-core-some c around core trace own wanted query is =
-    subst (λ (t : Trace). (s : IsScope (sources_meant c (record around { trace = t }) core) own)
-    → ((breaks : List Break) (items : List ScopeItem) → own ≡ scope_of items → MakesQuery (core_over_items c (record around { trace = t }) core breaks items) wanted query)
-    → MakesQuery ((core_of c core).means around) wanted query) (sym is)
-    (λ s makes.
+core-some c around core own wanted query s makes =
     let word = (out-Core core).provenance in
-    let input = from_all around.outer (core_trace around word) (source_parts c core) in
-    let inner = record around { trace = core_trace around word } in
+    let input = from_all around.outer (source_parts c core) in
     subst (λ (m : QueryMeant). MakesQuery m wanted query) (sym (opened c around core))
     (chosen (is_whole input.breaks) _ (core_unlooked (word_breaks around word) input) wanted query (ap is_whole s.whole)
-    (subst (λ (items : Option (List ScopeItem)). MakesQuery (core_over_items c inner core (word_breaks around word) (option_map_or (λ known. known) items [])) wanted query)
-    (sym s.known) (makes (word_breaks around word) s.items s.scope_is))))
+    (subst (λ (items : Option (List ScopeItem)). MakesQuery (core_over_items c around core (word_breaks around word) (option_map_or (λ known. known) items [])) wanted query)
+    (sym s.known) (makes (word_breaks around word) s.items s.scope_is)))
 
 unlooked : (words breaks : List Break) (a b : QueryMeant) (wanted : List Kind) (query : Query) → (breaks ≡ [] → ⊥) → b.breaks ≡ words ++ breaks
     → MakesQuery (cond (is_whole breaks) a b) wanted query
@@ -178,15 +171,13 @@ unlooked words (first ∷ more) a b wanted query broken is =
     record { makes = λ whole. absurd (broken (none-second words (first ∷ more) (sym is ∙ whole))) }
 
 -- where FROM breaks, nothing is asked
-pub core-none : (c : Contents) (around : Around) (core : Core) (trace : Trace) (wanted : List Kind) (query : Query) → trace ≡ core_trace around (out-Core core).provenance
-    → ((sources_meant c (record around { trace = trace }) core).breaks ≡ [] → ⊥) → MakesQuery ((core_of c core).means around) wanted query
-core-none c around core trace wanted query is =
-    subst (λ (t : Trace). ((sources_meant c (record around { trace = t }) core).breaks ≡ [] → ⊥) → MakesQuery ((core_of c core).means around) wanted query) (sym is)
-    (λ broken.
+pub core-none : (c : Contents) (around : Around) (core : Core) (wanted : List Kind) (query : Query) → ((sources_meant c around core).breaks ≡ [] → ⊥)
+    → MakesQuery ((core_of c core).means around) wanted query
+core-none c around core wanted query broken =
     let word = (out-Core core).provenance in
-    let input = from_all around.outer (core_trace around word) (source_parts c core) in
+    let input = from_all around.outer (source_parts c core) in
     subst (λ (m : QueryMeant). MakesQuery m wanted query) (sym (opened c around core))
-    (unlooked (word_breaks around word) input.breaks _ (core_unlooked (word_breaks around word) input) wanted query broken refl))
+    (unlooked (word_breaks around word) input.breaks _ (core_unlooked (word_breaks around word) input) wanted query broken refl)
 
 -- ---- items
 

@@ -17,7 +17,6 @@ use Rattle.name_meaning.specs.Meanings.{Around, OutColumn, QueryMeant, query_mea
 use Rattle.name_meaning.specs.Queries.{SetStepPart, asks_provenance, keys_breaks, keys_of, limited, query_seen, set_chain, set_joined, set_of, may_not_ask}
 use Rattle.name_meaning.specs.Trees.{core_of, query_of, set_of_tree, set_step_of}
 use Rattle.name_meaning.specs.declared.answer.Break.{Break}
-use Rattle.name_meaning.specs.declared.trace.Trace.TheVariants.{InProvenance}
 use Rattle.name_meaning.proofs.Equations.{token, querytree-record, settree-chain, settree-core, settree-paren, setstep-record}
 use Rattle.name_made_nodes.specs.Chained.{Serves}
 use Rattle.name_made_nodes.specs.Makes.{MakesQuery}
@@ -104,7 +103,7 @@ step-is c step = setstep-record c step.word step.all step.at step.operand
 -- ---- queries
 
 abbrev pub inside : Bool → Around → Around
-inside with_provenance around = record { outer = around.outer; trace = cond with_provenance InProvenance around.trace; may_ask = around.may_ask }
+inside with_provenance around = record { outer = around.outer; may_ask = around.may_ask }
 
 of-provenance : (around : Around) (at : ℕ) (body : BodyPart) (order : List OrderTree) (limit : Option ℤ) (wanted : List Kind) (with_provenance : Bool) (keys : List Key) (made query : Query)
     → asks_provenance around body ≡ with_provenance

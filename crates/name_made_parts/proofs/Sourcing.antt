@@ -17,12 +17,11 @@ use Rattle.sql_tree.specs.declared.source.JoinWord.{JoinWord}
 use Rattle.sql_tree.specs.declared.expression.ExprTree.{ExprTree}
 use Rattle.sql_tree.specs.declared.expression.ExprBody.TheViews.{roll-out-JoinStep}
 use Rattle.sql_tree.specs.declared.source.ScopeMark.{ScopeMark}
-use Rattle.name_meaning.specs.Froms.{FromMeant, FromPart, ItemMeant, JoinPart, Read, SourcePart, beside_from, both_known, first_item, from_all, from_more, item_meant, join_all, join_item, join_kind, label_of, marked, no_from, named as named_source, inner as inner_source, on_breaks, on_made, on_meant, read_named, read_names, read_of, read_query, scope_items, scope_name, trace_under, yes}
+use Rattle.name_meaning.specs.Froms.{FromMeant, FromPart, ItemMeant, JoinPart, Read, SourcePart, beside_from, both_known, first_item, from_all, from_more, item_meant, join_all, join_item, join_kind, label_of, marked, no_from, named as named_source, inner as inner_source, on_breaks, on_made, on_meant, read_named, read_names, read_of, read_query, scope_items, scope_name, yes}
 use Rattle.name_meaning.specs.Meanings.{Part, query_means_at}
 use Rattle.name_meaning.specs.Scopes.{ScopeItem, scope_of}
 use Rattle.name_meaning.specs.Trees.{from_item_of, from_of, join_of, part_of, query_of, source_of}
 use Rattle.name_meaning.specs.declared.scope.Scope.{Scope}
-use Rattle.name_meaning.specs.declared.trace.Trace.{Trace}
 use Rattle.name_meaning.proofs.Equations.{token, fromitem-record, fromsource-inner, fromsource-named, joinstep-record-none, joinstep-record-some}
 use Rattle.name_meaning.proofs.Opened.{opened_from}
 use Rattle.name_made_nodes.proofs.Parts.{none-first, none-second}
@@ -81,29 +80,29 @@ one-item m items known = of-columns m.columns known where
 
 -- ---- conditions
 
-own-whole : (outer : List Scope) (trace : Trace) (items : List ScopeItem) (condition : Option Part)
-    → on_breaks condition (on_meant outer trace (Some items) condition) ≡ [] → own_breaks (on_meant outer trace (Some items) condition) ≡ []
-own-whole outer trace items None whole = refl
-own-whole outer trace items (Some condition) whole = none-first _ _ whole
+own-whole : (outer : List Scope) (items : List ScopeItem) (condition : Option Part)
+    → on_breaks condition (on_meant outer (Some items) condition) ≡ [] → own_breaks (on_meant outer (Some items) condition) ≡ []
+own-whole outer items None whole = refl
+own-whole outer items (Some condition) whole = none-first _ _ whole
 
 -- ---- joins
 
-pub joins-append : (outer : List Scope) (trace : Trace) (left : FromMeant) (steps : List JoinPart) (step : JoinPart)
-    → join_all outer trace left (steps ++ step ∷ [])
-    ≡ join_item outer trace (join_all outer trace left steps) step (step.item.means outer trace (join_all outer trace left steps).names)
-joins-append outer trace left [] step = refl
-joins-append outer trace left (first ∷ steps) step =
-    joins-append outer trace (join_item outer trace left first (first.item.means outer trace left.names)) steps step
+pub joins-append : (outer : List Scope) (left : FromMeant) (steps : List JoinPart) (step : JoinPart)
+    → join_all outer left (steps ++ step ∷ [])
+    ≡ join_item outer (join_all outer left steps) step (step.item.means outer (join_all outer left steps).names)
+joins-append outer left [] step = refl
+joins-append outer left (first ∷ steps) step =
+    joins-append outer (join_item outer left first (first.item.means outer left.names)) steps step
 
 -- one more join
-pub join-more : (outer : List Scope) (trace : Trace) (left : FromMeant) (step : JoinPart) (first joins : ℕ) (scope : Scope) (before after : Query)
-    → JoinsMade left first scope before joins → MakesJoin outer trace step first (joins + 2) scope before after
-    → JoinsMade (join_item outer trace left step (step.item.means outer trace left.names)) first scope after (suc joins)
-join-more outer trace left step first joins scope before after so_far makes =
-    let m = step.item.means outer trace left.names in
+pub join-more : (outer : List Scope) (left : FromMeant) (step : JoinPart) (first joins : ℕ) (scope : Scope) (before after : Query)
+    → JoinsMade left first scope before joins → MakesJoin outer step first (joins + 2) scope before after
+    → JoinsMade (join_item outer left step (step.item.means outer left.names)) first scope after (suc joins)
+join-more outer left step first joins scope before after so_far makes =
+    let m = step.item.means outer left.names in
     let counts = λ (items : List ScopeItem) (known : both_known left.items (scope_items m) ≡ Some items).
     both-count left.items (scope_items m) (suc joins) 1 so_far.counts (one-item m) items known in
-    let on = on_meant outer trace (both_known left.items (scope_items m)) step.condition in
+    let on = on_meant outer (both_known left.items (scope_items m)) step.condition in
     record {
       makes = λ whole stands.
           makes left (λ items known. let n = counts items known in omega (arith, n))
@@ -118,38 +117,38 @@ pub first-made : (earlier : List (List ℕ)) (m : ItemMeant) (first : ℕ) (scop
 first-made earlier m first scope made makes = record { makes = λ whole stands. makes whole; counts = one-item m }
 
 -- a join of what is made
-pub join-made : (outer : List Scope) (trace : Trace) (step : JoinPart) (first count : ℕ) (scope : Scope) (before right after : Query) (condition : Expr)
-    → MakesOn outer trace step.condition first count scope condition → ((earlier : List (List ℕ)) → MakesSource (step.item.means outer trace earlier) right)
-    → after ≡ Join (join_kind step.word) before right condition [] → MakesJoin outer trace step first count scope before after
-join-made outer trace step first count scope before right after condition on item is left counts same whole stands =
-    let m = step.item.means outer trace left.names in
+pub join-made : (outer : List Scope) (step : JoinPart) (first count : ℕ) (scope : Scope) (before right after : Query) (condition : Expr)
+    → MakesOn outer step.condition first count scope condition → ((earlier : List (List ℕ)) → MakesSource (step.item.means outer earlier) right)
+    → after ≡ Join (join_kind step.word) before right condition [] → MakesJoin outer step first count scope before after
+join-made outer step first count scope before right after condition on item is left counts same whole stands =
+    let m = step.item.means outer left.names in
     let known = both_known left.items (scope_items m) in
-    let sees = on_meant outer trace known step.condition in
+    let sees = on_meant outer known step.condition in
     let own : known ≡ Some stands.own = stands.known in
-    let breaks : on_breaks step.condition (on_meant outer trace (Some stands.own) step.condition) ≡ [] =
-    subst (λ (items : Option (List ScopeItem)). on_breaks step.condition (on_meant outer trace items step.condition) ≡ []) own
+    let breaks : on_breaks step.condition (on_meant outer (Some stands.own) step.condition) ≡ [] =
+    subst (λ (items : Option (List ScopeItem)). on_breaks step.condition (on_meant outer items step.condition) ≡ []) own
     (none-second (left.breaks ++ m.breaks) (on_breaks step.condition sees) whole) in
     let made = item left.names (none-second left.breaks m.breaks (none-first (left.breaks ++ m.breaks) (on_breaks step.condition sees) whole)) in
     let stands_own : StandsIn (Some stands.own) first scope =
     record { before = stands.before; own = stands.own; after = stands.after; known = refl; scope_is = stands.scope_is; at = stands.at } in
     let expr : condition ≡ on_made sees =
-    on stands.own stands_own (counts stands.own own) (own-whole outer trace stands.own step.condition breaks)
-    ∙ ap (λ (items : Option (List ScopeItem)). on_made (on_meant outer trace items step.condition)) (sym own) in
+    on stands.own stands_own (counts stands.own own) (own-whole outer stands.own step.condition breaks)
+    ∙ ap (λ (items : Option (List ScopeItem)). on_made (on_meant outer items step.condition)) (sym own) in
     is ∙ ap (λ (q : Query). Join (join_kind step.word) q right condition []) same
     ∙ ap (λ (q : Query). Join (join_kind step.word) left.query q condition []) made
     ∙ ap (λ (e : Expr). Join (join_kind step.word) left.query m.query e []) expr
 
 -- ---- parts before and behind commas
 
-pub no-sources : (outer : List Scope) (trace : Trace) (scope : Scope) → SourcesMade outer trace [] scope None 0
-no-sources outer trace scope = record { makes = λ whole stands. refl; counts = λ items known. let none : items ≡ [] = cc known in ap length none }
+pub no-sources : (outer : List Scope) (scope : Scope) → SourcesMade outer [] scope None 0
+no-sources outer scope = record { makes = λ whole stands. refl; counts = λ items known. let none : items ≡ [] = cc known in ap length none }
 
-pub source-more : (outer : List Scope) (trace : Trace) (parts : List FromPart) (part : FromPart) (scope : Scope) (before : Option Query) (next after : Query) (count joins : ℕ)
-    → SourcesMade outer trace parts scope before count → ((earlier : List (List ℕ)) → MakesFrom (part.means outer trace earlier) count scope next)
-    → ((earlier : List (List ℕ)) (items : List ScopeItem) → (part.means outer trace earlier).items ≡ Some items → length items ≡ suc joins)
-    → after ≡ beside_left before next → SourcesMade outer trace (parts ++ part ∷ []) scope (Some after) (count + suc joins)
-source-more outer trace [] part scope before next after count joins so_far makes counts is =
-    let m = part.means outer trace [] in
+pub source-more : (outer : List Scope) (parts : List FromPart) (part : FromPart) (scope : Scope) (before : Option Query) (next after : Query) (count joins : ℕ)
+    → SourcesMade outer parts scope before count → ((earlier : List (List ℕ)) → MakesFrom (part.means outer earlier) count scope next)
+    → ((earlier : List (List ℕ)) (items : List ScopeItem) → (part.means outer earlier).items ≡ Some items → length items ≡ suc joins)
+    → after ≡ beside_left before next → SourcesMade outer (parts ++ part ∷ []) scope (Some after) (count + suc joins)
+source-more outer [] part scope before next after count joins so_far makes counts is =
+    let m = part.means outer [] in
     let none : count ≡ 0 = sym (so_far.counts [] refl) in
     record {
       makes = λ whole stands.
@@ -165,12 +164,12 @@ source-more outer trace [] part scope before next after count joins so_far makes
           ∙ subst (λ (n : ℕ). StandsIn m.items n scope → next ≡ m.query) none (makes [] whole) stands);
       counts = λ items known. let n = counts [] items known in omega (arith, n, none);
     }
-source-more outer trace (first ∷ parts) part scope before next after count joins so_far makes counts is =
-    let left = from_more outer trace (first.means outer trace []) parts in
-    let right = part.means outer trace left.names in
+source-more outer (first ∷ parts) part scope before next after count joins so_far makes counts is =
+    let left = from_more outer (first.means outer []) parts in
+    let right = part.means outer left.names in
     let start : 0 + count ≡ count = omega arith in
-    let is_beside : from_more outer trace (first.means outer trace []) (parts ++ part ∷ []) ≡ beside_from left right =
-    more-behind outer trace (first.means outer trace []) parts part in
+    let is_beside : from_more outer (first.means outer []) (parts ++ part ∷ []) ≡ beside_from left right =
+    more-behind outer (first.means outer []) parts part in
     record {
       makes = λ whole stands.
           let none : left.breaks ++ right.breaks ≡ [] = subst (λ (m : FromMeant). m.breaks ≡ []) is_beside whole in
@@ -187,19 +186,19 @@ source-more outer trace (first ∷ parts) part scope before next after count joi
     }
 
 -- all of FROM
-pub sources-made : (outer : List Scope) (trace : Trace) (parts : List FromPart) (scope : Scope) (made : Option Query) (count : ℕ) (query : Query)
-    → SourcesMade outer trace parts scope made count → query ≡ option_map_or (λ query. query) made no_from.query → MakesFrom (from_all outer trace parts) 0 scope query
-sources-made outer trace [] scope made count query so_far is whole stands =
+pub sources-made : (outer : List Scope) (parts : List FromPart) (scope : Scope) (made : Option Query) (count : ℕ) (query : Query)
+    → SourcesMade outer parts scope made count → query ≡ option_map_or (λ query. query) made no_from.query → MakesFrom (from_all outer parts) 0 scope query
+sources-made outer [] scope made count query so_far is whole stands =
     is ∙ ap (λ (made : Option Query). option_map_or (λ query. query) made no_from.query) (so_far.makes whole stands)
-sources-made outer trace (part ∷ parts) scope made count query so_far is whole stands =
+sources-made outer (part ∷ parts) scope made count query so_far is whole stands =
     is ∙ ap (λ (made : Option Query). option_map_or (λ query. query) made no_from.query) (so_far.makes whole stands)
 
 -- ---- trees
 
-pub from-fields : (c : Contents) (tree : FromTree) (outer : List Scope) (trace : Trace) (earlier : List (List ℕ))
-    → (from_of c tree).means outer trace earlier
-    ≡ join_all outer trace (first_item earlier ((from_item_of c (out-FromTree tree).first).means outer trace earlier)) (map (join_of c) (out-FromTree tree).joins)
-from-fields c tree outer trace earlier = ap (λ (part : FromPart). part.means outer trace earlier) (opened_from c tree)
+pub from-fields : (c : Contents) (tree : FromTree) (outer : List Scope) (earlier : List (List ℕ))
+    → (from_of c tree).means outer earlier
+    ≡ join_all outer (first_item earlier ((from_item_of c (out-FromTree tree).first).means outer earlier)) (map (join_of c) (out-FromTree tree).joins)
+from-fields c tree outer earlier = ap (λ (part : FromPart). part.means outer earlier) (opened_from c tree)
 
 join-record : (c : Contents) (word : JoinWord) (item : FromItem) (condition : Option ExprTree)
     → join_of c (roll-JoinStep (record { word = word; item = item; condition = condition })) ≡ record {
@@ -221,33 +220,33 @@ join-fields c tree =
 
 -- ---- items
 
-item-so : (at : ℕ) (mark : ScopeMark) (trace : Trace) (earlier : List (List ℕ)) (name label : List ℕ) (read : Read) (made : Query)
-    → (read.breaks ≡ [] → made ≡ marked mark label (read_names read) read) → MakesSource (item_meant at mark trace earlier name label read) made
-item-so at mark trace earlier name label read made makes whole =
-    makes (none-first read.breaks _ (none-first _ _ (none-first _ _ whole)))
+item-so : (at : ℕ) (mark : ScopeMark) (earlier : List (List ℕ)) (name label : List ℕ) (read : Read) (made : Query)
+    → (read.breaks ≡ [] → made ≡ marked mark label (read_names read) read) → MakesSource (item_meant at mark earlier name label read) made
+item-so at mark earlier name label read made makes whole =
+    makes (none-first read.breaks _ (none-first _ _ whole))
 
-pub item-named : (c : Contents) (outer : List Scope) (trace : Trace) (item : FromItem) (name : Name) (made : Query) → item.source ≡ source.Named name
+pub item-named : (c : Contents) (outer : List Scope) (item : FromItem) (name : Name) (made : Query) → item.source ≡ source.Named name
     → ((read_named c name).breaks ≡ [] → made ≡ marked item.mark name.text (read_names (read_named c name)) (read_named c name))
-    → (earlier : List (List ℕ)) → MakesSource ((from_item_of c item).means outer trace earlier) made
+    → (earlier : List (List ℕ)) → MakesSource ((from_item_of c item).means outer earlier) made
 unfolding token
-item-named c outer trace item name made is makes earlier =
+item-named c outer item name made is makes earlier =
     let part : source_of c item.source ≡ named_source name = ap (source_of c) is ∙ fromsource-named c name in
     subst (λ (m : ItemMeant). MakesSource m made)
-    (sym (ap (λ (p : _). p.means outer trace earlier) (fromitem-record c item.at item.source item.alias item.mark)
-    ∙ ap (λ (s : SourcePart). item_meant item.at item.mark trace earlier (scope_name s item.alias) (label_of s item.alias) (read_of c item.mark outer trace s)) part))
-    (item-so item.at item.mark trace earlier (scope_name (named_source name) item.alias) name.text (read_named c name) made makes)
+    (sym (ap (λ (p : _). p.means outer earlier) (fromitem-record c item.at item.source item.alias item.mark)
+    ∙ ap (λ (s : SourcePart). item_meant item.at item.mark earlier (scope_name s item.alias) (label_of s item.alias) (read_of c outer s)) part))
+    (item-so item.at item.mark earlier (scope_name (named_source name) item.alias) name.text (read_named c name) made makes)
 
-pub item-inner : (c : Contents) (outer : List Scope) (trace : Trace) (item : FromItem) (query : QueryTree) (made : Query) → item.source ≡ source.Inner query
-    → ((query_means_at (query_of c query) (record { outer = outer; trace = trace_under item.mark trace; may_ask = true })).breaks ≡ []
+pub item-inner : (c : Contents) (outer : List Scope) (item : FromItem) (query : QueryTree) (made : Query) → item.source ≡ source.Inner query
+    → ((query_means_at (query_of c query) (record { outer = outer; may_ask = true })).breaks ≡ []
     → made ≡ marked item.mark (option_map_or text_of item.alias [])
-    (read_names (read_query (query_means_at (query_of c query) (record { outer = outer; trace = trace_under item.mark trace; may_ask = true }))))
-    (read_query (query_means_at (query_of c query) (record { outer = outer; trace = trace_under item.mark trace; may_ask = true }))))
-    → (earlier : List (List ℕ)) → MakesSource ((from_item_of c item).means outer trace earlier) made
+    (read_names (read_query (query_means_at (query_of c query) (record { outer = outer; may_ask = true }))))
+    (read_query (query_means_at (query_of c query) (record { outer = outer; may_ask = true }))))
+    → (earlier : List (List ℕ)) → MakesSource ((from_item_of c item).means outer earlier) made
 unfolding token query_means_at
-item-inner c outer trace item query made is makes earlier =
+item-inner c outer item query made is makes earlier =
     let part : source_of c item.source ≡ inner_source (query_of c query) = ap (source_of c) is ∙ fromsource-inner c query in
     subst (λ (m : ItemMeant). MakesSource m made)
-    (sym (ap (λ (p : _). p.means outer trace earlier) (fromitem-record c item.at item.source item.alias item.mark)
-    ∙ ap (λ (s : SourcePart). item_meant item.at item.mark trace earlier (scope_name s item.alias) (label_of s item.alias) (read_of c item.mark outer trace s)) part))
-    (item-so item.at item.mark trace earlier (scope_name (inner_source (query_of c query)) item.alias) (option_map_or text_of item.alias [])
-    (read_of c item.mark outer trace (inner_source (query_of c query))) made makes)
+    (sym (ap (λ (p : _). p.means outer earlier) (fromitem-record c item.at item.source item.alias item.mark)
+    ∙ ap (λ (s : SourcePart). item_meant item.at item.mark earlier (scope_name s item.alias) (label_of s item.alias) (read_of c outer s)) part))
+    (item-so item.at item.mark earlier (scope_name (inner_source (query_of c query)) item.alias) (option_map_or text_of item.alias [])
+    (read_of c outer (inner_source (query_of c query))) made makes)

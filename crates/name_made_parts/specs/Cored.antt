@@ -41,21 +41,21 @@ abbrev pub having_part : Contents → Core → Option Part
 having_part c core = option_map (part_of c) (out-Core core).having
 
 abbrev pub sources_meant : Contents → Around → Core → FromMeant
-sources_meant c around core = from_all around.outer around.trace (source_parts c core)
+sources_meant c around core = from_all around.outer (source_parts c core)
 
--- the core over the items of its FROM, where it is traced as it stands
+-- the core over the items of its FROM
 abbrev pub core_over_items : Contents → Around → Core → List Break → List ScopeItem → QueryMeant
-core_over_items c around core breaks items = core_over around.outer around.trace breaks (sources_meant c around core)
+core_over_items c around core breaks items = core_over around.outer breaks (sources_meant c around core)
     (has_some (source_parts c core)) (out-Core core).distinct (select_parts c core) (condition_part c core) (out-Core core).groups (having_part c core) items
 
 -- ---- conditions
 
 -- the rows before they are grouped
 abbrev pub in_rows : Around → Scope → Surroundings
-in_rows around scope = in_clause (here_only true scope) around.outer around.trace false
+in_rows around scope = in_clause (here_only true scope) around.outer false
 
 abbrev pub in_groups : Around → Scope → Surroundings
-in_groups around scope = in_clause scope around.outer around.trace true
+in_groups around scope = in_clause scope around.outer true
 
 abbrev pub condition_of : Meant → Condition
 condition_of m = record { expr = (optional_built (Some m)).expr; subs = (optional_built (Some m)).subs }

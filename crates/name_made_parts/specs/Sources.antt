@@ -14,7 +14,6 @@ use Rattle.name_meaning.specs.Meanings.{Meant, Part, QueryMeant}
 use Rattle.name_meaning.specs.Scopes.{ScopeItem, scope_of}
 use Rattle.name_meaning.specs.declared.answer.Break.{Break}
 use Rattle.name_meaning.specs.declared.scope.Scope.{Scope}
-use Rattle.name_meaning.specs.declared.trace.Trace.{Trace}
 use Rattle.name_made_parts.specs.declared.shown.ShownNames.{ShownNames}
 
 abbrev pub text_of : Name → List ℕ
@@ -75,15 +74,15 @@ own_breaks None = []
 own_breaks (Some m) = m.breaks
 
 -- a condition of ON made, where it breaks nothing and its items stand there in the scope
-abbrev pub MakesOn : List Scope → Trace → Option Part → ℕ → ℕ → Scope → Expr → Type 0
-MakesOn outer trace condition first count scope made = (items : List ScopeItem) → StandsIn (Some items) first scope → length items ≡ count
-    → own_breaks (on_meant outer trace (Some items) condition) ≡ [] → made ≡ on_made (on_meant outer trace (Some items) condition)
+abbrev pub MakesOn : List Scope → Option Part → ℕ → ℕ → Scope → Expr → Type 0
+MakesOn outer condition first count scope made = (items : List ScopeItem) → StandsIn (Some items) first scope → length items ≡ count
+    → own_breaks (on_meant outer (Some items) condition) ≡ [] → made ≡ on_made (on_meant outer (Some items) condition)
 
 -- one more join made, behind as many items less one
-abbrev pub MakesJoin : List Scope → Trace → JoinPart → ℕ → ℕ → Scope → Query → Query → Type 0
-MakesJoin outer trace step first count scope before made = (left : FromMeant) → ((items : List ScopeItem) →
-    (join_item outer trace left step (step.item.means outer trace left.names)).items ≡ Some items → length items ≡ count)
-    → before ≡ left.query → MakesFrom (join_item outer trace left step (step.item.means outer trace left.names)) first scope made
+abbrev pub MakesJoin : List Scope → JoinPart → ℕ → ℕ → Scope → Query → Query → Type 0
+MakesJoin outer step first count scope before made = (left : FromMeant) → ((items : List ScopeItem) →
+    (join_item outer left step (step.item.means outer left.names)).items ≡ Some items → length items ≡ count)
+    → before ≡ left.query → MakesFrom (join_item outer left step (step.item.means outer left.names)) first scope made
 
 -- what is before a comma, if anything is
 abbrev pub left_of : List FromPart → FromMeant → Option Query
@@ -91,10 +90,10 @@ left_of [] m = None
 left_of (part ∷ parts) m = Some m.query
 
 -- parts of FROM made so far, and how many items they have
-pub record SourcesMade (outer : List Scope) (trace : Trace) (parts : List FromPart) (scope : Scope) (made : Option Query) (count : ℕ) : Type 0 where
-  pub makes : (from_all outer trace parts).breaks ≡ [] → StandsIn (from_all outer trace parts).items 0 scope
-      → made ≡ left_of parts (from_all outer trace parts)
-  pub counts : (items : List ScopeItem) → (from_all outer trace parts).items ≡ Some items → length items ≡ count
+pub record SourcesMade (outer : List Scope) (parts : List FromPart) (scope : Scope) (made : Option Query) (count : ℕ) : Type 0 where
+  pub makes : (from_all outer parts).breaks ≡ [] → StandsIn (from_all outer parts).items 0 scope
+      → made ≡ left_of parts (from_all outer parts)
+  pub counts : (items : List ScopeItem) → (from_all outer parts).items ≡ Some items → length items ≡ count
 
 -- joins of a `from` made so far
 pub record JoinsMade (m : FromMeant) (first : ℕ) (scope : Scope) (made : Query) (joins : ℕ) : Type 0 where

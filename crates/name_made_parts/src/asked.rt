@@ -8,11 +8,11 @@ mod reading;
 mod united;
 
 pub use cores::{
-    Kept, behind_aggregates, clauses_of, core_trace, groups_of, kept_of, listed_of, scope_grouped,
+    Kept, behind_aggregates, clauses_of, groups_of, kept_of, listed_of, scope_grouped,
     scope_or_none,
 };
 pub use items::item_kind;
-pub use queries::{chain_kinds, limit_keys, trace_inside};
+pub use queries::{chain_kinds, limit_keys};
 pub use reading::shown_names;
 pub use united::{
     alike_behind, alike_of_all, alike_of_arms, alike_of_case, alike_of_three, alike_of_two,

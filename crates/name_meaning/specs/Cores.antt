@@ -19,8 +19,6 @@ use Rattle.name_meaning.specs.declared.answer.Break.{Break}
 use Rattle.name_meaning.specs.declared.scope.Found.{Found}
 use Rattle.name_meaning.specs.declared.scope.Found.TheVariants.{Absent as absent, Ambiguous as ambiguous, Column as found}
 use Rattle.name_meaning.specs.declared.scope.Scope.{Scope}
-use Rattle.name_meaning.specs.declared.trace.Trace.{Trace}
-use Rattle.name_meaning.specs.declared.trace.Trace.TheVariants.{Untraced as untraced}
 use Rattle.name_meaning.specs.declared.rule.Rule.TheVariants as rule
 
 -- a core, or what stands for one among set operations; `word`: the offset of PROVENANCE behind its first SELECT
@@ -41,10 +39,9 @@ settle_known columns wanted = option_map_or (λ known. settle known wanted) colu
 -- ---- the clauses, seen
 
 -- in a clause of a core, sublinks may stand
-abbrev pub in_clause : Scope → List Scope → Trace → Bool → Surroundings
-in_clause scope outer trace aggregates = record {
+abbrev pub in_clause : Scope → List Scope → Bool → Surroundings
+in_clause scope outer aggregates = record {
   scopes = scope ∷ outer;
-  trace = trace;
   aggregates = aggregates;
   sublinks = true;
   argument = false;
@@ -171,34 +168,31 @@ has_some [] = false
 has_some (x ∷ xs) = true
 
 -- the core over the items of its FROM
-abbrev pub core_over : List Scope → Trace → List Break → FromMeant → Bool → Bool → List SelectPart → Option Part → List ColRef → Option Part
+abbrev pub core_over : List Scope → List Break → FromMeant → Bool → Bool → List SelectPart → Option Part → List ColRef → Option Part
     → List ScopeItem → QueryMeant
-core_over outer trace word_breaks input has_from is_distinct items condition groups having scope_items =
+core_over outer word_breaks input has_from is_distinct items condition groups having scope_items =
     let own : Scope = scope_of scope_items in
     let grouped : Scope = group_scope own groups having items in
-    let k : Clauses = core_clauses (in_clause own outer trace false) (in_clause grouped outer trace true) grouped has_from input condition having items in
+    let k : Clauses = core_clauses (in_clause own outer false) (in_clause grouped outer true) grouped has_from input condition having items in
     core_meant word_breaks (clause_breaks own condition groups having k) k is_distinct
 
--- PROVENANCE stands wrongly where it isn't the word of a whole query; such a core isn't traced
+-- PROVENANCE stands wrongly where it isn't the word of a whole query
 abbrev pub is_misplaced : Around → Option ℕ → Bool
 is_misplaced around word = not around.may_ask && is_some word
 
 abbrev pub word_breaks : Around → Option ℕ → List Break
 word_breaks around word = cond around.may_ask [] (option_map_or (λ at. broken rule.MisplacedProvenance at ∷ []) word [])
 
-abbrev pub core_trace : Around → Option ℕ → Trace
-core_trace around word = cond (is_misplaced around word) untraced around.trace
-
 -- the core, its FROM seen
 abbrev pub core_seen : Around → Option ℕ → FromMeant → Bool → Bool → List SelectPart → Option Part → List ColRef → Option Part → QueryMeant
 core_seen around word input has_from is_distinct items condition groups having = cond (is_whole input.breaks)
-    (core_over around.outer (core_trace around word) (word_breaks around word) input has_from is_distinct items condition groups having
+    (core_over around.outer (word_breaks around word) input has_from is_distinct items condition groups having
     (option_map_or (λ known. known) input.items []))
     (core_unlooked (word_breaks around word) input)
 
 abbrev pub core_step : {B S F A U C Q W G J : Type 0} → Core-F B SelectPart S F A U Part C Q W G FromPart J → BodyPart
 core_step tree = record {
   word = tree.provenance;
-  means = λ around. core_seen around tree.provenance (from_all around.outer (core_trace around tree.provenance) tree.sources)
+  means = λ around. core_seen around tree.provenance (from_all around.outer tree.sources)
       (has_some tree.sources) tree.distinct tree.items tree.condition tree.groups tree.having;
 }

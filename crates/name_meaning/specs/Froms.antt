@@ -6,7 +6,6 @@ use Rattle.std.specs.Option.{option_map_or}
 use Rattle.perm_values.specs.declared.kind.Kind.{Kind}
 use Rattle.perm_values.specs.declared.kind.Kind.TheVariants as kind
 use Rattle.perm_values.specs.declared.value.Value.TheVariants as v
-use Rattle.bag_algebra.specs.Scoped.{over_tables, traceable}
 use Rattle.bag_algebra.specs.declared.expr.Expr.{Expr}
 use Rattle.bag_algebra.specs.declared.expr.Expr.TheVariants.{Lit}
 use Rattle.bag_algebra.specs.declared.query.JoinKind.{JoinKind}
@@ -33,8 +32,6 @@ use Rattle.name_meaning.specs.Scopes.{KnownColumn, ScopeItem, scope_of}
 use Rattle.name_meaning.specs.Sublinks.{nothing_before}
 use Rattle.name_meaning.specs.declared.answer.Break.{Break}
 use Rattle.name_meaning.specs.declared.scope.Scope.{Scope}
-use Rattle.name_meaning.specs.declared.trace.Trace.{Trace}
-use Rattle.name_meaning.specs.declared.trace.Trace.TheVariants.{Untraced as untraced, InProvenance as in_provenance, TracedSublink as traced_sublink}
 use Rattle.name_meaning.specs.declared.rule.Rule.TheVariants as rule
 
 -- ---- columns
@@ -68,7 +65,6 @@ pub record Read : Type 0 where
   pub columns : Option (List KnownColumn)
   pub query : Query
   pub plain : Query
-  pub viewed : Bool
   pub inside : Inside
 
 -- what stores or gives provenance is a source of its provenance columns
@@ -87,7 +83,6 @@ read_table name table = record {
   columns = Some (table_columns table.columns);
   query = Table table.id (column_kinds table.columns);
   plain = table_plain name table;
-  viewed = false;
   inside = record { queries = []; names = name ∷ [] };
 }
 
@@ -97,7 +92,6 @@ read_view name view = record {
   columns = Some (named_columns view.answer.names (kinds_of view.answer.query));
   query = view.answer.query;
   plain = option_map_or (external view.answer.query view.answer.names) view.places view.answer.query;
-  viewed = true;
   inside = record { queries = []; names = name ∷ view.names_used };
 }
 
@@ -107,7 +101,6 @@ read_nothing name = record {
   columns = None;
   query = Single;
   plain = Single;
-  viewed = false;
   inside = nothing_inside;
 }
 
@@ -121,7 +114,6 @@ read_query m = record {
   columns = option_map settled_columns m.columns;
   query = m.make [];
   plain = option_map_or (external (m.make []) (option_map_or (λ columns. names_of (settled_columns columns)) m.columns [])) m.places (m.make []);
-  viewed = false;
   inside = m.inside;
 }
 
@@ -161,19 +153,6 @@ mark_breaks mark.Plain names = []
 mark_breaks mark.BaseRelation names = []
 mark_breaks (mark.External attributes) names = attribute_breaks names [] attributes
 
--- nothing under a mark is traced
-abbrev pub trace_under : ScopeMark → Trace → Trace
-trace_under mark.Plain trace = trace
-trace_under mark.BaseRelation trace = untraced
-trace_under (mark.External attributes) trace = untraced
-
--- what is traced reads no view with a sublink whose sources are not all over tables, and in a sublink no item whose
--- sources are not all over tables
-abbrev pub is_out_of_scope : Trace → Bool → Query → Bool
-is_out_of_scope untraced viewed query = false
-is_out_of_scope in_provenance viewed query = viewed && not (traceable query)
-is_out_of_scope traced_sublink viewed query = not (over_tables query) || (viewed && not (traceable query))
-
 -- ---- items
 
 pub data SourcePart : Type 0 where
@@ -190,12 +169,12 @@ pub record ItemMeant : Type 0 where
 
 -- seen from the scopes around the core, behind items of these names
 pub record FromItemPart : Type 0 where
-  pub means : List Scope → Trace → List (List ℕ) → ItemMeant
+  pub means : List Scope → List (List ℕ) → ItemMeant
 
-abbrev pub read_of : Contents → ScopeMark → List Scope → Trace → SourcePart → Read
-read_of c mark outer trace (named name) = read_named c name
-read_of c mark outer trace (inner query) =
-    read_query (query.means (record { outer = outer; trace = trace_under mark trace; may_ask = true }))
+abbrev pub read_of : Contents → List Scope → SourcePart → Read
+read_of c outer (named name) = read_named c name
+read_of c outer (inner query) =
+    read_query (query.means (record { outer = outer; may_ask = true }))
 
 -- the table's or view's name, or the subquery's alias
 abbrev pub label_of : SourcePart → Option Name → List ℕ
@@ -208,13 +187,9 @@ scope_name source alias = option_map_or (λ (name : Name). name.text) alias (lab
 abbrev pub read_names : Read → List (List ℕ)
 read_names read = option_map_or names_of read.columns []
 
-abbrev pub scope_break : List Break → Trace → Bool → Query → ℕ → List Break
-scope_break earlier trace viewed query at = cond (is_whole earlier) (broken_if (is_out_of_scope trace viewed query) rule.MisplacedProvenance at) []
-
-abbrev pub item_meant : ℕ → ScopeMark → Trace → List (List ℕ) → List ℕ → List ℕ → Read → ItemMeant
-item_meant at mark trace earlier name label read = record {
-  breaks = read.breaks ++ broken_if (list_any (named_so name) earlier) rule.RepeatedItem at ++ mark_breaks mark (option_map names_of read.columns)
-      ++ scope_break read.breaks trace read.viewed (marked mark label (read_names read) read) at;
+abbrev pub item_meant : ℕ → ScopeMark → List (List ℕ) → List ℕ → List ℕ → Read → ItemMeant
+item_meant at mark earlier name label read = record {
+  breaks = read.breaks ++ broken_if (list_any (named_so name) earlier) rule.RepeatedItem at ++ mark_breaks mark (option_map names_of read.columns);
   name = name;
   columns = read.columns;
   query = marked mark label (read_names read) read;
@@ -231,10 +206,9 @@ abbrev pub yes : Expr
 yes = Lit (v.Boolean true) kind.Boolean
 
 -- neither an aggregate nor a sublink stands in ON
-abbrev pub in_on : List ScopeItem → List Scope → Trace → Surroundings
-in_on items outer trace = record {
+abbrev pub in_on : List ScopeItem → List Scope → Surroundings
+in_on items outer = record {
   scopes = scope_of items ∷ outer;
-  trace = trace;
   aggregates = false;
   sublinks = false;
   argument = false;
@@ -256,7 +230,7 @@ pub record JoinPart : Type 0 where
   pub condition : Option Part
 
 pub record FromPart : Type 0 where
-  pub means : List Scope → Trace → List (List ℕ) → FromMeant
+  pub means : List Scope → List (List ℕ) → FromMeant
 
 abbrev pub join_kind : JoinWord → JoinKind
 join_kind word.Inner = join.Inner
@@ -283,10 +257,10 @@ first_item earlier m = record {
 }
 
 -- a condition sees the items of its own `from` up to its own step, then the outer scopes
-abbrev pub on_meant : List Scope → Trace → Option (List ScopeItem) → Option Part → Option Meant
-on_meant outer trace None condition = None
-on_meant outer trace (Some items) None = None
-on_meant outer trace (Some items) (Some condition) = Some (condition.means (in_on items outer trace))
+abbrev pub on_meant : List Scope → Option (List ScopeItem) → Option Part → Option Meant
+on_meant outer None condition = None
+on_meant outer (Some items) None = None
+on_meant outer (Some items) (Some condition) = Some (condition.means (in_on items outer))
 
 abbrev pub on_breaks : Option Part → Option Meant → List Break
 on_breaks None m = []
@@ -305,14 +279,14 @@ joined left word condition m on = record {
   inside = both_inside left.inside (both_inside m.inside (option_map_or (λ (meant : Meant). meant.inside) on nothing_inside));
 }
 
-abbrev pub join_item : List Scope → Trace → FromMeant → JoinPart → ItemMeant → FromMeant
-join_item outer trace left step m =
-    joined left step.word step.condition m (on_meant outer trace (both_known left.items (scope_items m)) step.condition)
+abbrev pub join_item : List Scope → FromMeant → JoinPart → ItemMeant → FromMeant
+join_item outer left step m =
+    joined left step.word step.condition m (on_meant outer (both_known left.items (scope_items m)) step.condition)
 
-abbrev pub join_all : List Scope → Trace → FromMeant → List JoinPart → FromMeant
-join_all outer trace left [] = left
-join_all outer trace left (step ∷ steps) =
-    join_all outer trace (join_item outer trace left step (step.item.means outer trace left.names)) steps
+abbrev pub join_all : List Scope → FromMeant → List JoinPart → FromMeant
+join_all outer left [] = left
+join_all outer left (step ∷ steps) =
+    join_all outer (join_item outer left step (step.item.means outer left.names)) steps
 
 -- ---- the steps
 
@@ -322,13 +296,13 @@ source_step (FromSource-F.Inner query) = inner query
 
 abbrev pub from_item_step : {B I S A U P C Q W G J K : Type 0} → Contents → FromItem-F B I S SourcePart A U P C Q W G J K → FromItemPart
 from_item_step c tree = record {
-  means = λ outer trace earlier. item_meant tree.at tree.mark trace earlier (scope_name tree.source tree.alias)
-      (label_of tree.source tree.alias) (read_of c tree.mark outer trace tree.source);
+  means = λ outer earlier. item_meant tree.at tree.mark earlier (scope_name tree.source tree.alias)
+      (label_of tree.source tree.alias) (read_of c outer tree.source);
 }
 
 abbrev pub from_step : {B I S F A U P C Q W J : Type 0} → FromTree-F B I S F A U P C Q W FromItemPart J JoinPart → FromPart
 from_step tree = record {
-  means = λ outer trace earlier. join_all outer trace (first_item earlier (tree.first.means outer trace earlier)) tree.joins;
+  means = λ outer earlier. join_all outer (first_item earlier (tree.first.means outer earlier)) tree.joins;
 }
 
 abbrev pub join_step : {B I S F A U C Q W J K : Type 0} → JoinStep-F B I S F A U Part C Q W FromItemPart J K → JoinPart
@@ -346,13 +320,13 @@ beside_from left right = record {
   inside = both_inside left.inside right.inside;
 }
 
-abbrev pub from_more : List Scope → Trace → FromMeant → List FromPart → FromMeant
-from_more outer trace left [] = left
-from_more outer trace left (part ∷ parts) = from_more outer trace (beside_from left (part.means outer trace left.names)) parts
+abbrev pub from_more : List Scope → FromMeant → List FromPart → FromMeant
+from_more outer left [] = left
+from_more outer left (part ∷ parts) = from_more outer (beside_from left (part.means outer left.names)) parts
 
 abbrev pub no_from : FromMeant
 no_from = record { breaks = []; names = []; items = Some []; query = Single; inside = nothing_inside }
 
-abbrev pub from_all : List Scope → Trace → List FromPart → FromMeant
-from_all outer trace [] = no_from
-from_all outer trace (part ∷ parts) = from_more outer trace (part.means outer trace []) parts
+abbrev pub from_all : List Scope → List FromPart → FromMeant
+from_all outer [] = no_from
+from_all outer (part ∷ parts) = from_more outer (part.means outer []) parts

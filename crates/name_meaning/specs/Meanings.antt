@@ -9,8 +9,6 @@ use Rattle.bag_algebra.specs.declared.query.Query.{Query}
 use Rattle.bag_algebra.specs.declared.query.Sublink.{Sublink}
 use Rattle.name_meaning.specs.declared.answer.Break.{Break}
 use Rattle.name_meaning.specs.declared.scope.Scope.{Scope}
-use Rattle.name_meaning.specs.declared.trace.Trace.{Trace}
-use Rattle.name_meaning.specs.declared.trace.Trace.TheVariants.{Untraced as untraced, InProvenance as in_provenance, TracedSublink as traced_sublink}
 use Rattle.name_meaning.specs.declared.rule.Rule.{Rule}
 
 abbrev pub broken : Rule → ℕ → Break
@@ -23,12 +21,6 @@ broken_if is_broken rule at = cond is_broken (broken rule at ∷ []) []
 abbrev pub is_whole : List Break → Bool
 is_whole [] = true
 is_whole (first ∷ more) = false
-
--- in a sublink of what is traced
-abbrev pub trace_below : Trace → Trace
-trace_below untraced = untraced
-trace_below in_provenance = traced_sublink
-trace_below traced_sublink = traced_sublink
 
 -- the queries in the order of their first tokens, each with its number of columns; the tables and views that are named
 pub record Inside : Type 0 where
@@ -47,7 +39,6 @@ both_inside a b = record { queries = a.queries ++ b.queries; names = a.names ++ 
 -- `argument`: in an argument of an aggregate
 pub record Surroundings : Type 0 where
   pub scopes : List Scope
-  pub trace : Trace
   pub aggregates : Bool
   pub sublinks : Bool
   pub argument : Bool
@@ -89,7 +80,6 @@ means_at part here = part.means here
 -- where a query stands: the scopes around its cores, and whether the word PROVENANCE may stand behind its first SELECT
 pub record Around : Type 0 where
   pub outer : List Scope
-  pub trace : Trace
   pub may_ask : Bool
 
 pub record OutColumn : Type 0 where

@@ -18,7 +18,6 @@ use Rattle.name_meaning.specs.Froms.{named_columns, named_so}
 use Rattle.name_meaning.specs.Meanings.{both_inside, Around, OutColumn, QueryMeant, QueryPart, broken, broken_if, is_whole, unites, united_kind}
 use Rattle.name_meaning.specs.Scopes.{KnownColumn}
 use Rattle.name_meaning.specs.declared.answer.Break.{Break}
-use Rattle.name_meaning.specs.declared.trace.Trace.TheVariants.{InProvenance as in_provenance}
 use Rattle.name_meaning.specs.declared.rule.Rule.TheVariants as rule
 
 -- ---- set operations
@@ -172,7 +171,7 @@ asks_provenance around body = around.may_ask && is_some body.word
 
 abbrev pub query_seen : Around → ℕ → BodyPart → List OrderTree → Option ℤ → QueryMeant
 query_seen around at body order limit = cond (asks_provenance around body)
-    (let m = body.means (record around { trace = in_provenance }) in
+    (let m = body.means around in
     query_with_provenance at m order limit (limited limit (keys_of m.columns order) (m.make [])))
     (plain_query at (body.means around) order limit)
 

@@ -33,7 +33,6 @@ use Rattle.name_meaning.specs.Sublinks.{nothing_before}
 use Rattle.name_meaning.specs.Trees.{part_of, query_of}
 use Rattle.name_meaning.specs.declared.answer.Break.{Break}
 use Rattle.name_meaning.specs.declared.scope.Scope.{Scope}
-use Rattle.name_meaning.specs.declared.trace.Trace.TheVariants.{Untraced as untraced}
 use Rattle.name_meaning.specs.declared.answer.Resolved.{Resolved}
 use Rattle.name_meaning.specs.declared.answer.Resolved.TheVariants as r
 use Rattle.name_meaning.specs.declared.rule.Rule.TheVariants as rule
@@ -42,7 +41,7 @@ use Rattle.name_meaning.specs.declared.rule.Rule.TheVariants as rule
 
 -- a whole query sees no scope, and the word PROVENANCE may stand in it
 abbrev pub alone : Around
-alone = record { outer = []; trace = untraced; may_ask = true }
+alone = record { outer = []; may_ask = true }
 
 abbrev pub query_meant : Contents → QueryTree → QueryMeant
 query_meant c tree = query_means_at (query_of c tree) alone
@@ -68,7 +67,7 @@ stored_columns columns = map (λ (column : KnownColumn). record { name = column.
 
 -- neither an aggregate nor a sublink stands here
 abbrev pub bare : List Scope → Surroundings
-bare scopes = record { scopes = scopes; trace = untraced; aggregates = false; sublinks = false; argument = false }
+bare scopes = record { scopes = scopes; aggregates = false; sublinks = false; argument = false }
 
 -- the condition of DELETE sees one item, named as the table, with all its columns
 abbrev pub table_scope : Name → TableEntry → Scope

@@ -12,7 +12,7 @@ use Rattle.bag_algebra.specs.declared.query.SubKind.{SubKind}
 use Rattle.bag_algebra.specs.declared.query.SubKind.TheVariants.{Exists, Scalar}
 use Rattle.sql_tree.specs.declared.expression.AggWord.{AggWord}
 use Rattle.sql_tree.specs.declared.expression.AggWord.TheVariants as word
-use Rattle.name_meaning.specs.Meanings.{nothing_inside, both_inside, Surroundings, Before, Built, Meant, seen_kind, Part, Around, OutColumn, QueryMeant, QueryPart, broken, broken_if, is_whole, trace_below, unites, united_kind, settled, is_same_kind}
+use Rattle.name_meaning.specs.Meanings.{nothing_inside, both_inside, Surroundings, Before, Built, Meant, seen_kind, Part, Around, OutColumn, QueryMeant, QueryPart, broken, broken_if, is_whole, unites, united_kind, settled, is_same_kind}
 use Rattle.name_meaning.specs.Scopes.{ungrouped, group_count}
 use Rattle.name_meaning.specs.declared.answer.Break.{Break}
 use Rattle.name_meaning.specs.declared.scope.Found.{Found}
@@ -134,7 +134,7 @@ aggregate_meant here at word (Some argument) = aggregated here at word argument.
 
 -- a sublink sees all scopes around it, and the word PROVENANCE doesn't stand in it
 abbrev pub around_of : Surroundings → Around
-around_of here = record { outer = here.scopes; trace = trace_below here.trace; may_ask = false }
+around_of here = record { outer = here.scopes; may_ask = false }
 
 abbrev pub sub_built : SubKind → Option Expr → Before → QueryMeant → List Kind → Built
 sub_built sub tested before query wanted = record {

@@ -7,7 +7,6 @@ mod kinds;
 mod need;
 mod rule;
 mod scope;
-mod trace;
 
 pub use answer::{Break, Resolved};
 pub use columns::names_at;
@@ -15,4 +14,3 @@ pub use kinds::{aggregate_kind, settled};
 pub use need::{Gives, Need};
 pub use rule::Rule;
 pub use scope::{Found, FoundColumn, Scope, ScopeColumn};
-pub use trace::Trace;

@@ -42,7 +42,7 @@ pub enum Rule {
     MisplacedAggregate,
     /// A sublink stands where there may be one.
     MisplacedSublink,
-    /// PROVENANCE stands where there may be one, and what is traced can be.
+    /// PROVENANCE stands where there may be one.
     MisplacedProvenance,
     /// Tables and queries have columns to a bound.
     TooManyColumns,

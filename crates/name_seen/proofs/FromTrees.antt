@@ -12,11 +12,10 @@ use Rattle.sql_tree.specs.declared.source.FromTree.{FromTree, out-FromTree}
 use Rattle.sql_tree.specs.declared.expression.ExprBody.TheViews.{roll-out-FromTree}
 use Rattle.sql_tree.specs.declared.source.JoinStep.{JoinStep, out-JoinStep}
 use Rattle.sql_tree.specs.declared.source.ScopeMark.{ScopeMark}
-use Rattle.name_meaning.specs.Froms.{FromItemPart, FromPart, JoinPart, Read, SourcePart, first_item, item_meant, join_all, label_of, read_named, read_of, read_query, scope_name, trace_under}
+use Rattle.name_meaning.specs.Froms.{FromItemPart, FromPart, JoinPart, Read, SourcePart, first_item, item_meant, join_all, label_of, read_named, read_of, read_query, scope_name}
 use Rattle.name_meaning.specs.Meanings.{QueryMeant, query_means_at}
 use Rattle.name_meaning.specs.Trees.{from_item_of, from_of, join_of, query_of, source_of}
 use Rattle.name_meaning.specs.declared.scope.Scope.{Scope}
-use Rattle.name_meaning.specs.declared.trace.Trace.{Trace}
 use Rattle.name_meaning.proofs.Equations.{token, fromitem-record, fromsource-inner, fromsource-named, fromtree-record}
 use Rattle.name_seen_parts.specs.declared.refusal.Refusal.{Refusal}
 use Rattle.name_seen_parts.specs.declared.refusal.Refusal.TheVariants.{Break as Broken, NoMemory}
@@ -24,45 +23,45 @@ use Rattle.name_seen_from.specs.Queried.{QuerySeen}
 use Rattle.name_seen_from.specs.declared.facts.Facts.{Facts as Gathered}
 use Rattle.name_seen_from.specs.Readings.{ItemSeen, ReadSeen}
 use Rattle.name_seen_cores.specs.Behind.{optional_part}
-use Rattle.name_seen_cores.proofs.Cored.{where-breaks}
+use Rattle.name_seen_parts.proofs.Firsts.{first-stays_first}
 use Rattle.name_meaning.proofs.Opened.{join-is}
 
-pub from-means : (c : Contents) (tree : FromTree) (outer : List Scope) (trace : Trace) (earlier : List (List ℕ))
-    → (from_of c tree).means outer trace earlier
-    ≡ join_all outer trace (first_item earlier ((from_item_of c (out-FromTree tree).first).means outer trace earlier)) (map (join_of c) (out-FromTree tree).joins)
+pub from-means : (c : Contents) (tree : FromTree) (outer : List Scope) (earlier : List (List ℕ))
+    → (from_of c tree).means outer earlier
+    ≡ join_all outer (first_item earlier ((from_item_of c (out-FromTree tree).first).means outer earlier)) (map (join_of c) (out-FromTree tree).joins)
 unfolding token
-from-means c tree outer trace earlier =
-    ap (λ (t : FromTree). (from_of c t).means outer trace earlier) (sym (roll-out-FromTree tree))
-    ∙ ap (λ (part : FromPart). part.means outer trace earlier) (fromtree-record c (out-FromTree tree).first (out-FromTree tree).joins)
+from-means c tree outer earlier =
+    ap (λ (t : FromTree). (from_of c t).means outer earlier) (sym (roll-out-FromTree tree))
+    ∙ ap (λ (part : FromPart). part.means outer earlier) (fromtree-record c (out-FromTree tree).first (out-FromTree tree).joins)
 
-pub item-means : (c : Contents) (item : FromItem) (outer : List Scope) (trace : Trace) (earlier : List (List ℕ))
-    → (from_item_of c item).means outer trace earlier
-    ≡ item_meant item.at item.mark trace earlier (scope_name (source_of c item.source) item.alias) (label_of (source_of c item.source) item.alias)
-    (read_of c item.mark outer trace (source_of c item.source))
+pub item-means : (c : Contents) (item : FromItem) (outer : List Scope) (earlier : List (List ℕ))
+    → (from_item_of c item).means outer earlier
+    ≡ item_meant item.at item.mark earlier (scope_name (source_of c item.source) item.alias) (label_of (source_of c item.source) item.alias)
+    (read_of c outer (source_of c item.source))
 unfolding token
-item-means c item outer trace earlier =
-    ap (λ (part : FromItemPart). part.means outer trace earlier) (fromitem-record c item.at item.source item.alias item.mark)
+item-means c item outer earlier =
+    ap (λ (part : FromItemPart). part.means outer earlier) (fromitem-record c item.at item.source item.alias item.mark)
 
-pub named-read : (c : Contents) (mark : ScopeMark) (outer : List Scope) (trace : Trace) (tree : FromSource) (name : Name) → tree ≡ source.Named name
-    → read_of c mark outer trace (source_of c tree) ≡ read_named c name
+pub named-read : (c : Contents) (outer : List Scope) (tree : FromSource) (name : Name) → tree ≡ source.Named name
+    → read_of c outer (source_of c tree) ≡ read_named c name
 unfolding token
-named-read c mark outer trace tree name is =
-    ap (λ (s : FromSource). read_of c mark outer trace (source_of c s)) is
-    ∙ ap (λ (part : SourcePart). read_of c mark outer trace part) (fromsource-named c name)
+named-read c outer tree name is =
+    ap (λ (s : FromSource). read_of c outer (source_of c s)) is
+    ∙ ap (λ (part : SourcePart). read_of c outer part) (fromsource-named c name)
 
-pub inner-read : (c : Contents) (mark : ScopeMark) (outer : List Scope) (trace : Trace) (tree : FromSource) (query : QueryTree) → tree ≡ source.Inner query
-    → read_of c mark outer trace (source_of c tree) ≡ read_query (query_means_at (query_of c query) (record { outer = outer; trace = trace_under mark trace; may_ask = true }))
+pub inner-read : (c : Contents) (outer : List Scope) (tree : FromSource) (query : QueryTree) → tree ≡ source.Inner query
+    → read_of c outer (source_of c tree) ≡ read_query (query_means_at (query_of c query) (record { outer = outer; may_ask = true }))
 unfolding token query_means_at
-inner-read c mark outer trace tree query is =
-    ap (λ (s : FromSource). read_of c mark outer trace (source_of c s)) is
-    ∙ ap (λ (part : SourcePart). read_of c mark outer trace part) (fromsource-inner c query)
+inner-read c outer tree query is =
+    ap (λ (s : FromSource). read_of c outer (source_of c s)) is
+    ∙ ap (λ (part : SourcePart). read_of c outer part) (fromsource-inner c query)
 
 -- the item of a join, behind the items before it
-pub joined-item : (c : Contents) (step : JoinStep) (outer : List Scope) (trace : Trace) (names held : List (List ℕ)) → names ≡ held
-    → (join_of c step).item.means outer trace names ≡ (from_item_of c (out-JoinStep step).item).means outer trace held
-joined-item c step outer trace names held same =
-    ap (λ (part : JoinPart). part.item.means outer trace names) (join-is c step)
-    ∙ ap (λ (earlier : List (List ℕ)). (from_item_of c (out-JoinStep step).item).means outer trace earlier) same
+pub joined-item : (c : Contents) (step : JoinStep) (outer : List Scope) (names held : List (List ℕ)) → names ≡ held
+    → (join_of c step).item.means outer names ≡ (from_item_of c (out-JoinStep step).item).means outer held
+joined-item c step outer names held same =
+    ap (λ (part : JoinPart). part.item.means outer names) (join-is c step)
+    ∙ ap (λ (earlier : List (List ℕ)). (from_item_of c (out-JoinStep step).item).means outer earlier) same
 
 pub joined-condition : (c : Contents) (step : JoinStep) (condition : Option ExprTree) → (out-JoinStep step).condition ≡ condition
     → (join_of c step).condition ≡ optional_part c condition
@@ -73,7 +72,7 @@ read-refused m (Broken b) broken = broken
 read-refused m NoMemory broken = tt
 
 -- what was refused of what an item reads is refused of the item
-pub item-refused : (at : ℕ) (mark : ScopeMark) (trace : Trace) (earlier : List (List ℕ)) (name label : List ℕ) (read : Read) (scope wider : Scope) (old new : Gathered) (refusal : Refusal)
-    → ReadSeen read (Err refusal) → ItemSeen (item_meant at mark trace earlier name label read) scope old new wider (Err refusal)
-item-refused at mark trace earlier name label read scope wider old new (Broken b) broken = where-breaks read.breaks _ _ _ b broken
-item-refused at mark trace earlier name label read scope wider old new NoMemory broken = tt
+pub item-refused : (at : ℕ) (mark : ScopeMark) (earlier : List (List ℕ)) (name label : List ℕ) (read : Read) (scope wider : Scope) (old new : Gathered) (refusal : Refusal)
+    → ReadSeen read (Err refusal) → ItemSeen (item_meant at mark earlier name label read) scope old new wider (Err refusal)
+item-refused at mark earlier name label read scope wider old new (Broken b) broken = first-stays_first read.breaks _ _ (tt {0}) (tt {0}) b broken
+item-refused at mark earlier name label read scope wider old new NoMemory broken = tt

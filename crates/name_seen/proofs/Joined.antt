@@ -7,7 +7,6 @@ use Rattle.name_meaning.specs.Meanings.{Meant, Part, means_at}
 use Rattle.name_meaning.specs.Scopes.{KnownColumn, ScopeItem, scope_of}
 use Rattle.name_meaning.specs.declared.answer.Break.{Break}
 use Rattle.name_meaning.specs.declared.scope.Scope.{Scope}
-use Rattle.name_meaning.specs.declared.trace.Trace.{Trace}
 use Rattle.name_laws.specs.Facts.{facts_of, both_facts}
 use Rattle.name_laws.proofs.FactsOf.{both_facts-none, facts-Join_alone}
 use Rattle.name_seen_parts.specs.Seen.{first_or}
@@ -47,14 +46,14 @@ first-whole m earlier old new scope wider empty added =
       adds = added.adds;
     }
 
-pub join-whole : (outer : List Scope) (trace : Trace) (left : FromMeant) (step : JoinPart) (m : ItemMeant) (earlier : List (List ℕ)) (before old new : Gathered) (scope wider : Scope)
+pub join-whole : (outer : List Scope) (left : FromMeant) (step : JoinPart) (m : ItemMeant) (earlier : List (List ℕ)) (before old new : Gathered) (scope wider : Scope)
     → FromWhole left earlier before old scope → ItemAdded m scope old new wider
-    → on_breaks step.condition (on_meant outer trace (both_known left.items (scope_items m)) step.condition) ≡ []
-    → FromWhole (join_item outer trace left step m) earlier before new wider
-join-whole outer trace left step m earlier before old new scope wider first added none =
+    → on_breaks step.condition (on_meant outer (both_known left.items (scope_items m)) step.condition) ≡ []
+    → FromWhole (join_item outer left step m) earlier before new wider
+join-whole outer left step m earlier before old new scope wider first added none =
     let item : ScopeItem = record { name = m.name; columns = table_columns added.columns } in
     record {
-      whole = all-none left.breaks m.breaks (on_breaks step.condition (on_meant outer trace (both_known left.items (scope_items m)) step.condition)) first.whole added.whole none;
+      whole = all-none left.breaks m.breaks (on_breaks step.condition (on_meant outer (both_known left.items (scope_items m)) step.condition)) first.whole added.whole none;
       items = first.items ++ item ∷ [];
       known = beside-known left.items (scope_items m) first.items (item ∷ []) first.known (items-known m added.columns added.known);
       scope_is = added.scope_is ∙ ap (λ (s : Scope). scope_beside s (item_scope m.name added.columns)) first.scope_is ∙ scope-beside-is first.items (item ∷ []);
@@ -62,80 +61,80 @@ join-whole outer trace left step m earlier before old new scope wider first adde
           ∙ ap (λ (s : Scope). earlier ++ s.items) (sym added.scope_is);
       adds = both-add (facts_of left.query) (facts_of m.query) (facts_in before) (facts_in old) (facts_in new) first.adds added.adds
           ∙ ap (both_facts (facts_in before)) (sym (facts-Join_alone (join_kind step.word) left.query m.query
-          (on_made (on_meant outer trace (both_known left.items (scope_items m)) step.condition))));
+          (on_made (on_meant outer (both_known left.items (scope_items m)) step.condition))));
     }
 
 -- ---- all joins so far, and one more
 
-pub joins-behind : (outer : List Scope) (trace : Trace) (left : FromMeant) (steps : List JoinPart) (step : JoinPart)
-    → join_all outer trace left (steps ++ step ∷ [])
-    ≡ join_item outer trace (join_all outer trace left steps) step (step.item.means outer trace (join_all outer trace left steps).names)
-joins-behind outer trace left [] step = refl
-joins-behind outer trace left (s ∷ steps) step = joins-behind outer trace (join_item outer trace left s (s.item.means outer trace left.names)) steps step
+pub joins-behind : (outer : List Scope) (left : FromMeant) (steps : List JoinPart) (step : JoinPart)
+    → join_all outer left (steps ++ step ∷ [])
+    ≡ join_item outer (join_all outer left steps) step (step.item.means outer (join_all outer left steps).names)
+joins-behind outer left [] step = refl
+joins-behind outer left (s ∷ steps) step = joins-behind outer (join_item outer left s (s.item.means outer left.names)) steps step
 
-pub joins-so-far : (outer : List Scope) (trace : Trace) (left : FromMeant) (steps more : List JoinPart)
-    → join_all outer trace left (steps ++ more) ≡ join_all outer trace (join_all outer trace left steps) more
-joins-so-far outer trace left [] more = refl
-joins-so-far outer trace left (s ∷ steps) more = joins-so-far outer trace (join_item outer trace left s (s.item.means outer trace left.names)) steps more
+pub joins-so-far : (outer : List Scope) (left : FromMeant) (steps more : List JoinPart)
+    → join_all outer left (steps ++ more) ≡ join_all outer (join_all outer left steps) more
+joins-so-far outer left [] more = refl
+joins-so-far outer left (s ∷ steps) more = joins-so-far outer (join_item outer left s (s.item.means outer left.names)) steps more
 
-pub joins-stay : (outer : List Scope) (trace : Trace) (left : FromMeant) (steps : List JoinPart) (b : Break) → first_or left.breaks (tt {0}) ≡ Err b
-    → first_or (join_all outer trace left steps).breaks (tt {0}) ≡ Err b
-joins-stay outer trace left [] b e = e
-joins-stay outer trace left (s ∷ steps) b e =
-    joins-stay outer trace (join_item outer trace left s (s.item.means outer trace left.names)) steps b
-    (first-stays_first left.breaks (s.item.means outer trace left.names).breaks
-    (on_breaks s.condition (on_meant outer trace (both_known left.items (scope_items (s.item.means outer trace left.names))) s.condition)) (tt {0}) (tt {0}) b e)
+pub joins-stay : (outer : List Scope) (left : FromMeant) (steps : List JoinPart) (b : Break) → first_or left.breaks (tt {0}) ≡ Err b
+    → first_or (join_all outer left steps).breaks (tt {0}) ≡ Err b
+joins-stay outer left [] b e = e
+joins-stay outer left (s ∷ steps) b e =
+    joins-stay outer (join_item outer left s (s.item.means outer left.names)) steps b
+    (first-stays_first left.breaks (s.item.means outer left.names).breaks
+    (on_breaks s.condition (on_meant outer (both_known left.items (scope_items (s.item.means outer left.names))) s.condition)) (tt {0}) (tt {0}) b e)
 
 -- ---- one more join
 
-pub join-refused : (outer : List Scope) (trace : Trace) (left : FromMeant) (step : JoinPart) (m : ItemMeant) (earlier : List (List ℕ)) (before old new : Gathered) (scope wider : Scope)
+pub join-refused : (outer : List Scope) (left : FromMeant) (step : JoinPart) (m : ItemMeant) (earlier : List (List ℕ)) (before old new : Gathered) (scope wider : Scope)
     (refusal : Refusal) → FromWhole left earlier before old scope → ItemSeen m scope old new wider (Err refusal)
-    → JoinSeen (join_item outer trace left step m) earlier before new wider (Err refusal)
-join-refused outer trace left step m earlier before old new scope wider (Broken b) first broken =
-    first-stays_second left.breaks m.breaks (on_breaks step.condition (on_meant outer trace (both_known left.items (scope_items m)) step.condition)) (tt {0}) (tt {0}) b first.whole broken
-join-refused outer trace left step m earlier before old new scope wider NoMemory first broken = tt
+    → JoinSeen (join_item outer left step m) earlier before new wider (Err refusal)
+join-refused outer left step m earlier before old new scope wider (Broken b) first broken =
+    first-stays_second left.breaks m.breaks (on_breaks step.condition (on_meant outer (both_known left.items (scope_items m)) step.condition)) (tt {0}) (tt {0}) b first.whole broken
+join-refused outer left step m earlier before old new scope wider NoMemory first broken = tt
 
-pub join-crossed : (outer : List Scope) (trace : Trace) (left : FromMeant) (step : JoinPart) (m : ItemMeant) (earlier : List (List ℕ)) (before old new : Gathered) (scope wider : Scope)
-    → step.condition ≡ None → FromWhole left earlier before old scope → ItemAdded m scope old new wider → FromWhole (join_item outer trace left step m) earlier before new wider
-join-crossed outer trace left step m earlier before old new scope wider none first added =
-    join-whole outer trace left step m earlier before old new scope wider first added
-    (ap (λ (condition : Option Part). on_breaks condition (on_meant outer trace (both_known left.items (scope_items m)) condition)) none)
+pub join-crossed : (outer : List Scope) (left : FromMeant) (step : JoinPart) (m : ItemMeant) (earlier : List (List ℕ)) (before old new : Gathered) (scope wider : Scope)
+    → step.condition ≡ None → FromWhole left earlier before old scope → ItemAdded m scope old new wider → FromWhole (join_item outer left step m) earlier before new wider
+join-crossed outer left step m earlier before old new scope wider none first added =
+    join-whole outer left step m earlier before old new scope wider first added
+    (ap (λ (condition : Option Part). on_breaks condition (on_meant outer (both_known left.items (scope_items m)) condition)) none)
 
 -- what a condition breaks, which sees the items up to its own
-on-is : (outer : List Scope) (trace : Trace) (condition : Option Part) (part : Part) (known : Option (List ScopeItem)) (items : List ScopeItem) → condition ≡ Some part → known ≡ Some items
-    → on_breaks condition (on_meant outer trace known condition) ≡ on_breaks (Some part) (Some (means_at part (in_on items outer trace)))
-on-is outer trace condition part known items is are =
-    (λ i. on_breaks (is i) (on_meant outer trace (are i) (is i)))
-    ∙ ap (λ (m : Meant). on_breaks (Some part) (Some m)) (means-is part (in_on items outer trace))
+on-is : (outer : List Scope) (condition : Option Part) (part : Part) (known : Option (List ScopeItem)) (items : List ScopeItem) → condition ≡ Some part → known ≡ Some items
+    → on_breaks condition (on_meant outer known condition) ≡ on_breaks (Some part) (Some (means_at part (in_on items outer)))
+on-is outer condition part known items is are =
+    (λ i. on_breaks (is i) (on_meant outer (are i) (is i)))
+    ∙ ap (λ (m : Meant). on_breaks (Some part) (Some m)) (means-is part (in_on items outer))
 
-pub join-on : (outer : List Scope) (trace : Trace) (left : FromMeant) (step : JoinPart) (part : Part) (m : ItemMeant) (earlier : List (List ℕ)) (before old new : Gathered)
+pub join-on : (outer : List Scope) (left : FromMeant) (step : JoinPart) (part : Part) (m : ItemMeant) (earlier : List (List ℕ)) (before old new : Gathered)
     (scope wider : Scope) (result : Result Unit Refusal) → step.condition ≡ Some part → FromWhole left earlier before old scope → ItemAdded m scope old new wider
-    → ((items : List ScopeItem) → wider ≡ scope_of items → Tells (first_or (on_breaks (Some part) (Some (means_at part (in_on items outer trace)))) tt) result)
-    → JoinSeen (join_item outer trace left step m) earlier before new wider result
-join-on outer trace left step part m earlier before old new scope wider result is first added tells =
+    → ((items : List ScopeItem) → wider ≡ scope_of items → Tells (first_or (on_breaks (Some part) (Some (means_at part (in_on items outer)))) tt) result)
+    → JoinSeen (join_item outer left step m) earlier before new wider result
+join-on outer left step part m earlier before old new scope wider result is first added tells =
     let item : ScopeItem = one_item m added.columns in
     let items : List ScopeItem = first.items ++ item ∷ [] in
     let known : both_known left.items (scope_items m) ≡ Some items =
     beside-known left.items (scope_items m) first.items (item ∷ []) first.known (items-known m added.columns added.known) in
     let same : wider ≡ scope_of items =
     added.scope_is ∙ ap (λ (s : Scope). scope_beside s (item_scope m.name added.columns)) first.scope_is ∙ scope-beside-is first.items (item ∷ []) in
-    by-result result items (tells items same) (on-is outer trace step.condition part (both_known left.items (scope_items m)) items is known) where
-      by-result : (result : Result Unit Refusal) (items : List ScopeItem) → Tells (first_or (on_breaks (Some part) (Some (means_at part (in_on items outer trace)))) tt) result
-          → on_breaks step.condition (on_meant outer trace (both_known left.items (scope_items m)) step.condition)
-          ≡ on_breaks (Some part) (Some (means_at part (in_on items outer trace)))
-          → JoinSeen (join_item outer trace left step m) earlier before new wider result
+    by-result result items (tells items same) (on-is outer step.condition part (both_known left.items (scope_items m)) items is known) where
+      by-result : (result : Result Unit Refusal) (items : List ScopeItem) → Tells (first_or (on_breaks (Some part) (Some (means_at part (in_on items outer)))) tt) result
+          → on_breaks step.condition (on_meant outer (both_known left.items (scope_items m)) step.condition)
+          ≡ on_breaks (Some part) (Some (means_at part (in_on items outer)))
+          → JoinSeen (join_item outer left step m) earlier before new wider result
       by-result (Ok done) items fine are =
-          join-whole outer trace left step m earlier before old new scope wider first added
-          (are ∙ none-broken (on_breaks (Some part) (Some (means_at part (in_on items outer trace)))) tt tt fine)
+          join-whole outer left step m earlier before old new scope wider first added
+          (are ∙ none-broken (on_breaks (Some part) (Some (means_at part (in_on items outer)))) tt tt fine)
       by-result (Err (Broken b)) items broken are =
-          first-behind_two left.breaks m.breaks (on_breaks step.condition (on_meant outer trace (both_known left.items (scope_items m)) step.condition)) tt first.whole added.whole
+          first-behind_two left.breaks m.breaks (on_breaks step.condition (on_meant outer (both_known left.items (scope_items m)) step.condition)) tt first.whole added.whole
           ∙ ap (λ (breaks : List Break). first_or breaks tt) are ∙ broken
       by-result (Err NoMemory) items told are = tt
 
 -- ---- all of FROM
 
-pub nothing-read : (outer : List Scope) (trace : Trace) (facts : Gathered) (scope : Scope) → scope ≡ scope_of [] → FromWhole (from_all outer trace []) [] facts facts scope
-nothing-read outer trace facts scope is = record {
+pub nothing-read : (outer : List Scope) (facts : Gathered) (scope : Scope) → scope ≡ scope_of [] → FromWhole (from_all outer []) [] facts facts scope
+nothing-read outer facts scope is = record {
   whole = refl;
   items = [];
   known = refl;
@@ -146,25 +145,25 @@ nothing-read outer trace facts scope is = record {
 
 -- ---- a break of a source stands
 
-pub first-refused : (outer : List Scope) (trace : Trace) (m : ItemMeant) (steps : List JoinPart) (earlier : List (List ℕ)) (old new : Gathered) (scope wider : Scope) (refusal : Refusal)
-    → ItemSeen m scope old new wider (Err refusal) → FromSeen (join_all outer trace (first_item earlier m) steps) earlier old new (Err refusal)
-first-refused outer trace m steps earlier old new scope wider (Broken b) broken = joins-stay outer trace (first_item earlier m) steps b broken
-first-refused outer trace m steps earlier old new scope wider NoMemory broken = tt
+pub first-refused : (outer : List Scope) (m : ItemMeant) (steps : List JoinPart) (earlier : List (List ℕ)) (old new : Gathered) (scope wider : Scope) (refusal : Refusal)
+    → ItemSeen m scope old new wider (Err refusal) → FromSeen (join_all outer (first_item earlier m) steps) earlier old new (Err refusal)
+first-refused outer m steps earlier old new scope wider (Broken b) broken = joins-stay outer (first_item earlier m) steps b broken
+first-refused outer m steps earlier old new scope wider NoMemory broken = tt
 
-pub step-refused : (outer : List Scope) (trace : Trace) (left : FromMeant) (steps : List JoinPart) (step : JoinPart) (more : List JoinPart) (earlier : List (List ℕ))
+pub step-refused : (outer : List Scope) (left : FromMeant) (steps : List JoinPart) (step : JoinPart) (more : List JoinPart) (earlier : List (List ℕ))
     (old new : Gathered) (wider : Scope) (refusal : Refusal)
-    → JoinSeen (join_item outer trace (join_all outer trace left steps) step (step.item.means outer trace (join_all outer trace left steps).names)) earlier old new wider (Err refusal)
-    → FromSeen (join_all outer trace left (steps ++ step ∷ more)) earlier old new (Err refusal)
-step-refused outer trace left steps step more earlier old new wider (Broken b) broken =
-    ap (λ (m : FromMeant). first_or m.breaks tt) (joins-so-far outer trace left steps (step ∷ more))
-    ∙ joins-stay outer trace (join_item outer trace (join_all outer trace left steps) step (step.item.means outer trace (join_all outer trace left steps).names)) more b broken
-step-refused outer trace left steps step more earlier old new wider NoMemory broken = tt
+    → JoinSeen (join_item outer (join_all outer left steps) step (step.item.means outer (join_all outer left steps).names)) earlier old new wider (Err refusal)
+    → FromSeen (join_all outer left (steps ++ step ∷ more)) earlier old new (Err refusal)
+step-refused outer left steps step more earlier old new wider (Broken b) broken =
+    ap (λ (m : FromMeant). first_or m.breaks tt) (joins-so-far outer left steps (step ∷ more))
+    ∙ joins-stay outer (join_item outer (join_all outer left steps) step (step.item.means outer (join_all outer left steps).names)) more b broken
+step-refused outer left steps step more earlier old new wider NoMemory broken = tt
 
-pub source-refused : (outer : List Scope) (trace : Trace) (parts : List FromPart) (part : FromPart) (more : List FromPart) (old middle new : Gathered) (l : Scope) (refusal : Refusal)
-    → FromWhole (from_all outer trace parts) [] old middle l → FromSeen (part.means outer trace l.items) l.items middle new (Err refusal)
-    → FromSeen (from_all outer trace (parts ++ part ∷ more)) [] old new (Err refusal)
-source-refused outer trace parts part more old middle new l (Broken b) first broken = source-breaks outer trace parts part more old middle l b first broken
-source-refused outer trace parts part more old middle new l NoMemory first broken = tt
+pub source-refused : (outer : List Scope) (parts : List FromPart) (part : FromPart) (more : List FromPart) (old middle new : Gathered) (l : Scope) (refusal : Refusal)
+    → FromWhole (from_all outer parts) [] old middle l → FromSeen (part.means outer l.items) l.items middle new (Err refusal)
+    → FromSeen (from_all outer (parts ++ part ∷ more)) [] old new (Err refusal)
+source-refused outer parts part more old middle new l (Broken b) first broken = source-breaks outer parts part more old middle l b first broken
+source-refused outer parts part more old middle new l NoMemory first broken = tt
 
 -- before the first item, none is held
 pub none-held : (earlier : List (List ℕ)) (scope : Scope) → scope ≡ scope_of [] → earlier ++ scope.items ≡ earlier

@@ -22,7 +22,6 @@ use Rattle.name_seen_from.specs.declared.facts.Facts.{Facts as Gathered}
 use Rattle.name_seen_from.specs.declared.shown.QueryShown.{QueryShown}
 use Rattle.name_seen_cores.specs.Behind.{query_behind}
 use Rattle.name_seen_cores.proofs.Opened.{query-means}
-use Rattle.name_seen_parts.specs.Standing.{around_body}
 
 -- a query that was refused, in parentheses
 pub paren-refused : (m : QueryMeant) (old new : Gathered) (refusal : Refusal) → QuerySeen m (Err refusal) → ColumnsSeen m old new (Err refusal)
@@ -37,19 +36,19 @@ body-refused true at body order limit old new (Broken b) broken = first-stays bo
 body-refused asking at body order limit old new NoMemory broken = tt
 
 behind-is : (around : Around) (at : ℕ) (body : BodyPart) (order : List OrderTree) (limit : Option ℤ) (asking : Bool) → asking ≡ asks_provenance around body
-    → query_seen around at body order limit ≡ query_behind asking at (body.means (around_body asking around)) order limit
+    → query_seen around at body order limit ≡ query_behind asking at (body.means around) order limit
 behind-is around at body order limit asking is =
-    ap (λ (b : Bool). cond b (query_behind true at (body.means (around_body true around)) order limit) (query_behind false at (body.means around) order limit)) (sym is)
+    ap (λ (b : Bool). cond b (query_behind true at (body.means around) order limit) (query_behind false at (body.means around) order limit)) (sym is)
     ∙ by-asking asking where
-      by-asking : (b : Bool) → cond b (query_behind true at (body.means (around_body true around)) order limit) (query_behind false at (body.means around) order limit)
-          ≡ query_behind b at (body.means (around_body b around)) order limit
+      by-asking : (b : Bool) → cond b (query_behind true at (body.means around) order limit) (query_behind false at (body.means around) order limit)
+          ≡ query_behind b at (body.means around) order limit
       by-asking true = refl
       by-asking false = refl
 
 module _ (c : Contents) (tree : QueryTree) (around : Around) (asking : Bool) where
   -- the query over its body
   abbrev pub body_meant : QueryMeant
-  body_meant = (set_of_tree c tree.body).means (around_body asking around)
+  body_meant = (set_of_tree c tree.body).means around
 
   abbrev pub meant : QueryMeant
   meant = query_behind asking tree.at body_meant tree.order tree.limit

@@ -20,4 +20,4 @@ JoinSeen m earlier old new scope (Err NoMemory) = Unit {0}
 
 -- all of a core's FROM
 abbrev pub input_of : Contents → Core → Around → FromMeant
-input_of c tree around = from_all around.outer around.trace (map (from_of c) (out-Core tree).sources)
+input_of c tree around = from_all around.outer (map (from_of c) (out-Core tree).sources)

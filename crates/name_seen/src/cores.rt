@@ -78,7 +78,7 @@ fn condition_seen(
 ) -> Result<(), Refusal>
     requires { IsSound around.now.catalog.now }
     ensures { ConditionSeen (optional_part around.now.catalog.now condition.now)
-        (optional_meant (in_clause scope.now (scopes_of around.now.outer.now) around.now.trace aggregates)
+        (optional_meant (in_clause scope.now (scopes_of around.now.outer.now) aggregates)
         (optional_part around.now.catalog.now condition.now))
         facts.old facts.new result }
 {
@@ -99,11 +99,11 @@ fn clause_kind(
 ) -> Result<Option<Kind>, Refusal>
     requires { IsSound around.now.catalog.now }
     ensures { ExpressionSeen (means_at (part_of around.now.catalog.now tree.now)
-        (in_clause scope.now (scopes_of around.now.outer.now) around.now.trace aggregates)) facts.old
+        (in_clause scope.now (scopes_of around.now.outer.now) aggregates)) facts.old
         facts.new result }
 {
     let scopes = inside(scope, false, around.outer)?;
-    let place = (&*around).seeing(&scopes, in_clause(around.trace, aggregates));
+    let place = (&*around).seeing(&scopes, in_clause(aggregates));
     expression_seen(tree, &place, facts)
 }
 
@@ -118,7 +118,7 @@ fn list_seen(
 ) -> Result<List<ShownColumn>, Refusal>
     requires { IsSound around.now.catalog.now }
     ensures { ListSeen (map (seen_at has_from scope.now
-        (in_clause scope.now (scopes_of around.now.outer.now) around.now.trace true))
+        (in_clause scope.now (scopes_of around.now.outer.now) true))
         (map (item_of around.now.catalog.now) items.now)) facts.old facts.new result }
 {
     let mut columns = List::new(around.alloc);
@@ -140,7 +140,7 @@ fn list_item(
 ) -> Result<(), Refusal>
     requires { IsSound around.now.catalog.now }
     ensures { ItemSeen (seen_at has_from scope.now
-        (in_clause scope.now (scopes_of around.now.outer.now) around.now.trace true)
+        (in_clause scope.now (scopes_of around.now.outer.now) true)
         (item_of around.now.catalog.now item.now)) columns.old columns.new facts.old facts.new result }
 {
     match item {

@@ -20,6 +20,6 @@ pub fn query_seen(tree: &QueryTree, around: &Around) -> Result<QueryShown, Refus
 {
     let asking = asks_provenance(&tree.body, around);
     let mut facts = Facts::none(around.alloc);
-    let columns = set_seen(&tree.body, &around.body(asking), &mut facts)?;
+    let columns = set_seen(&tree.body, around, &mut facts)?;
     query_over(around.alloc, tree.order.as_slice(), asking, columns, facts)
 }

@@ -7,7 +7,7 @@ ghost use Rattle.name_meaning.specs.Scopes.{ScopeItem, scope_of};
 ghost use Rattle.name_meaning.specs.Trees.{from_item_of, from_of, join_of, part_of, query_of, source_of};
 ghost use Rattle.name_seen_parts.specs.Named.{scopes_of};
 ghost use Rattle.name_seen_parts.specs.Seen.{first_or};
-ghost use Rattle.name_seen_parts.specs.Standing.{around_of, around_under};
+ghost use Rattle.name_seen_parts.specs.Standing.{around_in_from, around_of};
 ghost use Rattle.name_seen_parts.specs.Told.{Tells};
 ghost use Rattle.name_seen_from.specs.Queried.{FromSeen, FromWhole};
 ghost use Rattle.name_seen_from.specs.declared.facts.Facts.{Facts as Gathered};
@@ -32,7 +32,7 @@ pub fn from_scope(
     facts: &mut Facts,
 ) -> Result<Scope, Refusal>
     requires { IsSound around.now.catalog.now }
-    ensures { FromSeen (from_all (scopes_of around.now.outer.now) around.now.trace
+    ensures { FromSeen (from_all (scopes_of around.now.outer.now)
         (map (from_of around.now.catalog.now) sources.now)) [] facts.old facts.new result }
 {
     let mut scope = no_items(around.alloc);
@@ -52,8 +52,7 @@ fn source_items(
     facts: &mut Facts,
 ) -> Result<Scope, Refusal>
     requires { IsSound around.now.catalog.now }
-    ensures { FromSeen ((from_of around.now.catalog.now tree.now).means (scopes_of around.now.outer.now)
-        around.now.trace earlier.now) earlier.now facts.old facts.new result }
+    ensures { FromSeen ((from_of around.now.catalog.now tree.now).means (scopes_of around.now.outer.now) earlier.now) earlier.now facts.old facts.new result }
 {
     let mut scope = no_items(around.alloc);
     from_item(&tree.first, earlier, &mut scope, around, facts)?;
@@ -74,10 +73,9 @@ fn join_seen(
 ) -> Result<(), Refusal>
     requires { IsSound around.now.catalog.now }
     ensures { (left : FromMeant) (before : Gathered) → FromWhole left earlier.now before facts.old scope.old →
-        JoinSeen (join_item (scopes_of around.now.outer.now) around.now.trace left
+        JoinSeen (join_item (scopes_of around.now.outer.now) left
         (join_of around.now.catalog.now step.now)
-        ((join_of around.now.catalog.now step.now).item.means (scopes_of around.now.outer.now)
-        around.now.trace left.names))
+        ((join_of around.now.catalog.now step.now).item.means (scopes_of around.now.outer.now) left.names))
         earlier.now before facts.new scope.new result }
 {
     from_item(&step.item, earlier, scope, around, facts)?;
@@ -94,10 +92,10 @@ fn on_seen(condition: &ExprTree, scope: &Scope, around: &Around) -> Result<(), R
     ensures { (items : Items ScopeItem) → scope.now ≡ scope_of items →
         Tells (first_or (on_breaks (Some (part_of around.now.catalog.now condition.now))
         (Some (means_at (part_of around.now.catalog.now condition.now)
-        (in_on items (scopes_of around.now.outer.now) around.now.trace)))) tt) result }
+        (in_on items (scopes_of around.now.outer.now))))) tt) result }
 {
     let scopes = inside(scope, false, around.outer)?;
-    let place = (&*around).seeing(&scopes, in_on(around.trace));
+    let place = (&*around).seeing(&scopes, in_on());
     condition_over(condition.at, kind_of(condition, &place))
 }
 
@@ -111,37 +109,35 @@ fn from_item(
     facts: &mut Facts,
 ) -> Result<(), Refusal>
     requires { IsSound around.now.catalog.now }
-    ensures { ItemSeen ((from_item_of around.now.catalog.now item.now).means (scopes_of around.now.outer.now)
-        around.now.trace (earlier.now ++ scope.old.items))
+    ensures { ItemSeen ((from_item_of around.now.catalog.now item.now).means (scopes_of around.now.outer.now) (earlier.now ++ scope.old.items))
         scope.old facts.old facts.new scope.new result }
 {
-    let reading = read_source(&item.source, &item.mark, around)?;
+    let reading = read_source(&item.source, around)?;
     put_item(item, earlier, scope, around, reading, facts)
 }
 
-/// What an item with this mark reads, or its first break.
+/// What an item reads, or its first break.
 #[cycle(seen)]
-fn read_source(source: &FromSource, mark: &ScopeMark, around: &Around) -> Result<Reading, Refusal>
+fn read_source(source: &FromSource, around: &Around) -> Result<Reading, Refusal>
     requires { IsSound around.now.catalog.now }
-    ensures { ReadSeen (read_of around.now.catalog.now mark.now (scopes_of around.now.outer.now)
-        around.now.trace
+    ensures { ReadSeen (read_of around.now.catalog.now (scopes_of around.now.outer.now)
         (source_of around.now.catalog.now source.now)) result }
 {
     match source {
         FromSource::Named(name) => read_named(around.alloc, around.catalog, name),
-        FromSource::Inner(query) => read_inner(query.get(), mark, around),
+        FromSource::Inner(query) => read_inner(query.get(), around),
     }
 }
 
-/// What a subquery under this mark gives to FROM, or its first break: it sees the scopes around its core, and no item
+/// What a subquery gives to FROM, or its first break: it sees the scopes around its core, and no item
 /// beside it.
 #[cycle(seen)]
-fn read_inner(query: &QueryTree, mark: &ScopeMark, around: &Around) -> Result<Reading, Refusal>
+fn read_inner(query: &QueryTree, around: &Around) -> Result<Reading, Refusal>
     requires { IsSound around.now.catalog.now }
     ensures { ReadSeen (read_query (query_means_at (query_of around.now.catalog.now query.now)
-        (around_under mark.now (around_of around.now)))) result }
+        (around_in_from (around_of around.now)))) result }
 {
-    match query_seen(query, &around.under(mark)) {
+    match query_seen(query, &around.in_from()) {
         Ok(shown) => Ok(read_shown(around.alloc, shown)?),
         Err(refusal) => Err(refusal),
     }

@@ -3,7 +3,6 @@ use Rattle.std.specs.Prelude.{◌≡◌, ℕ, Bool, true, false, cond, List, [],
 use Rattle.std.specs.Option.{option_map_or}
 use Rattle.std.proofs.Common.{refl, ap, sym, ◌∙◌}
 use Rattle.bag_algebra.specs.built.Openings.{Distinct-is, Project_with-is}
-use Rattle.bag_algebra.specs.Scoped.{is_table}
 use Rattle.bag_algebra.specs.declared.expr.Item.{Item}
 use Rattle.bag_algebra.specs.declared.query.Aggr.{Aggr}
 use Rattle.bag_algebra.specs.declared.query.Query.{Query}
@@ -11,14 +10,13 @@ use Rattle.bag_algebra.specs.declared.query.Query.TheVariants.{Project}
 use Rattle.bag_algebra.specs.declared.query.Sublink.{Sublink}
 use Rattle.perm_values.specs.declared.kind.Kind.{Kind}
 use Rattle.sql_tree.specs.declared.name.ColRef.{ColRef}
-use Rattle.name_meaning.specs.Cores.{Clauses, aggregated_input, before_list, clauses_query, core_clauses, core_over, core_seen, core_trace, core_unlooked, distinct_if, filtered, group_break, group_scope, in_clause, list_columns, optional_breaks, optional_built, optional_meant, settle_known, word_breaks}
+use Rattle.name_meaning.specs.Cores.{Clauses, aggregated_input, before_list, clauses_query, core_clauses, core_over, core_seen, core_unlooked, distinct_if, filtered, group_break, group_scope, in_clause, list_columns, optional_breaks, optional_built, optional_meant, settle_known, word_breaks}
 use Rattle.name_meaning.specs.Froms.{FromMeant}
 use Rattle.name_meaning.specs.Items.{Made, SelectPart, items_breaks, made_items, named_from}
 use Rattle.name_meaning.specs.Meanings.{Around, Meant, Part, QueryMeant, is_whole}
 use Rattle.name_meaning.specs.Scopes.{ScopeItem, scope_of}
 use Rattle.name_meaning.specs.declared.answer.Break.{Break}
 use Rattle.name_meaning.specs.declared.scope.Scope.{Scope}
-use Rattle.name_meaning.specs.declared.trace.Trace.{Trace}
 use Rattle.name_laws.specs.Facts.{Facts, both_facts, facts_of, sub_facts}
 use Rattle.name_laws.proofs.FactsOf.{both_facts-assoc, both_facts-none, facts-Filter, facts-Project, facts-aggregated, facts-distinct_if}
 use Rattle.name_seen_parts.specs.Seen.{first_or}
@@ -73,41 +71,25 @@ adds-clauses k is_distinct wanted before from where_ having new first second thi
       added : (old middle new a b : Facts) → middle ≡ both_facts old a → new ≡ both_facts middle b → new ≡ both_facts old (both_facts a b)
       added old middle new a b first second = second ∙ ap (λ (facts : Facts). both_facts facts b) first ∙ both_facts-assoc old a b
 
--- ---- a core is no table
-
-project-inner : (input : Query) (items : List Item) (subs : List Sublink) → is_table (Project input items subs) ≡ false
-project-inner input items subs = ap is_table (Project_with-is input items subs)
-
-distinct-inner : (is_distinct : Bool) (query : Query) → is_table query ≡ false → is_table (distinct_if is_distinct query) ≡ false
-distinct-inner true query inner = ap is_table (Distinct-is query)
-distinct-inner false query inner = inner
-
 -- ---- the word PROVENANCE
 
 pub word-fine : (around : Around) (word : Option ℕ) → first_or (word_breaks around word) (tt {0}) ≡ Ok (tt {0}) → word_breaks around word ≡ []
 word-fine around word fine = none-broken (word_breaks around word) tt tt fine
 
-pub trace-kept : (around : Around) (word : Option ℕ) → first_or (word_breaks around word) (tt {0}) ≡ Ok (tt {0}) → core_trace around word ≡ around.trace
-trace-kept around word fine = by-word around.may_ask word refl fine where
-  by-word : (may_ask : Bool) (word : Option ℕ) → around.may_ask ≡ may_ask → first_or (word_breaks around word) (tt {0}) ≡ Ok (tt {0}) → core_trace around word ≡ around.trace
-  by-word true word e fine = rw e refl
-  by-word false None e fine = rw e refl
-  by-word false (Some at) e fine = absurd (cc (rw e at fine))
-
 -- ---- FROM
 
-abbrev over_known : Around → FromMeant → Bool → Bool → List SelectPart → Option Part → List ColRef → Option Part → Trace → List Break → Option (List ScopeItem) → QueryMeant
-over_known around input has_from is_distinct items condition groups having trace words known =
-    core_over around.outer trace words input has_from is_distinct items condition groups having (option_map_or (λ known. known) known [])
+abbrev over_known : Around → FromMeant → Bool → Bool → List SelectPart → Option Part → List ColRef → Option Part → List Break → Option (List ScopeItem) → QueryMeant
+over_known around input has_from is_distinct items condition groups having words known =
+    core_over around.outer words input has_from is_distinct items condition groups having (option_map_or (λ known. known) known [])
 
 pub looked : (around : Around) (word : Option ℕ) (input : FromMeant) (has_from is_distinct : Bool) (items : List SelectPart) (condition : Option Part) (groups : List ColRef)
-    (having : Option Part) (known : List ScopeItem) → input.breaks ≡ [] → input.items ≡ Some known → word_breaks around word ≡ [] → core_trace around word ≡ around.trace
+    (having : Option Part) (known : List ScopeItem) → input.breaks ≡ [] → input.items ≡ Some known → word_breaks around word ≡ []
     → core_seen around word input has_from is_distinct items condition groups having
-    ≡ core_over around.outer around.trace [] input has_from is_distinct items condition groups having known
-looked around word input has_from is_distinct items condition groups having known whole is fine kept =
+    ≡ core_over around.outer [] input has_from is_distinct items condition groups having known
+looked around word input has_from is_distinct items condition groups having known whole is fine =
     let over = over_known around input has_from is_distinct items condition groups having in
-    ap (λ (breaks : List Break). cond (is_whole breaks) (over (core_trace around word) (word_breaks around word) input.items) (core_unlooked (word_breaks around word) input)) whole
-    ∙ (λ at. over (kept at) (fine at) (is at))
+    ap (λ (breaks : List Break). cond (is_whole breaks) (over (word_breaks around word) input.items) (core_unlooked (word_breaks around word) input)) whole
+    ∙ (λ at. over (fine at) (is at))
 
 not-whole : (breaks : List Break) (b : Break) → first_or breaks (tt {0}) ≡ Err b → is_whole breaks ≡ false
 not-whole [] b broken = absurd (cc broken)
@@ -118,7 +100,7 @@ pub unlooked-breaks : (around : Around) (word : Option ℕ) (input : FromMeant) 
     → first_or (core_seen around word input has_from is_distinct items condition groups having).breaks (tt {0}) ≡ Err b
 unlooked-breaks around word input has_from is_distinct items condition groups having b fine broken =
     let over = over_known around input has_from is_distinct items condition groups having in
-    ap (λ (whole : Bool). first_or (cond whole (over (core_trace around word) (word_breaks around word) input.items) (core_unlooked (word_breaks around word) input)).breaks tt)
+    ap (λ (whole : Bool). first_or (cond whole (over (word_breaks around word) input.items) (core_unlooked (word_breaks around word) input)).breaks tt)
     (not-whole input.breaks b broken)
     ∙ first-behind (word_breaks around word) input.breaks tt fine ∙ broken
 
@@ -127,7 +109,7 @@ pub word-breaks : (around : Around) (word : Option ℕ) (input : FromMeant) (has
     → first_or (core_seen around word input has_from is_distinct items condition groups having).breaks (tt {0}) ≡ Err b
 word-breaks around word input has_from is_distinct items condition groups having b broken = by-whole (is_whole input.breaks) where
   by-whole : (whole : Bool)
-      → first_or (cond whole (over_known around input has_from is_distinct items condition groups having (core_trace around word) (word_breaks around word) input.items)
+      → first_or (cond whole (over_known around input has_from is_distinct items condition groups having (word_breaks around word) input.items)
       (core_unlooked (word_breaks around word) input)).breaks (tt {0}) ≡ Err b
   by-whole true = first-stays (word_breaks around word) _ (tt {0}) (tt {0}) b broken
   by-whole false = first-stays (word_breaks around word) input.breaks (tt {0}) (tt {0}) b broken
@@ -158,21 +140,20 @@ list-breaks first second third fourth b none nothing empty broken =
 pub core-whole : (around : Around) (input : FromMeant) (has_from is_distinct : Bool) (parts : List SelectPart) (condition : Option Part) (groups : List ColRef)
     (having : Option Part) (items : List ScopeItem) (before from behind_where behind_having new : Gathered) (columns : List ShownColumn)
     → facts_in from ≡ both_facts (facts_in before) (facts_of input.query)
-    → ConditionWhole condition (optional_meant (in_clause (scope_of items) around.outer around.trace false) condition) from behind_where
+    → ConditionWhole condition (optional_meant (in_clause (scope_of items) around.outer false) condition) from behind_where
     → flat_map (group_break (scope_of items)) groups ≡ []
-    → ConditionWhole having (optional_meant (in_clause (group_scope (scope_of items) groups having parts) around.outer around.trace true) having) behind_where behind_having
+    → ConditionWhole having (optional_meant (in_clause (group_scope (scope_of items) groups having parts) around.outer true) having) behind_where behind_having
     → ListWhole (map (seen_at has_from (group_scope (scope_of items) groups having parts)
-    (in_clause (group_scope (scope_of items) groups having parts) around.outer around.trace true)) parts) behind_having new columns
-    → ColumnsWhole (core_over around.outer around.trace [] input has_from is_distinct parts condition groups having items) before new columns
+    (in_clause (group_scope (scope_of items) groups having parts) around.outer true)) parts) behind_having new columns
+    → ColumnsWhole (core_over around.outer [] input has_from is_distinct parts condition groups having items) before new columns
 core-whole around input has_from is_distinct parts condition groups having items before from behind_where behind_having new columns first second none third list =
     let own : Scope = scope_of items in
     let grouped : Scope = group_scope own groups having parts in
-    let k : Clauses = core_clauses (in_clause own around.outer around.trace false) (in_clause grouped around.outer around.trace true) grouped has_from input condition having parts in
+    let k : Clauses = core_clauses (in_clause own around.outer false) (in_clause grouped around.outer true) grouped has_from input condition having parts in
     record {
       whole = both-none (optional_breaks condition k.where_meant ++ flat_map (group_break own) groups ++ optional_breaks having k.having_meant) (items_breaks k.list)
           (all-none (optional_breaks condition k.where_meant) (flat_map (group_break own) groups) (optional_breaks having k.having_meant) second.whole none third.whole) list.whole;
       known = ap (option_map (named_from 1)) list.known ∙ ap Some (sym list.shown);
-      inner = λ wanted. distinct-inner is_distinct _ (project-inner _ _ _);
       adds = λ wanted. adds-clauses k is_distinct wanted (facts_in before) (facts_in from) (facts_in behind_where) (facts_in behind_having) (facts_in new)
           first second.adds third.adds (list.adds (settle_known (list_columns k) wanted) (before_list k));
     }

@@ -7,7 +7,6 @@ use Rattle.std.proofs.lemmas.List.{length-map}
 use Rattle.bag_algebra.specs.built.Openings.{Except-is, Intersect-is, Limit-is, Prov-is, Union-is}
 use Rattle.bag_algebra.specs.Kinds.{kinds_of, place_kinds, shape}
 use Rattle.bag_algebra.specs.PlaceNames.{place_names}
-use Rattle.bag_algebra.specs.Scoped.{is_table}
 use Rattle.bag_algebra.specs.declared.place.Place.{Place}
 use Rattle.bag_algebra.specs.declared.query.Query.{Query}
 use Rattle.perm_values.specs.declared.key.Key.{Key}
@@ -20,7 +19,7 @@ use Rattle.name_meaning.specs.Froms.{named_columns}
 use Rattle.name_meaning.specs.Meanings.{Around, OutColumn, QueryMeant}
 use Rattle.name_meaning.specs.Queries.{SetStepPart, columns_so_far, keys_breaks, keys_of, limited, operand_break, operand_breaks, out_column, plain_query, columns_with_provenance, set_chain, set_joined, set_of, united_columns, may_not_ask}
 use Rattle.name_meaning.specs.declared.answer.Break.{Break}
-use Rattle.name_laws.specs.Facts.{Facts, both_facts, facts_of, no_facts, provenance_facts}
+use Rattle.name_laws.specs.Facts.{Facts, both_facts, facts_of, no_facts}
 use Rattle.name_laws.specs.Known.{HasItsKinds}
 use Rattle.name_laws.proofs.FactsOf.{both_facts-assoc, facts-Prov, facts-set, facts-limited}
 use Rattle.name_seen_parts.specs.Seen.{first_or}
@@ -38,11 +37,6 @@ use Rattle.name_laws.proofs.KindsOf.{columns-joined, known-proved}
 
 -- ---- set operations
 
-set-inner : (op : SetWord) (all : Bool) (left right : Query) → is_table (set_of op all left right) ≡ false
-set-inner word.Union all left right = ap is_table (Union-is all left right)
-set-inner word.Except all left right = ap is_table (Except-is all left right)
-set-inner word.Intersect all left right = ap is_table (Intersect-is all left right)
-
 operands-are : (at : ℕ) (l r : Option (List OutColumn)) (left right : List OutColumn) → l ≡ Some left → r ≡ Some right
     → operand_breaks at l r ≡ operand_break at left right
 operands-are at l r left right e f = λ i. operand_breaks at (e i) (f i)
@@ -56,7 +50,6 @@ joined-whole before step operand old middle new left right columns first second 
       whole = all-none before.breaks operand.breaks (operand_breaks step.at before.columns operand.columns) first.whole second.whole
           (operands-are step.at before.columns operand.columns (columns_of left) (columns_of right) first.known second.known ∙ fits);
       known = columns-joined before.columns operand.columns (columns_of left) (columns_of right) first.known second.known ∙ ap Some (sym united);
-      inner = λ wanted. set-inner step.word step.all (before.make (kinds wanted)) (operand.make (kinds wanted));
       adds = λ wanted.
           second.adds (kinds wanted)
           ∙ ap (λ (facts : Facts). both_facts facts (facts_of (operand.make (kinds wanted)))) (first.adds (kinds wanted))
@@ -104,15 +97,10 @@ pub shown-whole : (m : QueryMeant) (shown : QueryShown) (old new : Gathered) →
 shown-whole m shown old new query added = record {
   whole = query.whole;
   known = query.known;
-  inner = query.inner;
   adds = λ wanted. added ∙ ap (both_facts (facts_in old)) (query.facts wanted);
 }
 
 -- ---- ORDER BY and LIMIT
-
-limited-inner : (limit : Option ℤ) (keys : List Key) (query : Query) → is_table query ≡ false → is_table (limited limit keys query) ≡ false
-limited-inner None keys query inner = inner
-limited-inner (Some n) keys query inner = ap is_table (Limit-is query keys (nat_abs n))
 
 -- the facts of a body, where none stand before them
 body-facts : (body : QueryMeant) (none facts : Gathered) (columns : List ShownColumn) (limit : Option ℤ) (keys : List Key) (wanted : List Kind) → facts_in none ≡ no_facts
@@ -150,7 +138,6 @@ plain-whole at body order limit none facts columns empty is fine kinds =
     record {
       whole = whole;
       known = is.known;
-      inner = λ wanted. limited-inner limit (keys_of body.columns order) (body.make wanted) (is.inner wanted);
       kinds = kinds-are (plain_query at body order limit) (columns_of columns) (kinds whole) is.known;
       places = refl;
       facts = λ wanted. body-facts body none facts columns limit (keys_of body.columns order) wanted empty is;
@@ -179,11 +166,9 @@ proved-whole at body order limit none facts columns shown empty is fine kinds be
     record {
       whole = whole;
       known = known;
-      inner = λ wanted. ap is_table (Prov-is (limited limit keys (body.make wanted)));
       kinds = kinds-are (query_behind true at body order limit) (columns_of shown.columns) (kinds whole) known;
       places = (λ i. Some (range_with_len (count i) (length (place_kinds (sym places i))))) ∙ sym behind.places;
-      facts = λ wanted. behind.proved ∙ ap provenance_facts (body-facts body none facts columns limit keys wanted empty is)
-          ∙ sym (facts-Prov (limited limit keys (body.make wanted)));
+      facts = λ wanted. behind.proved ∙ sym (facts-Prov (limited limit keys (body.make wanted)));
     }
 
 -- ---- as a query asks for its provenance or not

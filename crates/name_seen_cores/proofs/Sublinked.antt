@@ -12,7 +12,7 @@ use Rattle.name_meaning.specs.Sublinks.{aggregate_kind, aggregate_meant, aggrega
 use Rattle.name_meaning.specs.Trees.{query_of}
 use Rattle.name_meaning.specs.declared.answer.Break.{Break}
 use Rattle.name_meaning.proofs.Equations.{token, querytree-record}
-use Rattle.name_laws.specs.Facts.{Facts, as_sublink, both_facts, facts_of}
+use Rattle.name_laws.specs.Facts.{Facts, both_facts, facts_of}
 use Rattle.name_laws.proofs.FactsOf.{both_facts-none}
 use Rattle.name_seen_parts.specs.Seen.{IsSeenAs, first_or, seen}
 use Rattle.name_seen_parts.specs.declared.refusal.Refusal.{Refusal}
@@ -42,8 +42,8 @@ first-so (x ∷ xs) v w first e =
 -- ---- over a query
 
 one-sublink : (q : QueryMeant) (old new : Gathered) (inner : InnerColumns) → InnerIs q old new inner → (wanted : List Kind)
-    → facts_in new ≡ both_facts (facts_in old) (both_facts (as_sublink (facts_of (q.make wanted))) (record { places = []; over_tables = true; traceable = true }))
-one-sublink q old new inner is wanted = is.adds wanted ∙ ap (both_facts (facts_in old)) (sym (both_facts-none (as_sublink (facts_of (q.make wanted)))))
+    → facts_in new ≡ both_facts (facts_in old) (both_facts (facts_of (q.make wanted)) (record { places = [] }))
+one-sublink q old new inner is wanted = is.adds wanted ∙ ap (both_facts (facts_in old)) (sym (both_facts-none (facts_of (q.make wanted))))
 
 pub exists-seen : (here : Surroundings) (at : ℕ) (q : QueryMeant) (old new : Gathered) (r : Result InnerColumns Refusal) → InnerSeen q old new r
     → ExpressionSeen (exists_meant here at q) old new (exists_over r)
@@ -108,13 +108,13 @@ kind_known columns = elim columns [ None ↦ None | Some columns ↦ elim column
 
 pub inner-is : (q : QueryMeant) (shown : QueryShown) (old new : Gathered) (inner : InnerColumns) → QueryWhole q shown
     → inner.one ≡ nat_eq (length shown.columns) 1 → inner.kind ≡ first_shown shown.columns
-    → facts_in new ≡ both_facts (facts_in old) (as_sublink (facts_in shown.facts)) → InnerIs q old new inner
+    → facts_in new ≡ both_facts (facts_in old) (facts_in shown.facts) → InnerIs q old new inner
 inner-is q shown old new inner whole one first added = record {
   whole = whole.whole;
   one = ap is_one_column whole.known ∙ ap (λ (n : ℕ). nat_eq n 1) (length-shown shown.columns) ∙ sym one;
   kind = ap (λ (breaks : List Break). cond (is_whole breaks) (kind_known q.columns) None) whole.whole ∙ ap kind_known whole.known
       ∙ first-is shown.columns ∙ sym first;
-  adds = λ wanted. added ∙ ap (λ (facts : Facts). both_facts (facts_in old) (as_sublink facts)) (whole.facts wanted);
+  adds = λ wanted. added ∙ ap (λ (facts : Facts). both_facts (facts_in old) facts) (whole.facts wanted);
 }
 
 pub inner-refused : (q : QueryMeant) (old new : Gathered) (refusal : Refusal) → QuerySeen q (Err refusal) → InnerSeen q old new (Err refusal)

@@ -16,7 +16,7 @@ use Rattle.name_meaning.specs.Queries.{keys_of, limited, operand_break, out_colu
 use Rattle.name_meaning.specs.Scopes.{ScopeItem}
 use Rattle.name_meaning.specs.Trees.{from_of, item_of, part_of}
 use Rattle.name_meaning.specs.declared.scope.Scope.{Scope}
-use Rattle.name_laws.specs.Facts.{both_facts, provenance_facts, sub_facts}
+use Rattle.name_laws.specs.Facts.{both_facts, no_facts, sub_facts}
 use Rattle.name_seen_parts.specs.Seen.{first_or}
 use Rattle.name_seen_parts.specs.declared.refusal.Refusal.{Refusal}
 use Rattle.name_seen_parts.specs.declared.refusal.Refusal.TheVariants.{Break as Broken, NoMemory}
@@ -56,7 +56,7 @@ is_aggregating item = item.aggregating
 
 -- a core over these items, the word PROVENANCE at its place
 abbrev pub core_behind : Contents → Core → Around → FromMeant → List ScopeItem → QueryMeant
-core_behind c tree around input items = core_over around.outer around.trace [] input (has_some (map (from_of c) (out-Core tree).sources)) (out-Core tree).distinct
+core_behind c tree around input items = core_over around.outer [] input (has_some (map (from_of c) (out-Core tree).sources)) (out-Core tree).distinct
     (map (item_of c) (out-Core tree).items) (optional_part c (out-Core tree).condition) (out-Core tree).groups (optional_part c (out-Core tree).having) items
 
 -- ---- set operations
@@ -79,4 +79,4 @@ query_behind true at body order limit = query_with_provenance at body order limi
 pub record PlacesBehind (columns : List ShownColumn) (facts : Gathered) (query : QueryShown) : Type 0 where
   pub shown : columns_of query.columns ≡ columns_of columns ++ map out_column (named_columns (place_names facts.places) (place_kinds facts.places))
   pub places : query.places ≡ Some (range_with_len (length columns) (length (place_kinds facts.places)))
-  pub proved : facts_in query.facts ≡ provenance_facts (facts_in facts)
+  pub proved : facts_in query.facts ≡ no_facts

@@ -4,7 +4,7 @@ use Rattle.perm_values.specs.declared.kind.Kind.{Kind}
 use Rattle.perm_values.specs.declared.kind.Kind.TheVariants as kind
 use Rattle.name_meaning.specs.Meanings.{QueryMeant, broken, broken_if, unites}
 use Rattle.name_meaning.specs.Sublinks.{is_one_column, first_kind}
-use Rattle.name_laws.specs.Facts.{facts_of, both_facts, as_sublink}
+use Rattle.name_laws.specs.Facts.{facts_of, both_facts}
 use Rattle.name_seen_parts.specs.Seen.{first_or}
 use Rattle.name_seen_parts.specs.declared.refusal.Refusal.{Refusal}
 use Rattle.name_seen_parts.specs.declared.refusal.Refusal.TheVariants.{Break as Broken, NoMemory}
@@ -24,7 +24,7 @@ pub record InnerIs (q : QueryMeant) (old new : Gathered) (inner : InnerColumns) 
   pub whole : q.breaks ≡ []
   pub one : is_one_column q.columns ≡ inner.one
   pub kind : first_kind q ≡ inner.kind
-  pub adds : (wanted : List Kind) → facts_in new ≡ both_facts (facts_in old) (as_sublink (facts_of (q.make wanted)))
+  pub adds : (wanted : List Kind) → facts_in new ≡ both_facts (facts_in old) (facts_of (q.make wanted))
 
 abbrev pub InnerSeen : QueryMeant → Gathered → Gathered → Result InnerColumns Refusal → Type 0
 InnerSeen q old new (Ok inner) = InnerIs q old new inner

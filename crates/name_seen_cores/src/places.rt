@@ -23,8 +23,7 @@ pub(crate) fn with_places(
 ) -> Result<QueryShown, NoMemory>
     ensures { IfOk result (PlacesBehind columns facts) }
 {
-    let traceable = facts.traceable;
-    let Facts { places, .. } = facts;
+    let Facts { places } = facts;
     let list = PlaceList { places };
     let Ok(places) = add_places(alloc, &mut columns, &list) else {
         drop(columns);
@@ -33,7 +32,7 @@ pub(crate) fn with_places(
     Ok(QueryShown {
         columns,
         places: Some(places),
-        facts: Facts::proved(alloc, traceable),
+        facts: Facts::none(alloc),
     })
 }
 

@@ -6,16 +6,14 @@ ghost use Rattle.name_meaning.specs.Scopes.{ScopeItem, scope_of};
 ghost use Rattle.name_meaning.specs.declared.scope.Scope.{Scope as Seen};
 ghost use Rattle.name_seen_parts.specs.Standing.{standing_in};
 
-use name_meaning::Trace;
 use name_seen_parts::Standing;
 
 /// How an expression stands in a clause of a core, where an aggregate may stand or not.
-pub fn in_clause(trace: Trace, aggregates: bool) -> Standing
+pub fn in_clause(aggregates: bool) -> Standing
     ensures { (scope : Seen) (outer : Items Seen) → standing_in (scope ∷ outer) result
-        ≡ in_clause scope outer trace aggregates }
+        ≡ in_clause scope outer aggregates }
 {
     Standing {
-        trace,
         aggregates,
         sublinks: true,
         argument: false,
@@ -23,12 +21,11 @@ pub fn in_clause(trace: Trace, aggregates: bool) -> Standing
 }
 
 /// How the condition of a join stands: with neither aggregates nor sublinks.
-pub fn in_on(trace: Trace) -> Standing
+pub fn in_on() -> Standing
     ensures { (items : Items ScopeItem) (outer : Items Seen) → standing_in (scope_of items ∷ outer) result
-        ≡ in_on items outer trace }
+        ≡ in_on items outer }
 {
     Standing {
-        trace,
         aggregates: false,
         sublinks: false,
         argument: false,

@@ -26,7 +26,7 @@ pub fn add_inner(shown: QueryShown, facts: &mut Facts) -> Result<InnerColumns, R
     let one = is_one(shown.columns.as_slice());
     let kind = first_shown(shown.columns.as_slice());
     let QueryShown { facts: own, .. } = shown;
-    match facts.add(own.as_sublink()) {
+    match facts.add(own) {
         Ok(()) => Ok(InnerColumns { one, kind }),
         Err(_) => Err(Refusal::NoMemory),
     }

@@ -1,9 +1,8 @@
 -- What the code finds of items of FROM is what these mean.
-use Rattle.std.specs.Prelude.{◌≡◌, ℕ, Bool, List, [], ◌∷◌, ◌++◌, Option, Some, Err}
+use Rattle.std.specs.Prelude.{◌≡◌, ℕ, List, [], ◌∷◌, ◌++◌, Option, Some, Err}
 use Rattle.std.specs.Option.{option_map_or}
 use Rattle.std.proofs.Common.{refl, ap, sym, subst, ◌∙◌}
 use Rattle.bag_algebra.specs.Kinds.{kinds_of, kinds_in}
-use Rattle.bag_algebra.specs.Scoped.{is_table}
 use Rattle.bag_algebra.specs.declared.query.JoinKind.TheVariants as join
 use Rattle.bag_algebra.specs.declared.query.Label.{Label}
 use Rattle.bag_algebra.specs.declared.query.Label.TheVariants.{Relation, External}
@@ -16,7 +15,6 @@ use Rattle.name_meaning.specs.Froms.{FromMeant, FromPart, Read, all_places, besi
 use Rattle.name_meaning.specs.Scopes.{KnownColumn, ScopeItem, scope_of}
 use Rattle.name_meaning.specs.declared.answer.Break.{Break}
 use Rattle.name_meaning.specs.declared.scope.Scope.{Scope}
-use Rattle.name_meaning.specs.declared.trace.Trace.{Trace}
 use Rattle.name_laws.specs.Facts.{Facts, facts_of, both_facts, source_facts}
 use Rattle.name_laws.proofs.FactsOf.{facts-Base, facts-Join_alone, both_facts-assoc, both_facts-none}
 use Rattle.name_seen_parts.specs.Seen.{first_or}
@@ -34,27 +32,26 @@ use Rattle.name_seen_parts.proofs.Scoping.{scope-beside-is, all-behind}
 
 -- ---- marks
 
-pub facts-based : (query : Query) (places : List ℕ) (label : Label) (kinds : List Kind) (reads_table : Bool) → kinds_of query ≡ kinds → is_table query ≡ reads_table
-    → facts_of (Base query places label) ≡ source_facts (record { label = label; kinds = kinds_in kinds places }) reads_table
-facts-based query places label kinds reads_table same is =
+pub facts-based : (query : Query) (places : List ℕ) (label : Label) (kinds : List Kind) → kinds_of query ≡ kinds
+    → facts_of (Base query places label) ≡ source_facts (record { label = label; kinds = kinds_in kinds places })
+facts-based query places label kinds same =
     facts-Base query places label
-    ∙ ap (λ (ks : List Kind). source_facts (record { label = label; kinds = kinds_in ks places }) (is_table query)) same
-    ∙ ap (λ (b : Bool). source_facts (record { label = label; kinds = kinds_in kinds places }) b) is
+    ∙ ap (λ (ks : List Kind). source_facts (record { label = label; kinds = kinds_in ks places })) same
 
 pub names-read : (read : Read) (reading : Reading) → IsRead read reading → read_names read ≡ known_names reading.columns
 names-read read reading is = ap (λ (columns : Option (List KnownColumn)). option_map_or names_of columns []) is.columns
 
 pub marked-is : (mark : ScopeMark) (label : List ℕ) (read : Read) (reading : Reading) → IsRead read reading
     → facts_of (marked mark label (read_names read) read)
-    ≡ marked_facts mark label (known_names reading.columns) reading.kinds reading.is_table (facts_in reading.plain)
+    ≡ marked_facts mark label (known_names reading.columns) reading.kinds (facts_in reading.plain)
 marked-is mark.Plain label read reading is = is.plain
 marked-is mark.BaseRelation label read reading is =
-    facts-based read.query (all_places (read_names read)) (Relation label (read_names read)) reading.kinds reading.is_table is.kinds is.table
-    ∙ ap (λ (names : List (List ℕ)). source_facts (record { label = Relation label names; kinds = kinds_in reading.kinds (all_places names) }) reading.is_table)
+    facts-based read.query (all_places (read_names read)) (Relation label (read_names read)) reading.kinds is.kinds
+    ∙ ap (λ (names : List (List ℕ)). source_facts (record { label = Relation label names; kinds = kinds_in reading.kinds (all_places names) }))
     (names-read read reading is)
 marked-is (mark.External attributes) label read reading is =
-    facts-based read.query (places_of (read_names read) attributes) (External (texts_of attributes)) reading.kinds reading.is_table is.kinds is.table
-    ∙ ap (λ (names : List (List ℕ)). source_facts (record { label = External (texts_of attributes); kinds = kinds_in reading.kinds (places_of names attributes) }) reading.is_table)
+    facts-based read.query (places_of (read_names read) attributes) (External (texts_of attributes)) reading.kinds is.kinds
+    ∙ ap (λ (names : List (List ℕ)). source_facts (record { label = External (texts_of attributes); kinds = kinds_in reading.kinds (places_of names attributes) }))
     (names-read read reading is)
 
 -- ---- sources side by side
@@ -99,40 +96,40 @@ alone-whole m old middle new l r scope first second is =
     }
 
 -- all sources so far, and one more
-pub source-behind : (outer : List Scope) (trace : Trace) (parts : List FromPart) (part : FromPart) (old middle new : Gathered) (l r scope : Scope)
-    → FromWhole (from_all outer trace parts) [] old middle l → FromWhole (part.means outer trace l.items) l.items middle new r → scope ≡ scope_beside l r
-    → FromWhole (from_all outer trace (parts ++ part ∷ [])) [] old new scope
-source-behind outer trace [] part old middle new l r scope first second is =
+pub source-behind : (outer : List Scope) (parts : List FromPart) (part : FromPart) (old middle new : Gathered) (l r scope : Scope)
+    → FromWhole (from_all outer parts) [] old middle l → FromWhole (part.means outer l.items) l.items middle new r → scope ≡ scope_beside l r
+    → FromWhole (from_all outer (parts ++ part ∷ [])) [] old new scope
+source-behind outer [] part old middle new l r scope first second is =
     let none : l.items ≡ [] = sym first.names in
-    subst (λ (names : List (List ℕ)). FromWhole (part.means outer trace names) [] old new scope) none
-    (alone-whole (part.means outer trace l.items) old middle new l r scope first second is)
-source-behind outer trace (p ∷ parts) part old middle new l r scope first second is =
-    subst (λ (m : FromMeant). FromWhole m [] old new scope) (sym (all-behind outer trace p parts part))
-    (subst (λ (names : List (List ℕ)). FromWhole (beside_from (from_all outer trace (p ∷ parts)) (part.means outer trace names)) [] old new scope) (sym first.names)
-    (beside-whole (from_all outer trace (p ∷ parts)) (part.means outer trace l.items) old middle new l r scope first second is))
+    subst (λ (names : List (List ℕ)). FromWhole (part.means outer names) [] old new scope) none
+    (alone-whole (part.means outer l.items) old middle new l r scope first second is)
+source-behind outer (p ∷ parts) part old middle new l r scope first second is =
+    subst (λ (m : FromMeant). FromWhole m [] old new scope) (sym (all-behind outer p parts part))
+    (subst (λ (names : List (List ℕ)). FromWhole (beside_from (from_all outer (p ∷ parts)) (part.means outer names)) [] old new scope) (sym first.names)
+    (beside-whole (from_all outer (p ∷ parts)) (part.means outer l.items) old middle new l r scope first second is))
 
 -- ---- a break stands
 
-stays-more : (outer : List Scope) (trace : Trace) (left : FromMeant) (parts : List FromPart) (b : Break) → first_or left.breaks (tt {0}) ≡ Err b
-    → first_or (from_more outer trace left parts).breaks (tt {0}) ≡ Err b
-stays-more outer trace left [] b e = e
-stays-more outer trace left (part ∷ parts) b e =
-    stays-more outer trace (beside_from left (part.means outer trace left.names)) parts b
-    (first-stays left.breaks (part.means outer trace left.names).breaks (tt {0}) (tt {0}) b e)
+stays-more : (outer : List Scope) (left : FromMeant) (parts : List FromPart) (b : Break) → first_or left.breaks (tt {0}) ≡ Err b
+    → first_or (from_more outer left parts).breaks (tt {0}) ≡ Err b
+stays-more outer left [] b e = e
+stays-more outer left (part ∷ parts) b e =
+    stays-more outer (beside_from left (part.means outer left.names)) parts b
+    (first-stays left.breaks (part.means outer left.names).breaks (tt {0}) (tt {0}) b e)
 
-more-so-far : (outer : List Scope) (trace : Trace) (left : FromMeant) (parts more : List FromPart)
-    → from_more outer trace left (parts ++ more) ≡ from_more outer trace (from_more outer trace left parts) more
-more-so-far outer trace left [] more = refl
-more-so-far outer trace left (part ∷ parts) more = more-so-far outer trace (beside_from left (part.means outer trace left.names)) parts more
+more-so-far : (outer : List Scope) (left : FromMeant) (parts more : List FromPart)
+    → from_more outer left (parts ++ more) ≡ from_more outer (from_more outer left parts) more
+more-so-far outer left [] more = refl
+more-so-far outer left (part ∷ parts) more = more-so-far outer (beside_from left (part.means outer left.names)) parts more
 
-pub source-breaks : (outer : List Scope) (trace : Trace) (parts : List FromPart) (part : FromPart) (more : List FromPart) (old middle : Gathered) (l : Scope) (b : Break)
-    → FromWhole (from_all outer trace parts) [] old middle l → first_or (part.means outer trace l.items).breaks (tt {0}) ≡ Err b
-    → first_or (from_all outer trace (parts ++ part ∷ more)).breaks (tt {0}) ≡ Err b
-source-breaks outer trace [] part more old middle l b first broken =
-    stays-more outer trace (part.means outer trace []) more b
-    (ap (λ (names : List (List ℕ)). first_or (part.means outer trace names).breaks (tt {0})) first.names ∙ broken)
-source-breaks outer trace (p ∷ parts) part more old middle l b first broken =
-    ap (λ (m : FromMeant). first_or m.breaks (tt {0})) (more-so-far outer trace (p.means outer trace []) parts (part ∷ more))
-    ∙ stays-more outer trace (beside_from (from_all outer trace (p ∷ parts)) (part.means outer trace (from_all outer trace (p ∷ parts)).names)) more b
-    (first-behind (from_all outer trace (p ∷ parts)).breaks (part.means outer trace (from_all outer trace (p ∷ parts)).names).breaks (tt {0}) first.whole
-    ∙ ap (λ (names : List (List ℕ)). first_or (part.means outer trace names).breaks (tt {0})) first.names ∙ broken)
+pub source-breaks : (outer : List Scope) (parts : List FromPart) (part : FromPart) (more : List FromPart) (old middle : Gathered) (l : Scope) (b : Break)
+    → FromWhole (from_all outer parts) [] old middle l → first_or (part.means outer l.items).breaks (tt {0}) ≡ Err b
+    → first_or (from_all outer (parts ++ part ∷ more)).breaks (tt {0}) ≡ Err b
+source-breaks outer [] part more old middle l b first broken =
+    stays-more outer (part.means outer []) more b
+    (ap (λ (names : List (List ℕ)). first_or (part.means outer names).breaks (tt {0})) first.names ∙ broken)
+source-breaks outer (p ∷ parts) part more old middle l b first broken =
+    ap (λ (m : FromMeant). first_or m.breaks (tt {0})) (more-so-far outer (p.means outer []) parts (part ∷ more))
+    ∙ stays-more outer (beside_from (from_all outer (p ∷ parts)) (part.means outer (from_all outer (p ∷ parts)).names)) more b
+    (first-behind (from_all outer (p ∷ parts)).breaks (part.means outer (from_all outer (p ∷ parts)).names).breaks (tt {0}) first.whole
+    ∙ ap (λ (names : List (List ℕ)). first_or (part.means outer names).breaks (tt {0})) first.names ∙ broken)

@@ -3,4 +3,4 @@ use Rattle.name_laws.specs.Facts.{Facts}
 use Rattle.name_seen_from.specs.declared.facts.Facts.{Facts as Gathered}
 
 abbrev pub facts_in : Gathered → Facts
-facts_in facts = record { places = facts.places; over_tables = facts.over_tables; traceable = facts.traceable }
+facts_in facts = record { places = facts.places }

@@ -1,5 +1,5 @@
 -- The facts of an item of FROM with a mark.
-use Rattle.std.specs.Prelude.{◌≡◌, ℕ, Bool, List}
+use Rattle.std.specs.Prelude.{◌≡◌, ℕ, List}
 use Rattle.bag_algebra.specs.Kinds.{kinds_in}
 use Rattle.bag_algebra.specs.declared.query.Label.TheVariants.{External}
 use Rattle.perm_values.specs.declared.kind.Kind.{Kind}
@@ -14,14 +14,13 @@ use Rattle.name_seen_from.specs.Readings.{relation_facts}
 use Rattle.name_seen_from.specs.declared.reading.Reading.{Reading}
 
 -- the facts of an item with a mark
-abbrev pub marked_facts : ScopeMark → List ℕ → List (List ℕ) → List Kind → Bool → Facts → Facts
-marked_facts mark.Plain label names kinds reads_table plain = plain
-marked_facts mark.BaseRelation label names kinds reads_table plain = relation_facts label names kinds reads_table
-marked_facts (mark.External attributes) label names kinds reads_table plain =
-    source_facts (record { label = External (texts_of attributes); kinds = kinds_in kinds (places_of names attributes) }) reads_table
+abbrev pub marked_facts : ScopeMark → List ℕ → List (List ℕ) → List Kind → Facts → Facts
+marked_facts mark.Plain label names kinds plain = plain
+marked_facts mark.BaseRelation label names kinds plain = relation_facts label names kinds
+marked_facts (mark.External attributes) label names kinds plain =
+    source_facts (record { label = External (texts_of attributes); kinds = kinds_in kinds (places_of names attributes) })
 
 -- what an item with a mark gives of what it reads: its facts are those of the mark
 pub record IsMarked (mark : ScopeMark) (label : List ℕ) (reading marked : Reading) : Type 0 where
   pub columns : marked.columns ≡ reading.columns
-  pub viewed : marked.viewed ≡ reading.viewed
-  pub plain : facts_in marked.plain ≡ marked_facts mark label (known_names reading.columns) reading.kinds reading.is_table (facts_in reading.plain)
+  pub plain : facts_in marked.plain ≡ marked_facts mark label (known_names reading.columns) reading.kinds (facts_in reading.plain)

@@ -1,8 +1,7 @@
 -- What the code answers of FROM, of a tree of set operations and of a query, or the first break.
-use Rattle.std.specs.Prelude.{◌≡◌, ℕ, false, List, [], ◌++◌, Some, Result, Ok, Err}
+use Rattle.std.specs.Prelude.{◌≡◌, ℕ, List, [], ◌++◌, Some, Result, Ok, Err}
 use Rattle.perm_values.specs.declared.kind.Kind.{Kind}
 use Rattle.bag_algebra.specs.Kinds.{kinds_of}
-use Rattle.bag_algebra.specs.Scoped.{is_table}
 use Rattle.name_meaning.specs.Cores.{settle}
 use Rattle.name_meaning.specs.Froms.{FromMeant}
 use Rattle.name_meaning.specs.Meanings.{QueryMeant}
@@ -41,7 +40,6 @@ FromSeen m earlier old new (Err NoMemory) = Unit {0}
 pub record ColumnsWhole (m : QueryMeant) (old new : Gathered) (columns : List ShownColumn) : Type 0 where
   pub whole : m.breaks ≡ []
   pub known : m.columns ≡ Some (columns_of columns)
-  pub inner : (wanted : List Kind) → is_table (m.make wanted) ≡ false
   pub adds : (wanted : List Kind) → facts_in new ≡ both_facts (facts_in old) (facts_of (m.make wanted))
 
 abbrev pub ColumnsSeen : QueryMeant → Gathered → Gathered → Result (List ShownColumn) Refusal → Type 0
@@ -54,7 +52,6 @@ ColumnsSeen m old new (Err NoMemory) = Unit {0}
 pub record QueryWhole (m : QueryMeant) (query : QueryShown) : Type 0 where
   pub whole : m.breaks ≡ []
   pub known : m.columns ≡ Some (columns_of query.columns)
-  pub inner : (wanted : List Kind) → is_table (m.make wanted) ≡ false
   pub kinds : (wanted : List Kind) → kinds_of (m.make wanted) ≡ settle (columns_of query.columns) wanted
   pub places : m.places ≡ query.places
   pub facts : (wanted : List Kind) → facts_in query.facts ≡ facts_of (m.make wanted)

@@ -1,9 +1,8 @@
 -- What the code finds of an item of FROM: what it reads, and the facts of that.
-use Rattle.std.specs.Prelude.{◌≡◌, ℕ, Bool, List, [], Some, Result, Ok, Err}
+use Rattle.std.specs.Prelude.{◌≡◌, ℕ, List, [], Some, Result, Ok, Err}
 use Rattle.perm_catalog.specs.declared.column.Column.{Column}
 use Rattle.perm_values.specs.declared.kind.Kind.{Kind}
 use Rattle.bag_algebra.specs.Kinds.{kinds_of, kinds_in}
-use Rattle.bag_algebra.specs.Scoped.{is_table}
 use Rattle.bag_algebra.specs.declared.query.Label.TheVariants.{Relation, External}
 use Rattle.name_meaning.specs.Froms.{Read, ItemMeant, table_columns, names_at, all_places}
 use Rattle.name_meaning.specs.declared.scope.Scope.{Scope}
@@ -22,8 +21,6 @@ pub record IsRead (read : Read) (reading : Reading) : Type 0 where
   pub whole : read.breaks ≡ []
   pub columns : read.columns ≡ Some (table_columns reading.columns)
   pub kinds : kinds_of read.query ≡ reading.kinds
-  pub table : is_table read.query ≡ reading.is_table
-  pub viewed : read.viewed ≡ reading.viewed
   pub plain : facts_of read.plain ≡ facts_in reading.plain
 
 abbrev pub ReadSeen : Read → Result Reading Refusal → Type 0
@@ -34,14 +31,14 @@ ReadSeen read (Err NoMemory) = Unit {0}
 -- ---- facts of sources
 
 -- a source of these places of something with these names and kinds
-abbrev pub external_facts : List (List ℕ) → List Kind → Bool → List ℕ → Facts
-external_facts names kinds reads_table places =
-    source_facts (record { label = External (names_at names places); kinds = kinds_in kinds places }) reads_table
+abbrev pub external_facts : List (List ℕ) → List Kind → List ℕ → Facts
+external_facts names kinds places =
+    source_facts (record { label = External (names_at names places); kinds = kinds_in kinds places })
 
 -- a source of all its columns
-abbrev pub relation_facts : List ℕ → List (List ℕ) → List Kind → Bool → Facts
-relation_facts label names kinds reads_table =
-    source_facts (record { label = Relation label names; kinds = kinds_in kinds (all_places names) }) reads_table
+abbrev pub relation_facts : List ℕ → List (List ℕ) → List Kind → Facts
+relation_facts label names kinds =
+    source_facts (record { label = Relation label names; kinds = kinds_in kinds (all_places names) })
 
 -- ---- items in scope
 

@@ -9,7 +9,7 @@ ghost use Rattle.name_seen_parts.specs.Scopes.{item_scope, scope_beside};
 ghost use Rattle.name_seen_from.specs.Readings.{IsRead, ItemSeen};
 
 use crate::facts::Facts;
-use crate::marks::{scope_break, with_mark};
+use crate::marks::with_mark;
 use crate::reading::Reading;
 use name_meaning::Scope;
 use name_seen_parts::{Around, Refusal, add_item, item_break, scope_name};
@@ -28,7 +28,7 @@ pub fn put_item(
     facts: &mut Facts,
 ) -> Result<(), Refusal>
     ensures { (c : Contents) (read : Read) → IsRead read reading →
-        ItemSeen (item_meant item.now.at item.now.mark around.now.trace (earlier.now
+        ItemSeen (item_meant item.now.at item.now.mark (earlier.now
         ++ scope.old.items) (scope_name (source_of c item.now.source) item.now.alias)
         (label_of (source_of c item.now.source) item.now.alias) read) scope.old facts.old facts.new scope.new
         result }
@@ -42,7 +42,6 @@ pub fn put_item(
         reading.columns.as_slice(),
     )?;
     let marked = with_mark(around.alloc, item, reading)?;
-    scope_break(around.trace, marked.viewed, &marked.plain, item.at)?;
     put_read(around.alloc, scope, name, marked, facts)?;
     Ok(())
 }
@@ -62,8 +61,6 @@ fn put_read(
     let Reading {
         columns,
         kinds: _kinds,
-        is_table: _is_table,
-        viewed: _viewed,
         plain,
     } = reading;
     facts.add(plain)?;

@@ -2,13 +2,9 @@
 ghost use Rattle.std.specs.Prelude.{◌≡◌, IfOk};
 ghost use Rattle.bag_algebra.specs.Kinds.{kinds_in};
 ghost use Rattle.bag_algebra.specs.declared.query.Label.TheVariants.{External};
-ghost use Rattle.bag_algebra.specs.declared.query.Query.{Query};
-ghost use Rattle.name_laws.specs.Facts.{facts_of, source_facts};
-ghost use Rattle.name_seen_parts.specs.Seen.{first_or};
-ghost use Rattle.name_meaning.specs.Froms.{is_out_of_scope, label_of, texts_of};
-ghost use Rattle.name_meaning.specs.Meanings.{broken_if};
+ghost use Rattle.name_laws.specs.Facts.{source_facts};
+ghost use Rattle.name_meaning.specs.Froms.{label_of, texts_of};
 ghost use Rattle.name_meaning.specs.Trees.{source_of};
-ghost use Rattle.name_meaning.specs.declared.rule.Rule.TheVariants as rule;
 ghost use Rattle.perm_catalog.specs.Contents.{Contents};
 ghost use Rattle.name_seen_from.specs.Added.{facts_in};
 ghost use Rattle.name_seen_parts.specs.FromColumns.{known_names};
@@ -20,7 +16,6 @@ use crate::facts::Facts;
 use crate::reading::{Reading, relation};
 use crate::viewed::kinds_at;
 use bag_algebra::{Label, Place};
-use name_meaning::{Break, Rule, Trace};
 use name_seen_parts::{label_of, names_of, places_of, texts_of};
 use perm_values::NoMemory;
 use sql_tree::{FromItem, Name, ScopeMark};
@@ -52,17 +47,11 @@ pub(crate) fn with_mark(
 fn labelled(alloc: Global, item: &FromItem, reading: &Reading) -> Result<Facts, NoMemory>
     ensures { (c : Contents) → IfOk result (λ facts. facts_in facts ≡
         relation_facts (label_of (source_of c item.now.source) item.now.alias)
-        (known_names reading.now.columns) reading.now.kinds reading.now.is_table) }
+        (known_names reading.now.columns) reading.now.kinds) }
 {
     let label = label_of(alloc, item)?;
     let names = names_of(alloc, reading.columns.as_slice())?;
-    relation(
-        alloc,
-        &label,
-        names,
-        reading.kinds.as_slice(),
-        reading.is_table,
-    )
+    relation(alloc, &label, names, reading.kinds.as_slice())
 }
 
 /// The facts of a source of these attributes.
@@ -72,38 +61,12 @@ fn attributed(alloc: Global, attributes: &[Name], reading: &Reading) -> Result<F
           label = External (texts_of attributes.now);
           kinds = kinds_in reading.now.kinds
               (places_of (known_names reading.now.columns) attributes.now);
-        })
-        reading.now.is_table) }
+        })) }
 {
     let places = places_of(alloc, attributes, reading.columns.as_slice())?;
     let kinds = kinds_at(alloc, reading.kinds.as_slice(), places.as_slice())?;
     let label = Label::External {
         columns: texts_of(alloc, attributes)?,
     };
-    Facts::of_source(alloc, Place { label, kinds }, reading.is_table)
-}
-
-/// That an item with these facts is out of the scope of the provenance that is asked for.
-pub(crate) fn scope_break(trace: Trace, viewed: bool, facts: &Facts, at: usize) -> Result<(), Break>
-    ensures { (query : Query) → facts_in facts.now ≡ facts_of query
-        → result ≡ first_or (broken_if (is_out_of_scope trace viewed query) rule.MisplacedProvenance at) tt }
-{
-    if is_out_of_scope(trace, viewed, facts) {
-        return Err(Break {
-            rule: Rule::MisplacedProvenance,
-            at,
-        });
-    }
-    Ok(())
-}
-
-fn is_out_of_scope(trace: Trace, viewed: bool, facts: &Facts) -> bool
-    ensures { (query : Query) → facts_in facts.now ≡ facts_of query → result
-        ≡ is_out_of_scope trace viewed query }
-{
-    match trace {
-        Trace::Untraced => false,
-        Trace::InProvenance => viewed && !facts.traceable,
-        Trace::TracedSublink => !facts.over_tables || (viewed && !facts.traceable),
-    }
+    Facts::of_source(alloc, Place { label, kinds })
 }

@@ -1,5 +1,5 @@
 //! What an item of FROM reads: a table, a view or a subquery.
-ghost use Rattle.std.specs.Prelude.{◌≡◌, ℕ, false, List as Items, IfOk};
+ghost use Rattle.std.specs.Prelude.{◌≡◌, ℕ, List as Items, IfOk};
 ghost use Rattle.std.specs.Option.{option_map_or};
 ghost use Rattle.bag_algebra.specs.Kinds.{kinds_of};
 ghost use Rattle.name_laws.specs.Facts.{facts_of};
@@ -14,7 +14,7 @@ ghost use Rattle.name_seen_from.specs.Readings.{IsRead, ReadSeen, external_facts
 use crate::facts::Facts;
 use crate::shown::QueryShown;
 use crate::viewed::{facts_of, kinds_at};
-use bag_algebra::{Label, Place, is_table};
+use bag_algebra::{Label, Place};
 use contribution::kinds;
 use name_meaning::{Break, Rule, names_at};
 use name_seen_parts::{Refusal, kinds_of_columns, named_columns, names_of, settled_columns};
@@ -23,14 +23,11 @@ use perm_values::{Chars, Copyable, Kind, List, NoMemory};
 use sql_tree::Name;
 use std::alloc::Global;
 
-/// What an item of FROM reads: its columns and their kinds, whether it is a table or a view, and its facts where it has
-/// no mark.
+/// What an item of FROM reads: its columns and their kinds, and its facts where it has no mark.
 #[derive(Drop)]
 pub struct Reading {
     pub columns: List<Column>,
     pub kinds: List<Kind>,
-    pub is_table: bool,
-    pub viewed: bool,
     pub plain: Facts,
 }
 
@@ -42,15 +39,11 @@ impl Reading {
         let Reading {
             columns,
             kinds,
-            is_table,
-            viewed,
             plain: _plain,
         } = self;
         Reading {
             columns,
             kinds,
-            is_table,
-            viewed,
             plain: own,
         }
     }
@@ -85,8 +78,6 @@ fn read_table(alloc: Global, name: &Chars, table: &TableEntry) -> Result<Reading
     Ok(Reading {
         columns,
         kinds,
-        is_table: true,
-        viewed: false,
         plain,
     })
 }
@@ -103,8 +94,8 @@ fn table_plain(
 {
     let names = names_of(alloc, table.columns.as_slice())?;
     match &table.stored {
-        Some(mark) => external(alloc, names.as_slice(), kinds, true, mark.places.as_slice()),
-        None => relation(alloc, name, names, kinds, true),
+        Some(mark) => external(alloc, names.as_slice(), kinds, mark.places.as_slice()),
+        None => relation(alloc, name, names, kinds),
     }
 }
 
@@ -113,18 +104,17 @@ pub(crate) fn external(
     alloc: Global,
     names: &[Chars],
     kinds: &[Kind],
-    reads_table: bool,
     places: &[usize],
 ) -> Result<Facts, NoMemory>
     ensures { IfOk result (λ facts. facts_in facts
-        ≡ external_facts names.now kinds.now reads_table places.now) }
+        ≡ external_facts names.now kinds.now places.now) }
 {
     let columns = names_at(alloc, names, places)?;
     let place = Place {
         label: Label::External { columns },
         kinds: kinds_at(alloc, kinds, places)?,
     };
-    Facts::of_source(alloc, place, reads_table)
+    Facts::of_source(alloc, place)
 }
 
 /// The facts of a source of all columns, which have these names.
@@ -133,9 +123,8 @@ pub(crate) fn relation(
     label: &Chars,
     names: List<Chars>,
     kinds: &[Kind],
-    reads_table: bool,
 ) -> Result<Facts, NoMemory>
-    ensures { IfOk result (λ facts. facts_in facts ≡ relation_facts label.now names kinds.now reads_table) }
+    ensures { IfOk result (λ facts. facts_in facts ≡ relation_facts label.now names kinds.now) }
 {
     let places = List::range(alloc, 0, names.len())?;
     let place = Place {
@@ -145,7 +134,7 @@ pub(crate) fn relation(
         },
         kinds: kinds_at(alloc, kinds, places.as_slice())?,
     };
-    Facts::of_source(alloc, place, reads_table)
+    Facts::of_source(alloc, place)
 }
 
 fn read_view(alloc: Global, view: &ViewEntry) -> Result<Reading, NoMemory>
@@ -157,8 +146,6 @@ fn read_view(alloc: Global, view: &ViewEntry) -> Result<Reading, NoMemory>
     Ok(Reading {
         columns,
         kinds,
-        is_table: is_table(&view.answer.query),
-        viewed: true,
         plain,
     })
 }
@@ -171,7 +158,7 @@ fn view_plain(alloc: Global, view: &ViewEntry, kinds: &[Kind]) -> Result<Facts, 
     let query = &view.answer.query;
     let names = view.answer.names.as_slice();
     match &view.places {
-        Some(places) => external(alloc, names, kinds, is_table(query), places.as_slice()),
+        Some(places) => external(alloc, names, kinds, places.as_slice()),
         None => facts_of(alloc, query),
     }
 }
@@ -186,8 +173,6 @@ pub fn read_shown(alloc: Global, shown: QueryShown) -> Result<Reading, NoMemory>
     Ok(Reading {
         columns,
         kinds,
-        is_table: false,
-        viewed: false,
         plain,
     })
 }
@@ -200,7 +185,7 @@ fn shown_plain(
     shown: QueryShown,
 ) -> Result<Facts, NoMemory>
     ensures { IfOk result (λ plain. facts_in plain
-        ≡ option_map_or (external_facts (known_names columns.now) kinds.now false) shown.places
+        ≡ option_map_or (external_facts (known_names columns.now) kinds.now) shown.places
         (facts_in shown.facts)) }
 {
     let QueryShown {
@@ -212,7 +197,7 @@ fn shown_plain(
         None => Ok(facts),
         Some(places) => {
             let names = names_of(alloc, columns)?;
-            external(alloc, names.as_slice(), kinds, false, places.as_slice())
+            external(alloc, names.as_slice(), kinds, places.as_slice())
         }
     }
 }

@@ -5,7 +5,7 @@ ghost use Rattle.name_laws.specs.Facts.{facts_of};
 ghost use Rattle.name_seen_from.specs.Added.{facts_in};
 
 use crate::facts::Facts;
-use bag_algebra::{Query, over_tables, traceable};
+use bag_algebra::Query;
 use contribution::{PlaceList, kind_or_text, shape};
 use perm_values::{Kind, List, NoMemory};
 use std::alloc::Global;
@@ -15,11 +15,7 @@ pub fn facts_of(alloc: Global, query: &Query) -> Result<Facts, NoMemory>
     ensures { IfOk result (λ facts. facts_in facts ≡ facts_of query.now) }
 {
     let PlaceList { places } = shape(alloc, query)?;
-    Ok(Facts {
-        places,
-        over_tables: over_tables(query),
-        traceable: traceable(query),
-    })
+    Ok(Facts { places })
 }
 
 /// The kinds at these places; one out of range counts as a text. It fails only for want of memory.

@@ -6,7 +6,6 @@ use Rattle.name_meaning.specs.Froms.{FromMeant, FromPart, from_more, from_all, b
 use Rattle.name_meaning.specs.Scopes.{KnownColumn, ScopeItem, scope_of, columns_from, numbered_columns}
 use Rattle.name_meaning.specs.declared.scope.Scope.{Scope}
 use Rattle.name_meaning.specs.declared.scope.ScopeColumn.{ScopeColumn}
-use Rattle.name_meaning.specs.declared.trace.Trace.{Trace}
 use Rattle.name_seen_parts.specs.Scopes.{moved_by, scope_beside}
 
 -- ---- scopes
@@ -63,13 +62,13 @@ scope-beside-is xs ys =
 
 -- ---- FROM with one more source
 
-pub more-behind : (outer : List Scope) (trace : Trace) (left : FromMeant) (parts : List FromPart) (part : FromPart)
-    → from_more outer trace left (parts ++ part ∷ [])
-    ≡ beside_from (from_more outer trace left parts) (part.means outer trace (from_more outer trace left parts).names)
-more-behind outer trace left [] part = refl
-more-behind outer trace left (first ∷ parts) part = more-behind outer trace (beside_from left (first.means outer trace left.names)) parts part
+pub more-behind : (outer : List Scope) (left : FromMeant) (parts : List FromPart) (part : FromPart)
+    → from_more outer left (parts ++ part ∷ [])
+    ≡ beside_from (from_more outer left parts) (part.means outer (from_more outer left parts).names)
+more-behind outer left [] part = refl
+more-behind outer left (first ∷ parts) part = more-behind outer (beside_from left (first.means outer left.names)) parts part
 
-pub all-behind : (outer : List Scope) (trace : Trace) (first : FromPart) (parts : List FromPart) (part : FromPart)
-    → from_all outer trace ((first ∷ parts) ++ part ∷ [])
-    ≡ beside_from (from_all outer trace (first ∷ parts)) (part.means outer trace (from_all outer trace (first ∷ parts)).names)
-all-behind outer trace first parts part = more-behind outer trace (first.means outer trace []) parts part
+pub all-behind : (outer : List Scope) (first : FromPart) (parts : List FromPart) (part : FromPart)
+    → from_all outer ((first ∷ parts) ++ part ∷ [])
+    ≡ beside_from (from_all outer (first ∷ parts)) (part.means outer (from_all outer (first ∷ parts)).names)
+all-behind outer first parts part = more-behind outer (first.means outer []) parts part

@@ -28,5 +28,5 @@ pub use needs::{gives_of, need_of};
 pub use operands::Operands;
 pub use refusal::Refusal;
 pub use scopes::{Scopes, inside, look_up, place_among, ungrouped};
-pub use standing::{Around, Here, Standing, trace_below, trace_under};
+pub use standing::{Around, Here, Standing};
 pub use stars::{is_of, star, table_star};

@@ -1,25 +1,18 @@
 //! Where expressions and queries stand.
-ghost use Rattle.std.specs.Prelude.{◌≡◌, cond};
-ghost use Rattle.name_meaning.specs.Cores.{core_trace};
-ghost use Rattle.name_meaning.specs.Froms.{trace_under};
-ghost use Rattle.name_meaning.specs.Meanings.{Around as Place, trace_below};
+ghost use Rattle.std.specs.Prelude.{◌≡◌};
 ghost use Rattle.name_meaning.specs.Queries.{may_not_ask};
 ghost use Rattle.name_meaning.specs.Sublinks.{around_of as below};
-ghost use Rattle.name_meaning.specs.declared.trace.Trace.TheVariants.{InProvenance};
 ghost use Rattle.name_seen_parts.specs.Named.{scopes_of};
-ghost use Rattle.name_seen_parts.specs.Standing.{around_body, around_core, around_of, around_under, standing_in, surroundings};
+ghost use Rattle.name_seen_parts.specs.Standing.{around_in_from, around_of, standing_in, surroundings};
 
 use crate::scopes::Scopes;
-use name_meaning::Trace;
 use perm_catalog::Catalog;
-use sql_tree::ScopeMark;
 use std::alloc::Global;
 
-/// How an expression stands: whether its query is traced, whether an aggregate and a sublink may stand here, and
-/// whether it stands in an argument of an aggregate.
+/// How an expression stands: whether an aggregate and a sublink may stand here, and whether it stands in an argument of an
+/// aggregate.
 #[derive(Clone, Copy, PartialEq, Eq)]
 pub struct Standing {
-    pub trace: Trace,
     pub aggregates: bool,
     pub sublinks: bool,
     pub argument: bool,
@@ -57,20 +50,18 @@ impl<'a> Here<'a> {
             alloc: self.alloc,
             catalog: self.catalog,
             outer: self.scopes,
-            trace: trace_below(self.standing.trace),
             may_ask: false,
         }
     }
 }
 
-/// Where a query stands: what it is seen with, the scopes around its cores, whether it is traced, and whether the word
-/// PROVENANCE may stand behind its first SELECT.
+/// Where a query stands: what it is seen with, the scopes around its cores, and whether the word PROVENANCE may stand behind
+/// its first SELECT.
 #[derive(Clone, Copy)]
 pub struct Around<'a> {
     pub alloc: Global,
     pub catalog: &'a Catalog,
     pub outer: &'a Scopes<'a>,
-    pub trace: Trace,
     pub may_ask: bool,
 }
 
@@ -88,86 +79,28 @@ impl<'a> Around<'a> {
         }
     }
 
-    /// Where the body of the query stands: all of a query that asks for its provenance is traced.
-    pub fn body(&self, asking: bool) -> Around<'a>
-        ensures place { around_of result ≡ around_body asking (around_of self.now) }
-        ensures catalog { result.catalog.now ≡ self.now.catalog.now }
-    {
-        self.so(trace_of_body(self.trace, asking), self.may_ask)
-    }
-
     /// Where an operand stands behind the first, and a query in parentheses.
     pub fn operand(&self) -> Around<'a>
         ensures place { around_of result ≡ may_not_ask (around_of self.now) }
         ensures catalog { result.catalog.now ≡ self.now.catalog.now }
     {
-        self.so(self.trace, false)
+        self.so(false)
     }
 
-    /// Where the parts of a core stand with PROVENANCE at this offset: they aren't traced where that stands wrongly.
-    pub fn core(&self, word: Option<usize>) -> Around<'a>
-        ensures place { around_of result ≡ around_core (around_of self.now) word }
+    /// Where a subquery of FROM stands.
+    pub fn in_from(&self) -> Around<'a>
+        ensures place { around_of result ≡ around_in_from (around_of self.now) }
         ensures catalog { result.catalog.now ≡ self.now.catalog.now }
     {
-        self.so(trace_of_core(self.trace, self.may_ask, word), self.may_ask)
+        self.so(true)
     }
 
-    /// Where a subquery of FROM under this mark stands.
-    pub fn under(&self, mark: &ScopeMark) -> Around<'a>
-        ensures place { around_of result ≡ around_under mark.now (around_of self.now) }
-        ensures catalog { result.catalog.now ≡ self.now.catalog.now }
-    {
-        self.so(trace_under(mark, self.trace), true)
-    }
-
-    /// The same place, traced so, with the word PROVENANCE or not.
-    fn so(&self, trace: Trace, may_ask: bool) -> Around<'a>
+    /// The same place, with the word PROVENANCE or not.
+    fn so(&self, may_ask: bool) -> Around<'a>
         ensures place { around_of result ≡ record
-            { outer = scopes_of self.now.outer.now; trace = trace; may_ask = may_ask } }
+            { outer = scopes_of self.now.outer.now; may_ask = may_ask } }
         ensures catalog { result.catalog.now ≡ self.now.catalog.now }
     {
-        Around {
-            trace,
-            may_ask,
-            ..*self
-        }
+        Around { may_ask, ..*self }
     }
-}
-
-/// In a sublink of what is traced.
-pub fn trace_below(trace: Trace) -> Trace
-    ensures { result ≡ trace_below trace }
-{
-    match trace {
-        Trace::Untraced => Trace::Untraced,
-        Trace::InProvenance => Trace::TracedSublink,
-        Trace::TracedSublink => Trace::TracedSublink,
-    }
-}
-
-/// Nothing under a mark is traced.
-pub fn trace_under(mark: &ScopeMark, trace: Trace) -> Trace
-    ensures { result ≡ trace_under mark.now trace }
-{
-    match mark {
-        ScopeMark::Plain => trace,
-        ScopeMark::BaseRelation => Trace::Untraced,
-        ScopeMark::External { .. } => Trace::Untraced,
-    }
-}
-
-fn trace_of_body(trace: Trace, asking: bool) -> Trace
-    ensures { result ≡ cond asking InProvenance trace }
-{
-    if asking { Trace::InProvenance } else { trace }
-}
-
-fn trace_of_core(trace: Trace, may_ask: bool, word: Option<usize>) -> Trace
-    ensures { (around : Place) → around.trace ≡ trace → around.may_ask ≡ may_ask → result
-        ≡ core_trace around word }
-{
-    if !may_ask && word.is_some() {
-        return Trace::Untraced;
-    }
-    trace
 }

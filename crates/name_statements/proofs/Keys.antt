@@ -13,7 +13,6 @@ use Rattle.name_meaning.specs.Meanings.{Around, OutColumn, QueryMeant, QueryPart
 use Rattle.name_meaning.specs.Queries.{is_named, asks_provenance, key_break, key_of, key_place, keys_breaks, keys_of, limited, plain_query, query_with_provenance, provenance_columns, query_seen}
 use Rattle.name_meaning.specs.Trees.{query_of, set_of_tree}
 use Rattle.name_meaning.specs.declared.answer.Break.{Break}
-use Rattle.name_meaning.specs.declared.trace.Trace.TheVariants.{InProvenance as in_provenance}
 use Rattle.perm_catalog.specs.Contents.{Contents}
 use Rattle.sql_tree.specs.declared.query.OrderKey.{OrderKey}
 use Rattle.sql_tree.specs.declared.query.OrderKey.TheVariants.{Named as named_key, Position}
@@ -109,16 +108,16 @@ seen-keys : (around : Around) (at : ℕ) (body : BodyPart) (order : List OrderTr
     → map (key_of columns) order ≡ (query_seen around at body order limit).keys
 seen-keys around at body order limit columns = chosen (asks_provenance around body) where
   chosen : (b : Bool) → (cond b
-      (let m = body.means (record around { trace = in_provenance }) in query_with_provenance at m order limit (limited limit (keys_of m.columns order) (m.make [])))
+      (let m = body.means around in query_with_provenance at m order limit (limited limit (keys_of m.columns order) (m.make [])))
       (plain_query at (body.means around) order limit)).breaks ≡ []
       → (cond b
-      (let m = body.means (record around { trace = in_provenance }) in query_with_provenance at m order limit (limited limit (keys_of m.columns order) (m.make [])))
+      (let m = body.means around in query_with_provenance at m order limit (limited limit (keys_of m.columns order) (m.make [])))
       (plain_query at (body.means around) order limit)).columns ≡ Some columns
       → map (key_of columns) order ≡ (cond b
-      (let m = body.means (record around { trace = in_provenance }) in query_with_provenance at m order limit (limited limit (keys_of m.columns order) (m.make [])))
+      (let m = body.means around in query_with_provenance at m order limit (limited limit (keys_of m.columns order) (m.make [])))
       (plain_query at (body.means around) order limit)).keys
   chosen true none known =
-      let m = body.means (record around { trace = in_provenance }) in
+      let m = body.means around in
       proved-keys at m order limit (limited limit (keys_of m.columns order) (m.make [])) columns none known
   chosen false none known = plain-keys at (body.means around) order limit columns known
 

@@ -15,7 +15,7 @@ ghost use Rattle.name_statements.specs.Resolves.{stored_breaks};
 use crate::seen::{boolean_break, repeats_break, table_limit};
 use bag_algebra::Answer;
 use name_inside::{Gathered, all_noted, query_inside};
-use name_meaning::{Break, Trace};
+use name_meaning::Break;
 use name_seen_from::QueryShown;
 use name_seen_parts::{Around, Scopes, ShownColumn};
 use perm_catalog::{Catalog, Column, ViewEntry};
@@ -93,7 +93,6 @@ pub fn around_alone<'a>(
         alloc,
         catalog,
         outer: outermost,
-        trace: Trace::Untraced,
         may_ask: true,
     }
 }

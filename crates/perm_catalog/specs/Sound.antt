@@ -7,7 +7,6 @@ use Rattle.std.specs.Map.{keys_of}
 use Rattle.bag_algebra.specs.Bags.{Bag}
 use Rattle.bag_algebra.specs.Fits.{bag_fits}
 use Rattle.bag_algebra.specs.Kinds.{width_of}
-use Rattle.bag_algebra.specs.Scoped.{is_scoped}
 use Rattle.bag_algebra.specs.WellFormed.{WellFormed, PlacesIn, KeysIn}
 use Rattle.bag_algebra.specs.declared.query.Answer.{Answer}
 use Rattle.perm_catalog.specs.Changes.{table_named, view_named}
@@ -39,10 +38,9 @@ pub record IsHeldRead (c : Contents) (view : ViewEntry) (read : TableRead) : Typ
   pub kinds : column_kinds table.columns ≡ read.kinds
   pub used : uses_name view name ≡ true
 
--- a closed, well formed and scoped query with a column, as many names as columns, and keys among its columns
+-- a closed and well formed query with a column, as many names as columns, and keys among its columns
 pub record IsSoundAnswer (answer : Answer) : Type 0 where
   pub closed : WellFormed [] answer.query
-  pub scoped : is_scoped answer.query ≡ true
   pub some : 0 < width_of answer.query
   pub named : length answer.names ≡ width_of answer.query
   pub keys : KeysIn (width_of answer.query) answer.keys

@@ -3,16 +3,22 @@
 //!
 //! | Step | Call | By |
 //! |---|---|---|
-//! | the bytes of the script's file | `read_all` in `perm` | `CanBe` |
+//! | what the words ask for | `read_words` in `perm` | `request_of` |
+//! | the bytes of the script's file | `read_all` in `run_named` | `CanBe` |
+//! | or a script that is made | `generated` in `run_generated` | `generated` |
 //! | their tree | `script_of` in `run_script` | `IsScriptOf`, `IsMisspelled` |
 //! | one statement after another | `Session::step` in `run_statements` | `RunsFrom`, `asked` |
 //! | what its names name | `resolve`, below `Session::step` | `breaks`, `resolved` |
 //! | what it does | `carried_out`, `step`, and of a query `select` | `asks`, `Turn` |
-//! | a query without PROVENANCE | `eliminate` in `select` | `Stands` |
+//! | a query without PROVENANCE, and a simpler one | `eliminate` and `simplify`, below `select` | `Stands` |
 //! | its rows | `run_hashed`, below `Runner::run` | `meaning` |
 //! | their order and their text | `in_order`, and `answer_text` behind it | `answer_text` |
 //! | why the run ends | `finish`, `refuse`, `stop` | `Ends` |
 ghost use Rattle.std.specs.Prelude.{◌≡◌, ◌⊎◌, true, false};
+ghost use Rattle.command_words.specs.Requests.{request_of};
+ghost use Rattle.command_words.specs.declared.wanted.Wanted.TheVariants.{Misworded};
+ghost use Rattle.generated_scripts.specs.Generated.{generated};
+ghost use Rattle.headline_laws.specs.Headline.{HeadlineOver};
 ghost use Rattle.perm_catalog.specs.Changes.{nothing_held};
 ghost use Rattle.perm_io.specs.Counts.{HasRisen};
 ghost use Rattle.perm_io.specs.Found.{CanBe};
@@ -20,12 +26,15 @@ ghost use Rattle.sql_tree.specs.Regular.{RegularStatement, Each};
 ghost use Rattle.statement_meaning.specs.Answers.{can_be, file_limit};
 ghost use Rattle.statement_meaning.specs.Answers.{over as seen};
 ghost use Rattle.run_meaning.specs.Ends.{Completes, EndsBroken, EndsFaulty, EndsOne, EndsSome, IsBadFile, IsBadScript, RunsOver, over};
-ghost use Rattle.run_meaning.specs.Run.{Runs, RunsFrom, RunsScript, is_one, IsWhole, IsSteady, IsOfScript};
+ghost use Rattle.run_meaning.specs.Run.{Runs, RunsFrom, RunsNamed, RunsScript, script_files, IsWhole, IsSteady, IsOfScript};
 
 use crate::session::Session;
+use command_words::{Wanted, read_words};
+use generated_scripts::generated;
+use headline_laws::every_run_is_told_by_the_headline;
 use name_statements::let_statements_go;
 use perm_io::{Files, ReadError, Sink, read_all, write_all};
-use perm_values::{Chars, List};
+use perm_values::{Chars, List, NoMemory};
 use run_meaning::{SCRIPT_LIMIT, Status, finish, refuse, script_of, stop};
 use sql_parser::a_spelled_script_is_regular;
 use sql_tree::Statement;
@@ -91,11 +100,50 @@ fn run_script<F: Files, K: Sink>(alloc: Global, bytes: &[u8], files: &mut F, out
     }
 }
 
-/// Runs `perm SCRIPT`: reads the script's file, runs it, and writes what its statements answer.
+/// Runs the script in the file of this name.
+fn run_named<F: Files, K: Sink>(alloc: Global, name: &Chars, files: &mut F, out: &mut K) -> Status
+    ensures ends { let met = seen (F.told files.old) (F.told files.new) in
+        EndsOne 1 (can_be met) (RunsNamed met.held (HasRisen met.faults met.faults_after) name.now)
+        (over (K.told out.old) (K.told out.new)) met result }
+    ensures status { IsOfScript result }
+    ensures read_fault { result ≡ Status.ReadFault
+        → HasRisen (F.told files.old).faults (F.told files.new).faults }
+    ensures steady { IsSteady result → (F.told files.new).faults ≡ (F.told files.old).faults }
+    ensures held { (F.told files.new).held ≡ (F.told files.old).held }
+{
+    match read_all(alloc, files, name, SCRIPT_LIMIT) {
+        Ok(bytes) => run_script(alloc, bytes.as_slice(), files, out),
+        Err(ReadError::Missing) => finish(out, b"error E40 script\n", Status::BadData),
+        Err(ReadError::TooLarge) => finish(out, b"error E41 script\n", Status::BadData),
+        Err(ReadError::Fault) => finish(out, b"error E50\n", Status::ReadFault),
+        Err(ReadError::NoMemory) => Status::NoMemory,
+    }
+}
+
+/// Runs the script that is made from the number.
+fn run_generated<F: Files, K: Sink>(alloc: Global, rows: u64, files: &mut F, out: &mut K) -> Status
+    ensures ends { let met = seen (F.told files.old) (F.told files.new) in
+        EndsOne 0 (can_be met) (RunsScript (can_be met) (generated rows))
+        (over (K.told out.old) (K.told out.new)) met result }
+    ensures status { IsOfScript result }
+    ensures read_fault { result ≡ Status.ReadFault
+        → HasRisen (F.told files.old).faults (F.told files.new).faults }
+    ensures steady { IsSteady result → (F.told files.new).faults ≡ (F.told files.old).faults }
+    ensures held { (F.told files.new).held ≡ (F.told files.old).held }
+{
+    match generated(alloc, rows) {
+        Ok(text) => run_script(alloc, text.as_slice(), files, out),
+        Err(NoMemory) => Status::NoMemory,
+    }
+}
+
+/// Runs a command line: `perm SCRIPT` the script in that file, `perm --generate N` the one that is made from the number; writes
+/// what its statements answer.
 pub fn perm<F: Files, K: Sink>(alloc: Global, words: &[Chars], files: &mut F, out: &mut K) -> Status
     // The run that the words and files stand for is what is written, and its status is answered.
     ensures run { let met = seen (F.told files.old) (F.told files.new) in
-        EndsOne 1 (can_be met) (RunsOver words.now met) (over (K.told out.old) (K.told out.new)) met result }
+        EndsOne (script_files (request_of words.now)) (can_be met) (RunsOver words.now met)
+        (over (K.told out.old) (K.told out.new)) met result }
 
     // Where no file and no write failed, it is a whole run in which none failed, unless memory was wanting.
     ensures complete { (HasRisen (F.told files.old).faults (F.told files.new).faults → ⊥)
@@ -103,16 +151,23 @@ pub fn perm<F: Files, K: Sink>(alloc: Global, words: &[Chars], files: &mut F, ou
         → Completes (Runs words.now (F.told files.old).held ⊥) (over (K.told out.old) (K.told out.new))
         (seen (F.told files.old) (F.told files.new)) result }
 
+    // The headline tells that run.
+    ensures headline { let met = seen (F.told files.old) (F.told files.new) in
+        EndsOne (script_files (request_of words.now)) (can_be met) (HeadlineOver words.now met)
+        (over (K.told out.old) (K.told out.new)) met result }
+
     // When each status comes.
-    ensures usage { result ≡ Status.Usage → is_one words.now ≡ false }
-    ensures misused { is_one words.now ≡ false → (result ≡ Status.Usage) ⊎ (result ≡ Status.WriteFault) }
+    ensures usage { result ≡ Status.Usage → request_of words.now ≡ Misworded }
+    ensures misused { request_of words.now ≡ Misworded
+        → (result ≡ Status.Usage) ⊎ ((result ≡ Status.WriteFault) ⊎ (result ≡ Status.NoMemory)) }
     ensures refused { result ≡ Status.Refused → let met = seen (F.told files.old) (F.told files.new) in
         EndsBroken (can_be met) (RunsOver words.now met) (over (K.told out.old) (K.told out.new)) met }
     ensures run_fault { result ≡ Status.RunFault → let met = seen (F.told files.old) (F.told files.new) in
         EndsFaulty (can_be met) (RunsOver words.now met) (over (K.told out.old) (K.told out.new)) met }
     ensures bad_data { result ≡ Status.BadData → let met = seen (F.told files.old) (F.told files.new) in
         IsBadScript met
-        ⊎ IsBadFile 1 (can_be met) (RunsOver words.now met) (over (K.told out.old) (K.told out.new)) met }
+        ⊎ IsBadFile (script_files (request_of words.now)) (can_be met) (RunsOver words.now met)
+        (over (K.told out.old) (K.told out.new)) met }
     ensures read_fault { result ≡ Status.ReadFault
         → HasRisen (F.told files.old).faults (F.told files.new).faults }
     ensures write_fault { result ≡ Status.WriteFault
@@ -122,18 +177,19 @@ pub fn perm<F: Files, K: Sink>(alloc: Global, words: &[Chars], files: &mut F, ou
         × ((K.told out.new).faults ≡ (K.told out.old).faults) }
     ensures flushed { IsWhole result → (K.told out.new).unflushed ≡ false }
 
-    // No file is begun without a script's name, and no file is changed.
-    ensures begun { is_one words.now ≡ false → (F.told files.new).begun ≡ (F.told files.old).begun }
+    // No file is begun where the words are refused, and no file is changed.
+    ensures begun { request_of words.now ≡ Misworded → (F.told files.new).begun ≡ (F.told files.old).begun }
     ensures held { (F.told files.new).held ≡ (F.told files.old).held }
 {
-    if words.len() != 1 {
-        return finish(out, b"usage: perm SCRIPT\n", Status::Usage);
-    }
-    match read_all(alloc, files, &words[0], SCRIPT_LIMIT) {
-        Ok(bytes) => run_script(alloc, bytes.as_slice(), files, out),
-        Err(ReadError::Missing) => finish(out, b"error E40 script\n", Status::BadData),
-        Err(ReadError::TooLarge) => finish(out, b"error E41 script\n", Status::BadData),
-        Err(ReadError::Fault) => finish(out, b"error E50\n", Status::ReadFault),
-        Err(ReadError::NoMemory) => Status::NoMemory,
+    every_run_is_told_by_the_headline();
+    match read_words(alloc, words) {
+        Ok(Wanted::Script(name)) => run_named(alloc, &name, files, out),
+        Ok(Wanted::Generated(rows)) => run_generated(alloc, rows, files, out),
+        Ok(Wanted::Misworded) => finish(
+            out,
+            b"usage: perm (SCRIPT | --generate N)\n",
+            Status::Usage,
+        ),
+        Err(NoMemory) => Status::NoMemory,
     }
 }

@@ -9,7 +9,7 @@ use Rattle.bag_algebra.specs.Rewriting.{is_plain, Stands, SameRows}
 use Rattle.bag_algebra.specs.declared.query.Query.{Query}
 use Rattle.bag_algebra.specs.declared.query.Query.TheVariants.{Table, Single}
 
-same_rows-itself : (o : Outcome Bag) → SameRows o o
+pub same_rows-itself : (o : Outcome Bag) → SameRows o o
 same_rows-itself (Good us) = record { counts = λ t. refl }
 same_rows-itself (Bad f) = refl
 

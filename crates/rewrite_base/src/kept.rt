@@ -57,11 +57,23 @@ pub fn join_kept(
     ensures { IfOk result (λ p. p ≡ columns_kept (pairs_of kind left right condition) kept left_out) }
 {
     let pairs = join_on(alloc, kind, left, right, condition)?;
-    let Ok(order) = kept_order(alloc, &pairs, kept, left_out) else {
-        drop(pairs);
+    columns_kept(alloc, pairs, kept, left_out)
+}
+
+/// Of the query's columns the first `kept` and those behind the `left_out` next ones. It fails only for want of memory.
+pub fn columns_kept(
+    alloc: Global,
+    query: Query,
+    kept: usize,
+    left_out: usize,
+) -> Result<Query, NoMemory>
+    ensures { IfOk result (λ p. p ≡ columns_kept query kept left_out) }
+{
+    let Ok(order) = kept_order(alloc, &query, kept, left_out) else {
+        drop(query);
         return Err(NoMemory);
     };
-    regroup(alloc, pairs, order.as_slice())
+    regroup(alloc, query, order.as_slice())
 }
 
 fn kept_order(

@@ -8,7 +8,8 @@ mod unions;
 
 pub use beside::rewritings_stand_beside_lists;
 pub use kept::{
-    differs_from_first, exact_width, join_kept, join_on_first_columns, same_as_first, sum,
+    columns_kept, differs_from_first, exact_width, join_kept, join_on_first_columns, same_as_first,
+    sum,
 };
 pub use laws::{
     distinct_rows_of_rewritings_stand_for_provenance,

@@ -1,4 +1,4 @@
 pub mod MadeQueries
 pub mod NoRowLost
-pub mod Scopes
 pub mod SublinkLists
+pub mod TracedQueries

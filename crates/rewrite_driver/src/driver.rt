@@ -1,18 +1,17 @@
 //! What stands for a query, and what is a rewriting of it.
-ghost use Rattle.std.specs.Prelude.{◌≡◌, IfOk, IsTrue};
+ghost use Rattle.std.specs.Prelude.{◌≡◌, IfOk};
 ghost use Rattle.bag_algebra.specs.Rewriting.{IsRewrite, Stands};
-ghost use Rattle.bag_algebra.specs.Scoped.{is_scoped, traceable};
 ghost use Rattle.bag_algebra.specs.declared.query.Query.TheVariants.{Prov};
 ghost use Rattle.bag_algebra.specs.declared.query.Query.{Query};
 ghost use Rattle.query_laws.specs.Standing.{SubsStand};
-ghost use Rattle.bag_algebra.specs.built.Scopes.{all_scoped, all_traceable};
 ghost use Rattle.rewrite_driver.specs.FirstColumns.{KeepsRows};
 ghost use Rattle.rewrite_driver.specs.Places.{has_places};
-ghost use Rattle.rewrite_sublink.specs.SubRewritings.{SubsRewritten};
+ghost use Rattle.rewrite_move.specs.Moved.{SubsTraced};
+ghost use Rattle.rewrite_move.specs.Traced.{below_groups, traced_of};
 
 use crate::rules::{
-    aggregate_rule, base_rule, distinct_rule, except_rule, filter_rule, intersect_rule, join_rule,
-    limit_rule, project_rule, union_rule,
+    aggregate_rule, apply_rule, base_rule, distinct_rule, except_rule, filter_rule, intersect_rule,
+    join_rule, limit_rule, project_rule, union_rule,
 };
 use crate::standing::{
     aggregate_standing, apply_standing, distinct_standing, except_standing, filter_standing,
@@ -20,7 +19,7 @@ use crate::standing::{
     table, union_standing,
 };
 use crate::sublinks::{add_rewriting, add_standing};
-use bag_algebra::{Query, Sublink};
+use bag_algebra::{Query, SubKind, Sublink};
 use contribution::shape;
 use perm_values::{List, NoMemory};
 use std::alloc::Global;
@@ -30,7 +29,6 @@ use std::alloc::Global;
 /// database and under all outer rows that fit. Where the query is the PROVENANCE of another, its first columns are, as a set,
 /// the other's rows. It fails only for want of memory.
 pub fn eliminate(alloc: Global, query: &Query) -> Result<Query, NoMemory>
-    requires { IsTrue (is_scoped query.now) }
     ensures stands { IfOk result (λ plain. Stands query.now plain) }
     ensures no_row_lost { (q : Query) → query.now ≡ Prov q → IfOk result (λ plain. KeepsRows q plain) }
 {
@@ -41,7 +39,6 @@ pub fn eliminate(alloc: Global, query: &Query) -> Result<Query, NoMemory>
 /// where another call fails makes the proof far longer.
 #[cycle(stand)]
 fn stand(alloc: Global, query: &Query) -> Result<Query, NoMemory>
-    requires { IsTrue (is_scoped query.now) }
     ensures { IfOk result (λ plain. Stands query.now plain) }
 {
     match query {
@@ -114,7 +111,6 @@ fn stand(alloc: Global, query: &Query) -> Result<Query, NoMemory>
 /// The sublinks over what stands for their queries.
 #[cycle(stand)]
 fn stand_subs(alloc: Global, subs: &[Sublink]) -> Result<List<Sublink>, NoMemory>
-    requires { IsTrue (all_scoped subs.now) }
     ensures { IfOk result (λ others. SubsStand subs.now others) }
 {
     let mut others = List::new(alloc);
@@ -129,7 +125,6 @@ fn stand_subs(alloc: Global, subs: &[Sublink]) -> Result<List<Sublink>, NoMemory
 /// that query's rewriting twice.
 #[cycle(stand)]
 fn rewriting(alloc: Global, query: &Query) -> Result<Query, NoMemory>
-    requires { IsTrue (is_scoped query.now) × IsTrue (traceable query.now) }
     ensures { IfOk result (λ p. IsRewrite query.now p) }
 {
     let found = has_places(alloc, query)?;
@@ -144,7 +139,6 @@ fn rewriting(alloc: Global, query: &Query) -> Result<Query, NoMemory>
 /// itself is rewritten by what stands for it.
 #[cycle(stand)]
 fn by_rule(alloc: Global, query: &Query) -> Result<Query, NoMemory>
-    requires { IsTrue (is_scoped query.now) × IsTrue (traceable query.now) }
     ensures { IfOk result (λ p. IsRewrite query.now p) }
 {
     match query {
@@ -191,10 +185,12 @@ fn by_rule(alloc: Global, query: &Query) -> Result<Query, NoMemory>
             left,
             right,
             condition,
-            ..
+            subs,
         } => {
             let lefts = rewriting(alloc, left.get());
             let rights = rewriting(alloc, right.get());
+            let inside = stand_subs(alloc, subs.as_slice());
+            let traced = rewritten_subs(alloc, subs.as_slice());
             join_rule(
                 alloc,
                 *kind,
@@ -203,6 +199,9 @@ fn by_rule(alloc: Global, query: &Query) -> Result<Query, NoMemory>
                 right.get(),
                 rights,
                 condition,
+                subs.as_slice(),
+                inside,
+                traced,
             )
         }
         Query::Union { all, left, right } => {
@@ -246,23 +245,69 @@ fn by_rule(alloc: Global, query: &Query) -> Result<Query, NoMemory>
             let rows = rewriting(alloc, input.get());
             limit_rule(alloc, plain_rows, rows, keys.as_slice(), *count)
         }
-        Query::Apply { .. } => unreachable!(),
+        Query::Apply { kind, left, right } => {
+            let lefts = rewriting(alloc, left.get());
+            let rights = rewriting(alloc, right.get());
+            apply_rule(alloc, *kind, left.get(), lefts, right.get(), rights)
+        }
         Query::Prov { .. } => stand(alloc, query),
     }
 }
 
-/// A rewriting of each sublink's query.
+/// A rewriting of what is traced of each sublink.
 #[cycle(stand)]
 fn rewritten_subs(alloc: Global, subs: &[Sublink]) -> Result<List<Query>, NoMemory>
-    requires { IsTrue (all_scoped subs.now) × IsTrue (all_traceable subs.now) }
-    ensures { IfOk result (λ rewritings. SubsRewritten subs.now rewritings) }
+    ensures { IfOk result (λ rewritings. SubsTraced subs.now rewritings) }
 {
     let mut rewritings = List::new(alloc);
     for sub in subs {
-        let query = rewriting(alloc, &sub.query);
+        let query = traced(alloc, sub);
         add_rewriting(&mut rewritings, query)?;
     }
     Ok(rewritings)
+}
+
+/// A rewriting of what is traced of the sublink.
+#[cycle(stand)]
+fn traced(alloc: Global, sub: &Sublink) -> Result<Query, NoMemory>
+    ensures { IfOk result (λ p. IsRewrite (traced_of sub.now) p) }
+{
+    match sub.kind {
+        SubKind::Exists => below_groups(alloc, &sub.query),
+        SubKind::Any(_) => rewriting(alloc, &sub.query),
+        SubKind::All(_) => rewriting(alloc, &sub.query),
+        SubKind::Scalar => below_groups(alloc, &sub.query),
+    }
+}
+
+/// A rewriting of the query below the DISTINCTs, the groups and the Projects without sublinks at its top: where all rows
+/// contribute, their witnesses are those of the rows below, and no group has to be made again to find them.
+#[cycle(stand)]
+fn below_groups(alloc: Global, query: &Query) -> Result<Query, NoMemory>
+    ensures { IfOk result (λ p. IsRewrite (below_groups query.now) p) }
+{
+    match query {
+        Query::Project { input, subs, .. } => {
+            if subs.is_empty() {
+                below_groups(alloc, input.get())
+            } else {
+                rewriting(alloc, query)
+            }
+        }
+        Query::Distinct { input } => below_groups(alloc, input.get()),
+        Query::Aggregate { input, .. } => below_groups(alloc, input.get()),
+        Query::Table { .. } => rewriting(alloc, query),
+        Query::Single => rewriting(alloc, query),
+        Query::Base { .. } => rewriting(alloc, query),
+        Query::Filter { .. } => rewriting(alloc, query),
+        Query::Join { .. } => rewriting(alloc, query),
+        Query::Union { .. } => rewriting(alloc, query),
+        Query::Intersect { .. } => rewriting(alloc, query),
+        Query::Except { .. } => rewriting(alloc, query),
+        Query::Limit { .. } => rewriting(alloc, query),
+        Query::Apply { .. } => rewriting(alloc, query),
+        Query::Prov { .. } => rewriting(alloc, query),
+    }
 }
 
 /// Whether PROVENANCE of the query has columns of its own. It fails only for want of memory.

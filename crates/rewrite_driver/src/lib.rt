@@ -3,6 +3,7 @@
 #![tactic(auto)]
 
 mod driver;
+mod joins;
 mod rules;
 mod standing;
 mod sublinks;

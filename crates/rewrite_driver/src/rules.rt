@@ -2,18 +2,19 @@
 ghost use Rattle.std.specs.Prelude.{◌≡◌, [], Err, IfErr, IfOk, IsTrue};
 ghost use Rattle.bag_algebra.specs.Rewriting.{IsRewrite, Stands};
 ghost use Rattle.bag_algebra.specs.declared.query.Label.{Label};
-ghost use Rattle.bag_algebra.specs.declared.query.Query.TheVariants.{Base, Filter, Project, Join, Union, Intersect, Except, Distinct, Aggregate, Limit};
+ghost use Rattle.bag_algebra.specs.declared.query.Query.TheVariants.{Base, Filter, Project, Join, Apply, Union, Intersect, Except, Distinct, Aggregate, Limit};
 ghost use Rattle.bag_algebra.specs.declared.query.Query.{Query};
 ghost use Rattle.query_laws.specs.Standing.{SubsStand};
-ghost use Rattle.bag_algebra.specs.built.Scopes.{all_over_tables};
-ghost use Rattle.rewrite_sublink.specs.SubRewritings.{SubsRewritten};
+ghost use Rattle.rewrite_move.specs.Moved.{SubsTraced};
 
+use crate::joins::join_moved;
 use bag_algebra::{Aggr, Expr, Item, JoinKind, Query, Sublink};
+use lateral_rewrite::apply;
 use perm_values::{Key, List, NoMemory, both, four, three};
 use rewrite_core::{
     aggregate, base, distinct, except, filter, intersect, join, limit, project, union_of,
 };
-use rewrite_sublink::{filter_with, project_with};
+use rewrite_move::{filter_moved, project_moved};
 use std::alloc::Global;
 
 /// A rewriting of a source whose input this stands for. It fails where that failed, and for want of memory.
@@ -40,17 +41,16 @@ pub(crate) fn filter_rule(
     plain: Result<List<Sublink>, NoMemory>,
     rewritings: Result<List<Query>, NoMemory>,
 ) -> Result<Query, NoMemory>
-    requires over_tables { IsTrue (all_over_tables subs.now) }
     requires rewritten { IfOk rewriting (λ r. IsRewrite input.now r) }
     requires subs_stand { IfOk plain (λ others. SubsStand subs.now others) }
-    requires subs_rewritten { IfOk rewritings (λ rs. SubsRewritten subs.now rs) }
+    requires subs_rewritten { IfOk rewritings (λ rs. SubsTraced subs.now rs) }
     ensures { IfOk result (λ p. IsRewrite (Filter input.now condition.now subs.now) p) }
 {
     let (rewriting, plain, rewritings) = three(rewriting, plain, rewritings)?;
     if subs.is_empty() {
         return filter(alloc, input, rewriting, condition);
     }
-    filter_with(
+    filter_moved(
         alloc,
         input,
         rewriting,
@@ -72,17 +72,16 @@ pub(crate) fn project_rule(
     plain: Result<List<Sublink>, NoMemory>,
     rewritings: Result<List<Query>, NoMemory>,
 ) -> Result<Query, NoMemory>
-    requires over_tables { IsTrue (all_over_tables subs.now) }
     requires rewritten { IfOk rewriting (λ r. IsRewrite input.now r) }
     requires subs_stand { IfOk plain (λ others. SubsStand subs.now others) }
-    requires subs_rewritten { IfOk rewritings (λ rs. SubsRewritten subs.now rs) }
+    requires subs_rewritten { IfOk rewritings (λ rs. SubsTraced subs.now rs) }
     ensures { IfOk result (λ p. IsRewrite (Project input.now items.now subs.now) p) }
 {
     let (rewriting, plain, rewritings) = three(rewriting, plain, rewritings)?;
     if subs.is_empty() {
         return project(alloc, input, rewriting, items);
     }
-    project_with(
+    project_moved(
         alloc,
         input,
         rewriting,
@@ -93,7 +92,8 @@ pub(crate) fn project_rule(
     )
 }
 
-/// A rewriting of a Join without sublinks, of rewritings of its inputs. It fails where one of these failed, and for want of memory.
+/// A rewriting of a Join, of rewritings of its inputs, what stands for its sublinks and rewritings of what is traced of them. It
+/// fails where one of these failed, and for want of memory.
 pub(crate) fn join_rule(
     alloc: Global,
     kind: JoinKind,
@@ -102,13 +102,49 @@ pub(crate) fn join_rule(
     right: &Query,
     rights: Result<Query, NoMemory>,
     condition: &Expr,
+    subs: &[Sublink],
+    plain: Result<List<Sublink>, NoMemory>,
+    rewritings: Result<List<Query>, NoMemory>,
 ) -> Result<Query, NoMemory>
     requires left { IfOk lefts (λ r. IsRewrite left.now r) }
     requires right { IfOk rights (λ r. IsRewrite right.now r) }
-    ensures { IfOk result (λ p. IsRewrite (Join kind left.now right.now condition.now []) p) }
+    requires subs_stand { IfOk plain (λ others. SubsStand subs.now others) }
+    requires subs_rewritten { IfOk rewritings (λ rs. SubsTraced subs.now rs) }
+    ensures { IfOk result (λ p. IsRewrite (Join kind left.now right.now condition.now subs.now) p) }
+{
+    let (lefts, rights, plain, rewritings) = four(lefts, rights, plain, rewritings)?;
+    if subs.is_empty() {
+        return join(alloc, kind, left, lefts, right, rights, condition);
+    }
+    join_moved(
+        alloc,
+        kind,
+        left,
+        lefts,
+        right,
+        rights,
+        condition,
+        subs,
+        plain.as_slice(),
+        rewritings,
+    )
+}
+
+/// A rewriting of a dependent join, of rewritings of its sides. It fails where one of these failed, and for want of memory.
+pub(crate) fn apply_rule(
+    alloc: Global,
+    kind: JoinKind,
+    left: &Query,
+    lefts: Result<Query, NoMemory>,
+    right: &Query,
+    rights: Result<Query, NoMemory>,
+) -> Result<Query, NoMemory>
+    requires left { IfOk lefts (λ r. IsRewrite left.now r) }
+    requires right { IfOk rights (λ r. IsRewrite right.now r) }
+    ensures { IfOk result (λ p. IsRewrite (Apply kind left.now right.now) p) }
 {
     let (lefts, rights) = both(lefts, rights)?;
-    join(alloc, kind, left, lefts, right, rights, condition)
+    apply(alloc, kind, left, lefts, right, rights)
 }
 
 /// A rewriting of a UNION, of rewritings of its inputs. It fails where one of these failed, and for want of memory.

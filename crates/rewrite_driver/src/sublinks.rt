@@ -3,7 +3,8 @@ ghost use Rattle.std.specs.Prelude.{◌≡◌, ◌++◌, [], ◌∷◌, List, If
 ghost use Rattle.bag_algebra.specs.Rewriting.{IsRewrite, Stands};
 ghost use Rattle.bag_algebra.specs.declared.query.Sublink.{Sublink};
 ghost use Rattle.query_laws.specs.Standing.{SubsStand};
-ghost use Rattle.rewrite_sublink.specs.SubRewritings.{SubsRewritten};
+ghost use Rattle.rewrite_move.specs.Moved.{SubsTraced};
+ghost use Rattle.rewrite_move.specs.Traced.{traced_of};
 
 use bag_algebra::{Query, Sublink};
 use perm_values::{Copyable, List, NoMemory};
@@ -46,9 +47,9 @@ pub(crate) fn add_rewriting(
     rewritings: &mut List<Query>,
     query: Result<Query, NoMemory>,
 ) -> Result<(), NoMemory>
-    ensures { (subs : List Sublink) (sub : Sublink) → SubsRewritten subs rewritings.old →
-        IfOk query (λ p. IsRewrite sub.query p) →
-        OnOk result (SubsRewritten (subs ++ sub ∷ []) rewritings.new) }
+    ensures { (subs : List Sublink) (sub : Sublink) → SubsTraced subs rewritings.old →
+        IfOk query (λ p. IsRewrite (traced_of sub) p) →
+        OnOk result (SubsTraced (subs ++ sub ∷ []) rewritings.new) }
 {
     let query = query?;
     rewritings.push(query)

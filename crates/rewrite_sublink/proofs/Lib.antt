@@ -12,6 +12,8 @@ pub mod OneMore
 pub mod OneSublink
 pub mod ProjectRows
 pub mod Ready
+pub mod SameSteps
 pub mod Steps
+pub mod SublinkRows
 pub mod TestValues
 pub mod WholeRules

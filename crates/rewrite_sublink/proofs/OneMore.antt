@@ -10,7 +10,7 @@ use Rattle.contribution.specs.CrossBase.{cross_base_of}
 use Rattle.bag_algebra.specs.built.Scopes.{all_over_tables}
 use Rattle.rewrite_sublink.specs.Candidates.{all_contributed, contributed}
 
-opened : {X : Type 0} (xs : List X) (at : ℕ) (x : X) → at < length xs → x ≡ get_or xs at x → drop at xs ≡ x ∷ drop (at + 1) xs
+pub opened : {X : Type 0} (xs : List X) (at : ℕ) (x : X) → at < length xs → x ≡ get_or xs at x → drop at xs ≡ x ∷ drop (at + 1) xs
 opened xs at x within e =
     let next : suc at ≡ at + 1 = omega arith in
     drop-cons xs at x within ∙ (λ i. sym e i ∷ drop (next i) xs)

@@ -1,81 +1,47 @@
 -- The one lemma of a sublink on a row: where the sublink is good there, a candidate passes the test exactly where it is one of
 -- its contributions, flattened; and the test is good on every candidate.
-use Rattle.std.proofs.Common.{◌≡◌, ◌↔◌, ℕ, Bool, true, false, cond, List, [], ◌∷◌, ◌++◌, length, Option, Some, None, Contains, IsTrue, append-nil, refl, sym, ap, ◌∙◌, subst, arith}
-use Rattle.std.proofs.lemmas.Bool.{and_from}
+use Rattle.std.proofs.Common.{◌≡◌, ◌↔◌, ℕ, Bool, true, false, cond, List, [], ◌∷◌, ◌++◌, length, Option, None, Contains, IsTrue, append-nil, refl, sym, ap, ◌∙◌, subst, arith}
 use Rattle.std.specs.List.{list_any, flat_map, range_with_len}
 use Rattle.perm_values.specs.Rows.{picked}
 use Rattle.perm_values.specs.declared.kind.Kind.{Kind}
 use Rattle.perm_values.specs.declared.value.Value.{Value}
 use Rattle.perm_values.specs.declared.value.Value.TheVariants.{Null, Boolean}
-use Rattle.bag_algebra.proofs.BagLaws.{permuted-from_same_bag}
 use Rattle.bag_algebra.proofs.Members.{IsIn, in-member, member-in}
-use Rattle.bag_algebra.proofs.Outcomes.{both_then-parts}
 use Rattle.bag_algebra.proofs.TablesRead.{reads_among-fit}
 use Rattle.bag_algebra.specs.Bags.{Row, Bag, member}
 use Rattle.bag_algebra.specs.Children.{subs_denote}
-use Rattle.bag_algebra.specs.Fits.{env_fits, row_begins}
+use Rattle.bag_algebra.specs.Fits.{row_begins}
 use Rattle.bag_algebra.specs.Kinds.{kinds_of, place_kinds, shape, width_of}
 use Rattle.bag_algebra.specs.Meaning.{Database, meaning, witnesses, optional_value, condition_on}
-use Rattle.bag_algebra.specs.Means.{Means, Witness, flat, all_empty, cell, chosen, good_rows, good_value, is_met, is_some_row, sub_value}
-use Rattle.bag_algebra.specs.Outcome.{Outcome, Good, Bad, both_then}
-use Rattle.bag_algebra.specs.Rewriting.{SameRows}
-use Rattle.bag_algebra.specs.WellFormed.{sub_form}
+use Rattle.bag_algebra.specs.Means.{Witness, flat, all_empty, cell, chosen, good_rows, good_value, is_met, is_some_row}
+use Rattle.bag_algebra.specs.Outcome.{Outcome, Good}
 use Rattle.bag_algebra.specs.declared.place.Place.{Place}
 use Rattle.bag_algebra.specs.declared.query.Query.{Query}
 use Rattle.bag_algebra.specs.declared.expr.Expr.{Expr}
-use Rattle.bag_algebra.specs.declared.query.SubKind.{SubKind}
-use Rattle.bag_algebra.specs.declared.query.SubKind.TheVariants.{Exists, Any, All, Scalar}
 use Rattle.bag_algebra.specs.declared.query.Sublink.{Sublink}
 use Rattle.contribution.proofs.AddedColumns.{columns-added}
 use Rattle.contribution.proofs.CrossBases.{meaning-cross_base, kinds_of-cross_base, formed-cross_base, tables-cross_base}
 use Rattle.contribution.proofs.CrossedRows.{FlatAt}
 use Rattle.contribution.proofs.EntriesAtPlaces.{blank-at}
-use Rattle.contribution.proofs.Growth.{denote-same, tested-same}
 use Rattle.contribution.proofs.ListsInBases.{lists-in_cross_base}
-use Rattle.contribution.proofs.OrderOfQueries.{sub_value-permuted}
 use Rattle.contribution.specs.Fitting.{Fitting}
 use Rattle.contribution.specs.HeldRows.{held_rows}
-use Rattle.contribution.specs.SameColumns.{SameColumns}
-use Rattle.rewrite_base.proofs.JoinedOutcomes.{Related}
-use Rattle.rewrite_base.proofs.KeptRewriting.{rewriting-related}
-use Rattle.rewrite_base.proofs.KeptRows.{row-width, list-width}
+use Rattle.rewrite_base.proofs.KeptRows.{row-width}
 use Rattle.rewrite_base.proofs.Places.{at-between}
 use Rattle.rewrite_base.specs.Rewritten.{Beside}
 use Rattle.rewrite_sublink.proofs.Contributing.{matching_rows, contributions, is_candidate, from-candidate, in-candidate}
 use Rattle.rewrite_sublink.proofs.MatchingRows.{meaning-matching}
+use Rattle.rewrite_sublink.proofs.SublinkRows as under
 use Rattle.rewrite_sublink.proofs.TestValues.{passes_of, chosen-passing, test-value}
 use Rattle.rewrite_sublink.specs.Candidates.{deciding, matching, test_condition, test_subs}
-use Rattle.query_laws.proofs.SameExpressions.{optional-same}
 use Rattle.rewrite_sublink.proofs.Ready.{Ready, stand_of, base_of}
 use Rattle.rewrite_sublink.proofs.Steps.{SubsFitting, HasValue}
 use Rattle.query_laws.proofs.Contributed.{contributed, contributes-from, in-contributed}
 use Rattle.query_laws.specs.SublinkLists.{Contributes, by_row, by_no_row}
 
-same-answer : (kind : SubKind) (x : Value) (vs : Bag) (o : Outcome Bag) → SameRows (Good vs) o → both_then (Good x) o (sub_value kind) ≡ sub_value kind x vs
-same-answer kind x vs (Good ss) s = sym (sub_value-permuted kind x (permuted-from_same_bag vs ss s))
-same-answer kind x vs (Bad f) s = absurd s
-
-good-related : (R : Bag → Bag → Type 0) (vs : Bag) (o : Outcome Bag) → Related R (Good vs) o → (rs : Bag) × (o ≡ Good rs) × R vs rs
-good-related R vs (Good rs) r = (rs, refl, r)
-good-related R vs (Bad f) r = absurd r
-
 met-is : (b : Bool) → is_met (Good (Boolean b)) ≡ b
 met-is true = refl
 met-is false = refl
-
-cell-first : (v more : Row) → length v ≡ 1 → cell (v ++ more) ≡ cell v
-cell-first [] more e = absurd (omega (arith, e))
-cell-first (y ∷ v) more e = refl
-
--- what is compared stands in the row's first column
-passes-first : (kind : SubKind) (tested : Option Expr) (scopes : List (List Kind)) (kinds : List Kind) → sub_form kind tested scopes kinds → (x : Value) (v more : Row) →
-    length v ≡ length kinds → passes_of kind x (cell (v ++ more)) ≡ passes_of kind x (cell v)
-passes-first Exists tested scopes kinds f x v more e = refl
-passes-first (Any c) None scopes kinds f x v more e = absurd f
-passes-first (Any c) (Some tested) scopes kinds f x v more e = ap (passes_of (Any c) x) (cell-first v more (e ∙ ap length f.one))
-passes-first (All c) None scopes kinds f x v more e = absurd f
-passes-first (All c) (Some tested) scopes kinds f x v more e = ap (passes_of (All c) x) (cell-first v more (e ∙ ap length f.one))
-passes-first Scalar tested scopes kinds f x v more e = refl
 
 -- a sublink of a node whose row begins with columns of these kinds
 module _ {columns : List Kind} {outer : List (List Kind)} {db : Database} {env : List Row} {sub : Sublink} {tested : Option Expr} {s r : Query}
@@ -116,8 +82,8 @@ module _ {columns : List Kind} {outer : List (List Kind)} {db : Database} {env :
   whole-is = ap length (is.rewritten.kinds (columns ∷ outer) f.form.query)
 
   module _ (b : Row) (begins : row_begins b columns ≡ true) (v : HasValue db env sub b) where
-    pub parts : (x : Value) × (vs : Bag) × (optional_value sub.tested env b ≡ Good x) × (meaning sub.query db (b ∷ env) ≡ Good vs)
-    parts = both_then-parts (optional_value sub.tested env b) (meaning sub.query db (b ∷ env)) (sub_value sub.kind) v.0 v.1
+    abbrev parts : (x : Value) × (vs : Bag) × (optional_value sub.tested env b ≡ Good x) × (meaning sub.query db (b ∷ env) ≡ Good vs)
+    parts = under.parts f b begins v
 
     abbrev x : Value
     x = parts.0
@@ -128,45 +94,11 @@ module _ {columns : List Kind} {outer : List (List Kind)} {db : Database} {env :
     abbrev lists : Row → List Witness
     lists = witnesses sub.query db (b ∷ env)
 
-    inner : Fitting (columns ∷ outer) sub.query db (b ∷ env)
-    inner = record { formed = f.form.query; tables = f.tables.0; outer_rows = and_from (row_begins b columns) (env_fits env outer) begins f.outer_rows }
-
-    pub rewriting-rows : (rs : Bag) × (meaning r db (b ∷ env) ≡ Good rs) × Beside lists vs rs
-    rewriting-rows =
-        good-related (Beside lists) vs (meaning r db (b ∷ env))
-        (subst (λ o. Related (Beside lists) o (meaning r db (b ∷ env))) parts.3 (rewriting-related (columns ∷ outer) sub.query r db (b ∷ env) inner is.rewritten))
+    abbrev rewriting-rows : (rs : Bag) × (meaning r db (b ∷ env) ≡ Good rs) × Beside lists vs rs
+    rewriting-rows = under.rewriting-rows f b begins v is.rewritten
 
     abbrev rs : Bag
     rs = rewriting-rows.0
-
-    -- ---- under the row with a candidate behind it
-
-    module _ (k : Row) where
-      abbrev z : Row
-      z = b ++ k
-
-      same : SameColumns (columns ∷ outer) (b ∷ env) (z ∷ env)
-      same = columns-added columns outer b k env begins
-
-      rewriting-there : meaning r db (z ∷ env) ≡ Good rs
-      rewriting-there =
-          sym (ap (λ (m : Means). m.rows) (denote-same r (columns ∷ outer) db (b ∷ env) (z ∷ env) (is.rewritten.formed (columns ∷ outer) f.form.query) same)) ∙ rewriting-rows.1
-
-      tested-there : optional_value tested env z ≡ Good x
-      tested-there =
-          sym (optional-same sub.tested tested is.same env z)
-          ∙ sym (tested-same (columns ∷ outer) b z env env same sub.kind sub.tested (kinds_of sub.query) f.form.fitting)
-          ∙ parts.2
-
-      stand-rows : SameRows (Good vs) (meaning s db (z ∷ env))
-      stand-rows =
-          subst (SameRows (Good vs)) (ap (λ (m : Means). m.rows) (denote-same s (columns ∷ outer) db (b ∷ env) (z ∷ env) (is.stands.formed (columns ∷ outer) f.form.query) same))
-          (subst (λ o. SameRows o (meaning s db (b ∷ env))) parts.3 (is.stands.rows (columns ∷ outer) db (b ∷ env) f.form.query f.tables.0 inner.outer_rows))
-
-      stand-value : both_then (optional_value tested env z) (meaning s db (z ∷ env)) (sub_value sub.kind) ≡ sub_value sub.kind x vs
-      stand-value =
-          ap (λ o. both_then o (meaning s db (z ∷ env)) (sub_value sub.kind)) tested-there
-          ∙ same-answer sub.kind x vs (meaning s db (z ∷ env)) stand-rows
 
     -- ---- the test
 
@@ -177,15 +109,13 @@ module _ {columns : List Kind} {outer : List (List Kind)} {db : Database} {env :
     decided = list_any (λ row. passes (cell row)) vs
 
     pub wide : (row : Row) → IsIn row vs → length row ≡ own
-    wide row h = row-width (columns ∷ outer) sub.query db (b ∷ env) inner vs row parts.3 (in-member row vs h) ∙ own-is
+    wide row h = under.wide f b begins v row h ∙ own-is
 
     pub long : (row : Row) (w : Witness) → Contains (lists row) w → length (flat w) ≡ count
-    long row w c = list-width (columns ∷ outer) sub.query db (b ∷ env) inner row w c ∙ count-is
+    long row w c = under.long f b begins v row w c ∙ count-is
 
     pub first : (row more : Row) → IsIn row vs → passes (cell (row ++ more)) ≡ passes (cell row)
-    first row more h =
-        passes-first sub.kind sub.tested (columns ∷ outer) (kinds_of sub.query) f.form.fitting x row more
-        (row-width (columns ∷ outer) sub.query db (b ∷ env) inner vs row parts.3 (in-member row vs h))
+    first = under.first f b begins v
 
     abbrev is_one : Row → Bool
     is_one k = is_candidate passes (kinds_of sub.query) places vs rs lists rewriting-rows.2 own count (width_of r) own-is count-is whole-is wide long first decided k
@@ -208,9 +138,11 @@ module _ {columns : List Kind} {outer : List (List Kind)} {db : Database} {env :
       test-good k e =
           let candidate : picked (range_with_len from count) (b ++ k) ≡ k =
           ap (λ xs. picked (range_with_len from count) (b ++ xs)) (sym (append-nil k)) ∙ at-between Null b k [] from count from_is e in
+          let same = columns-added columns outer b k env begins in
           let found_there : meaning (matching count from own r) db ((b ++ k) ∷ env) ≡ Good (matching_rows k own count (width_of r) rs) =
-          meaning-matching r db (b ++ k) env rs count from own (rewriting-there k) ∙ ap (λ c. Good (matching_rows c own count (width_of r) rs)) candidate in
-          test-value tested s (matching count from own r) db env (b ++ k) x vs (matching_rows k own count (width_of r) rs) (tested-there k) found_there sub.kind (stand-value k)
+          meaning-matching r db (b ++ k) env rs count from own (under.rewriting-there f b begins v is.rewritten (b ++ k) same) ∙ ap (λ c. Good (matching_rows c own count (width_of r) rs)) candidate in
+          test-value tested s (matching count from own r) db env (b ++ k) x vs (matching_rows k own count (width_of r) rs) (under.tested-there f b begins v tested s is.same is.stands (b ++ k) same) found_there sub.kind
+          (under.stand-value f b begins v tested s is.same is.stands (b ++ k) same)
 
       pub passing-contributes : (k : Row) → length k ≡ count → is_met (test from (b ++ k)) ≡ true → (c : Witness) × Contributes db env b sub c × (flat c ≡ k)
       passing-contributes k e met =

@@ -86,21 +86,21 @@ and_then-mapped (Bad f) next make = refl
 all-columns : (z : Row) → picked (range_with_len 0 (length z)) z ≡ z
 all-columns z = ap (picked (range_with_len 0 (length z))) (sym (append-nil z)) ∙ at-between Null [] z [] 0 (length z) refl refl
 
-beside_row-value : (q : Query) (items : List Item) (env : List Row) (s : SubMeans) (z : Row) → length z ≡ width_of q →
+pub beside_row-value : (q : Query) (items : List Item) (env : List Row) (s : SubMeans) (z : Row) → length z ≡ width_of q →
     items_on (beside_row q items) env s z ≡ mapped (λ t. z ++ t) (items_on items env s z)
 beside_row-value q items env s z e =
     (λ i. and_then (s.answers z) (λ answers. columns-before z env answers (kinds_of q) (range_with_len 0 (width_of q)) items i))
     ∙ and_then-mapped (s.answers z) (λ answers. each (λ (item : Item). value item.expr z env answers) items) (λ t. picked (range_with_len 0 (width_of q)) z ++ t)
     ∙ ap (λ row. mapped (λ t. row ++ t) (items_on items env s z)) (ap (λ n. picked (range_with_len 0 n) z) (sym e) ∙ all-columns z)
 
-beside_row-kinds : (q : Query) (items : List Item) → item_kinds (beside_row q items) ≡ kinds_of q ++ item_kinds items
+pub beside_row-kinds : (q : Query) (items : List Item) → item_kinds (beside_row q items) ≡ kinds_of q ++ item_kinds items
 beside_row-kinds q items =
     map-append (λ (item : Item). item.kind) (column_items (kinds_of q) (range_with_len 0 (width_of q))) items
     ∙ ap (λ ks. ks ++ item_kinds items)
     (column_items-kinds (kinds_of q) (range_with_len 0 (width_of q))
     ∙ ap (λ ks. kinds_in ks (range_with_len 0 (width_of q))) (sym (append-nil (kinds_of q))) ∙ at-between kind.Text [] (kinds_of q) [] 0 (width_of q) refl refl)
 
-columns-formed : (kinds : List Kind) (outer : List (List Kind)) (subs : List Kind) (places : List ℕ) → PlacesIn (length kinds) places →
+pub columns-formed : (kinds : List Kind) (outer : List (List Kind)) (subs : List Kind) (places : List ℕ) → PlacesIn (length kinds) places →
     ItemsForm (kinds ∷ outer) subs (column_items kinds places)
 columns-formed kinds outer subs [] within = all-nothing _
 columns-formed kinds outer subs (place ∷ places) within =

@@ -35,14 +35,14 @@ passes_of Scalar x y = false
 
 -- ---- tests of lists
 
-none-any : {X : Type 0} (xs : List X) → list_any (λ (x : X). false) xs ≡ false
+pub none-any : {X : Type 0} (xs : List X) → list_any (λ (x : X). false) xs ≡ false
 none-any [] = refl
 none-any (x ∷ xs) = none-any xs
 
-some-pass : (c : Compare) (x : Value) (bag : Bag) → is_true (some_of (comparisons c x bag)) ≡ list_any (λ row. passes_of (Any c) x (cell row)) bag
+pub some-pass : (c : Compare) (x : Value) (bag : Bag) → is_true (some_of (comparisons c x bag)) ≡ list_any (λ row. passes_of (Any c) x (cell row)) bag
 some-pass c x bag = some_of-is_true (comparisons c x bag) ∙ any-map is_true (λ row. compare_values c x (cell row)) bag
 
-some-fail : (c : Compare) (x : Value) (bag : Bag) →
+pub some-fail : (c : Compare) (x : Value) (bag : Bag) →
     is_true (truth_not (all_of (comparisons c x bag))) ≡ list_any (λ row. passes_of (All c) x (cell row)) bag
 some-fail c x bag = all_of-is_false (comparisons c x bag) ∙ any-map (λ t. is_true (truth_not t)) (λ row. compare_values c x (cell row)) bag
 
@@ -60,12 +60,12 @@ chosen-passing Scalar x bag = ap (λ d. cond d (filter (λ row. false) bag) bag)
 
 -- ---- the value that decides
 
-true-value_of : (t : Truth) → has_truth True (value_of t) ≡ is_true t
+pub true-value_of : (t : Truth) → has_truth True (value_of t) ≡ is_true t
 true-value_of True = refl
 true-value_of False = refl
 true-value_of Unknown = refl
 
-false-value_of : (t : Truth) → has_truth False (value_of t) ≡ is_true (truth_not t)
+pub false-value_of : (t : Truth) → has_truth False (value_of t) ≡ is_true (truth_not t)
 false-value_of True = refl
 false-value_of False = refl
 false-value_of Unknown = refl

@@ -9,4 +9,4 @@ mod matching;
 mod rules;
 
 pub use laws::{filters_over_candidates_rewrite, projects_over_candidates_rewrite};
-pub use rules::{filter_with, project_with};
+pub use rules::{answer_columns, beside_row, filter_with, own_items, own_rows, project_with};

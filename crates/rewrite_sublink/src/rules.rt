@@ -93,8 +93,9 @@ fn items_with(
     answer_columns(alloc, whole, own, row, items.len())
 }
 
-/// The rows of the rewriting on which the condition is true, with what stands for the sublinks.
-fn own_rows(
+/// The rows of the rewriting on which the condition is true, with what stands for the sublinks: what the rule of a Filter adds
+/// the contributions to. It fails only for want of memory.
+pub fn own_rows(
     alloc: Global,
     rewriting: Query,
     condition: &Expr,
@@ -109,8 +110,9 @@ fn own_rows(
     Query::filter(alloc, rewriting, condition, subs)
 }
 
-/// The rows of the rewriting with the items behind them, and what stands for the sublinks.
-fn own_items(
+/// The rows of the rewriting with the items behind them, and what stands for the sublinks: what the rule of a Project adds the
+/// contributions to. It fails only for want of memory.
+pub fn own_items(
     alloc: Global,
     rewriting: Query,
     items: &[Item],
@@ -129,7 +131,8 @@ fn own_items(
     Query::project(alloc, rewriting, items, subs)
 }
 
-fn beside_row(alloc: Global, query: &Query, items: &[Item]) -> Result<List<Item>, NoMemory>
+/// All columns of the query, and then the items. It fails only for want of memory.
+pub fn beside_row(alloc: Global, query: &Query, items: &[Item]) -> Result<List<Item>, NoMemory>
     ensures { IfOk result (λ all. all ≡ beside_row query.now items.now) }
 {
     let places = List::range(alloc, 0, exact_width(query)?)?;
@@ -138,8 +141,10 @@ fn beside_row(alloc: Global, query: &Query, items: &[Item]) -> Result<List<Item>
     Ok(all)
 }
 
-/// The items, the provenance of the rewriting, and what the sublinks contribute.
-fn answer_columns(
+/// The items, the provenance of the rewriting, and what the sublinks contribute, of a query that has a rewriting's `row` columns,
+/// of which the first `own` are its input's, then the `made` items, and then the contributions. It fails only for want of
+/// memory.
+pub fn answer_columns(
     alloc: Global,
     query: Query,
     own: usize,

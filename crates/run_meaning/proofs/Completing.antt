@@ -1,26 +1,31 @@
 -- Where nothing failed, what stands in the output is the whole of a run in which no file failed, unless memory was wanting.
-use Rattle.std.proofs.Common.{◌≡◌, ◌∙◌, ℕ, false, List, [], ◌∷◌, Option, refl, ap, inl, inr, subst, sym}
+use Rattle.std.proofs.Common.{◌≡◌, ◌∙◌, ℕ, false, List, Option, refl, ap, inl, inr, subst, sym}
+use Rattle.command_words.specs.Requests.{request_of}
+use Rattle.command_words.specs.declared.wanted.Wanted.{Wanted}
+use Rattle.command_words.specs.declared.wanted.Wanted.TheVariants.{Script as Named, Generated, Misworded}
+use Rattle.generated_scripts.specs.Generated.{generated}
 use Rattle.perm_io.specs.Counts.{HasRisen}
 use Rattle.perm_io.specs.Found.{Found, CanBe}
 use Rattle.perm_io.specs.declared.named_file.NamedFile.{NamedFile}
 use Rattle.statement_meaning.specs.Answers.{Files, file_limit}
 use Rattle.run_meaning.specs.Ends.{Written, Ends, EndsOne, Opens, Completes, opened}
-use Rattle.run_meaning.specs.Run.{Ran, Runs, IsSteady, IsWhole}
+use Rattle.run_meaning.specs.Run.{Ran, Runs, RunsWanted, IsSteady, IsWhole, script_files}
 use Rattle.run_meaning.specs.Stops.{script_limit}
 use Rattle.run_meaning.specs.declared.status.Status.{Status}
 use Rattle.run_meaning.specs.declared.status.Status.TheVariants as status
-use Rattle.run_meaning.proofs.Widening.{CanBe-wider, file-wider}
+use Rattle.run_meaning.proofs.Widening.{CanBe-wider, file-wider, script-wider}
 
-unfailed : (words : List (List ℕ)) (held : Option (List NamedFile)) (fault : Type 0) → (fault → ⊥) → (ran : Ran) → Runs words held fault ran → Runs words held ⊥ ran
-unfailed [] held fault none ran h = h
-unfailed (name ∷ []) held fault none ran (found, rest, can, next, is) = (
+unfailed : (wanted : Wanted) (held : Option (List NamedFile)) (fault : Type 0) → (fault → ⊥) → (ran : Ran) → RunsWanted wanted held fault ran → RunsWanted wanted held ⊥ ran
+unfailed (Named name) held fault none ran (found, rest, can, next, is) = (
   found,
   rest,
   CanBe-wider script_limit held fault ⊥ none name found can,
   file-wider (CanBe file_limit held fault) (CanBe file_limit held ⊥) (CanBe-wider file_limit held fault ⊥ none) found rest next,
   is,
 )
-unfailed (name ∷ other ∷ words) held fault none ran h = h
+unfailed (Generated rows) held fault none ran h =
+    script-wider (CanBe file_limit held fault) (CanBe file_limit held ⊥) (CanBe-wider file_limit held fault ⊥ none) (generated rows) ran h
+unfailed Misworded held fault none ran h = h
 
 module _ (words : List (List ℕ)) (held : Option (List NamedFile)) (fault : Type 0) (w : Written) (files : Files) where
   whole : (s : Status) (ran : Ran) → Runs words held ⊥ ran → Ends ran w s → Opens ran files.begun files.begun_after s → (HasRisen w.faults_before w.faults_after → ⊥) →
@@ -35,9 +40,9 @@ module _ (words : List (List ℕ)) (held : Option (List NamedFile)) (fault : Typ
   whole status.WriteFault ran is e o calm = absurd (calm e.risen)
   whole status.NoMemory ran is e o calm = inl refl
 
-  pub completes : (Can : List ℕ → Found → Type 0) (s : Status) → EndsOne 1 Can (Runs words held fault) w files s → (fault → ⊥) → (HasRisen w.faults_before w.faults_after → ⊥) →
+  pub completes : (Can : List ℕ → Found → Type 0) (s : Status) → EndsOne (script_files (request_of words)) Can (Runs words held fault) w files s → (fault → ⊥) → (HasRisen w.faults_before w.faults_after → ⊥) →
       Completes (Runs words held ⊥) w files s
-  completes Can s (inl e) none calm = whole s e.ran (unfailed words held fault none e.ran e.is) e.ends e.opens calm
+  completes Can s (inl e) none calm = whole s e.ran (unfailed (request_of words) held fault none e.ran e.is) e.ends e.opens calm
   completes Can s (inr (silent, counted)) none calm = inl silent.said
 
 -- ---- the output's count of faults, and its flush

@@ -1,6 +1,10 @@
 -- Why a run ends with a status.
 use Rattle.std.proofs.Common.{◌≡◌, ◌∙◌, ◌⊎◌, ℕ, ◌≤◌, ◌<◌, Bool, true, false, true≢false, List, [], ◌∷◌, Option, refl, sym, ap, subst, inl, inr, arith}
 use Rattle.std.specs.Io.KnownBytes.{append_known}
+use Rattle.command_words.specs.Requests.{request_of}
+use Rattle.command_words.specs.declared.wanted.Wanted.{Wanted}
+use Rattle.command_words.specs.declared.wanted.Wanted.TheVariants.{Script as Named, Generated, Misworded}
+use Rattle.generated_scripts.specs.Generated.{generated}
 use Rattle.perm_catalog.specs.Changes.{nothing_held}
 use Rattle.perm_catalog.specs.Contents.{Contents}
 use Rattle.perm_io.specs.Found.{Found, Read, Missing, TooLong, Failed, CanBe}
@@ -16,7 +20,7 @@ use Rattle.statement_meaning.specs.Turns.{Turn, Accepted, Refused}
 use Rattle.statement_meaning.specs.declared.refusal.StepRefusal.{StepRefusal}
 use Rattle.statement_meaning.specs.declared.refusal.StepRefusal.TheVariants as refusal
 use Rattle.run_meaning.specs.Ends.{Written, Ends, EndsAt, EndsOne, EndsBroken, EndsFaulty, IsBadFile, IsBadScript, is_of_data, opened}
-use Rattle.run_meaning.specs.Run.{Ran, GoesOn, Asks, Runs, RunsFrom, RunsScript, RunsFile, IsWhole, text_of}
+use Rattle.run_meaning.specs.Run.{Ran, GoesOn, Asks, Runs, RunsFrom, RunsScript, RunsFile, RunsWanted, IsWhole, script_files, text_of}
 use Rattle.run_meaning.specs.Stops.{Stop, ToTheEnd, Misused, NoFile, LongFile, FailedFile, NoScript, At, Backs, refusal_status, status_of}
 use Rattle.run_meaning.specs.declared.status.Status.{Status}
 use Rattle.run_meaning.specs.declared.status.Status.TheVariants as status
@@ -164,19 +168,20 @@ module _ (Can : List ℕ → Found → Type 0) where
   file-begun TooLong ran is = subst HasBegun (sym is) (λ data_is. no_other data_is)
   file-begun Failed ran is = subst HasBegun (sym is) (λ data_is. no_other data_is)
 
-abbrev HasBegunTwo : Ran → Type 0
-HasBegunTwo ran = OfData ran.stop ≡ true → 1 < ran.begun
+-- more than those of the script itself
+abbrev HasBegunMore : Wanted → Ran → Type 0
+HasBegunMore wanted ran = OfData ran.stop ≡ true → script_files wanted < ran.begun
 
-run-begun : (words : List (List ℕ)) (held : Option (List NamedFile)) (fault : Type 0) (ran : Ran) → Runs words held fault ran → HasBegunTwo ran
-run-begun [] held fault ran is = subst HasBegunTwo (sym is) (λ data_is. no_other data_is)
-run-begun (name ∷ []) held fault ran (found, rest, can, runs, is) =
-    subst HasBegunTwo (sym is) (λ data_is. let some = file-begun (CanBe file_limit held fault) found rest runs data_is in omega (arith, some))
-run-begun (name ∷ other ∷ words) held fault ran is = subst HasBegunTwo (sym is) (λ data_is. no_other data_is)
+run-begun : (wanted : Wanted) (held : Option (List NamedFile)) (fault : Type 0) (ran : Ran) → RunsWanted wanted held fault ran → HasBegunMore wanted ran
+run-begun (Named name) held fault ran (found, rest, can, runs, is) =
+    subst (HasBegunMore (Named name)) (sym is) (λ data_is. let some = file-begun (CanBe file_limit held fault) found rest runs data_is in omega (arith, some))
+run-begun (Generated rows) held fault ran runs = λ data_is. script-begun (CanBe file_limit held fault) (generated rows) ran runs data_is
+run-begun Misworded held fault ran is = subst (HasBegunMore Misworded) (sym is) (λ data_is. no_other data_is)
 
 -- the script's file isn't there or is too long, or the data of a later one are refused
 module _ (words : List (List ℕ)) (held : Option (List NamedFile)) (fault : Type 0) (Can : List ℕ → Found → Type 0) (w : Written) (files : Files) where
   abbrev Bad : Type 0
-  Bad = IsBadScript files ⊎ IsBadFile 1 Can (Runs words held fault) w files
+  Bad = IsBadScript files ⊎ IsBadFile (script_files (request_of words)) Can (Runs words held fault) w files
 
   bad-at : (ran : Ran) (stop : Stop) → ran.stop ≡ stop → Runs words held fault ran → status_of stop ≡ status.BadData → w.after ≡ append_known w.before (text_of ran) → Backs Can stop files → files.begun_after ≡ opened ran.begun files.begun → Bad
   bad-at ran ToTheEnd e is bad text backs counted = absurd cc
@@ -189,7 +194,7 @@ module _ (words : List (List ℕ)) (held : Option (List NamedFile)) (fault : Typ
       let data_is = data-of refused bad in
       inr (
         ran.begun,
-        run-begun words held fault ran is (ap OfData e ∙ data_is),
+        run-begun (request_of words) held fault ran is (ap OfData e ∙ data_is),
         counted,
         refused,
         data_is,
@@ -199,7 +204,7 @@ module _ (words : List (List ℕ)) (held : Option (List NamedFile)) (fault : Typ
   bad_data≢no_memory : status.BadData ≡ status.NoMemory → ⊥
   bad_data≢no_memory e = cc
 
-  pub ends-bad : (s : Status) → EndsOne 1 Can (Runs words held fault) w files s → s ≡ status.BadData → Bad
+  pub ends-bad : (s : Status) → EndsOne (script_files (request_of words)) Can (Runs words held fault) w files s → s ≡ status.BadData → Bad
   ends-bad s (inr (silent, counted)) e = absurd (bad_data≢no_memory (sym e ∙ silent.said))
   ends-bad s (inl h) e =
       let ends : Ends h.ran w status.BadData = subst (Ends h.ran w) e h.ends in

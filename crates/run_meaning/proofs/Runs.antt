@@ -1,5 +1,9 @@
 -- Over told files of which none fails there is one run, but for which fault is named.
 use Rattle.std.proofs.Common.{◌≡◌, ◌≢◌, ◌∙◌, ℕ, ◌+◌, ◌≤◌, ◌<◌, true, List, [], ◌∷◌, length, Option, Some, None, IsSomeAnd, refl, sym, ap, subst, inl, inr, arith}
+use Rattle.command_words.specs.Requests.{request_of}
+use Rattle.command_words.specs.declared.wanted.Wanted.{Wanted}
+use Rattle.command_words.specs.declared.wanted.Wanted.TheVariants.{Script as OfFile, Generated, Misworded}
+use Rattle.generated_scripts.specs.Generated.{generated}
 use Rattle.null_logic.specs.declared.run_fault.RunFault.{RunFault}
 use Rattle.bag_algebra.specs.Outcome.{Faults, has}
 use Rattle.perm_catalog.specs.Changes.{nothing_held}
@@ -18,7 +22,7 @@ use Rattle.statement_meaning.specs.declared.refusal.StepRefusal.{StepRefusal}
 use Rattle.statement_meaning.specs.declared.refusal.StepRefusal.TheVariants as refusal
 use Rattle.statement_changes.proofs.SomeFound.{some_found}
 use Rattle.run_meaning.proofs.Turns.{some_run}
-use Rattle.run_meaning.specs.Run.{Ran, Runs, RunsNamed, RunsFile, RunsScript, RunsFrom, Asks, GoesOn, ended, after_text, after_files}
+use Rattle.run_meaning.specs.Run.{Ran, Runs, RunsNamed, RunsFile, RunsScript, RunsFrom, RunsWanted, Asks, GoesOn, ended, after_text, after_files}
 use Rattle.run_meaning.specs.Scripts.{IsScriptOf, IsMisspelled}
 use Rattle.run_meaning.specs.Stops.{Stop, ToTheEnd, Misused, NoFile, LongFile, NoScript, At, script_limit}
 use Rattle.run_meaning.specs.Same.{MeetsFaults, SameStop, alike, by_faults, SameRun}
@@ -172,10 +176,13 @@ module _ (held : List NamedFile) where
         (same_files 1 rest rest' (same_file g name can' rest rest'
         (subst (λ (found : Found). RunsFile Can found rest) (same_found script_limit held name f g can can') runs) runs'))
 
+    same_wanted : (wanted : Wanted) → One (RunsWanted wanted (Some held) ⊥)
+    same_wanted (OfFile name) a b h k = same_named name a b h k
+    same_wanted (Generated rows) a b h k = same_script (generated rows) a b h k
+    same_wanted Misworded a b h k = moved a b (ended Misused) (ended Misused) h k (same_ended Misused Misused alike)
+
     pub same_run : (words : List (List ℕ)) → One (Runs words (Some held) ⊥)
-    same_run [] a b h k = moved a b (ended Misused) (ended Misused) h k (same_ended Misused Misused alike)
-    same_run (name ∷ []) a b h k = same_named name a b h k
-    same_run (name ∷ other ∷ words) a b h k = moved a b (ended Misused) (ended Misused) h k (same_ended Misused Misused alike)
+    same_run words = same_wanted (request_of words)
 
   -- ---- there is one
 
@@ -191,9 +198,12 @@ module _ (held : List NamedFile) where
     some_file TooLong name can = (ended LongFile, refl)
     some_file Failed name can = absurd can
 
-    pub a_run : (words : List (List ℕ)) → (ran : Ran) × Runs words (Some held) ⊥ ran
-    a_run [] = (ended Misused, refl)
-    a_run (name ∷ []) =
+    wanted_run : (wanted : Wanted) → (ran : Ran) × RunsWanted wanted (Some held) ⊥ ran
+    wanted_run (OfFile name) =
         let f = some_found script_limit (Some held) ⊥ name in
         let g = some_file f.0 name f.1 in (after_files 1 g.0, (f.0, g.0, f.1, g.1, refl))
-    a_run (name ∷ other ∷ words) = (ended Misused, refl)
+    wanted_run (Generated rows) = by_spelling (generated rows) (spelled (generated rows))
+    wanted_run Misworded = (ended Misused, refl)
+
+    pub a_run : (words : List (List ℕ)) → (ran : Ran) × Runs words (Some held) ⊥ ran
+    a_run words = wanted_run (request_of words)

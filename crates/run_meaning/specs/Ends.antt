@@ -118,9 +118,13 @@ pub record EndsSome (Can : List ℕ → Found → Type 0) (IsRun : Ran → Type 
 abbrev pub RunsOver : List (List ℕ) → Files → Ran → Type 0
 RunsOver words files = Runs words files.held (HasRisen files.faults files.faults_after)
 
--- that, or memory was wanting before anything was written, when so many files were begun
+-- the count of begun files rose by at most so many
+abbrev pub BeginsAtMost : ℕ → Files → Type 0
+BeginsAtMost most files = (begun : ℕ) × (begun ≤ most) × (files.begun_after ≡ opened begun files.begun)
+
+-- that, or memory was wanting before anything was written, when at most so many files were begun
 abbrev pub EndsOne : ℕ → (List ℕ → Found → Type 0) → (Ran → Type 0) → Written → Files → Status → Type 0
-EndsOne begun Can IsRun w files s = EndsSome Can IsRun w files s ⊎ (IsSilent w s × (files.begun_after ≡ opened begun files.begun))
+EndsOne begun Can IsRun w files s = EndsSome Can IsRun w files s ⊎ (IsSilent w s × BeginsAtMost begun files)
 
 -- memory was wanting, or one of the runs is written whole, and its files are begun
 abbrev pub Completes : (Ran → Type 0) → Written → Files → Status → Type 0

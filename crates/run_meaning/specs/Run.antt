@@ -1,6 +1,10 @@
 -- What a run over a command line and files writes, and why it ends.
-use Rattle.std.specs.Prelude.{◌≡◌, ◌≢◌, ◌⊎◌, ℕ, ◌+◌, Bool, true, false, List, [], ◌∷◌, ◌++◌, Option}
+use Rattle.std.specs.Prelude.{◌≡◌, ◌≢◌, ◌⊎◌, ℕ, ◌+◌, List, [], ◌∷◌, ◌++◌, Option}
 use Rattle.std.specs.List.{flat_map}
+use Rattle.command_words.specs.Requests.{request_of}
+use Rattle.command_words.specs.declared.wanted.Wanted.{Wanted}
+use Rattle.command_words.specs.declared.wanted.Wanted.TheVariants.{Script as Named, Generated, Misworded}
+use Rattle.generated_scripts.specs.Generated.{generated}
 use Rattle.perm_catalog.specs.Changes.{nothing_held}
 use Rattle.perm_catalog.specs.Contents.{Contents}
 use Rattle.perm_io.specs.Found.{Found, Read, Missing, TooLong, Failed, CanBe}
@@ -74,11 +78,16 @@ RunsNamed held fault name ran =
     (found : Found) × (rest : Ran) × CanBe script_limit held fault name found × RunsFile (CanBe file_limit held fault) found rest
     × (ran ≡ after_files 1 rest)
 
--- a run over these words and files: one word names the script, and any other number of words is refused
+-- the runs of what is wanted: of a script by its name, of the script that is made from a number, for which no file is begun,
+-- or of nothing
+abbrev pub RunsWanted : Wanted → Option (List NamedFile) → Type 0 → Ran → Type 0
+RunsWanted (Named name) held fault ran = RunsNamed held fault name ran
+RunsWanted (Generated rows) held fault ran = RunsScript (CanBe file_limit held fault) (generated rows) ran
+RunsWanted Misworded held fault ran = ran ≡ ended Misused
+
+-- a run over these words and files
 abbrev pub Runs : List (List ℕ) → Option (List NamedFile) → Type 0 → Ran → Type 0
-Runs [] held fault ran = ran ≡ ended Misused
-Runs (name ∷ []) held fault ran = RunsNamed held fault name ran
-Runs (name ∷ other ∷ words) held fault ran = ran ≡ ended Misused
+Runs words held fault ran = RunsWanted (request_of words) held fault ran
 
 -- a run of the statements can stop at this break
 abbrev pub StopsBy : Turn → (Contents → Type 0) → Break → Type 0
@@ -93,11 +102,11 @@ abbrev pub StopsAt : Contents → List Statement → Break → Type 0
 StopsAt c [] b = ⊥
 StopsAt c (statement ∷ statements) b = StopsAsked (asked c statement) (λ after. StopsAt after statements b) b
 
--- one word
-abbrev pub is_one : List (List ℕ) → Bool
-is_one [] = false
-is_one (name ∷ []) = true
-is_one (name ∷ other ∷ words) = false
+-- the files that are begun for the script itself
+abbrev pub script_files : Wanted → ℕ
+script_files (Named name) = 1
+script_files (Generated rows) = 0
+script_files Misworded = 0
 
 -- the status of a run that neither the output nor memory cut short
 abbrev pub IsWhole : Status → Type 0

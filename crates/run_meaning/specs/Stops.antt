@@ -60,7 +60,7 @@ refusal_status refusal.NoMemory = status.NoMemory
 
 abbrev pub line_of : Stop → List ℕ
 line_of ToTheEnd = []
-line_of Misused = codes "usage: perm SCRIPT\n"
+line_of Misused = codes "usage: perm (SCRIPT | --generate N)\n"
 line_of NoFile = codes "error E40 script\n"
 line_of LongFile = codes "error E41 script\n"
 line_of FailedFile = codes "error E50\n"

@@ -33,7 +33,6 @@ use Rattle.name_meaning.specs.Sublinks.{nothing_before}
 use Rattle.name_meaning.specs.Trees.{part_of}
 use Rattle.name_meaning.specs.declared.answer.Break.{Break}
 use Rattle.name_laws.proofs.Every.{front-none, back-none}
-use Rattle.name_laws.proofs.Trees.{query-in_scope}
 use Rattle.name_laws.specs.Formed.{IsAnswer, IsFormedExpr}
 use Rattle.name_laws.specs.Standing.{StandAt, AggregatesStand}
 use Rattle.name_laws.proofs.TreeLaws.{expr-formed, query-answer, query-closed, query-wide}
@@ -173,7 +172,6 @@ module _ (c : Contents) (sound : IsSound c) where
       record {
         answer = record {
           closed = (query-closed c tree alone sound regular whole refl []).0;
-          scoped = (query-in_scope c tree alone sound whole []).scoped;
           some = query-wide c tree alone sound regular whole [];
           named = ap (λ (o : Option (List OutColumn)). length (names_of (option_map_or settled_columns o []))) a.known ∙ length-names a.columns ∙ a.named [];
           keys = a.keys [];

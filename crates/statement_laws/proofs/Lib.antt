@@ -13,9 +13,5 @@ pub mod Sounder
 mod Stored
 pub mod StoredThen
 pub mod Unspent
-mod Untraced
-mod UntracedCores
-mod UntracedFroms
-mod UntracedTrees
 pub mod Wide
 pub mod Words

@@ -18,7 +18,6 @@ use Rattle.name_meaning.specs.Froms.{names_of}
 use Rattle.name_meaning.specs.Statements.{alone, answer_of, columns_of, has_boolean, query_meant, breaks, name_breaks, limit_breaks, named_query_breaks, on_table, repeated_columns, repeats, resolved, resolved_body, taken, unknown_table, unknown_view, used}
 use Rattle.name_meaning.specs.declared.answer.Break.{Break}
 use Rattle.name_laws.proofs.Every.{front-none, back-none}
-use Rattle.name_laws.proofs.Trees.{query-in_scope}
 use Rattle.name_laws.proofs.TreeLaws.{query-closed}
 use Rattle.name_laws.proofs.FittingTables.{tables-fit}
 use Rattle.statement_meaning.specs.Ready.{CanRun, IsReady}
@@ -79,7 +78,6 @@ module _ (c : Contents) where
       → CanRun c (answer_of (query_meant c tree))
   can_run tree sound regular whole = record {
     formed = (query-closed c tree alone sound regular whole refl []).0;
-    scoped = (query-in_scope c tree alone sound whole []).scoped;
     fitting = tables-fit c tree alone sound [];
   }
 

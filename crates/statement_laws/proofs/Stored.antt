@@ -32,7 +32,6 @@ use Rattle.name_meaning.specs.Scopes.{KnownColumn}
 use Rattle.name_meaning.specs.Statements.{alone, columns_of, has_boolean, name_breaks, named_query_breaks, query_meant, repeats, stored_columns, taken, view_entry}
 use Rattle.name_meaning.specs.Trees.{set_of_tree}
 use Rattle.name_meaning.specs.declared.rule.Rule.TheVariants as rule
-use Rattle.name_meaning.specs.declared.trace.Trace.TheVariants.{InProvenance as in_provenance}
 use Rattle.name_laws.proofs.Every.{back-none}
 use Rattle.name_laws.proofs.KindsOf.{kinds-settled_columns}
 use Rattle.name_laws.proofs.Named.{view-reads}
@@ -111,7 +110,7 @@ asks-by false at m own order limit = tt
 
 asks-seen : (around : Around) (at : ℕ) (body : BodyPart) (order : List OrderTree) (limit : Option ℤ) → AsksWhereMarked (query_seen around at body order limit)
 asks-seen around at body order limit =
-    asks-by (asks_provenance around body) at (body.means (record around { trace = in_provenance })) (body.means around) order limit
+    asks-by (asks_provenance around body) at (body.means around) (body.means around) order limit
 
 asks-at : (columns : List Column) (query : Query) (width : ℕ) (places : Option (List ℕ)) → width ≡ length columns
     → IfSome places (λ (there : List ℕ). Asks query) → IfSome places (PlacesIn width) → IfSome places (AsksAt columns query)

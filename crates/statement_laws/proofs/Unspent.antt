@@ -34,9 +34,9 @@ use Rattle.sql_tree.specs.declared.statement.StatementBody.{StatementBody}
 use Rattle.sql_tree.specs.declared.statement.StatementBody.TheVariants as st
 use Rattle.sql_tree.specs.declared.statement.ValuesRow.{ValuesRow}
 use Rattle.name_meaning.proofs.Equations.{ExprBodyFrame, SelectItemFrame, SetTreeFrame, FromSourceFrame, CoreFrame}
-use Rattle.name_meaning.specs.Cores.{BodyPart, core_step, core_trace, core_over, core_seen, has_some, group_scope, group_break, group_found, in_clause, optional_breaks, optional_meant, word_breaks}
+use Rattle.name_meaning.specs.Cores.{BodyPart, core_step, core_over, core_seen, has_some, group_scope, group_break, group_found, in_clause, optional_breaks, optional_meant, word_breaks}
 use Rattle.name_meaning.specs.Expressions.{Body, ArmPart, StepPart, body_step, first_of, second_of, negated_if, times, chain_made, step_operand, first_need, chain_gives, in_kind, arm_operands, else_operand, case_made}
-use Rattle.name_meaning.specs.Froms.{Read, SourcePart, named, inner, FromItemPart, FromMeant, FromPart, JoinPart, attribute_breaks, column_breaks, condition_breaks, first_item, from_all, from_more, beside_from, in_on, item_meant, join_all, join_item, label_of, marked, mark_breaks, named_so, names_of, on_breaks, on_meant, both_known, scope_items, read_of, read_named, read_table, read_view, read_nothing, read_names, scope_break, scope_name, source_step, is_out_of_scope}
+use Rattle.name_meaning.specs.Froms.{Read, SourcePart, named, inner, FromItemPart, FromMeant, FromPart, JoinPart, attribute_breaks, column_breaks, condition_breaks, first_item, from_all, from_more, beside_from, in_on, item_meant, join_all, join_item, label_of, marked, mark_breaks, named_so, names_of, on_breaks, on_meant, both_known, scope_items, read_of, read_named, read_table, read_view, read_nothing, read_names, scope_name, source_step}
 use Rattle.name_meaning.specs.Items.{SelectPart, columns_meant, item_step, no_columns, star_meant, table_star_meant, items_breaks, is_ungrouped}
 use Rattle.name_meaning.specs.Meanings.{Around, Meant, OutColumn, Part, QueryMeant, QueryPart, Surroundings, broken, broken_if, is_whole, means_at, query_means_at, seen_kind, unites}
 use Rattle.name_meaning.specs.Operands.{Operand, first_unfit, gives_of, need_of, node, operand, operated, parts_breaks, unfit_break}
@@ -52,8 +52,6 @@ use Rattle.name_meaning.specs.declared.need.Need.TheVariants.{OfKind as of_kind,
 use Rattle.name_meaning.specs.declared.scope.Found.{Found}
 use Rattle.name_meaning.specs.declared.scope.Found.TheVariants as column
 use Rattle.name_meaning.specs.declared.scope.Scope.{Scope}
-use Rattle.name_meaning.specs.declared.trace.Trace.{Trace}
-use Rattle.name_meaning.specs.declared.trace.Trace.TheVariants.{InProvenance as in_provenance}
 use Rattle.name_laws.proofs.Every.{Every, every-append, every-flat_map, every-map}
 use Rattle.name_laws.proofs.Induction.{BodyParts, ItemParts, SetParts, SourceParts, CoreParts, Optional, AreKept, kept-part, kept-query}
 use Rattle.name_meaning.specs.declared.rule.Rule.TheVariants as rule
@@ -134,10 +132,10 @@ abbrev UnspentOperand : SetStepPart → Type 0
 UnspentOperand step = UnspentCore step.operand
 
 abbrev UnspentFromItem : FromItemPart → Type 0
-UnspentFromItem item = (outer : List Scope) (trace : Trace) (earlier : List (List ℕ)) → Unspent (item.means outer trace earlier).breaks
+UnspentFromItem item = (outer : List Scope) (earlier : List (List ℕ)) → Unspent (item.means outer earlier).breaks
 
 abbrev UnspentFrom : FromPart → Type 0
-UnspentFrom part = (outer : List Scope) (trace : Trace) (earlier : List (List ℕ)) → Unspent (part.means outer trace earlier).breaks
+UnspentFrom part = (outer : List Scope) (earlier : List (List ℕ)) → Unspent (part.means outer earlier).breaks
 
 abbrev UnspentOptional : Option Part → Type 0
 UnspentOptional None = Unit {0}
@@ -245,12 +243,12 @@ unspent-items has_from scope here (item ∷ items) h = both _ _ (h.0 has_from sc
 
 module _ (around : Around) (word : Option ℕ) (input : FromMeant) (has_from is_distinct : Bool) (items : List SelectPart) (condition : Option Part) (groups : List ColRef) (having : Option Part) where
   unspent-core_over : (scope_items : List ScopeItem) → Every UnspentItem items → UnspentOptional condition → UnspentOptional having →
-      Unspent (core_over around.outer (core_trace around word) (word_breaks around word) input has_from is_distinct items condition groups having scope_items).breaks
+      Unspent (core_over around.outer (word_breaks around word) input has_from is_distinct items condition groups having scope_items).breaks
   unspent-core_over scope_items h k l =
       let own : Scope = scope_of scope_items in
       let grouped : Scope = group_scope own groups having items in
-      let here = in_clause own around.outer (core_trace around word) false in
-      let grouped_here = in_clause grouped around.outer (core_trace around word) true in
+      let here = in_clause own around.outer false in
+      let grouped_here = in_clause grouped around.outer true in
       both (word_breaks around word) _ (unspent-word around word)
       (four (optional_breaks condition (optional_meant here condition)) (flat_map (group_break own) groups) (optional_breaks having (optional_meant grouped_here having)) _
       (unspent-optional here condition k) (all (group_break own) groups (unspent-group own)) (unspent-optional grouped_here having l)
@@ -287,9 +285,9 @@ unspent-keys columns order = if_there (λ known. flat_map (key_break known) orde
 
 unspent-query : (around : Around) (at : ℕ) (body : BodyPart) (order : List OrderTree) (limit : Option _) → UnspentCore body → Unspent (query_seen around at body order limit).breaks
 unspent-query around at body order limit h =
-    let proved = body.means (record around { trace = in_provenance }) in
+    let proved = body.means around in
     let plain = body.means around in
-    either-query (asks_provenance around body) _ _ (both proved.breaks (keys_breaks proved.columns order) (h (record around { trace = in_provenance })) (unspent-keys proved.columns order))
+    either-query (asks_provenance around body) _ _ (both proved.breaks (keys_breaks proved.columns order) (h around) (unspent-keys proved.columns order))
     (both plain.breaks (keys_breaks plain.columns order) (h around) (unspent-keys plain.columns order))
 
 -- ---- FROM
@@ -315,38 +313,37 @@ module _ (c : Contents) where
     by_table None (Some view) = tt
     by_table None None = one rule.UnknownRelation name.at refl
 
-  unspent-read : (m : ScopeMark) (outer : List Scope) (trace : Trace) (source : SourcePart) → UnspentSource source → Unspent (read_of c m outer trace source).breaks
-  unspent-read m outer trace (named name) h = unspent-read_named name
-  unspent-read m outer trace (inner query) h = h _
+  unspent-read : (outer : List Scope) (source : SourcePart) → UnspentSource source → Unspent (read_of c outer source).breaks
+  unspent-read outer (named name) h = unspent-read_named name
+  unspent-read outer (inner query) h = h _
 
-unspent-item_meant : (at : ℕ) (m : ScopeMark) (trace : Trace) (earlier : List (List ℕ)) (name label : List ℕ) (read : Read) → Unspent read.breaks →
-    Unspent (item_meant at m trace earlier name label read).breaks
-unspent-item_meant at m trace earlier name label read h =
-    four read.breaks (broken_if (list_any (named_so name) earlier) rule.RepeatedItem at) (mark_breaks m _) (scope_break read.breaks trace read.viewed (marked m label (read_names read) read) at)
+unspent-item_meant : (at : ℕ) (m : ScopeMark) (earlier : List (List ℕ)) (name label : List ℕ) (read : Read) → Unspent read.breaks →
+    Unspent (item_meant at m earlier name label read).breaks
+unspent-item_meant at m earlier name label read h =
+    three read.breaks (broken_if (list_any (named_so name) earlier) rule.RepeatedItem at) (mark_breaks m _)
     h (one_if (list_any (named_so name) earlier) rule.RepeatedItem at refl) (unspent-mark m _)
-    (chosen (is_whole read.breaks) _ [] (one_if (is_out_of_scope trace read.viewed (marked m label (read_names read) read)) rule.MisplacedProvenance at refl) tt)
 
-unspent-on : (outer : List Scope) (trace : Trace) (items : Option (List ScopeItem)) (condition : Option Part) → UnspentOptional condition → Unspent (on_breaks condition (on_meant outer trace items condition))
-unspent-on outer trace None None h = tt
-unspent-on outer trace None (Some part) h = tt
-unspent-on outer trace (Some items) None h = tt
-unspent-on outer trace (Some items) (Some part) h = unspent-condition part.at (part.means (in_on items outer trace)) (h (in_on items outer trace))
+unspent-on : (outer : List Scope) (items : Option (List ScopeItem)) (condition : Option Part) → UnspentOptional condition → Unspent (on_breaks condition (on_meant outer items condition))
+unspent-on outer None None h = tt
+unspent-on outer None (Some part) h = tt
+unspent-on outer (Some items) None h = tt
+unspent-on outer (Some items) (Some part) h = unspent-condition part.at (part.means (in_on items outer)) (h (in_on items outer))
 
-unspent-joins : (outer : List Scope) (trace : Trace) (left : FromMeant) (steps : List JoinPart) → Unspent left.breaks → Every UnspentJoin steps → Unspent (join_all outer trace left steps).breaks
-unspent-joins outer trace left [] h k = h
-unspent-joins outer trace left (step ∷ steps) h k =
-    let m = step.item.means outer trace left.names in
-    unspent-joins outer trace (join_item outer trace left step m) steps
-    (three left.breaks m.breaks _ h (k.0.0 outer trace left.names) (unspent-on outer trace (both_known left.items (scope_items m)) step.condition k.0.1)) k.1
+unspent-joins : (outer : List Scope) (left : FromMeant) (steps : List JoinPart) → Unspent left.breaks → Every UnspentJoin steps → Unspent (join_all outer left steps).breaks
+unspent-joins outer left [] h k = h
+unspent-joins outer left (step ∷ steps) h k =
+    let m = step.item.means outer left.names in
+    unspent-joins outer (join_item outer left step m) steps
+    (three left.breaks m.breaks _ h (k.0.0 outer left.names) (unspent-on outer (both_known left.items (scope_items m)) step.condition k.0.1)) k.1
 
-unspent-more : (outer : List Scope) (trace : Trace) (left : FromMeant) (parts : List FromPart) → Unspent left.breaks → Every UnspentFrom parts → Unspent (from_more outer trace left parts).breaks
-unspent-more outer trace left [] h k = h
-unspent-more outer trace left (part ∷ parts) h k =
-    unspent-more outer trace (beside_from left (part.means outer trace left.names)) parts (both left.breaks _ h (k.0 outer trace left.names)) k.1
+unspent-more : (outer : List Scope) (left : FromMeant) (parts : List FromPart) → Unspent left.breaks → Every UnspentFrom parts → Unspent (from_more outer left parts).breaks
+unspent-more outer left [] h k = h
+unspent-more outer left (part ∷ parts) h k =
+    unspent-more outer (beside_from left (part.means outer left.names)) parts (both left.breaks _ h (k.0 outer left.names)) k.1
 
-unspent-from_all : (outer : List Scope) (trace : Trace) (parts : List FromPart) → Every UnspentFrom parts → Unspent (from_all outer trace parts).breaks
-unspent-from_all outer trace [] h = tt
-unspent-from_all outer trace (part ∷ parts) h = unspent-more outer trace (part.means outer trace []) parts (h.0 outer trace []) h.1
+unspent-from_all : (outer : List Scope) (parts : List FromPart) → Every UnspentFrom parts → Unspent (from_all outer parts).breaks
+unspent-from_all outer [] h = tt
+unspent-from_all outer (part ∷ parts) h = unspent-more outer (part.means outer []) parts (h.0 outer []) h.1
 
 -- ---- every tree
 
@@ -425,9 +422,8 @@ module _ (c : Contents) where
   unspent-core : (frame : CoreFrame) → CoreParts c UnspentBody UnspentItem UnspentCore UnspentSource UnspentArm UnspentStep UnspentPart UnspentCore UnspentQuery UnspentOperand UnspentFromItem UnspentFrom UnspentJoin frame →
       UnspentCore (core_step frame)
   unspent-core frame h around =
-      let trace = core_trace around frame.provenance in
-      unspent-core_seen around frame.provenance (from_all around.outer trace frame.sources) (has_some frame.sources) frame.distinct frame.items frame.condition frame.groups frame.having
-      (unspent-from_all around.outer trace frame.sources h.sources) h.items (optional frame.condition h.condition) (optional frame.having h.having)
+      unspent-core_seen around frame.provenance (from_all around.outer frame.sources) (has_some frame.sources) frame.distinct frame.items frame.condition frame.groups frame.having
+      (unspent-from_all around.outer frame.sources h.sources) h.items (optional frame.condition h.condition) (optional frame.having h.having)
 
   kept : AreKept c UnspentBody UnspentItem UnspentCore UnspentSource UnspentArm UnspentStep UnspentPart UnspentCore UnspentQuery UnspentOperand UnspentFromItem UnspentFrom UnspentJoin
   kept = record {
@@ -441,9 +437,9 @@ module _ (c : Contents) where
     core = unspent-core;
     query = λ frame body around. unspent-query around frame.at frame.body frame.order frame.limit body;
     set_operand = λ frame operand. operand;
-    from_item = λ frame source outer trace earlier. unspent-item_meant frame.at frame.mark trace earlier (scope_name frame.source frame.alias) (label_of frame.source frame.alias)
-        (read_of c frame.mark outer trace frame.source) (unspent-read c frame.mark outer trace frame.source source);
-    from_tree = λ frame first joins outer trace earlier. unspent-joins outer trace (first_item earlier (frame.first.means outer trace earlier)) frame.joins (first outer trace earlier) joins;
+    from_item = λ frame source outer earlier. unspent-item_meant frame.at frame.mark earlier (scope_name frame.source frame.alias) (label_of frame.source frame.alias)
+        (read_of c outer frame.source) (unspent-read c outer frame.source source);
+    from_tree = λ frame first joins outer earlier. unspent-joins outer (first_item earlier (frame.first.means outer earlier)) frame.joins (first outer earlier) joins;
     join = λ frame item condition. (item, optional frame.condition condition);
   }
 

@@ -37,12 +37,10 @@ use Rattle.name_meaning.specs.Queries.{SetStepPart, keys_breaks, keys_of, limite
 use Rattle.name_meaning.specs.Statements.{alone, answer_of, name_breaks, query_meant, resolved_body}
 use Rattle.name_meaning.specs.Trees.{body_of, item_of, set_of_tree, source_of, arm_of, step_of, part_of, core_of, query_of, set_step_of, from_item_of, from_of, join_of}
 use Rattle.name_meaning.specs.declared.answer.Break.{Break}
-use Rattle.name_meaning.specs.declared.trace.Trace.TheVariants.{InProvenance as in_provenance}
 use Rattle.name_laws.proofs.Every.{front-none}
 use Rattle.name_laws.proofs.Trees.{set-known}
 use Rattle.statement_laws.proofs.Ready.{names-whole}
 use Rattle.statement_laws.proofs.Answered.{same_answer}
-use Rattle.statement_laws.proofs.UntracedTrees.{same-set_tree}
 use Rattle.statement_laws.specs.Asks.{AsksFor, HasWord, IsResolved, WithoutWord, in_core, in_first, plain_core, plain_first, shown_names, with_body}
 
 -- ---- the word, from the tree
@@ -79,7 +77,7 @@ without-word at tree (in_first first steps h) =
     let plain = without-word at first h in
     (set.Chain plain.0 steps, plain_first first plain.0 steps plain.1)
 
-no_word : (c : Contents) (tree plain : SetTree) → WithoutWord tree plain → (set_of_tree c plain).word ≡ None
+pub no_word : (c : Contents) (tree plain : SetTree) → WithoutWord tree plain → (set_of_tree c plain).word ≡ None
 unfolding token
 no_word c tree plain (plain_core core other e) =
     ap (λ (part : BodyPart). part.word) (settree-core c other) ∙ core-word c other ∙ ap (λ (layer : core_layer). layer.provenance) e
@@ -105,10 +103,10 @@ same-without c tree plain (plain_first first other steps h) =
 -- ---- the whole query
 
 -- what stands behind the word, without its ORDER BY and LIMIT
-abbrev traced : Contents → SetTree → QueryMeant
-traced c body = (set_of_tree c body).means (record alone { trace = in_provenance })
+abbrev pub body_meant : Contents → SetTree → QueryMeant
+body_meant c body = (set_of_tree c body).means alone
 
-abbrev whole_query : QueryTree → QueryMeant → Query
+abbrev pub whole_query : QueryTree → QueryMeant → Query
 whole_query tree m = limited tree.limit (keys_of m.columns tree.order) (m.make [])
 
 pub opened : (c : Contents) (tree : QueryTree) → query_meant c tree ≡ query_seen alone tree.at (set_of_tree c tree.body) tree.order tree.limit
@@ -117,11 +115,11 @@ opened c tree = ap (λ (part : QueryPart). part.means alone) (querytree-record c
 
 -- by whether the word stands there
 abbrev by_word : Contents → QueryTree → Bool → QueryMeant
-by_word c tree asking = cond asking (query_with_provenance tree.at (traced c tree.body) tree.order tree.limit (whole_query tree (traced c tree.body)))
+by_word c tree asking = cond asking (query_with_provenance tree.at (body_meant c tree.body) tree.order tree.limit (whole_query tree (body_meant c tree.body)))
     (plain_query tree.at ((set_of_tree c tree.body).means alone) tree.order tree.limit)
 
-proved-seen : (c : Contents) (tree : QueryTree) (at : ℕ) → HasWord at tree.body
-    → query_meant c tree ≡ query_with_provenance tree.at (traced c tree.body) tree.order tree.limit (whole_query tree (traced c tree.body))
+pub proved-seen : (c : Contents) (tree : QueryTree) (at : ℕ) → HasWord at tree.body
+    → query_meant c tree ≡ query_with_provenance tree.at (body_meant c tree.body) tree.order tree.limit (whole_query tree (body_meant c tree.body))
 proved-seen c tree at word = opened c tree ∙ ap (by_word c tree) (ap (λ (found : Option ℕ). is_some found) (word-at c at tree.body word))
 
 plain-seen : (c : Contents) (tree : QueryTree) → (set_of_tree c tree.body).word ≡ None
@@ -131,7 +129,7 @@ plain-seen c tree none = opened c tree ∙ ap (by_word c tree) (ap (λ (found : 
 module _ (c : Contents) (statement : Statement) (answer : Answer) (tree : QueryTree) (at : ℕ) (body : SetTree) (asked_for : AsksFor c statement answer)
     (is : statement.body ≡ st.Select tree) (word : HasWord at tree.body) (without : WithoutWord tree.body body) where
   abbrev m : QueryMeant
-  m = traced c tree.body
+  m = body_meant c tree.body
 
   abbrev plain_tree : QueryTree
   plain_tree = with_body tree body
@@ -148,14 +146,14 @@ module _ (c : Contents) (statement : Statement) (answer : Answer) (tree : QueryT
   none : m.breaks ≡ []
   none = front-none m.breaks (keys_breaks m.columns tree.order) all-none
 
-  -- what is traced is what the plain query has
-  untraced_same : m ≡ (set_of_tree c body).means alone
-  untraced_same = same-set_tree c tree.body (record alone { trace = in_provenance }) none ∙ same-without c tree.body body without
+  -- behind the word stands what the plain query has
+  same_body : m ≡ (set_of_tree c body).means alone
+  same_body = same-without c tree.body body without
 
-  plain_seen : query_meant c plain_tree ≡ plain_query tree.at m tree.order tree.limit
+  pub plain_seen : query_meant c plain_tree ≡ plain_query tree.at m tree.order tree.limit
   plain_seen =
       plain-seen c plain_tree (no_word c tree.body body without)
-      ∙ ap (λ (q : QueryMeant). plain_query tree.at q tree.order tree.limit) (sym untraced_same)
+      ∙ ap (λ (q : QueryMeant). plain_query tree.at q tree.order tree.limit) (sym same_body)
 
   pub word-proves : (plain : Answer) × IsResolved c (with_body tree body) plain × (answer.query ≡ Prov plain.query) × (answer.keys ≡ plain.keys)
   word-proves = (
@@ -185,10 +183,10 @@ pub word-names : (c : Contents) (statement : Statement) (answer plain : Answer) 
     → IsResolved c (with_body tree body) plain
     → answer.names ≡ plain.names ++ shown_names (provenance_columns plain.query)
 word-names c statement answer plain tree at body sound asked_for is word without resolved =
-    let m : QueryMeant = traced c tree.body in
+    let m : QueryMeant = body_meant c tree.body in
     let query : Query = whole_query tree m in
     let all_none = none c statement answer tree at body asked_for is word without in
-    let known = set-known c tree.body (record alone { trace = in_provenance }) sound all_none in
+    let known = set-known c tree.body alone sound all_none in
     let same : answer_of (query_meant c tree) ≡ answer = same_query c statement answer tree at body asked_for is word without in
     let shown : query_meant c tree ≡ query_with_provenance tree.at m tree.order tree.limit query = seen c statement answer tree at body asked_for is word without in
     let other : answer_of (query_meant c (with_body tree body)) ≡ plain = same_answer (answer_of (query_meant c (with_body tree body))) plain resolved.is in

@@ -1,7 +1,6 @@
 -- When a resolved statement can be carried out: what its names name is there, and its query is one that can run.
 use Rattle.std.specs.Prelude.{◌≡◌, true, [], None, IsSome}
 use Rattle.bag_algebra.specs.Fits.{TablesFit}
-use Rattle.bag_algebra.specs.Scoped.{is_scoped}
 use Rattle.bag_algebra.specs.TableRows.{rows_in}
 use Rattle.bag_algebra.specs.WellFormed.{WellFormed}
 use Rattle.bag_algebra.specs.declared.query.Answer.{Answer}
@@ -11,10 +10,9 @@ use Rattle.perm_catalog.specs.Lookups.{first_user}
 use Rattle.name_meaning.specs.declared.answer.Resolved.{Resolved}
 use Rattle.name_meaning.specs.declared.answer.Resolved.TheVariants as r
 
--- a scoped query that is well formed under no outer rows, whose tables have rows of the kinds that it reads
+-- a query that is well formed under no outer rows, whose tables have rows of the kinds that it reads
 pub record CanRun (c : Contents) (answer : Answer) : Type 0 where
   pub formed : WellFormed [] answer.query
-  pub scoped : is_scoped answer.query ≡ true
   pub fitting : TablesFit (rows_in c.rows) answer.query
 
 abbrev pub IsReady : Contents → Resolved → Type 0

@@ -13,6 +13,7 @@ use perm_catalog::Catalog;
 use perm_values::{Bytes, Chars};
 use rewrite_driver::eliminate;
 use row_values::ExecError;
+use simplifier::simplify;
 use statement_changes::{NewTable, store_answer};
 use statement_meaning::StepRefusal;
 use std::alloc::Global;
@@ -67,7 +68,8 @@ fn run(
     ensures { Runs catalog.now answer.now result runner.new }
 {
     let plain = eliminate(alloc, &answer.query)?;
-    runner.run(alloc, plain, answer.keys.as_slice(), catalog.tables())
+    let simpler = simplify(alloc, plain)?;
+    runner.run(alloc, simpler, answer.keys.as_slice(), catalog.tables())
 }
 
 /// A table of the last run's rows in their order.

@@ -33,31 +33,24 @@ pub provenance_in_parentheses :
     ≡ broken rule.MisplacedProvenance 8 ∷ []
 provenance_in_parentheses = simp (tree_equations, name_breaks) (rw token-given refl)
 
--- in a sublink that is traced, a source over anything but a table: SELECT PROVENANCE a FROM r WHERE EXISTS (SELECT 1 FROM (SELECT c FROM s) x BASERELATION)
+-- a sublink of what is traced may have a source over anything: SELECT PROVENANCE a FROM r WHERE EXISTS (SELECT 1 FROM (SELECT c FROM s) x BASERELATION)
 pub source_in_traced_sublink :
     name_breaks contents (st.Select (query 0 (core (record (select 0 (item (column 18 (codes "a")) ∷ []) (from (table 25 (codes "r")) [] ∷ [])) { provenance = Some 7; condition = Some (expr 33 (e.Exists (query 41 (core (select 41 (item (number 48 1) ∷ []) (from (reads 55 (source.Inner (query 56 (core (select 56 (item (column 63 (codes "c")) ∷ []) (from (table 70 (codes "s")) [] ∷ []))))) (Some (name 73 (codes "x"))) mark.BaseRelation) [] ∷ [])))))) }))))
-    ≡ broken rule.MisplacedProvenance 55 ∷ []
+    ≡ []
 unfolding shape-the_row-Query-0 hidden-the_row-Query-0 shape-the_row-Sublink-1 hidden-the_row-Sublink-1 package.denote.Hole.Carrier.hidden
 source_in_traced_sublink = simp (tree_equations, name_breaks) (rw token-given refl)
 
--- a view with a sublink that has such a source: SELECT PROVENANCE a FROM e
+-- and so may a view with a sublink: SELECT PROVENANCE a FROM e
 pub view_in_traced_query :
     name_breaks contents (st.Select (query 0 (core (record (select 0 (item (column 18 (codes "a")) ∷ []) (from (table 25 (codes "e")) [] ∷ [])) { provenance = Some 7 }))))
-    ≡ broken rule.MisplacedProvenance 25 ∷ []
+    ≡ []
 unfolding shape-the_row-Query-0 hidden-the_row-Query-0 shape-the_row-Sublink-1 hidden-the_row-Sublink-1 package.denote.Hole.Carrier.hidden
 view_in_traced_query = simp (tree_equations, name_breaks) (rw token-given refl)
 
--- which is nothing to a plain query, nor where it has a mark: SELECT PROVENANCE a FROM e BASERELATION
-pub view_untraced :
-    name_breaks contents (st.Select (query 0 (core (record (select 0 (item (column 18 (codes "a")) ∷ []) (from (reads 25 (source.Named (name 25 (codes "e"))) None mark.BaseRelation) [] ∷ [])) { provenance = Some 7 }))))
-    ≡ []
-unfolding shape-the_row-Query-0 hidden-the_row-Query-0 shape-the_row-Sublink-1 hidden-the_row-Sublink-1 package.denote.Hole.Carrier.hidden
-view_untraced = simp (tree_equations, name_breaks) (rw token-given refl)
-
--- at the innermost item that breaks the rule: SELECT PROVENANCE a FROM r WHERE EXISTS (SELECT 1 FROM (SELECT 1 FROM t, w) x)
+-- in items at every depth: SELECT PROVENANCE a FROM r WHERE EXISTS (SELECT 1 FROM (SELECT 1 FROM t, w) x)
 pub innermost_item :
     name_breaks contents (st.Select (query 0 (core (record (select 0 (item (column 18 (codes "a")) ∷ []) (from (table 25 (codes "r")) [] ∷ [])) { provenance = Some 7; condition = Some (expr 33 (e.Exists (query 41 (core (select 41 (item (number 48 1) ∷ []) (from (reads 55 (source.Inner (query 56 (core (select 56 (item (number 63 1) ∷ []) (from (table 70 (codes "t")) [] ∷ from (table 73 (codes "w")) [] ∷ []))))) (Some (name 76 (codes "x"))) mark.Plain) [] ∷ [])))))) }))))
-    ≡ broken rule.MisplacedProvenance 73 ∷ []
+    ≡ []
 unfolding shape-the_row-Query-0 hidden-the_row-Query-0 shape-the_row-Sublink-1 hidden-the_row-Sublink-1 package.denote.Hole.Carrier.hidden
 innermost_item = simp (tree_equations, name_breaks) (rw token-given refl)
 

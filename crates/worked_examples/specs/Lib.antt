@@ -1,6 +1,7 @@
 pub mod Catalogs
 pub mod Counts
 pub mod DataLines
+pub mod Deletions
 pub mod DependentRows
 pub mod FileRows
 pub mod Forms
@@ -8,7 +9,9 @@ pub mod GroupRows
 pub mod HeldRows
 pub mod IrregularTrees
 pub mod JoinRows
+pub mod JoinedParts
 pub mod Keys
+pub mod LateralRows
 pub mod LongTexts
 pub mod NamedCatalog
 pub mod NamedQueries
@@ -23,8 +26,10 @@ pub mod ReadColumns
 pub mod ReplacedQueries
 pub mod RewrittenRows
 pub mod Rows
+pub mod ScriptPlaces
 pub mod SetRows
 pub mod SmallGrammar
 pub mod SourceRows
+pub mod SpineRows
 pub mod Trees
 pub mod Values

@@ -25,30 +25,30 @@ use Rattle.bag_algebra.specs.declared.query.SubKind.TheVariants.{Exists, All, Sc
 use Rattle.bag_algebra.specs.declared.query.Sublink.{Sublink}
 use Rattle.rewrite_sublink.specs.Candidates.{all_contributed}
 
-abbrev num : ℕ → Value
+abbrev pub num : ℕ → Value
 num n = Integer (pos n)
 
 -- r has identity 1, s has identity 2
-abbrev holding : Bag → Bag → Database
+abbrev pub holding : Bag → Bag → Database
 holding rs ss id = cond (id == 1) rs (cond (id == 2) ss [])
 
 -- the answer of a query, in the printed order
-abbrev printed : Query → Database → Outcome Bag
+abbrev pub printed : Query → Database → Outcome Bag
 printed q db = mapped (sorted row_cmp) (meaning q db [])
 
-abbrev compared : Compare → Expr → Expr → Expr
+abbrev pub compared : Compare → Expr → Expr → Expr
 compared c a b = OpOf (op.Compare c) (tt ∷ tt ∷ []) (more_of-Expr a (more_of-Expr b end_of-Expr))
 
-abbrev isnt : Expr → Expr
+abbrev pub isnt : Expr → Expr
 isnt a = OpOf op.Not (tt ∷ []) (more_of-Expr a end_of-Expr)
 
 abbrev pub table : ℕ → Query
 table id = Table id (kind.Integer ∷ [])
 
-abbrev r : Query
+abbrev pub r : Query
 r = BaseOf (table 1) (0 ∷ []) (Relation (codes "r") (codes "a" ∷ []))
 
-abbrev s : Query
+abbrev pub s : Query
 s = BaseOf (table 2) (0 ∷ []) (Relation (codes "s") (codes "c" ∷ []))
 
 -- the rewriting of a source: its column, and again as its provenance
@@ -56,7 +56,7 @@ abbrev pub twice : ℕ → Query
 twice id = ProjectOf (table id) (column_items (kind.Integer ∷ []) (0 ∷ 0 ∷ [])) [] end_of-Sublink
 
 -- a node over r, and its rewriting
-abbrev node : Expr → Sublink → Query
+abbrev pub node : Expr → Sublink → Query
 node condition sub = Filter r condition (sub ∷ [])
 
 abbrev rewritten : Expr → Sublink → Sublink → Query → Query
@@ -68,13 +68,13 @@ rewritten condition sub standing rewriting =
 abbrev pub below : Query → Query
 below q = FilterOf q (compared compare.Less (Col 0 0) (Col 1 0)) [] end_of-Sublink
 
-abbrev exists : Query → Sublink
+abbrev pub exists : Query → Sublink
 exists q = record { kind = Exists; tested = None; query = below q }
 
-abbrev three_and_two : Database
+abbrev pub three_and_two : Database
 three_and_two = holding ((num 1 ∷ []) ∷ (num 2 ∷ []) ∷ (num 3 ∷ []) ∷ []) ((num 1 ∷ []) ∷ (num 2 ∷ []) ∷ [])
 
-abbrev rows_below : Bag
+abbrev pub rows_below : Bag
 rows_below = (num 2 ∷ num 2 ∷ num 1 ∷ []) ∷ (num 3 ∷ num 3 ∷ num 1 ∷ []) ∷ (num 3 ∷ num 3 ∷ num 2 ∷ []) ∷ []
 
 exists-provenance : printed (ProvOf (node (Sub 0) (exists s))) three_and_two ≡ Good rows_below
@@ -99,10 +99,10 @@ exists-height = refl
 
 -- ---- SELECT PROVENANCE a FROM r WHERE NOT a <> ALL (SELECT c FROM s): the rows that make ALL false
 
-abbrev all_others : Query → Sublink
+abbrev pub all_others : Query → Sublink
 all_others q = record { kind = All compare.NotEqual; tested = Some (Col 0 0); query = q }
 
-abbrev rows_alike : Bag
+abbrev pub rows_alike : Bag
 rows_alike = (num 1 ∷ num 1 ∷ num 1 ∷ []) ∷ (num 2 ∷ num 2 ∷ num 2 ∷ []) ∷ []
 
 false_all-provenance : printed (ProvOf (node (isnt (Sub 0)) (all_others s))) three_and_two ≡ Good rows_alike
@@ -127,10 +127,10 @@ all-height = refl
 
 -- ---- SELECT PROVENANCE a FROM r WHERE (SELECT c FROM s) IS NULL, where s has no row: a row of NULLs
 
-abbrev scalar : Query → Sublink
+abbrev pub scalar : Query → Sublink
 scalar q = record { kind = Scalar; tested = None; query = q }
 
-abbrev one_and_none : Database
+abbrev pub one_and_none : Database
 one_and_none = holding ((num 1 ∷ []) ∷ []) []
 
 scalar-provenance : printed (ProvOf (node (IsNullOf (Sub 0)) (scalar s))) one_and_none ≡ Good ((num 1 ∷ num 1 ∷ Null ∷ []) ∷ [])

@@ -30,7 +30,7 @@ use Rattle.null_logic.specs.declared.operator.Operator.TheVariants as x
 use Rattle.perm_values.specs.declared.kind.Kind.TheVariants as kind
 use Rattle.perm_values.specs.declared.value.Value.TheVariants as v
 use Rattle.name_meaning.specs.Cores.{group_scope, in_clause}
-use Rattle.name_meaning.specs.Froms.{first_item, in_on, join_all, trace_under, FromMeant, FromPart}
+use Rattle.name_meaning.specs.Froms.{first_item, in_on, join_all, FromMeant, FromPart}
 use Rattle.name_meaning.specs.declared.scope.Scope.{Scope}
 use Rattle.bag_algebra.specs.declared.query.Aggr.{Aggr}
 use Rattle.sql_tree.specs.declared.query.Core.{out-Core}
@@ -186,7 +186,7 @@ expressions::aggregated-returns t c =
 pub expressions::linked-returns : goal.expressions::linked-returns
 expressions::linked-returns t c =
     let here = c.args.here.now in
-    of-one _ _ _ c.query_made-query.result c.sublink_of.result (rw c.trace_below.ensures at c.query_made-query.ensures) c.sublink_of.ensures
+    of-one _ _ _ c.query_made-query.result c.sublink_of.result c.query_made-query.ensures c.sublink_of.ensures
     (λ query e makes linked. record {
       expr = linked.0;
       found = λ whole. linked.1 ∙ ap (λ (q : Query). with_sub c.args.found.now (record { kind = c.args.kind; tested = c.args.tested; query = q })) (makes.makes whole);
@@ -314,9 +314,9 @@ expressions::made-returns-in_ok-tested-in-Quantified t c =
 
 pub queries::query_made-returns : goal.queries::query_made-returns
 queries::query_made-returns t c =
-    of-one _ _ _ c.set_made-body.result c.finished_of.result (rw c.trace_inside.ensures at c.set_made-body.ensures) c.finished_of.ensures
+    of-one _ _ _ c.set_made-body.result c.finished_of.result c.set_made-body.ensures c.finished_of.ensures
     (λ body q makes is. query-is c.args.around.now.catalog.now (standing_of c.args.around.now) c.args.tree.now c.args.wanted.now c.asks_provenance-with_provenance.result c.in_ok-keys.keys body q (c.asks_provenance-with_provenance.ensures c.args.around.now.catalog.now)
-    (rw c.trace_inside.ensures at c.in_ok-keys.ensures) makes is)
+    c.in_ok-keys.ensures makes is)
 
 pub queries::set_made-returns-in-Core : goal.queries::set_made-returns-in-Core
 queries::set_made-returns-in-Core t c =
@@ -347,12 +347,12 @@ queries::set_made-returns-in-Ok t c =
 
 pub cores::core_made-returns-in-None : goal.cores::core_made-returns-in-None
 cores::core_made-returns-in-None t c =
-    core-none c.args.around.now.catalog.now (standing_of c.args.around.now) c.args.core.now c.core_trace.result c.args.wanted.now _ (c.core_trace.ensures (standing_of c.args.around.now) refl refl) (rw (c.as_slice.ensures, c.in-None.is) at c.in_ok-scope_or_none.ensures)
+    core-none c.args.around.now.catalog.now (standing_of c.args.around.now) c.args.core.now c.args.wanted.now _ (rw (c.as_slice.ensures, c.in-None.is) at c.in_ok-scope_or_none.ensures)
 
 pub cores::core_made-returns-in-Some : goal.cores::core_made-returns-in-Some
 cores::core_made-returns-in-Some t c =
     of-ok _ (MakesQuery ((core_of c.args.around.now.catalog.now c.args.core.now).means (standing_of c.args.around.now)) c.args.wanted.now) c.over_items.result
-    (λ q makes. core-some c.args.around.now.catalog.now (standing_of c.args.around.now) c.args.core.now c.core_trace.result c.in-Some.own c.args.wanted.now q (c.core_trace.ensures (standing_of c.args.around.now) refl refl) (rw (c.as_slice.ensures, c.in-Some.is) at c.in_ok-scope_or_none.ensures) (makes (rw (c.as_slice.ensures, c.in-Some.is) at c.in_ok-scope_or_none.ensures))) c.over_items.ensures
+    (λ q makes. core-some c.args.around.now.catalog.now (standing_of c.args.around.now) c.args.core.now c.in-Some.own c.args.wanted.now q (rw (c.as_slice.ensures, c.in-Some.is) at c.in_ok-scope_or_none.ensures) (makes (rw (c.as_slice.ensures, c.in-Some.is) at c.in_ok-scope_or_none.ensures))) c.over_items.ensures
 
 pub queries::chained-loop-step-preserved : goal.queries::chained-loop-step-preserved
 queries::chained-loop-step-preserved t c = λ meant of_first serves.
@@ -406,7 +406,7 @@ cores::kept_made-returns t c =
     let around = c.args.around.now in
     let scope = here_only (not c.args.in_groups) c.args.scope.now in
     let outer = scopes_of around.outer.now in
-    let m = means_at (part_of around.catalog.now c.args.tree.now) (in_clause scope outer around.trace c.args.in_groups) in
+    let m = means_at (part_of around.catalog.now c.args.tree.now) (in_clause scope outer c.args.in_groups) in
     of-one-is _ (λ e. kept_of e c.made-expr.new.found) _ c.made-expr.result c.kept_of.result (rw (c.in_ok-scopes.ensures, c.in_clause.ensures scope outer, c.nothing-found.ensures) at c.made-expr.ensures) c.kept_of.ensures.made
     (λ e makes. some-kept _ m e c.made-expr.new.found makes)
 
@@ -458,7 +458,7 @@ cores::item_listed-returns-in_ok-kind-in-Value t c =
     c.add_value.ensures
 
 pub sources::sources_made-loop-source-init : goal.sources::sources_made-loop-source-init
-sources::sources_made-loop-source-init t c = no-sources (scopes_of c.args.around.now.outer.now) c.args.around.now.trace c.args.scope.now
+sources::sources_made-loop-source-init t c = no-sources (scopes_of c.args.around.now.outer.now) c.args.scope.now
 
 pub sources::sources_made-loop-source-preserved : goal.sources::sources_made-loop-source-preserved
 sources::sources_made-loop-source-preserved t c =
@@ -468,16 +468,16 @@ sources::sources_made-loop-source-preserved t c =
     let tree = c.source-item.result in
     from-one _ _ _ c.source_made-next.result c.source_made-next.ensures c.in_ok-with_next.ensures
     (λ next makes is. rw c.in-Ok.ensures.next
-    (subst (λ (parts : List FromPart). SourcesMade outer around.trace parts c.args.scope.now (Some c.in_ok-with_next.field-0) (c.loop-source.first + suc (join_count tree)))
+    (subst (λ (parts : List FromPart). SourcesMade outer parts c.args.scope.now (Some c.in_ok-with_next.field-0) (c.loop-source.first + suc (join_count tree)))
     (sym (mapped part c.args.sources.now c.loop-source.source-index tree c.loop-source-test.true c.source-item.is))
-    (source-more outer around.trace (map part (take c.loop-source.source-index c.args.sources.now)) (part tree) c.args.scope.now c.loop-source.whole next c.in_ok-with_next.field-0 c.loop-source.first (join_count tree)
-    c.loop-source.invariant makes (from-count around.catalog.now tree outer around.trace) is)))
+    (source-more outer (map part (take c.loop-source.source-index c.args.sources.now)) (part tree) c.args.scope.now c.loop-source.whole next c.in_ok-with_next.field-0 c.loop-source.first (join_count tree)
+    c.loop-source.invariant makes (from-count around.catalog.now tree outer) is)))
 
 pub sources::sources_made-returns : goal.sources::sources_made-returns
 sources::sources_made-returns t c =
     let around = c.args.around.now in
     let parts = map (from_of around.catalog.now) c.args.sources.now in
-    sources-made (scopes_of around.outer.now) around.trace parts c.args.scope.now c.loop-source.whole c.loop-source.first c.input_or_single.result
+    sources-made (scopes_of around.outer.now) parts c.args.scope.now c.loop-source.whole c.loop-source.first c.input_or_single.result
     (rw (take_all c.loop-source.source-index c.args.sources.now c.loop-source-test.false) at c.loop-source.invariant) c.input_or_single.ensures
 
 pub sources::source_made-loop-place-init : goal.sources::source_made-loop-place-init
@@ -488,7 +488,7 @@ pub sources::join_made-returns : goal.sources::join_made-returns
 sources::join_made-returns t c =
     let around = c.args.around.now in
     of-both _ _ _ _ c.item_made-right.result c.on_made-condition.result c.with_right.result c.item_made-right.ensures c.on_made-condition.ensures (rw c.join_kind.ensures at c.with_right.ensures)
-    (λ right condition after of_right of_condition is. tree-join around.catalog.now (scopes_of around.outer.now) around.trace c.args.step.now c.args.first c.args.count c.args.scope.now c.args.whole right after condition of_condition of_right is)
+    (λ right condition after of_right of_condition is. tree-join around.catalog.now (scopes_of around.outer.now) c.args.step.now c.args.first c.args.count c.args.scope.now c.args.whole right after condition of_condition of_right is)
 
 pub sources::on_items-returns : goal.sources::on_items-returns
 sources::on_items-returns t c =
@@ -511,23 +511,23 @@ pub sources::item_made-returns-in-Named : goal.sources::item_made-returns-in-Nam
 sources::item_made-returns-in-Named t c =
     let around = c.args.around.now in
     of-ok _ _ c.named_item.result
-    (λ made is. item-named around.catalog.now (scopes_of around.outer.now) around.trace c.args.item.now c.in-Named.name made c.in-Named.is is) c.named_item.ensures
+    (λ made is. item-named around.catalog.now (scopes_of around.outer.now) c.args.item.now c.in-Named.name made c.in-Named.is is) c.named_item.ensures
 
 pub sources::item_made-returns-in_ok-shown-in-Inner : goal.sources::item_made-returns-in_ok-shown-in-Inner
 sources::item_made-returns-in_ok-shown-in-Inner t c =
     let around = c.args.around.now in
-    let m = query_means_at (query_of around.catalog.now c.in-Inner.query) (record { outer = scopes_of around.outer.now; trace = trace_under c.args.item.now.mark around.trace; may_ask = true }) in
-    let shown = rw (c.get-tree.ensures, c.trace_under.ensures) at c.in_ok-shown-in-Inner.ensures in
-    of-one _ _ _ c.query_made-query.result c.marked_of.result (rw (c.get-tree.ensures, c.trace_under.ensures) at c.query_made-query.ensures) c.marked_of.ensures
-    (λ query made of_query is. item-inner around.catalog.now (scopes_of around.outer.now) around.trace c.args.item.now c.in-Inner.query made c.in-Inner.is (λ whole. is m whole shown (of_query.makes whole)))
+    let m = query_means_at (query_of around.catalog.now c.in-Inner.query) (record { outer = scopes_of around.outer.now; may_ask = true }) in
+    let shown = rw c.get-tree.ensures at c.in_ok-shown-in-Inner.ensures in
+    of-one _ _ _ c.query_made-query.result c.marked_of.result (rw c.get-tree.ensures at c.query_made-query.ensures) c.marked_of.ensures
+    (λ query made of_query is. item-inner around.catalog.now (scopes_of around.outer.now) c.args.item.now c.in-Inner.query made c.in-Inner.is (λ whole. is m whole shown (of_query.makes whole)))
 
 pub sources::source_made-loop-place-preserved : goal.sources::source_made-loop-place-preserved
 sources::source_made-loop-place-preserved t c = λ earlier.
     let around = c.args.around.now in
     let outer = scopes_of around.outer.now in
     let tree = c.args.source.now in
-    let first = (from_item_of around.catalog.now (out-FromTree tree).first).means outer around.trace earlier in
-    step-more around.catalog.now outer around.trace (first_item earlier first) (out-FromTree tree).joins c.loop-place.place c.step-item.result c.args.first c.args.scope.now c.loop-place.whole c.in_ok-whole-2.whole
+    let first = (from_item_of around.catalog.now (out-FromTree tree).first).means outer earlier in
+    step-more around.catalog.now outer (first_item earlier first) (out-FromTree tree).joins c.loop-place.place c.step-item.result c.args.first c.args.scope.now c.loop-place.whole c.in_ok-whole-2.whole
     (rw c.as_slice-step-items.ensures at c.loop-place-test.true) (rw c.as_slice-step-items.ensures at c.step-item.is) (c.loop-place.invariant earlier) c.in_ok-whole-2.ensures
 
 pub sources::source_made-returns : goal.sources::source_made-returns
@@ -535,11 +535,11 @@ sources::source_made-returns t c = λ earlier whole stands.
     let around = c.args.around.now in
     let outer = scopes_of around.outer.now in
     let tree = c.args.source.now in
-    let first = (from_item_of around.catalog.now (out-FromTree tree).first).means outer around.trace earlier in
+    let first = (from_item_of around.catalog.now (out-FromTree tree).first).means outer earlier in
     let all = rw c.as_slice-step-items.ensures at c.loop-place-test.false in
     let made = subst (λ (m : FromMeant). JoinsMade m c.args.first c.args.scope.now c.loop-place.whole c.loop-place.place)
-    (ap (λ (steps : List JoinStep). join_all outer around.trace (first_item earlier first) (map (join_of around.catalog.now) steps)) (take_all c.loop-place.place (out-FromTree tree).joins all)
-    ∙ sym (from-fields around.catalog.now tree outer around.trace earlier)) (c.loop-place.invariant earlier) in
+    (ap (λ (steps : List JoinStep). join_all outer (first_item earlier first) (map (join_of around.catalog.now) steps)) (take_all c.loop-place.place (out-FromTree tree).joins all)
+    ∙ sym (from-fields around.catalog.now tree outer earlier)) (c.loop-place.invariant earlier) in
     made.makes whole stands
 
 pub cores::condition_made-returns-in-Some : goal.cores::condition_made-returns-in-Some

@@ -42,13 +42,13 @@ invariant-queries::chained-loop-step l =
 -- the parts of FROM so far are made
 abbrev pub invariant-sources::sources_made-loop-source : goal.invariant-sources::sources_made-loop-source
 invariant-sources::sources_made-loop-source l =
-    SourcesMade (scopes_of l.around.outer.now) l.around.trace (map (from_of l.around.catalog.now) (take l.source-index l.sources)) l.scope l.whole l.first
+    SourcesMade (scopes_of l.around.outer.now) (map (from_of l.around.catalog.now) (take l.source-index l.sources)) l.scope l.whole l.first
 
 -- the joins so far are made
 abbrev pub invariant-sources::source_made-loop-place : goal.invariant-sources::source_made-loop-place
 invariant-sources::source_made-loop-place l =
-    (earlier : List (List ℕ)) → JoinsMade (join_all (scopes_of l.around.outer.now) l.around.trace
-    (first_item earlier ((from_item_of l.around.catalog.now (out-FromTree l.source).first).means (scopes_of l.around.outer.now) l.around.trace earlier))
+    (earlier : List (List ℕ)) → JoinsMade (join_all (scopes_of l.around.outer.now)
+    (first_item earlier ((from_item_of l.around.catalog.now (out-FromTree l.source).first).means (scopes_of l.around.outer.now) earlier))
     (map (join_of l.around.catalog.now) (take l.place (out-FromTree l.source).joins))) l.first l.scope l.whole l.place
 
 -- the items so far are made

@@ -2,9 +2,8 @@
 ghost use Rattle.std.specs.Prelude.{◌≡◌, ◌⊎◌, [], Err, IfOk, IfErr, IsOkAnd, map};
 ghost use Rattle.perm_catalog.specs.Contents.{Contents};
 ghost use Rattle.perm_catalog.specs.Sound.{IsSound};
-ghost use Rattle.name_meaning.specs.Cores.{core_trace, group_scope};
+ghost use Rattle.name_meaning.specs.Cores.{group_scope};
 ghost use Rattle.name_meaning.specs.Froms.{from_all};
-ghost use Rattle.name_meaning.specs.Meanings as meant;
 ghost use Rattle.name_meaning.specs.Trees.{from_of};
 ghost use Rattle.name_seen_parts.specs.Named.{scopes_of};
 ghost use Rattle.name_made_parts.specs.Cored.{core_groups, having_part, kept_of, select_parts};
@@ -12,7 +11,7 @@ ghost use Rattle.name_made_parts.specs.Sources.{IsScopeOf};
 
 use bag_algebra::{Aggr, Expr, Item};
 use name_made_nodes::{Clauses, Condition, Listed, Within, beside};
-use name_meaning::{Scope, Trace};
+use name_meaning::Scope;
 use name_seen::from_scope;
 use name_seen_cores::places_of_groups;
 use name_seen_from::Facts;
@@ -114,21 +113,10 @@ pub fn groups_of(alloc: Global, scope: &Scope) -> Result<Option<List<usize>>, No
     scope.groups.copy(alloc)
 }
 
-/// Whether a core is traced; one where PROVENANCE stands wrongly isn't.
-pub fn core_trace(trace: Trace, may_ask: bool, word: Option<usize>) -> Trace
-    ensures { (around : meant.Around) → around.trace ≡ trace → around.may_ask ≡ may_ask
-        → result ≡ core_trace around word }
-{
-    if !may_ask && word.is_some() {
-        return Trace::Untraced;
-    }
-    trace
-}
-
 /// The scope of all items of FROM; none, where it breaks.
 pub fn scope_or_none(sources: &[FromTree], around: &Around) -> Result<Option<Scope>, NoMemory>
     requires { IsSound around.now.catalog.now }
-    ensures { IfOk result (IsScopeOf (from_all (scopes_of around.now.outer.now) around.now.trace
+    ensures { IfOk result (IsScopeOf (from_all (scopes_of around.now.outer.now)
         (map (from_of around.now.catalog.now) sources.now))) }
 {
     let mut facts = Facts::none(around.alloc);

@@ -1,5 +1,5 @@
 //! What stands around the parts of a query, and at which kinds they are made.
-ghost use Rattle.std.specs.Prelude.{◌≡◌, [], cond, slice_index_or, IfOk, Some};
+ghost use Rattle.std.specs.Prelude.{◌≡◌, [], slice_index_or, IfOk, Some};
 ghost use Rattle.perm_values.specs.declared.kind.Kind.TheVariants.{Text};
 ghost use Rattle.bag_algebra.specs.declared.query.Query.{Query};
 ghost use Rattle.perm_catalog.specs.Sound.{IsSound};
@@ -7,30 +7,18 @@ ghost use Rattle.name_meaning.specs.Cores.{settle};
 ghost use Rattle.name_meaning.specs.Meanings.{settled};
 ghost use Rattle.name_meaning.specs.Queries.{keys_of, limited};
 ghost use Rattle.name_meaning.specs.Trees.{set_of_tree};
-ghost use Rattle.name_meaning.specs.declared.trace.Trace.TheVariants.{InProvenance};
 ghost use Rattle.name_seen_parts.specs.Standing.{around_of};
 ghost use Rattle.name_seen_parts.specs.Columns.{columns_of};
 ghost use Rattle.name_made_parts.specs.AskedColumns.{Settles};
 
 use crate::keys::keys_of;
-use name_meaning::{Trace, settled};
+use name_meaning::settled;
 use name_seen::set_seen;
 use name_seen_from::Facts;
 use name_seen_parts::{Around, Refusal, ShownColumn};
 use perm_values::{Key, Kind, List, NoMemory};
 use sql_tree::{QueryTree, SetTree};
 use std::alloc::Global;
-
-/// All of a query that asks for its provenance is traced.
-pub fn trace_inside(trace: Trace, with_provenance: bool) -> Trace
-    ensures { result ≡ cond with_provenance InProvenance trace }
-{
-    if with_provenance {
-        Trace::InProvenance
-    } else {
-        trace
-    }
-}
 
 /// The columns of a tree of set operations; none, where it breaks.
 fn columns_or_none(tree: &SetTree, around: &Around) -> Result<List<ShownColumn>, NoMemory>

@@ -23,7 +23,7 @@ use Rattle.name_meaning.specs.declared.need.Gives.TheVariants.{Common as common}
 use Rattle.name_meaning.specs.declared.need.Need.TheVariants.{Alike as alike, OfKind as of_kind}
 use Rattle.name_meaning.proofs.Forms.{means-null, means-nullof, means-integer, means-text, means-truth, means-column, means-paren, means-nots, means-signs, means-logic, means-chain, means-compared, means-like, means-between, means-inlist, means-isnull, means-istruth, means-isdistinct, means-coalesce, means-exists, means-inquery, means-nullif, means-quantified, means-scalar}
 use Rattle.name_seen_parts.specs.Named.{scopes_of}
-use Rattle.name_seen_parts.specs.Standing.{surroundings, around_under}
+use Rattle.name_seen_parts.specs.Standing.{surroundings, around_in_from}
 use Rattle.name_seen_cores.specs.Expressed.{ExpressionSeen, OperandsBehind, kind_over}
 use Rattle.name_seen_cores.specs.Inner.{exists_over, scalar_over, tested_over}
 use Rattle.name_seen_cores.proofs.Alone.{null-alone, known-alone, column-alone, told-by, told-so}
@@ -407,7 +407,7 @@ cores::clause_kind-returns t c =
 pub cores::condition_seen-returns-in-Some : goal.cores::condition_seen-returns-in-Some
 cores::condition_seen-returns-in-Some t c =
     let around = c.args.around.now in
-    let here = in_clause c.args.scope.now (scopes_of around.outer.now) around.trace c.args.aggregates in
+    let here = in_clause c.args.scope.now (scopes_of around.outer.now) c.args.aggregates in
     subst (λ (o : Option ExprTree). ConditionSeen (optional_part around.catalog.now o) (optional_meant here (optional_part around.catalog.now o)) c.args.facts.now
     c.clause_kind.new.facts c.condition_over.result) (sym c.in-Some.is)
     (some-condition around.catalog.now c.in-Some.tree here c.args.facts.now c.clause_kind.new.facts c.clause_kind.result c.condition_over.result c.clause_kind.ensures
@@ -427,7 +427,7 @@ cores::core_seen-returns-in_err-own t c =
     same-refused (λ result. ColumnsSeen ((core_of around.catalog.now c.args.core.now).means (around_of around)) c.args.facts.now c.from_scope.new.facts result)
     c.from_residual-in_err-own.result c.in_err-own.field-0.0 c.from_residual-in_err-own.ensures.1
     (from-refused around.catalog.now c.args.core.now (around_of around) c.args.facts.now c.from_scope.new.facts c.in_err-own.field-0.0
-    (sym (c.in_ok-word_break.ensures (around_of around) refl)) (subst (λ (sources : List FromTree). FromSeen (from_all (scopes_of around.outer.now) around.trace (map (from_of around.catalog.now) sources)) [] c.args.facts.now
+    (sym (c.in_ok-word_break.ensures (around_of around) refl)) (subst (λ (sources : List FromTree). FromSeen (from_all (scopes_of around.outer.now) (map (from_of around.catalog.now) sources)) [] c.args.facts.now
     c.from_scope.new.facts (Err c.in_err-own.field-0.0)) c.as_slice.ensures c.in_err-own.ensures))
 
 pub cores::core_seen-returns : goal.cores::core_seen-returns
@@ -439,7 +439,7 @@ cores::core_seen-returns t c =
 pub cores::core_clauses-returns : goal.cores::core_clauses-returns
 cores::core_clauses-returns t c = λ before input items is adds.
     let around = c.args.around.now in
-    let here = in_clause c.in_ok-scope.scope (scopes_of around.outer.now) around.trace true in
+    let here = in_clause c.in_ok-scope.scope (scopes_of around.outer.now) true in
     core-answered around.catalog.now c.args.core.now (around_of around) input items c.args.own c.in_ok-scope.scope before c.args.facts.now c.condition_seen.new.facts
     c.condition_seen-2.new.facts c.list_seen.new.facts c.list_seen.result is adds c.in_ok-condition_seen.ensures (c.in_ok-scope.ensures around.catalog.now)
     c.in_ok-condition_seen-2.ensures
@@ -454,7 +454,7 @@ cores::list_seen-loop-item-init t c =
 pub cores::list_seen-loop-item-preserved : goal.cores::list_seen-loop-item-preserved
 cores::list_seen-loop-item-preserved t c =
     let around = c.args.around.now in
-    let seen = (seen_at c.args.has_from c.args.scope.now (in_clause c.args.scope.now (scopes_of around.outer.now) around.trace true)) in
+    let seen = (seen_at c.args.has_from c.args.scope.now (in_clause c.args.scope.now (scopes_of around.outer.now) true)) in
     let item = item_of around.catalog.now in
     subst (λ (ms : List SelectMeant). ListWhole ms c.args.facts.now c.list_item.new.facts c.list_item.new.columns)
     (sym (twice-more seen item c.args.items.now c.loop-item.item-index c.item-item.result c.loop-item-test.true c.item-item.is))
@@ -467,19 +467,19 @@ cores::list_seen-returns t c = rw (take_all c.loop-item.item-index c.args.items.
 pub cores::list_item-returns-in-Star : goal.cores::list_item-returns-in-Star
 cores::list_item-returns-in-Star t c =
     let around = c.args.around.now in
-    star-seen around.catalog.now c.args.item.now c.args.has_from c.args.scope.now (in_clause c.args.scope.now (scopes_of around.outer.now) around.trace true) c.in-Star.at c.in-Star.is
+    star-seen around.catalog.now c.args.item.now c.args.has_from c.args.scope.now (in_clause c.args.scope.now (scopes_of around.outer.now) true) c.in-Star.at c.in-Star.is
     c.args.columns.now c.add_star.new.columns c.args.facts.now c.args.facts.now c.add_star.result (c.add_star.ensures c.args.facts.now)
 
 pub cores::list_item-returns-in-TableStar : goal.cores::list_item-returns-in-TableStar
 cores::list_item-returns-in-TableStar t c =
     let around = c.args.around.now in
-    table_star-seen around.catalog.now c.args.item.now c.args.has_from c.args.scope.now (in_clause c.args.scope.now (scopes_of around.outer.now) around.trace true) c.in-TableStar.table
+    table_star-seen around.catalog.now c.args.item.now c.args.has_from c.args.scope.now (in_clause c.args.scope.now (scopes_of around.outer.now) true) c.in-TableStar.table
     c.in-TableStar.is c.args.columns.now c.add_table_star.new.columns c.args.facts.now c.args.facts.now c.add_table_star.result (c.add_table_star.ensures c.args.facts.now)
 
 pub cores::list_item-returns-in_err-kind-in-Value : goal.cores::list_item-returns-in_err-kind-in-Value
 cores::list_item-returns-in_err-kind-in-Value t c =
     let around = c.args.around.now in
-    let here = in_clause c.args.scope.now (scopes_of around.outer.now) around.trace true in
+    let here = in_clause c.args.scope.now (scopes_of around.outer.now) true in
     same-refused (λ result. ItemIsSeen (seen_at c.args.has_from c.args.scope.now here (item_of around.catalog.now c.args.item.now)) c.args.columns.now c.args.columns.now c.args.facts.now
     c.clause_kind.new.facts result) c.from_residual.result c.in_err-kind-in-Value.field-0.0 c.from_residual.ensures.1
     (value-refused around.catalog.now c.args.item.now c.args.has_from c.args.scope.now here c.in-Value.expr c.in-Value.name c.in-Value.is c.args.columns.now c.args.columns.now
@@ -488,7 +488,7 @@ cores::list_item-returns-in_err-kind-in-Value t c =
 pub cores::list_item-returns-in_ok-add_value-in-Value : goal.cores::list_item-returns-in_ok-add_value-in-Value
 cores::list_item-returns-in_ok-add_value-in-Value t c =
     let around = c.args.around.now in
-    let here = in_clause c.args.scope.now (scopes_of around.outer.now) around.trace true in
+    let here = in_clause c.args.scope.now (scopes_of around.outer.now) true in
     value-seen around.catalog.now c.args.item.now c.args.has_from c.args.scope.now here c.in-Value.expr c.in-Value.name c.in-Value.is c.in_ok-kind-in-Value.kind c.args.columns.now
     c.add_value.new.columns c.args.facts.now c.clause_kind.new.facts c.in_ok-kind-in-Value.ensures (c.in_ok-add_value-in-Value.ensures around.catalog.now)
 
@@ -570,10 +570,7 @@ queries::query_seen-returns-in_err-columns t c =
     let is = c.asks_provenance-asking.ensures around.catalog.now in
     same-refused (QuerySeen (query_means_at (query_of around.catalog.now tree) (around_of around))) c.from_residual.result c.in_err-columns.field-0.0 c.from_residual.ensures.1
     (query-refused around.catalog.now tree (around_of around) c.asks_provenance-asking.result is c.none-facts.result c.set_seen.new.facts c.in_err-columns.field-0.0
-    (subst (λ (place : Around). ColumnsSeen ((set_of_tree around.catalog.now tree.body).means place) c.none-facts.result c.set_seen.new.facts (Err c.in_err-columns.field-0.0))
-    c.body.ensures.place
-    (subst (λ (held : Contents). ColumnsSeen ((set_of_tree held tree.body).means (around_of c.body.result)) c.none-facts.result c.set_seen.new.facts (Err c.in_err-columns.field-0.0))
-    c.body.ensures.catalog c.in_err-columns.ensures)))
+    c.in_err-columns.ensures)
 
 pub queries::query_seen-returns : goal.queries::query_seen-returns
 queries::query_seen-returns t c =
@@ -582,7 +579,7 @@ queries::query_seen-returns t c =
     let is = c.asks_provenance-asking.ensures around.catalog.now in
     query-answered around.catalog.now tree (around_of around) c.asks_provenance-asking.result is c.query_over.result
     (rw c.as_slice.ensures at (c.query_over.ensures tree.at (body_meant around.catalog.now tree (around_of around) c.asks_provenance-asking.result) tree.limit c.none-facts.result
-    c.none-facts.ensures (rw (c.body.ensures.place, c.body.ensures.catalog) at c.in_ok-columns.ensures)
+    c.none-facts.ensures c.in_ok-columns.ensures
     (rw c.as_slice.ensures (kinds-known around.catalog.now tree (around_of around) c.asks_provenance-asking.result is c.requires))))
 
 -- ---- sources
@@ -590,28 +587,28 @@ queries::query_seen-returns t c =
 pub sources::read_source-returns-in-Named : goal.sources::read_source-returns-in-Named
 sources::read_source-returns-in-Named t c =
     let around = c.args.around.now in
-    subst (λ (read : Read). ReadSeen read c.read_named.result) (sym (named-read around.catalog.now c.args.mark.now (scopes_of around.outer.now) around.trace c.args.source.now c.in-Named.name c.in-Named.is))
+    subst (λ (read : Read). ReadSeen read c.read_named.result) (sym (named-read around.catalog.now (scopes_of around.outer.now) c.args.source.now c.in-Named.name c.in-Named.is))
     c.read_named.ensures
 
 pub sources::read_source-returns-in-Inner : goal.sources::read_source-returns-in-Inner
 sources::read_source-returns-in-Inner t c =
     let around = c.args.around.now in
     subst (λ (read : Read). ReadSeen read c.read_inner.result)
-    (sym (inner-read around.catalog.now c.args.mark.now (scopes_of around.outer.now) around.trace c.args.source.now c.in-Inner.query c.in-Inner.is))
+    (sym (inner-read around.catalog.now (scopes_of around.outer.now) c.args.source.now c.in-Inner.query c.in-Inner.is))
     (rw c.get.ensures at c.read_inner.ensures)
 
 pub sources::read_inner-returns-in_ok-read_shown-in-Ok : goal.sources::read_inner-returns-in_ok-read_shown-in-Ok
 sources::read_inner-returns-in_ok-read_shown-in-Ok t c =
     let around = c.args.around.now in
     c.in_ok-read_shown-in-Ok.ensures (query_means_at (query_of around.catalog.now c.args.query.now)
-    (around_under c.args.mark.now (around_of around))) (rw (c.under.ensures.place, c.under.ensures.catalog) at c.in-Ok.ensures)
+    (around_in_from (around_of around))) (rw (c.in_from.ensures.place, c.in_from.ensures.catalog) at c.in-Ok.ensures)
 
 pub sources::read_inner-returns-in-Err : goal.sources::read_inner-returns-in-Err
 sources::read_inner-returns-in-Err t c =
     let around = c.args.around.now in
-    read-refused (query_means_at (query_of around.catalog.now c.args.query.now) (around_under c.args.mark.now (around_of around))) c.in-Err.refusal
-    (subst (λ (place : Around). QuerySeen (query_means_at (query_of around.catalog.now c.args.query.now) place) (Err c.in-Err.refusal)) c.under.ensures.place
-    (subst (λ (held : Contents). QuerySeen (query_means_at (query_of held c.args.query.now) (around_of c.under.result)) (Err c.in-Err.refusal)) c.under.ensures.catalog
+    read-refused (query_means_at (query_of around.catalog.now c.args.query.now) (around_in_from (around_of around))) c.in-Err.refusal
+    (subst (λ (place : Around). QuerySeen (query_means_at (query_of around.catalog.now c.args.query.now) place) (Err c.in-Err.refusal)) c.in_from.ensures.place
+    (subst (λ (held : Contents). QuerySeen (query_means_at (query_of held c.args.query.now) (around_of c.in_from.result)) (Err c.in-Err.refusal)) c.in_from.ensures.catalog
     c.in-Err.ensures))
 
 pub sources::from_item-returns-in_err-reading : goal.sources::from_item-returns-in_err-reading
@@ -620,12 +617,12 @@ sources::from_item-returns-in_err-reading t c =
     let item = c.args.item.now in
     let outer = scopes_of around.outer.now in
     let held = c.args.earlier.now ++ c.args.scope.now.items in
-    same-refused (λ result. ItemSeen ((from_item_of around.catalog.now item).means outer around.trace held) c.args.scope.now c.args.facts.now c.args.facts.now c.args.scope.now result)
+    same-refused (λ result. ItemSeen ((from_item_of around.catalog.now item).means outer held) c.args.scope.now c.args.facts.now c.args.facts.now c.args.scope.now result)
     c.from_residual.result c.in_err-reading.field-0.0 c.from_residual.ensures.1
     (subst (λ (m : ItemMeant). ItemSeen m c.args.scope.now c.args.facts.now c.args.facts.now c.args.scope.now (Err c.in_err-reading.field-0.0))
-    (sym (item-means around.catalog.now item outer around.trace held))
-    (item-refused item.at item.mark around.trace held (scope_name (source_of around.catalog.now item.source) item.alias) (label_of (source_of around.catalog.now item.source) item.alias)
-    (read_of around.catalog.now item.mark outer around.trace (source_of around.catalog.now item.source)) c.args.scope.now c.args.scope.now c.args.facts.now c.args.facts.now
+    (sym (item-means around.catalog.now item outer held))
+    (item-refused item.at item.mark held (scope_name (source_of around.catalog.now item.source) item.alias) (label_of (source_of around.catalog.now item.source) item.alias)
+    (read_of around.catalog.now outer (source_of around.catalog.now item.source)) c.args.scope.now c.args.scope.now c.args.facts.now c.args.facts.now
     c.in_err-reading.field-0.0 c.in_err-reading.ensures))
 
 pub sources::from_item-returns : goal.sources::from_item-returns
@@ -633,14 +630,14 @@ sources::from_item-returns t c =
     let around = c.args.around.now in
     let item = c.args.item.now in
     subst (λ (m : ItemMeant). ItemSeen m c.args.scope.now c.args.facts.now c.put_item.new.facts c.put_item.new.scope c.put_item.result)
-    (sym (item-means around.catalog.now item (scopes_of around.outer.now) around.trace (c.args.earlier.now ++ c.args.scope.now.items)))
-    (c.put_item.ensures around.catalog.now (read_of around.catalog.now item.mark (scopes_of around.outer.now) around.trace (source_of around.catalog.now item.source))
+    (sym (item-means around.catalog.now item (scopes_of around.outer.now) (c.args.earlier.now ++ c.args.scope.now.items)))
+    (c.put_item.ensures around.catalog.now (read_of around.catalog.now (scopes_of around.outer.now) (source_of around.catalog.now item.source))
     c.in_ok-reading.ensures)
 
 pub sources::on_seen-returns : goal.sources::on_seen-returns
 sources::on_seen-returns t c = λ items is.
     let around = c.args.around.now in
-    let m = means_at (part_of around.catalog.now c.args.condition.now) (in_on items (scopes_of around.outer.now) around.trace) in
+    let m = means_at (part_of around.catalog.now c.args.condition.now) (in_on items (scopes_of around.outer.now)) in
     subst (λ (at : ℕ). Tells (first_or (condition_breaks at m) (tt {0})) c.condition_over.result) (sym (part-at around.catalog.now c.args.condition.now))
     (c.condition_over.ensures.tells m
     (rw (c.seeing-place.ensures.place, c.seeing-place.ensures.catalog, c.in_ok-scopes.ensures, is, c.in_on.ensures items (scopes_of around.outer.now)) at c.kind_of.ensures))
@@ -651,33 +648,33 @@ sources::join_seen-returns-in_err-from_item t c = λ left before first.
     let step = c.args.step.now in
     let outer = scopes_of around.outer.now in
     let joined = join_of around.catalog.now step in
-    same-refused (λ result. JoinSeen (join_item outer around.trace left joined (joined.item.means outer around.trace left.names)) c.args.earlier.now before c.from_item.new.facts
+    same-refused (λ result. JoinSeen (join_item outer left joined (joined.item.means outer left.names)) c.args.earlier.now before c.from_item.new.facts
     c.from_item.new.scope result) c.from_residual.result c.in_err-from_item.field-0.0 c.from_residual.ensures.1
-    (join-refused outer around.trace left joined (joined.item.means outer around.trace left.names) c.args.earlier.now before c.args.facts.now c.from_item.new.facts c.args.scope.now
+    (join-refused outer left joined (joined.item.means outer left.names) c.args.earlier.now before c.args.facts.now c.from_item.new.facts c.args.scope.now
     c.from_item.new.scope c.in_err-from_item.field-0.0 first
     (subst (λ (m : ItemMeant). ItemSeen m c.args.scope.now c.args.facts.now c.from_item.new.facts c.from_item.new.scope (Err c.in_err-from_item.field-0.0))
-    (sym (joined-item around.catalog.now step outer around.trace left.names (c.args.earlier.now ++ c.args.scope.now.items) first.names)) c.in_err-from_item.ensures))
+    (sym (joined-item around.catalog.now step outer left.names (c.args.earlier.now ++ c.args.scope.now.items) first.names)) c.in_err-from_item.ensures))
 
 pub sources::join_seen-returns-in-None : goal.sources::join_seen-returns-in-None
 sources::join_seen-returns-in-None t c = λ left before first.
     let around = c.args.around.now in
     let step = c.args.step.now in
     let outer = scopes_of around.outer.now in
-    join-crossed outer around.trace left (join_of around.catalog.now step) ((join_of around.catalog.now step).item.means outer around.trace left.names) c.args.earlier.now before c.args.facts.now
+    join-crossed outer left (join_of around.catalog.now step) ((join_of around.catalog.now step).item.means outer left.names) c.args.earlier.now before c.args.facts.now
     c.from_item.new.facts c.args.scope.now c.from_item.new.scope (joined-condition around.catalog.now step None c.in-None.is) first
     (subst (λ (m : ItemMeant). ItemAdded m c.args.scope.now c.args.facts.now c.from_item.new.facts c.from_item.new.scope)
-    (sym (joined-item around.catalog.now step outer around.trace left.names (c.args.earlier.now ++ c.args.scope.now.items) first.names)) c.in_ok-from_item.ensures)
+    (sym (joined-item around.catalog.now step outer left.names (c.args.earlier.now ++ c.args.scope.now.items) first.names)) c.in_ok-from_item.ensures)
 
 pub sources::join_seen-returns-in-Some : goal.sources::join_seen-returns-in-Some
 sources::join_seen-returns-in-Some t c = λ left before first.
     let around = c.args.around.now in
     let step = c.args.step.now in
     let outer = scopes_of around.outer.now in
-    join-on outer around.trace left (join_of around.catalog.now step) (part_of around.catalog.now c.in-Some.condition)
-    ((join_of around.catalog.now step).item.means outer around.trace left.names) c.args.earlier.now before c.args.facts.now
+    join-on outer left (join_of around.catalog.now step) (part_of around.catalog.now c.in-Some.condition)
+    ((join_of around.catalog.now step).item.means outer left.names) c.args.earlier.now before c.args.facts.now
     c.from_item.new.facts c.args.scope.now c.from_item.new.scope c.on_seen.result (joined-condition around.catalog.now step (Some c.in-Some.condition) c.in-Some.is) first
     (subst (λ (m : ItemMeant). ItemAdded m c.args.scope.now c.args.facts.now c.from_item.new.facts c.from_item.new.scope)
-    (sym (joined-item around.catalog.now step outer around.trace left.names (c.args.earlier.now ++ c.args.scope.now.items) first.names)) c.in_ok-from_item.ensures)
+    (sym (joined-item around.catalog.now step outer left.names (c.args.earlier.now ++ c.args.scope.now.items) first.names)) c.in_ok-from_item.ensures)
     c.on_seen.ensures
 
 pub sources::source_items-returns-in_err-from_item : goal.sources::source_items-returns-in_err-from_item
@@ -685,15 +682,15 @@ sources::source_items-returns-in_err-from_item t c =
     let around = c.args.around.now in
     let outer = scopes_of around.outer.now in
     let tree = c.args.tree.now in
-    let first = (from_item_of around.catalog.now (out-FromTree tree).first).means outer around.trace c.args.earlier.now in
+    let first = (from_item_of around.catalog.now (out-FromTree tree).first).means outer c.args.earlier.now in
     let joins = (out-FromTree tree).joins in
     let join = join_of around.catalog.now in
-    same-refused (λ result. FromSeen ((from_of around.catalog.now tree).means outer around.trace c.args.earlier.now) c.args.earlier.now c.args.facts.now c.from_item.new.facts result)
+    same-refused (λ result. FromSeen ((from_of around.catalog.now tree).means outer c.args.earlier.now) c.args.earlier.now c.args.facts.now c.from_item.new.facts result)
     c.from_residual.result c.in_err-from_item.field-0.0 c.from_residual.ensures.1
     (subst (λ (m : FromMeant). FromSeen m c.args.earlier.now c.args.facts.now c.from_item.new.facts (Err c.in_err-from_item.field-0.0))
-    (sym (from-means around.catalog.now tree outer around.trace c.args.earlier.now))
-    (first-refused outer around.trace first (map join joins) c.args.earlier.now c.args.facts.now c.from_item.new.facts c.no_items-scope.result c.from_item.new.scope c.in_err-from_item.field-0.0
-    (subst (λ (names : List (List ℕ)). ItemSeen ((from_item_of around.catalog.now (out-FromTree tree).first).means outer around.trace names) c.no_items-scope.result c.args.facts.now
+    (sym (from-means around.catalog.now tree outer c.args.earlier.now))
+    (first-refused outer first (map join joins) c.args.earlier.now c.args.facts.now c.from_item.new.facts c.no_items-scope.result c.from_item.new.scope c.in_err-from_item.field-0.0
+    (subst (λ (names : List (List ℕ)). ItemSeen ((from_item_of around.catalog.now (out-FromTree tree).first).means outer names) c.no_items-scope.result c.args.facts.now
     c.from_item.new.facts c.from_item.new.scope (Err c.in_err-from_item.field-0.0))
     (none-held c.args.earlier.now c.no_items-scope.result c.no_items-scope.ensures) c.in_err-from_item.ensures)))
 
@@ -702,11 +699,11 @@ sources::source_items-loop-step-init t c =
     let around = c.args.around.now in
     let outer = scopes_of around.outer.now in
     let tree = c.args.tree.now in
-    let first = (from_item_of around.catalog.now (out-FromTree tree).first).means outer around.trace c.args.earlier.now in
+    let first = (from_item_of around.catalog.now (out-FromTree tree).first).means outer c.args.earlier.now in
     let joins = (out-FromTree tree).joins in
     let join = join_of around.catalog.now in
     first-whole first c.args.earlier.now c.args.facts.now c.from_item.new.facts c.no_items-scope.result c.from_item.new.scope c.no_items-scope.ensures
-    (subst (λ (names : List (List ℕ)). ItemAdded ((from_item_of around.catalog.now (out-FromTree tree).first).means outer around.trace names) c.no_items-scope.result c.args.facts.now
+    (subst (λ (names : List (List ℕ)). ItemAdded ((from_item_of around.catalog.now (out-FromTree tree).first).means outer names) c.no_items-scope.result c.args.facts.now
     c.from_item.new.facts c.from_item.new.scope)
     (none-held c.args.earlier.now c.no_items-scope.result c.no_items-scope.ensures) c.in_ok-from_item.ensures)
 
@@ -715,18 +712,18 @@ sources::source_items-returns-in_err-join_seen t c =
     let around = c.args.around.now in
     let outer = scopes_of around.outer.now in
     let tree = c.args.tree.now in
-    let first = (from_item_of around.catalog.now (out-FromTree tree).first).means outer around.trace c.args.earlier.now in
+    let first = (from_item_of around.catalog.now (out-FromTree tree).first).means outer c.args.earlier.now in
     let joins = (out-FromTree tree).joins in
     let join = join_of around.catalog.now in
-    let so_far = join_all outer around.trace (first_item c.args.earlier.now first) (map join (take c.loop-step.step-index joins)) in
+    let so_far = join_all outer (first_item c.args.earlier.now first) (map join (take c.loop-step.step-index joins)) in
     let within = rw c.as_slice-step-items.ensures at c.loop-step-test.true in
     let is = rw c.as_slice-step-items.ensures at c.step-item.is in
-    same-refused (λ result. FromSeen ((from_of around.catalog.now tree).means outer around.trace c.args.earlier.now) c.args.earlier.now c.args.facts.now c.join_seen.new.facts result)
+    same-refused (λ result. FromSeen ((from_of around.catalog.now tree).means outer c.args.earlier.now) c.args.earlier.now c.args.facts.now c.join_seen.new.facts result)
     c.from_residual-in_err-join_seen.result c.in_err-join_seen.field-0.0 c.from_residual-in_err-join_seen.ensures.1
     (subst (λ (m : FromMeant). FromSeen m c.args.earlier.now c.args.facts.now c.join_seen.new.facts (Err c.in_err-join_seen.field-0.0))
-    (sym (from-means around.catalog.now tree outer around.trace c.args.earlier.now
-    ∙ ap (join_all outer around.trace (first_item c.args.earlier.now first)) (mapped-at join joins c.loop-step.step-index c.step-item.result within is)))
-    (step-refused outer around.trace (first_item c.args.earlier.now first) (map join (take c.loop-step.step-index joins)) (join c.step-item.result)
+    (sym (from-means around.catalog.now tree outer c.args.earlier.now
+    ∙ ap (join_all outer (first_item c.args.earlier.now first)) (mapped-at join joins c.loop-step.step-index c.step-item.result within is)))
+    (step-refused outer (first_item c.args.earlier.now first) (map join (take c.loop-step.step-index joins)) (join c.step-item.result)
     (map join (drop (c.loop-step.step-index + 1) joins)) c.args.earlier.now c.args.facts.now c.join_seen.new.facts c.join_seen.new.scope c.in_err-join_seen.field-0.0
     (c.in_err-join_seen.ensures so_far c.args.facts.now c.loop-step.invariant)))
 
@@ -735,15 +732,15 @@ sources::source_items-loop-step-preserved t c =
     let around = c.args.around.now in
     let outer = scopes_of around.outer.now in
     let tree = c.args.tree.now in
-    let first = (from_item_of around.catalog.now (out-FromTree tree).first).means outer around.trace c.args.earlier.now in
+    let first = (from_item_of around.catalog.now (out-FromTree tree).first).means outer c.args.earlier.now in
     let joins = (out-FromTree tree).joins in
     let join = join_of around.catalog.now in
-    let so_far = join_all outer around.trace (first_item c.args.earlier.now first) (map join (take c.loop-step.step-index joins)) in
+    let so_far = join_all outer (first_item c.args.earlier.now first) (map join (take c.loop-step.step-index joins)) in
     let within = rw c.as_slice-step-items.ensures at c.loop-step-test.true in
     let is = rw c.as_slice-step-items.ensures at c.step-item.is in
     subst (λ (m : FromMeant). FromWhole m c.args.earlier.now c.args.facts.now c.join_seen.new.facts c.join_seen.new.scope)
-    (sym (ap (join_all outer around.trace (first_item c.args.earlier.now first)) (row-more join joins c.loop-step.step-index c.step-item.result within is)
-    ∙ joins-behind outer around.trace (first_item c.args.earlier.now first) (map join (take c.loop-step.step-index joins)) (join c.step-item.result)))
+    (sym (ap (join_all outer (first_item c.args.earlier.now first)) (row-more join joins c.loop-step.step-index c.step-item.result within is)
+    ∙ joins-behind outer (first_item c.args.earlier.now first) (map join (take c.loop-step.step-index joins)) (join c.step-item.result)))
     (c.in_ok-join_seen.ensures so_far c.args.facts.now c.loop-step.invariant)
 
 pub sources::source_items-returns : goal.sources::source_items-returns
@@ -751,13 +748,13 @@ sources::source_items-returns t c =
     let around = c.args.around.now in
     let outer = scopes_of around.outer.now in
     let tree = c.args.tree.now in
-    let first = (from_item_of around.catalog.now (out-FromTree tree).first).means outer around.trace c.args.earlier.now in
+    let first = (from_item_of around.catalog.now (out-FromTree tree).first).means outer c.args.earlier.now in
     let joins = (out-FromTree tree).joins in
     let join = join_of around.catalog.now in
     let all = rw c.as_slice-step-items.ensures at c.loop-step-test.false in
     subst (λ (m : FromMeant). FromWhole m c.args.earlier.now c.args.facts.now c.loop-step.facts c.loop-step.scope)
-    (ap (λ (steps : List JoinStep). join_all outer around.trace (first_item c.args.earlier.now first) (map join steps)) (take_all c.loop-step.step-index joins all)
-    ∙ sym (from-means around.catalog.now tree outer around.trace c.args.earlier.now)) c.loop-step.invariant
+    (ap (λ (steps : List JoinStep). join_all outer (first_item c.args.earlier.now first) (map join steps)) (take_all c.loop-step.step-index joins all)
+    ∙ sym (from-means around.catalog.now tree outer c.args.earlier.now)) c.loop-step.invariant
 
 pub sources::from_scope-returns-in_err-own : goal.sources::from_scope-returns-in_err-own
 sources::from_scope-returns-in_err-own t c =
@@ -765,13 +762,13 @@ sources::from_scope-returns-in_err-own t c =
     let outer = scopes_of around.outer.now in
     let part = from_of around.catalog.now in
     let so_far = map part (take c.loop-source.source-index c.args.sources.now) in
-    same-refused (λ result. FromSeen (from_all outer around.trace (map part c.args.sources.now)) [] c.args.facts.now c.source_items.new.facts result)
+    same-refused (λ result. FromSeen (from_all outer (map part c.args.sources.now)) [] c.args.facts.now c.source_items.new.facts result)
     c.from_residual.result c.in_err-own.field-0.0 c.from_residual.ensures.1
-    (subst (λ (parts : List FromPart). FromSeen (from_all outer around.trace parts) [] c.args.facts.now c.source_items.new.facts (Err c.in_err-own.field-0.0))
+    (subst (λ (parts : List FromPart). FromSeen (from_all outer parts) [] c.args.facts.now c.source_items.new.facts (Err c.in_err-own.field-0.0))
     (sym (mapped-at part c.args.sources.now c.loop-source.source-index c.source-item.result c.loop-source-test.true c.source-item.is))
-    (source-refused outer around.trace so_far (part c.source-item.result) (map part (drop (c.loop-source.source-index + 1) c.args.sources.now)) c.args.facts.now c.loop-source.facts
+    (source-refused outer so_far (part c.source-item.result) (map part (drop (c.loop-source.source-index + 1) c.args.sources.now)) c.args.facts.now c.loop-source.facts
     c.source_items.new.facts c.loop-source.scope c.in_err-own.field-0.0 c.loop-source.invariant
-    (subst (λ (names : List (List ℕ)). FromSeen ((part c.source-item.result).means outer around.trace names) names c.loop-source.facts c.source_items.new.facts (Err c.in_err-own.field-0.0))
+    (subst (λ (names : List (List ℕ)). FromSeen ((part c.source-item.result).means outer names) names c.loop-source.facts c.source_items.new.facts (Err c.in_err-own.field-0.0))
     c.as_slice.ensures c.in_err-own.ensures)))
 
 pub sources::from_scope-loop-source-preserved : goal.sources::from_scope-loop-source-preserved
@@ -780,9 +777,9 @@ sources::from_scope-loop-source-preserved t c =
     let outer = scopes_of around.outer.now in
     let part = from_of around.catalog.now in
     let so_far = map part (take c.loop-source.source-index c.args.sources.now) in
-    subst (λ (parts : List FromPart). FromWhole (from_all outer around.trace parts) [] c.args.facts.now c.source_items.new.facts c.add_items.new.left)
+    subst (λ (parts : List FromPart). FromWhole (from_all outer parts) [] c.args.facts.now c.source_items.new.facts c.add_items.new.left)
     (sym (row-more part c.args.sources.now c.loop-source.source-index c.source-item.result c.loop-source-test.true c.source-item.is))
-    (source-behind outer around.trace so_far (part c.source-item.result) c.args.facts.now c.loop-source.facts c.source_items.new.facts c.loop-source.scope c.in_ok-own.own c.add_items.new.left
+    (source-behind outer so_far (part c.source-item.result) c.args.facts.now c.loop-source.facts c.source_items.new.facts c.loop-source.scope c.in_ok-own.own c.add_items.new.left
     c.loop-source.invariant (rw c.as_slice.ensures at c.in_ok-own.ensures) c.in_ok-add_items.ensures)
 
 pub cores::core_clauses-returns-in_err-condition_seen : goal.cores::core_clauses-returns-in_err-condition_seen
@@ -812,7 +809,7 @@ cores::core_clauses-returns-in_err-condition_seen-2 t c = λ before input items 
 pub cores::list_seen-returns-in_err-list_item : goal.cores::list_seen-returns-in_err-list_item
 cores::list_seen-returns-in_err-list_item t c =
     let around = c.args.around.now in
-    let seen = (seen_at c.args.has_from c.args.scope.now (in_clause c.args.scope.now (scopes_of around.outer.now) around.trace true)) in
+    let seen = (seen_at c.args.has_from c.args.scope.now (in_clause c.args.scope.now (scopes_of around.outer.now) true)) in
     let item = item_of around.catalog.now in
     same-refused (λ result. ListSeen (map seen (map item c.args.items.now)) c.args.facts.now c.list_item.new.facts result)
     c.from_residual.result c.in_err-list_item.field-0.0 c.from_residual.ensures.1

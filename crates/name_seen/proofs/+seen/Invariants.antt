@@ -34,19 +34,19 @@ invariant-expressions::operands_of_arms-loop-arm l =
 -- the sources so far
 abbrev pub invariant-sources::from_scope-loop-source : goal.invariant-sources::from_scope-loop-source
 invariant-sources::from_scope-loop-source l =
-    FromWhole (from_all (scopes_of l.around.outer.now) l.around.trace (map (from_of l.around.catalog.now) (take l.source-index l.sources))) [] l.fn.facts l.facts l.scope
+    FromWhole (from_all (scopes_of l.around.outer.now) (map (from_of l.around.catalog.now) (take l.source-index l.sources))) [] l.fn.facts l.facts l.scope
 
 -- the joins so far
 abbrev pub invariant-sources::source_items-loop-step : goal.invariant-sources::source_items-loop-step
 invariant-sources::source_items-loop-step l =
-    FromWhole (join_all (scopes_of l.around.outer.now) l.around.trace
-    (first_item l.earlier ((from_item_of l.around.catalog.now (out-FromTree l.tree).first).means (scopes_of l.around.outer.now) l.around.trace l.earlier))
+    FromWhole (join_all (scopes_of l.around.outer.now)
+    (first_item l.earlier ((from_item_of l.around.catalog.now (out-FromTree l.tree).first).means (scopes_of l.around.outer.now) l.earlier))
     (map (join_of l.around.catalog.now) (take l.step-index (out-FromTree l.tree).joins))) l.earlier l.fn.facts l.facts l.scope
 
 -- the items of the list so far
 abbrev pub invariant-cores::list_seen-loop-item : goal.invariant-cores::list_seen-loop-item
 invariant-cores::list_seen-loop-item l =
-    ListWhole (map (seen_at l.has_from l.scope (in_clause l.scope (scopes_of l.around.outer.now) l.around.trace true)) (map (item_of l.around.catalog.now) (take l.item-index l.items)))
+    ListWhole (map (seen_at l.has_from l.scope (in_clause l.scope (scopes_of l.around.outer.now) true)) (map (item_of l.around.catalog.now) (take l.item-index l.items)))
     l.fn.facts l.facts l.columns
 
 -- the operands so far

@@ -10,7 +10,7 @@ ghost use Rattle.name_meaning.specs.declared.scope.Scope.{Scope as Sight};
 ghost use Rattle.perm_catalog.specs.Columns.{column_kinds};
 ghost use Rattle.perm_catalog.specs.Sound.{IsSound};
 
-use name_meaning::{Break, Rule, Trace};
+use name_meaning::{Break, Rule};
 use name_seen::kind_of;
 use name_seen_parts::{Here, Refusal, Scopes, Standing, unites};
 use perm_catalog::{Catalog, Column};
@@ -108,7 +108,6 @@ pub fn alone() -> Standing
     ensures { (scopes : Sights Sight) → standing_in scopes result ≡ words.bare scopes }
 {
     Standing {
-        trace: Trace::Untraced,
         aggregates: false,
         sublinks: false,
         argument: false,

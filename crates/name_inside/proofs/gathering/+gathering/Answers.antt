@@ -171,18 +171,18 @@ items_inside-loop-item-preserved t c =
 
 pub sources_inside-loop-tree-preserved : goal.sources_inside-loop-tree-preserved
 sources_inside-loop-tree-preserved t c =
-    λ names. froms-more (around_of c.args.around.now).outer c.args.around.now.trace (from_of c.args.around.now.catalog.now) c.args.trees.now c.loop-tree.tree-index c.tree-item.result names
+    λ names. froms-more (around_of c.args.around.now).outer (from_of c.args.around.now.catalog.now) c.args.trees.now c.loop-tree.tree-index c.tree-item.result names
     c.loop-tree-test.true c.tree-item.is (c.loop-tree.invariant names) c.in_ok-from_inside.ensures
 
 pub joins_inside-loop-step-preserved : goal.joins_inside-loop-step-preserved
 joins_inside-loop-step-preserved t c =
-    λ names. joins-more (around_of c.args.around.now).outer c.args.around.now.trace (join_of c.args.around.now.catalog.now) c.args.steps.now c.loop-step.step-index c.step-item.result names
+    λ names. joins-more (around_of c.args.around.now).outer (join_of c.args.around.now.catalog.now) c.args.steps.now c.loop-step.step-index c.step-item.result names
     c.loop-step-test.true c.step-item.is (c.loop-step.invariant names)
-    (join-adds c.args.around.now.catalog.now (around_of c.args.around.now).outer c.args.around.now.trace c.step-item.result c.in_ok-source_inside.ensures)
+    (join-adds c.args.around.now.catalog.now (around_of c.args.around.now).outer c.step-item.result c.in_ok-source_inside.ensures)
 
 pub from_inside-returns : goal.from_inside-returns
 from_inside-returns t c =
-    from-adds c.args.around.now.catalog.now (around_of c.args.around.now).outer c.args.around.now.trace c.args.tree.now c.as_slice.result.now _ _ _ c.as_slice.ensures
+    from-adds c.args.around.now.catalog.now (around_of c.args.around.now).outer c.args.tree.now c.as_slice.result.now _ _ _ c.as_slice.ensures
     c.in_ok-source_inside.ensures c.in_ok-joins_inside.ensures
 
 pub item_inside-returns-in-Star : goal.item_inside-returns-in-Star
@@ -213,13 +213,11 @@ set_inside-returns-in_ok-operands_inside-in-Chain t c =
 
 pub core_inside-returns-in-None : goal.core_inside-returns-in-None
 core_inside-returns-in-None t c =
-    core-broken c.args.around.now.catalog.now (around_of c.args.around.now) c.args.core.now (around_of c.core-own.result) c.core-own.result.catalog.now
-    c.core-own.ensures.place c.core-own.ensures.catalog _ _ c.in_ok-scope_of.ensures c.in-None.is
+    core-broken c.args.around.now.catalog.now (around_of c.args.around.now) c.args.core.now _ _ c.in_ok-scope_of.ensures c.in-None.is
 
 pub core_inside-returns-in_ok-clauses_inside-in-Some : goal.core_inside-returns-in_ok-clauses_inside-in-Some
 core_inside-returns-in_ok-clauses_inside-in-Some t c =
-    core-adds c.args.around.now.catalog.now (around_of c.args.around.now) c.args.core.now (around_of c.core-own.result) c.core-own.result.catalog.now
-    c.core-own.ensures.place c.core-own.ensures.catalog _ c.in-Some.scope _ _ c.in_ok-scope_of.ensures c.in-Some.is
+    core-adds c.args.around.now.catalog.now (around_of c.args.around.now) c.args.core.now _ c.in-Some.scope _ _ c.in_ok-scope_of.ensures c.in-Some.is
     c.in_ok-clauses_inside-in-Some.ensures
 
 pub clauses_inside-returns : goal.clauses_inside-returns
@@ -236,13 +234,13 @@ clauses_inside-returns t c =
 pub query_inside-returns-in_ok-set_inside-in-Some : goal.query_inside-returns-in_ok-set_inside-in-Some
 query_inside-returns-in_ok-set_inside-in-Some t c =
     query-adds c.args.around.now.catalog.now (around_of c.args.around.now) c.args.tree.now c.in-Some.width _ _ _ (subst (HasWidth (query_means_at (query_of c.args.around.now.catalog.now c.args.tree.now) (around_of c.args.around.now))) c.in-Some.is c.in_ok-width_of.ensures)
-    c.in_ok-add_query-in-Some.ensures (rw (c.body.ensures.catalog, c.body.ensures.place, c.asks_provenance-asking.ensures c.args.around.now.catalog.now) at c.in_ok-set_inside-in-Some.ensures)
+    c.in_ok-add_query-in-Some.ensures c.in_ok-set_inside-in-Some.ensures
 
 pub source_inside-returns-in_ok-name_inside-in-Named : goal.source_inside-returns-in_ok-name_inside-in-Named
 source_inside-returns-in_ok-name_inside-in-Named t c =
-    λ names. named-adds c.args.around.now.catalog.now (around_of c.args.around.now).outer c.args.around.now.trace names c.args.item.now _ _ _ _ c.in-Named.is refl c.in_ok-name_inside-in-Named.ensures
+    λ names. named-adds c.args.around.now.catalog.now (around_of c.args.around.now).outer names c.args.item.now _ _ _ _ c.in-Named.is refl c.in_ok-name_inside-in-Named.ensures
 
 pub source_inside-returns-in_ok-query_inside-in-Inner : goal.source_inside-returns-in_ok-query_inside-in-Inner
 source_inside-returns-in_ok-query_inside-in-Inner t c =
-    λ names. inner-adds c.args.around.now.catalog.now (around_of c.args.around.now).outer c.args.around.now.trace names c.args.item.now _ _ _ _ c.in-Inner.is c.get.ensures
-    (rw (c.under.ensures.catalog, c.under.ensures.place) at c.in_ok-query_inside-in-Inner.ensures)
+    λ names. inner-adds c.args.around.now.catalog.now (around_of c.args.around.now).outer names c.args.item.now _ _ _ _ c.in-Inner.is c.get.ensures
+    (rw (c.in_from.ensures.catalog, c.in_from.ensures.place) at c.in_ok-query_inside-in-Inner.ensures)

@@ -17,11 +17,11 @@ invariant-items_inside-loop-item l = (has_from : Bool) (scope : Scope)
 
 abbrev pub invariant-sources_inside-loop-tree : goal.invariant-sources_inside-loop-tree
 invariant-sources_inside-loop-tree l = (names : List (List ℕ))
-    → Adds (held_froms (around_of l.around).outer l.around.trace names (map (from_of l.around.catalog.now) (take l.tree-index l.trees))) l.fn.found l.found
+    → Adds (held_froms (around_of l.around).outer names (map (from_of l.around.catalog.now) (take l.tree-index l.trees))) l.fn.found l.found
 
 abbrev pub invariant-joins_inside-loop-step : goal.invariant-joins_inside-loop-step
 invariant-joins_inside-loop-step l = (names : List (List ℕ))
-    → Adds (held_joins (around_of l.around).outer l.around.trace names (map (join_of l.around.catalog.now) (take l.step-index l.steps))) l.fn.found l.found
+    → Adds (held_joins (around_of l.around).outer names (map (join_of l.around.catalog.now) (take l.step-index l.steps))) l.fn.found l.found
 
 abbrev pub invariant-expressions_inside-loop-tree : goal.invariant-expressions_inside-loop-tree
 invariant-expressions_inside-loop-tree l =

@@ -12,4 +12,4 @@ returns-in-Ok c = λ q whole.
     inner-is q c.args.shown c.args.facts.now _ _ whole
     (c.is_one-one.ensures ∙ ap (λ (columns : List ShownColumn). nat_eq (length columns) 1) c.as_slice.ensures)
     (c.first_shown-kind.ensures ∙ ap first_shown c.as_slice-2.ensures)
-    (c.in-Ok.ensures ∙ ap (λ (facts : Facts). both_facts (facts_in c.args.facts.now) facts) c.as_sublink.ensures)
+    c.in-Ok.ensures

@@ -1,4 +1,4 @@
-use Rattle.std.specs.Prelude.{[], List, Some, false, option_map}
+use Rattle.std.specs.Prelude.{[], List, Some, option_map}
 use Rattle.std.specs.Option.{option_map_or}
 use Rattle.std.proofs.Common.{refl, ap, sym, ◌∙◌, ◌≡◌}
 use Rattle.bag_algebra.specs.Kinds.{kinds_of}
@@ -26,9 +26,7 @@ returns c = λ m whole.
       whole = whole.whole;
       columns = ap (option_map settled_columns) whole.known ∙ ap Some (sym settles);
       kinds = sorts;
-      table = whole.inner [];
-      viewed = refl;
       plain = sym (c.in_ok-plain.ensures
-          ∙ (λ i. option_map_or (external_facts (known_names (c.as_slice-3.ensures i)) (c.as_slice-4.ensures i) false) shown.places (facts_in shown.facts))
+          ∙ (λ i. option_map_or (external_facts (known_names (c.as_slice-3.ensures i)) (c.as_slice-4.ensures i)) shown.places (facts_in shown.facts))
           ∙ shown-plain m shown (known_names columns) kinds whole (ap names_of settles) sorts);
     }

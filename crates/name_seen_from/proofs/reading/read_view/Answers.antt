@@ -8,7 +8,5 @@ returns c = λ name. record {
   whole = refl;
   columns = sym (ap Some (c.in_ok-columns.ensures ∙ (λ i. named_columns (c.as_slice.ensures i) ((c.as_slice-2.ensures ∙ c.in_ok-kinds.ensures) i))));
   kinds = sym c.in_ok-kinds.ensures;
-  table = sym c.is_table.ensures;
-  viewed = refl;
   plain = sym (c.in_ok-plain.ensures (c.as_slice-3.ensures ∙ c.in_ok-kinds.ensures) name);
 }

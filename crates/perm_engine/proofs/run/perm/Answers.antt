@@ -1,31 +1,110 @@
-use Rattle.std.proofs.Common.{◌≡◌, ◌⊎◌, ◌∙◌, List, ℕ, false, true≢false, Err, refl, sym, ap, inl, inr, subst}
-use Rattle.perm_io.specs.Answers.{is_fault}
-use Rattle.perm_io.specs.Counts.{CountsFault, HasRisen}
-use Rattle.perm_io.specs.Found.{Read, Missing, TooLong, Failed}
+use Rattle.std.proofs.Common.{◌≡◌, ◌∙◌, ◌⊎◌, List, ℕ, refl, sym, inl, inr, subst}
+use Rattle.command_words.specs.Requests.{request_of}
+use Rattle.command_words.specs.declared.wanted.Wanted.{Wanted}
+use Rattle.command_words.specs.declared.wanted.Wanted.TheVariants.{Script, Generated, Misworded}
+use Rattle.perm_io.specs.Counts.{HasRisen}
 use Rattle.statement_meaning.specs.Answers.{can_be, over}
-use Rattle.run_meaning.specs.Ends.{EndsOne, over as output}
-use Rattle.run_meaning.specs.Run.{Runs, ended, is_one}
-use Rattle.run_meaning.specs.Stops.{Misused, NoFile, LongFile, FailedFile}
+use Rattle.run_meaning.specs.Ends.{EndsOne, RunsOver, over as output}
+use Rattle.run_meaning.specs.Run.{ended, script_files}
+use Rattle.run_meaning.specs.Stops.{Misused}
+use Rattle.run_meaning.specs.declared.status.Status.{Status}
 use Rattle.run_meaning.specs.declared.status.Status.TheVariants as status
+use Rattle.headline_laws.proofs.Headlines.{ends-told}
+use Rattle.headline_laws.specs.Headline.{HeadlineOver}
 use Rattle.run_meaning.proofs.Completing.{completes, steadied, whole-flushed, write_fault}
-use Rattle.run_meaning.proofs.Looping.{other_end, failed-unsteady, used-of_script}
+use Rattle.run_meaning.proofs.Looping.{other_end, used-of_script}
 use Rattle.run_meaning.proofs.Reasons.{ends-broken, ends-faulty, ends-bad}
-use Rattle.run_meaning.proofs.Running.{Runs-misused, Runs-found, Runs-read, Opens-none, one_word, none_or_more}
+use Rattle.run_meaning.proofs.Running.{EndsOne-silent, EndsOne-wanted, Opens-none, Runs-misused}
 use Rattle.perm_engine.proofs.run.perm.Goals as goal
 
-pub returns-then-words-ne1 : goal.returns-then-words-ne1
-returns-then-words-ne1 g c =
+abbrev Used : Status → Type 0
+Used s = (s ≡ status.Usage) ⊎ ((s ≡ status.WriteFault) ⊎ (s ≡ status.NoMemory))
+
+named≢misworded : (name : List ℕ) (words : List (List ℕ)) → Script name ≡ request_of words → request_of words ≡ Misworded → ⊥
+named≢misworded name words is none = other (is ∙ none) where
+  other : Script name ≡ Misworded → ⊥
+  other e = cc
+
+generated≢misworded : (rows : ℕ) (words : List (List ℕ)) → Generated rows ≡ request_of words → request_of words ≡ Misworded → ⊥
+generated≢misworded rows words is none = other (is ∙ none) where
+  other : Generated rows ≡ Misworded → ⊥
+  other e = cc
+
+misused : (s : Status) → (s ≡ status.Usage) ⊎ (s ≡ status.WriteFault) → Used s
+misused s (inl used) = inl used
+misused s (inr cut) = inr (inl cut)
+
+pub returns-in-Ok-Script : goal.returns-in-Ok-Script
+returns-in-Ok-Script g c =
     let words = c.args.words.now in
-    let old = c.args.files.now in
-    let files = over (g.F.Files.told old) (g.F.Files.told old) in
+    let name = c.in-Ok-Script.name in
+    let files = over (g.F.Files.told c.args.files.now) (g.F.Files.told c.run_named.new.files) in
+    let w = output (g.K.Sink.told c.args.out.now) (g.K.Sink.told c.run_named.new.out) in
+    let s = c.run_named.result in
+    let fault = HasRisen files.faults files.faults_after in
+    let most = script_files (request_of words) in
+    let wanted : Script name ≡ request_of words = sym c.in-Ok-Script.field-0-is ∙ c.in-Ok-Script.ensures in
+    let run : EndsOne most (can_be files) (RunsOver words files) w files s =
+    EndsOne-wanted words (Script name) (can_be files) w files s wanted c.run_named.ensures.ends in
+    record {
+      run = run;
+      complete = completes words files.held fault w files (can_be files) s run;
+      headline = ends-told most (can_be files) (RunsOver words files) (HeadlineOver words files) (c.every_run_is_told_by_the_headline.ensures.over words files) w files s run;
+      usage = λ e. absurd (used-of_script s e c.run_named.ensures.status);
+      misused = λ none. absurd (named≢misworded name words wanted none);
+      refused = ends-broken most (can_be files) (RunsOver words files) w files s run;
+      run_fault = ends-faulty most (can_be files) (RunsOver words files) w files s run;
+      bad_data = ends-bad words files.held fault (can_be files) w files s run;
+      read_fault = c.run_named.ensures.read_fault;
+      write_fault = write_fault most (can_be files) (RunsOver words files) w files s run;
+      steady = λ h. (c.run_named.ensures.steady h, steadied most (can_be files) (RunsOver words files) w files s run h);
+      flushed = whole-flushed most (can_be files) (RunsOver words files) w files s run;
+      begun = λ none. absurd (named≢misworded name words wanted none);
+      held = c.run_named.ensures.held;
+    }
+
+pub returns-in-Ok-Generated : goal.returns-in-Ok-Generated
+returns-in-Ok-Generated g c =
+    let words = c.args.words.now in
+    let rows = c.in-Ok-Generated.rows in
+    let files = over (g.F.Files.told c.args.files.now) (g.F.Files.told c.run_generated.new.files) in
+    let w = output (g.K.Sink.told c.args.out.now) (g.K.Sink.told c.run_generated.new.out) in
+    let s = c.run_generated.result in
+    let fault = HasRisen files.faults files.faults_after in
+    let most = script_files (request_of words) in
+    let wanted : Generated rows ≡ request_of words = sym c.in-Ok-Generated.field-0-is ∙ c.in-Ok-Generated.ensures in
+    let run : EndsOne most (can_be files) (RunsOver words files) w files s =
+    EndsOne-wanted words (Generated rows) (can_be files) w files s wanted c.run_generated.ensures.ends in
+    record {
+      run = run;
+      complete = completes words files.held fault w files (can_be files) s run;
+      headline = ends-told most (can_be files) (RunsOver words files) (HeadlineOver words files) (c.every_run_is_told_by_the_headline.ensures.over words files) w files s run;
+      usage = λ e. absurd (used-of_script s e c.run_generated.ensures.status);
+      misused = λ none. absurd (generated≢misworded rows words wanted none);
+      refused = ends-broken most (can_be files) (RunsOver words files) w files s run;
+      run_fault = ends-faulty most (can_be files) (RunsOver words files) w files s run;
+      bad_data = ends-bad words files.held fault (can_be files) w files s run;
+      read_fault = c.run_generated.ensures.read_fault;
+      write_fault = write_fault most (can_be files) (RunsOver words files) w files s run;
+      steady = λ h. (c.run_generated.ensures.steady h, steadied most (can_be files) (RunsOver words files) w files s run h);
+      flushed = whole-flushed most (can_be files) (RunsOver words files) w files s run;
+      begun = λ none. absurd (generated≢misworded rows words wanted none);
+      held = c.run_generated.ensures.held;
+    }
+
+pub returns-in-Ok-Misworded : goal.returns-in-Ok-Misworded
+returns-in-Ok-Misworded g c =
+    let words = c.args.words.now in
+    let files = over (g.F.Files.told c.args.files.now) (g.F.Files.told c.args.files.now) in
     let w = output (g.K.Sink.told c.args.out.now) (g.K.Sink.told c.finish.new.out) in
     let s = c.finish.result in
     let fault = HasRisen files.faults files.faults_after in
-    let many = none_or_more words c.if-words-ne1.true in
-    let run : EndsOne 1 (can_be files) (Runs words files.held fault) w files s =
+    let most = script_files (request_of words) in
+    let none : Misworded ≡ request_of words = sym c.in-Ok-Misworded.field-0-is ∙ c.in-Ok-Misworded.ensures in
+    let run : EndsOne most (can_be files) (RunsOver words files) w files s =
     inl (record {
       ran = ended Misused;
-      is = Runs-misused words files.held fault many;
+      is = Runs-misused words files.held fault none;
       ends = c.finish.ensures.ends Misused refl refl;
       opens = Opens-none Misused files.begun s;
       backed = λ _. tt;
@@ -33,169 +112,42 @@ returns-then-words-ne1 g c =
     record {
       run = run;
       complete = completes words files.held fault w files (can_be files) s run;
-      usage = λ e. many;
-      misused = λ m. c.finish.ensures.status;
-      refused = ends-broken 1 (can_be files) (Runs words files.held fault) w files s run;
-      run_fault = ends-faulty 1 (can_be files) (Runs words files.held fault) w files s run;
+      headline = ends-told most (can_be files) (RunsOver words files) (HeadlineOver words files) (c.every_run_is_told_by_the_headline.ensures.over words files) w files s run;
+      usage = λ e. sym none;
+      misused = λ m. misused s c.finish.ensures.status;
+      refused = ends-broken most (can_be files) (RunsOver words files) w files s run;
+      run_fault = ends-faulty most (can_be files) (RunsOver words files) w files s run;
       bad_data = ends-bad words files.held fault (can_be files) w files s run;
       read_fault = λ e. absurd (other_end s status.Usage status.ReadFault (λ same. absurd cc) (λ same. absurd cc) c.finish.ensures.status e);
-      write_fault = write_fault 1 (can_be files) (Runs words files.held fault) w files s run;
-      steady = λ h. (refl, steadied 1 (can_be files) (Runs words files.held fault) w files s run h);
-      flushed = whole-flushed 1 (can_be files) (Runs words files.held fault) w files s run;
+      write_fault = write_fault most (can_be files) (RunsOver words files) w files s run;
+      steady = λ h. (refl, steadied most (can_be files) (RunsOver words files) w files s run h);
+      flushed = whole-flushed most (can_be files) (RunsOver words files) w files s run;
       begun = λ m. refl;
       held = refl;
     }
 
-pub returns-in-Ok : goal.returns-in-Ok
-returns-in-Ok g c =
+pub returns-in-Err : goal.returns-in-Err
+returns-in-Err g c =
     let words = c.args.words.now in
-    let name = c.index-words-0.result in
-    let old = c.args.files.now in
-    let read = c.read_all.new.files in
-    let files = over (g.F.Files.told old) (g.F.Files.told c.run_script.new.files) in
-    let w = output (g.K.Sink.told c.args.out.now) (g.K.Sink.told c.run_script.new.out) in
-    let s = c.run_script.result in
+    let files = over (g.F.Files.told c.args.files.now) (g.F.Files.told c.args.files.now) in
+    let w = output (g.K.Sink.told c.args.out.now) (g.K.Sink.told c.args.out.now) in
     let fault = HasRisen files.faults files.faults_after in
-    let one = one_word words name c.if-words-ne1.false c.index-words-0.is in
-    let not_many : is_one words ≡ false → ⊥ = λ many. true≢false (sym (ap is_one one) ∙ many) in
-    let run : EndsOne 1 (can_be files) (Runs words files.held fault) w files s =
-    Runs-read words name files c.in-Ok.bytes _ (g.F.Files.told read).held (g.F.Files.told read).faults (g.F.Files.told read).begun w s one c.in-Ok.ensures.begun
-    (c.in-Ok.ensures.whole, c.in-Ok.ensures.within) c.in-Ok.ensures.held c.in-Ok.ensures.faults c.as_slice.ensures c.run_script.ensures.ends in
-    record {
-      run = run;
-      complete = completes words files.held fault w files (can_be files) s run;
-      usage = λ e. absurd (used-of_script s e c.run_script.ensures.status);
-      misused = λ many. absurd (not_many many);
-      refused = ends-broken 1 (can_be files) (Runs words files.held fault) w files s run;
-      run_fault = ends-faulty 1 (can_be files) (Runs words files.held fault) w files s run;
-      bad_data = ends-bad words files.held fault (can_be files) w files s run;
-      read_fault = λ e. subst (λ n. HasRisen n files.faults_after) c.in-Ok.ensures.faults (c.run_script.ensures.read_fault e);
-      write_fault = write_fault 1 (can_be files) (Runs words files.held fault) w files s run;
-      steady = λ h. (c.run_script.ensures.steady h ∙ c.in-Ok.ensures.faults, steadied 1 (can_be files) (Runs words files.held fault) w files s run h);
-      flushed = whole-flushed 1 (can_be files) (Runs words files.held fault) w files s run;
-      begun = λ many. absurd (not_many many);
-      held = c.run_script.ensures.held ∙ c.in-Ok.ensures.held;
-    }
-
-pub returns-in-Err-Missing : goal.returns-in-Err-Missing
-returns-in-Err-Missing g c =
-    let words = c.args.words.now in
-    let name = c.index-words-0.result in
-    let old = c.args.files.now in
-    let files = over (g.F.Files.told old) (g.F.Files.told c.read_all.new.files) in
-    let w = output (g.K.Sink.told c.args.out.now) (g.K.Sink.told c.finish-in-Err-Missing.new.out) in
-    let s = c.finish-in-Err-Missing.result in
-    let fault = HasRisen files.faults files.faults_after in
-    let one = one_word words name c.if-words-ne1.false c.index-words-0.is in
-    let not_many : is_one words ≡ false → ⊥ = λ many. true≢false (sym (ap is_one one) ∙ many) in
-    let calm = subst (λ e. CountsFault files.faults files.faults_after (is_fault {T = List ℕ} (Err e))) c.in-Err-Missing.field-0-is c.in-Err-Missing.ensures.faults in
-    let run : EndsOne 1 (can_be files) (Runs words files.held fault) w files s =
-    inl (Runs-found words name files Missing (ended NoFile) w files.begun_after s one c.in-Err-Missing.ensures.begun (c.in-Err-Missing.ensures.lacking (ap Err c.in-Err-Missing.field-0-is)) refl
-    (c.finish-in-Err-Missing.ensures.ends NoFile refl refl) (Opens-none NoFile files.begun_after s) (λ _. (c.in-Err-Missing.ensures.missing.0 (ap Err c.in-Err-Missing.field-0-is), c.in-Err-Missing.ensures.begun))) in
-    record {
-      run = run;
-      complete = completes words files.held fault w files (can_be files) s run;
-      usage = λ e. absurd (other_end s status.BadData status.Usage (λ same. absurd cc) (λ same. absurd cc) c.finish-in-Err-Missing.ensures.status e);
-      misused = λ many. absurd (not_many many);
-      refused = ends-broken 1 (can_be files) (Runs words files.held fault) w files s run;
-      run_fault = ends-faulty 1 (can_be files) (Runs words files.held fault) w files s run;
-      bad_data = ends-bad words files.held fault (can_be files) w files s run;
-      read_fault = λ e. absurd (other_end s status.BadData status.ReadFault (λ same. absurd cc) (λ same. absurd cc) c.finish-in-Err-Missing.ensures.status e);
-      write_fault = write_fault 1 (can_be files) (Runs words files.held fault) w files s run;
-      steady = λ h. (calm, steadied 1 (can_be files) (Runs words files.held fault) w files s run h);
-      flushed = whole-flushed 1 (can_be files) (Runs words files.held fault) w files s run;
-      begun = λ many. absurd (not_many many);
-      held = c.in-Err-Missing.ensures.held;
-    }
-
-pub returns-in-Err-TooLarge : goal.returns-in-Err-TooLarge
-returns-in-Err-TooLarge g c =
-    let words = c.args.words.now in
-    let name = c.index-words-0.result in
-    let old = c.args.files.now in
-    let files = over (g.F.Files.told old) (g.F.Files.told c.read_all.new.files) in
-    let w = output (g.K.Sink.told c.args.out.now) (g.K.Sink.told c.finish-in-Err-TooLarge.new.out) in
-    let s = c.finish-in-Err-TooLarge.result in
-    let fault = HasRisen files.faults files.faults_after in
-    let one = one_word words name c.if-words-ne1.false c.index-words-0.is in
-    let not_many : is_one words ≡ false → ⊥ = λ many. true≢false (sym (ap is_one one) ∙ many) in
-    let calm = subst (λ e. CountsFault files.faults files.faults_after (is_fault {T = List ℕ} (Err e))) c.in-Err-TooLarge.field-0-is c.in-Err-TooLarge.ensures.faults in
-    let run : EndsOne 1 (can_be files) (Runs words files.held fault) w files s =
-    inl (Runs-found words name files TooLong (ended LongFile) w files.begun_after s one c.in-Err-TooLarge.ensures.begun (c.in-Err-TooLarge.ensures.longer (ap Err c.in-Err-TooLarge.field-0-is)) refl
-    (c.finish-in-Err-TooLarge.ensures.ends LongFile refl refl) (Opens-none LongFile files.begun_after s) (λ _. (c.in-Err-TooLarge.ensures.too_large.0 (ap Err c.in-Err-TooLarge.field-0-is), c.in-Err-TooLarge.ensures.begun))) in
-    record {
-      run = run;
-      complete = completes words files.held fault w files (can_be files) s run;
-      usage = λ e. absurd (other_end s status.BadData status.Usage (λ same. absurd cc) (λ same. absurd cc) c.finish-in-Err-TooLarge.ensures.status e);
-      misused = λ many. absurd (not_many many);
-      refused = ends-broken 1 (can_be files) (Runs words files.held fault) w files s run;
-      run_fault = ends-faulty 1 (can_be files) (Runs words files.held fault) w files s run;
-      bad_data = ends-bad words files.held fault (can_be files) w files s run;
-      read_fault = λ e. absurd (other_end s status.BadData status.ReadFault (λ same. absurd cc) (λ same. absurd cc) c.finish-in-Err-TooLarge.ensures.status e);
-      write_fault = write_fault 1 (can_be files) (Runs words files.held fault) w files s run;
-      steady = λ h. (calm, steadied 1 (can_be files) (Runs words files.held fault) w files s run h);
-      flushed = whole-flushed 1 (can_be files) (Runs words files.held fault) w files s run;
-      begun = λ many. absurd (not_many many);
-      held = c.in-Err-TooLarge.ensures.held;
-    }
-
-pub returns-in-Err-Fault : goal.returns-in-Err-Fault
-returns-in-Err-Fault g c =
-    let words = c.args.words.now in
-    let name = c.index-words-0.result in
-    let old = c.args.files.now in
-    let files = over (g.F.Files.told old) (g.F.Files.told c.read_all.new.files) in
-    let w = output (g.K.Sink.told c.args.out.now) (g.K.Sink.told c.finish-in-Err-Fault.new.out) in
-    let s = c.finish-in-Err-Fault.result in
-    let fault = HasRisen files.faults files.faults_after in
-    let one = one_word words name c.if-words-ne1.false c.index-words-0.is in
-    let not_many : is_one words ≡ false → ⊥ = λ many. true≢false (sym (ap is_one one) ∙ many) in
-    let calm = subst (λ e. CountsFault files.faults files.faults_after (is_fault {T = List ℕ} (Err e))) c.in-Err-Fault.field-0-is c.in-Err-Fault.ensures.faults in
-    let run : EndsOne 1 (can_be files) (Runs words files.held fault) w files s =
-    inl (Runs-found words name files Failed (ended FailedFile) w files.begun_after s one c.in-Err-Fault.ensures.begun calm refl
-    (c.finish-in-Err-Fault.ensures.ends FailedFile refl refl) (Opens-none FailedFile files.begun_after s) (λ _. calm)) in
-    record {
-      run = run;
-      complete = completes words files.held fault w files (can_be files) s run;
-      usage = λ e. absurd (other_end s status.ReadFault status.Usage (λ same. absurd cc) (λ same. absurd cc) c.finish-in-Err-Fault.ensures.status e);
-      misused = λ many. absurd (not_many many);
-      refused = ends-broken 1 (can_be files) (Runs words files.held fault) w files s run;
-      run_fault = ends-faulty 1 (can_be files) (Runs words files.held fault) w files s run;
-      bad_data = ends-bad words files.held fault (can_be files) w files s run;
-      read_fault = λ e. calm;
-      write_fault = write_fault 1 (can_be files) (Runs words files.held fault) w files s run;
-      steady = λ h. absurd (failed-unsteady s c.finish-in-Err-Fault.ensures.status h);
-      flushed = whole-flushed 1 (can_be files) (Runs words files.held fault) w files s run;
-      begun = λ many. absurd (not_many many);
-      held = c.in-Err-Fault.ensures.held;
-    }
-
-pub returns-in-Err-NoMemory : goal.returns-in-Err-NoMemory
-returns-in-Err-NoMemory g c =
-    let words = c.args.words.now in
-    let name = c.index-words-0.result in
-    let old = c.args.files.now in
-    let files = over (g.F.Files.told old) (g.F.Files.told c.read_all.new.files) in
-    let out = c.args.out.now in
-    let w = output (g.K.Sink.told out) (g.K.Sink.told out) in
-    let fault = HasRisen files.faults files.faults_after in
-    let one = one_word words name c.if-words-ne1.false c.index-words-0.is in
-    let not_many : is_one words ≡ false → ⊥ = λ many. true≢false (sym (ap is_one one) ∙ many) in
-    let run : EndsOne 1 (can_be files) (Runs words files.held fault) w files status.NoMemory =
-    inr (record { said = refl; text = refl; steady = refl }, c.in-Err-NoMemory.ensures.begun) in
-    let calm = subst (λ e. CountsFault files.faults files.faults_after (is_fault {T = List ℕ} (Err e))) c.in-Err-NoMemory.field-0-is c.in-Err-NoMemory.ensures.faults in
+    let most = script_files (request_of words) in
+    let run : EndsOne most (can_be files) (RunsOver words files) w files status.NoMemory =
+    EndsOne-silent most (can_be files) (RunsOver words files) w files status.NoMemory (record { said = refl; text = refl; steady = refl }) refl in
     record {
       run = run;
       complete = completes words files.held fault w files (can_be files) status.NoMemory run;
+      headline = ends-told most (can_be files) (RunsOver words files) (HeadlineOver words files) (c.every_run_is_told_by_the_headline.ensures.over words files) w files status.NoMemory run;
       usage = λ e. absurd cc;
-      misused = λ many. absurd (not_many many);
-      refused = ends-broken 1 (can_be files) (Runs words files.held fault) w files status.NoMemory run;
-      run_fault = ends-faulty 1 (can_be files) (Runs words files.held fault) w files status.NoMemory run;
+      misused = λ m. inr (inr refl);
+      refused = ends-broken most (can_be files) (RunsOver words files) w files status.NoMemory run;
+      run_fault = ends-faulty most (can_be files) (RunsOver words files) w files status.NoMemory run;
       bad_data = ends-bad words files.held fault (can_be files) w files status.NoMemory run;
       read_fault = λ e. absurd cc;
-      write_fault = write_fault 1 (can_be files) (Runs words files.held fault) w files status.NoMemory run;
-      steady = λ h. (calm, refl);
+      write_fault = write_fault most (can_be files) (RunsOver words files) w files status.NoMemory run;
+      steady = λ h. (refl, refl);
       flushed = λ h. absurd h;
-      begun = λ many. absurd (not_many many);
-      held = c.in-Err-NoMemory.ensures.held;
+      begun = λ m. refl;
+      held = refl;
     }

@@ -5,7 +5,7 @@ use Rattle.bag_algebra.specs.declared.query.Query.TheVariants.{Project}
 use Rattle.query_laws.specs.Standing.{SubsStand}
 use Rattle.perm_values.proofs.Taken.{opened}
 use Rattle.rewrite_driver.proofs.MadeQueries.{where_made, none_left}
-use Rattle.rewrite_sublink.specs.SubRewritings.{SubsRewritten}
+use Rattle.rewrite_move.specs.Moved.{SubsTraced}
 use Rattle.rewrite_driver.proofs.rules.project_rule.Goals as goal
 
 pub project-requires : goal.project-requires
@@ -17,18 +17,18 @@ returns-then-is_empty c =
     where_made _ (λ p. IsRewrite (Project c.args.input.now c.args.items.now c.args.subs.now) p) c.project.result
     (λ p r. subst (λ subs. IsRewrite (Project c.args.input.now c.args.items.now subs) p) (sym (none_left c.args.subs.now (grind (arith, common_steps, c.is_empty.ensures, c.if-is_empty.true)))) r) c.project.ensures
 
-pub project_with-requires-clause-input : goal.project_with-requires-clause-input
-project_with-requires-clause-input c =
+pub project_moved-requires-clause-input : goal.project_moved-requires-clause-input
+project_moved-requires-clause-input c =
     opened (λ r. IsRewrite c.args.input.now r) c.args.rewriting _ c.in_ok-rewriting.ensures.first_was c.requires.rewritten
 
-pub project_with-requires-clause-standing : goal.project_with-requires-clause-standing
-project_with-requires-clause-standing c =
+pub project_moved-requires-clause-standing : goal.project_moved-requires-clause-standing
+project_moved-requires-clause-standing c =
     rw c.as_slice.ensures (opened (λ others. SubsStand c.args.subs.now others) c.args.plain _ c.in_ok-rewriting.ensures.second_was c.requires.subs_stand)
 
-pub project_with-requires-clause-rewritten : goal.project_with-requires-clause-rewritten
-project_with-requires-clause-rewritten c =
-    opened (λ rs. SubsRewritten c.args.subs.now rs) c.args.rewritings _ c.in_ok-rewriting.ensures.third_was c.requires.subs_rewritten
+pub project_moved-requires-clause-traced : goal.project_moved-requires-clause-traced
+project_moved-requires-clause-traced c =
+    opened (λ rs. SubsTraced c.args.subs.now rs) c.args.rewritings _ c.in_ok-rewriting.ensures.third_was c.requires.subs_rewritten
 
 pub returns : goal.returns
 returns c =
-    c.project_with.ensures
+    c.project_moved.ensures

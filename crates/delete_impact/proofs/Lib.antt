@@ -1,0 +1,4 @@
+mod Answered
+mod Conditions
+mod LookedThrough
+mod ReducedRows

@@ -1,0 +1,37 @@
+-- The query that answers, of the query that is asked about: its rows that the query over what is left of the table doesn't have.
+use Rattle.std.specs.Prelude.{ℕ, Bool, true, List, [], map, Option, Some, None}
+use Rattle.perm_values.specs.declared.kind.Kind.{Kind}
+use Rattle.perm_values.specs.declared.kind.Kind.TheVariants as kind
+use Rattle.perm_values.specs.declared.value.Value.TheVariants.{Boolean}
+use Rattle.bag_algebra.specs.Kinds.{kinds_of, width_of}
+use Rattle.bag_algebra.specs.built.Patterns.{FilterOf, ProjectOf}
+use Rattle.bag_algebra.specs.declared.expr.Expr.{Expr}
+use Rattle.bag_algebra.specs.declared.expr.Expr.TheVariants.{Lit}
+use Rattle.bag_algebra.specs.declared.query.Query.{Query, end_of-Sublink}
+use Rattle.bag_algebra.specs.declared.query.Query.TheVariants.{Table, Union}
+use Rattle.contribution.specs.Conjunctions.{always}
+use Rattle.contribution.specs.NullItems.{null_item}
+use Rattle.reduced_queries.specs.Reduced.{reduced, missing}
+
+-- every row is doomed where there is no condition
+abbrev pub condition_or_true : Option Expr → Expr
+condition_or_true None = always
+condition_or_true (Some condition) = condition
+
+-- FALSE
+abbrev pub never : Expr
+never = Lit (Boolean Bool.false) kind.Boolean
+
+-- none of these rows, with the faults that they meet
+abbrev pub no_row_of : Query → Query
+no_row_of q = FilterOf q never [] end_of-Sublink
+
+-- no row of these kinds, with the faults that the condition meets on the rows of the table
+abbrev pub looked_through : List Kind → ℕ → List Kind → Expr → Query
+looked_through columns id kinds condition =
+    ProjectOf (no_row_of (FilterOf (Table id kinds) condition [] end_of-Sublink)) (map null_item columns) [] end_of-Sublink
+
+-- which rows of q vanish, where it reads the table with these kinds
+abbrev pub vanishing : Query → ℕ → List Kind → Expr → Query
+vanishing q id kinds condition =
+    missing (width_of q) (Union true q (looked_through (kinds_of q) id kinds condition)) (reduced id condition q)

@@ -1,0 +1,132 @@
+//! The answer to which rows vanish.
+ghost use Rattle.std.specs.Prelude.{◌≡◌, [], true, IfOk, IsTrue, option_copied};
+ghost use Rattle.bag_algebra.specs.WellFormed.{WellFormed};
+ghost use Rattle.bag_algebra.specs.declared.query.Query.TheVariants.{Union};
+ghost use Rattle.delete_impact.specs.Answering.{condition_or_true, looked_through, never, no_row_of, vanishing};
+ghost use Rattle.delete_impact.specs.Impact.{ConditionFits, IsImpact};
+ghost use Rattle.monotone_queries.specs.Monotone.{is_monotone};
+
+use bag_algebra::{Expr, Query};
+use contribution::{always, kinds as columns, null_items, projection, selection};
+use perm_values::{Copyable, Kind, List, NoMemory, Value, both};
+use reduced_queries::{first_kinds, missing, reduced};
+use std::alloc::Global;
+
+/// A query that answers which rows of a monotone, closed query vanish where the rows of the table of the identity that meet the
+/// condition are deleted, or all its rows where there is none; the condition is a truth on the kinds of each table of the
+/// identity, without sublinks and without columns of outer rows. The answer is plain and closed, has the query's kinds and
+/// reads its tables alone. On a database that fits, where the query doesn't read the table, it has no row, and the query's
+/// faults. Else it has the rows that vanish, each once, where the query is good and the condition is good on every row of the
+/// table; and where one isn't, it is bad with the faults of both. It fails only for want of memory.
+pub fn impact(
+    alloc: Global,
+    query: &Query,
+    id: u64,
+    condition: Option<&Expr>,
+) -> Result<Query, NoMemory>
+    ensures { IfOk result (λ p. IsTrue (is_monotone query.now) → WellFormed [] query.now →
+        ConditionFits id (option_copied condition.entry) query.now →
+        IsImpact query.now id (option_copied condition.entry) p) }
+{
+    match first_kinds(query, id) {
+        None => nothing(alloc, query),
+        Some(kinds) => {
+            let condition = condition_or_true(alloc, condition)?;
+            let found = vanishing(alloc, query, id, kinds, &condition);
+            drop(condition);
+            found
+        }
+    }
+}
+
+/// No row, with the faults of the query.
+fn nothing(alloc: Global, query: &Query) -> Result<Query, NoMemory>
+    ensures { IfOk result (λ p. p ≡ no_row_of query.now) }
+{
+    let rows = query.copy(alloc)?;
+    no_row_of(alloc, rows)
+}
+
+/// The condition, or TRUE where there is none.
+fn condition_or_true(alloc: Global, condition: Option<&Expr>) -> Result<Expr, NoMemory>
+    ensures { IfOk result (λ e. e ≡ condition_or_true (option_copied condition.entry)) }
+{
+    match condition {
+        Some(condition) => condition.copy(alloc),
+        None => Ok(always()),
+    }
+}
+
+/// The rows of the query, which reads the table with these kinds, that vanish.
+fn vanishing(
+    alloc: Global,
+    query: &Query,
+    id: u64,
+    kinds: &List<Kind>,
+    condition: &Expr,
+) -> Result<Query, NoMemory>
+    ensures { IfOk result (λ p. IsTrue (is_monotone query.now) →
+        p ≡ vanishing query.now id kinds.now condition.now) }
+{
+    let columns = columns(alloc, query)?;
+    let (rows, others) = both(
+        with_faults(alloc, query, columns.as_slice(), id, kinds, condition),
+        reduced(alloc, query, id, condition),
+    )?;
+    missing(alloc, columns.len(), rows, others)
+}
+
+/// The rows of the query, with the faults of the condition on the rows of the table beside its own.
+fn with_faults(
+    alloc: Global,
+    query: &Query,
+    columns: &[Kind],
+    id: u64,
+    kinds: &List<Kind>,
+    condition: &Expr,
+) -> Result<Query, NoMemory>
+    ensures { IfOk result (λ p.
+        p ≡ Union true query.now (looked_through columns.now id kinds.now condition.now)) }
+{
+    let (rows, none) = both(
+        query.copy(alloc),
+        looked_through(alloc, columns, id, kinds, condition),
+    )?;
+    Query::union(alloc, true, rows, none)
+}
+
+/// No row, with the faults that the condition meets on the rows of the table.
+fn looked_through(
+    alloc: Global,
+    columns: &[Kind],
+    id: u64,
+    kinds: &List<Kind>,
+    condition: &Expr,
+) -> Result<Query, NoMemory>
+    ensures { IfOk result (λ p. p ≡ looked_through columns.now id kinds.now condition.now) }
+{
+    let (kinds, condition) = both(kinds.copy(alloc), condition.copy(alloc))?;
+    let rows = selection(alloc, Query::Table { id, kinds }, condition)?;
+    let none = no_row_of(alloc, rows)?;
+    let Ok(items) = null_items(alloc, columns) else {
+        drop(none);
+        return Err(NoMemory);
+    };
+    projection(alloc, none, items)
+}
+
+/// None of the rows, with their faults.
+fn no_row_of(alloc: Global, query: Query) -> Result<Query, NoMemory>
+    ensures { IfOk result (λ p. p ≡ no_row_of query) }
+{
+    selection(alloc, query, never())
+}
+
+fn never() -> Expr
+    ensures { result ≡ never }
+{
+    Expr::Lit {
+        value: Value::Boolean(false),
+        kind: Kind::Boolean,
+    }
+}

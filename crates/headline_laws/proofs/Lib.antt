@@ -1,0 +1,12 @@
+pub mod Besides
+pub mod Counting
+pub mod Courses
+pub mod Fronts
+pub mod Headlines
+pub mod Lacking
+pub mod Queries
+pub mod Refusing
+pub mod Sources
+pub mod Steps
+pub mod Storing
+pub mod Twins

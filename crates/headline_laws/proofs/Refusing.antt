@@ -1,0 +1,86 @@
+-- A statement that is refused names its first cause.
+use Rattle.std.proofs.Common.{◌≡◌, ◌≢◌, ℕ, true, List, [], Err, refl, sym, ap, subst}
+use Rattle.bag_algebra.specs.Bags.{Bag}
+use Rattle.bag_algebra.specs.Meaning.{meaning}
+use Rattle.bag_algebra.specs.Outcome.{Outcome, Faults, Good, Bad, has}
+use Rattle.bag_algebra.specs.TableRows.{rows_in}
+use Rattle.bag_algebra.specs.declared.query.Answer.{Answer}
+use Rattle.name_meaning.specs.Statements.{resolved}
+use Rattle.name_meaning.specs.declared.answer.Break.{Break}
+use Rattle.null_logic.specs.declared.run_fault.RunFault.{RunFault}
+use Rattle.perm_catalog.specs.Contents.{Contents}
+use Rattle.perm_io.specs.Found.{Found}
+use Rattle.sql_tree.specs.declared.statement.Statement.{Statement}
+use Rattle.statement_laws.proofs.Answered.{asked-select}
+use Rattle.statement_meaning.specs.Answers.{Names, TakesTurn}
+use Rattle.statement_meaning.specs.Asking.{Asked, Settled, Begins, asked, asks, unless_broken}
+use Rattle.statement_meaning.specs.Turns.{Refused, Broken, Meets, answered, answer_text, on_good}
+use Rattle.statement_meaning.specs.declared.refusal.StepRefusal.{StepRefusal}
+use Rattle.statement_meaning.specs.declared.refusal.StepRefusal.TheVariants as refusal
+use Rattle.run_meaning.proofs.Turns.{stands-unnamed}
+use Rattle.run_meaning.specs.Stops.{IsRefused}
+use Rattle.headline_laws.specs.Headline.{RefusesFirst}
+
+-- ---- a break
+
+same-broken : (a b : Break) → Refused (Broken a) ≡ Refused (Broken b) → a ≡ b
+same-broken a b e = cc
+
+names-broken : (b : Break) (refused : StepRefusal) → refused ≢ refusal.NoMemory → Names (Refused (Broken b)) refused → refused ≡ refusal.Break b
+names-broken b (refusal.Break other) told h = ap refusal.Break (sym (same-broken b other h))
+names-broken b (refusal.Run fault at) told h = let e = h.1 in cc
+names-broken b (refusal.Missing at) told h = cc
+names-broken b (refusal.TooLarge at) told h = cc
+names-broken b (refusal.Unfit rule) told h = cc
+names-broken b refusal.ReadFault told h = cc
+names-broken b refusal.NoMemory told h = absurd (told refl)
+
+-- ---- the faults that a query meets
+
+abbrev pub MeetsFault : Contents → Answer → ℕ → StepRefusal → Type 0
+MeetsFault c answer at refused =
+    (faults : Faults) × (fault : RunFault) × (meaning answer.query (rows_in c.rows) [] ≡ Bad faults) × (has faults fault ≡ true) × (refused ≡ refusal.Run fault at)
+
+same-faults : (f g : Faults) (m n : ℕ) → Refused (Meets f m) ≡ Refused (Meets g n) → f ≡ g
+same-faults f g m n e = cc
+
+same-offset : (f g : Faults) (m n : ℕ) → Refused (Meets f m) ≡ Refused (Meets g n) → m ≡ n
+same-offset f g m n e = cc
+
+names-fault : (c : Contents) (answer : Answer) (at : ℕ) (faults : Faults) (refused : StepRefusal) → refused ≢ refusal.NoMemory
+    → meaning answer.query (rows_in c.rows) [] ≡ Bad faults → Names (Refused (Meets faults at)) refused → MeetsFault c answer at refused
+names-fault c answer at faults (refusal.Break b) told means h = absurd (cc h)
+names-fault c answer at faults (refusal.Run fault place) told means h = (
+  faults,
+  fault,
+  means,
+  subst (λ (f : Faults). has f fault ≡ true) (sym (same-faults faults h.0 at place h.1)) h.2,
+  ap (refusal.Run fault) (sym (same-offset faults h.0 at place h.1)),
+)
+names-fault c answer at faults (refusal.Missing place) told means h = absurd (cc h)
+names-fault c answer at faults (refusal.TooLarge place) told means h = absurd (cc h)
+names-fault c answer at faults (refusal.Unfit rule) told means h = absurd (cc h)
+names-fault c answer at faults refusal.ReadFault told means h = absurd (cc h)
+names-fault c answer at faults refusal.NoMemory told means h = absurd (told refl)
+
+meets-fault : (c : Contents) (answer : Answer) (at : ℕ) (refused : StepRefusal) (o : Outcome Bag) → refused ≢ refusal.NoMemory
+    → meaning answer.query (rows_in c.rows) [] ≡ o → Names (on_good at o (answered c answer)) refused → MeetsFault c answer at refused
+meets-fault c answer at refused (Good bag) told means h = absurd (stands-unnamed (answer_text answer bag) c refused told h)
+meets-fault c answer at refused (Bad faults) told means h = names-fault c answer at faults refused told means h
+
+-- ---- what is left
+
+unchanged : (Can : List ℕ → Found → Type 0) (a : Asked) (old new : Contents) (refused : StepRefusal) → TakesTurn Can a old new (Err refused) → new ≡ old
+unchanged Can (Settled turn) old new refused h = h.1
+unchanged Can (Begins name after) old new refused h = h.2.1
+
+pub refuses-first : (Can : List ℕ → Found → Type 0) (c : Contents) (statement : Statement) (refused : StepRefusal) → refused ≢ refusal.NoMemory
+    → IsRefused Can (asked c statement) refused → RefusesFirst Can c statement refused
+refuses-first Can c statement refused told turn = record {
+  first = λ b more e. names-broken b refused told
+      (subst (λ (bs : List Break). IsRefused Can (unless_broken bs (asks c statement.at (resolved c statement))) refused) e turn);
+  met = λ e. subst (λ (bs : List Break). IsRefused Can (unless_broken bs (asks c statement.at (resolved c statement))) refused) e turn;
+  fault = λ answer asked_for. meets-fault c answer statement.at refused (meaning answer.query (rows_in c.rows) []) told refl
+      (subst (λ (a : Asked). IsRefused Can a refused) (asked-select c statement answer asked_for) turn);
+  unchanged = λ new h. unchanged Can (asked c statement) c new refused h;
+}

@@ -1,0 +1,6 @@
+mod Below
+pub mod KeptNodes
+pub mod KeptQueries
+pub mod Spared
+pub mod Unread
+pub mod VanishingRows

@@ -1,0 +1,2 @@
+pub mod Doomed
+pub mod Vanishing

@@ -1,0 +1,10 @@
+//! Laws of deletions: which rows of a monotone query vanish where rows of a table are deleted. No code stands on them.
+#![tactic(auto)]
+
+mod laws;
+
+pub use laws::{
+    a_monotone_query_gains_no_row_by_a_deletion,
+    a_row_vanishes_where_each_of_its_lists_has_a_doomed_row,
+    where_a_table_is_not_read_nothing_changes,
+};

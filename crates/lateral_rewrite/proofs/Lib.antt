@@ -1,0 +1,12 @@
+pub mod ApplyRows
+pub mod BesideRows
+pub mod Choosing
+pub mod ChosenSteps
+pub mod DependentSteps
+pub mod OneMore
+pub mod PlainSteps
+pub mod Provenance
+pub mod Regrouping
+pub mod RightRows
+pub mod WholeRules
+pub mod WithoutSublinks

@@ -1,0 +1,30 @@
+use Rattle.std.proofs.Common.{◌≡◌, ◌∙◌, IfOk, length, sym, ap, subst}
+use Rattle.bag_algebra.specs.Kinds.{width_of}
+use Rattle.bag_algebra.specs.Rewriting.{IsRewrite}
+use Rattle.bag_algebra.specs.declared.query.Query.TheVariants.{Project}
+use Rattle.contribution.proofs.NodeQueries.{of_made}
+use Rattle.rewrite_sublink.proofs.Lengths.{stand-length, rewritten-length}
+use Rattle.rewrite_sublink.specs.Candidates.{answer_columns, beside_row}
+use Rattle.lateral_rewrite.proofs.WholeRules.{project-whole}
+use Rattle.lateral_rewrite.proofs.rules.project_lateral.Goals as goal
+use Rattle.lateral_rewrite.specs.Dependent.{all_contributed}
+
+pub items_with-requires : goal.items_with-requires
+items_with-requires c = record {
+  rewritten =
+      sym (stand-length c.args.subs.now c.args.standing.now c.requires.standing)
+      ∙ rewritten-length c.args.subs.now c.args.sub_rewritings c.requires.rewritten
+      ∙ sym (ap length c.as_slice-rewritings.ensures);
+}
+
+pub returns : goal.returns
+returns c =
+    let r = c.args.rewriting in
+    let subs = c.args.subs.now in
+    let standing = c.args.standing.now in
+    of_made (IsRewrite (Project c.args.input.now c.args.items.now subs)) c.items_with.result
+    (answer_columns (all_contributed (Project r (beside_row r c.args.items.now) standing) standing c.args.sub_rewritings) (width_of c.args.input.now) (width_of r) (length c.args.items.now))
+    (subst (λ rewritings. IfOk c.items_with.result (λ q. q ≡
+    answer_columns (all_contributed (Project r (beside_row r c.args.items.now) standing) standing rewritings) (width_of c.args.input.now) (width_of r) (length c.args.items.now)))
+    c.as_slice-rewritings.ensures c.items_with.ensures)
+    (project-whole c.args.input.now r c.args.items.now subs standing c.args.sub_rewritings c.requires.input c.requires.standing c.requires.rewritten)

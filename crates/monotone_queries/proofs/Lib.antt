@@ -1,0 +1,2 @@
+pub mod AllPlaces
+pub mod Nodes

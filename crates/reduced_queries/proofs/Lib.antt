@@ -1,0 +1,5 @@
+pub mod MissingRows
+pub mod ReadKinds
+pub mod ReducedForms
+mod ReducedMade
+pub mod Tested

@@ -1,0 +1,28 @@
+-- What a condition keeps of rows, where it is good on each of them.
+use Rattle.std.proofs.Common.{◌≡◌, inl, inr, Bool, true, false, cond, not, [], ◌∷◌, ◌++◌, filter, refl, ap, ◌∙◌}
+use Rattle.null_logic.specs.declared.truth.Truth.TheVariants.{False}
+use Rattle.perm_values.specs.declared.value.Value.{Value}
+use Rattle.perm_values.specs.declared.value.Value.TheVariants.{Boolean}
+use Rattle.bag_algebra.proofs.Members.{IsIn}
+use Rattle.bag_algebra.specs.Bags.{Row, Bag}
+use Rattle.bag_algebra.specs.Expressions.{has_truth}
+use Rattle.bag_algebra.specs.Means.{holds_of, kept}
+use Rattle.bag_algebra.specs.Outcome.{Outcome, Good, mapped, both, gather}
+use Rattle.query_laws.proofs.Filtered.{put_before}
+
+holds-boolean : (b : Bool) → holds_of (Boolean b) ≡ b
+holds-boolean true = refl
+holds-boolean false = refl
+
+pub is_false : (b : Bool) → has_truth False (Boolean b) ≡ not b
+is_false true = refl
+is_false false = refl
+
+-- a condition that is good on each row keeps those that pass
+pub gather-tested : (f : Row → Outcome Value) (passes : Row → Bool) (us : Bag) → ((u : Row) → IsIn u us → f u ≡ Good (Boolean (passes u))) →
+    gather (kept f) us ≡ Good (filter passes us)
+gather-tested f passes [] h = refl
+gather-tested f passes (u ∷ us) h =
+    (λ i. both (λ y ys. y ++ ys) (mapped (λ v. cond (holds_of v) (u ∷ []) []) (h u (inl refl) i)) (gather-tested f passes us (λ v k. h v (inr k)) i))
+    ∙ ap (λ b. Good (cond b (u ∷ []) [] ++ filter passes us)) (holds-boolean (passes u))
+    ∙ ap Good (put_before (passes u) u (filter passes us))

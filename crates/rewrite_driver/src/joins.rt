@@ -1,0 +1,46 @@
+//! The rule of joins with sublinks in their condition.
+ghost use Rattle.std.specs.Prelude.{IfOk};
+ghost use Rattle.bag_algebra.specs.Rewriting.{IsRewrite};
+ghost use Rattle.bag_algebra.specs.declared.query.Query.TheVariants.{Join};
+ghost use Rattle.query_laws.specs.Standing.{SubsStand};
+ghost use Rattle.rewrite_move.specs.Moved.{SubsTraced};
+
+use bag_algebra::{Expr, JoinKind, Query, Sublink};
+use perm_values::{List, NoMemory};
+use rewrite_joins::{Crossed, every_pair, over_pairs};
+use rewrite_move::filter_moved;
+use std::alloc::Global;
+
+/// A rewriting of a Join with sublinks: the pairs that meet its condition are a Filter over all pairs, and the rows without a
+/// partner stand beside NULLs. It fails only for want of memory.
+pub(crate) fn join_moved(
+    alloc: Global,
+    kind: JoinKind,
+    left: &Query,
+    lefts: Query,
+    right: &Query,
+    rights: Query,
+    condition: &Expr,
+    subs: &[Sublink],
+    standing: &[Sublink],
+    rewritings: List<Query>,
+) -> Result<Query, NoMemory>
+    requires left { IsRewrite left.now lefts }
+    requires right { IsRewrite right.now rights }
+    requires subs_stand { SubsStand subs.now standing.now }
+    requires subs_rewritten { SubsTraced subs.now rewritings }
+    ensures { IfOk result (λ p. IsRewrite (Join kind left.now right.now condition.now subs.now) p) }
+{
+    let Ok(crossed) = every_pair(alloc, left, &lefts, right, &rights) else {
+        drop(lefts);
+        drop(rights);
+        drop(rewritings);
+        return Err(NoMemory);
+    };
+    let Crossed { pairs, rewriting } = crossed;
+    let met = filter_moved(
+        alloc, &pairs, rewriting, condition, subs, standing, rewritings,
+    );
+    drop(pairs);
+    over_pairs(alloc, kind, left, lefts, right, rights, met)
+}

@@ -1,0 +1,4 @@
+pub mod ByPartsRows
+pub mod ChosenPairs
+pub mod PairColumns
+pub mod SideRows

@@ -1,0 +1,10 @@
+pub mod GivenLists
+pub mod BelowGroups
+pub mod Contributed
+pub mod TracedSteps
+pub mod BuiltGroups
+pub mod BelowSizes
+pub mod LikeQueries
+pub mod MovedSteps
+pub mod MovedRows
+pub mod WholeRules

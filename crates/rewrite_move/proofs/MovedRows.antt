@@ -1,0 +1,130 @@
+-- What is made of rows for one sublink is like the dependent join of rows that they are like; and for one sublink after another.
+use Rattle.std.proofs.Common.{◌≡◌, ℕ, zero, suc, ◌+◌, ◌<◌, ◌≤◌, ◌&&◌, true, List, [], ◌∷◌, length, drop, get_or, Some, None, Result, Ok, Err, IfOk, refl, sym, ap, ◌∙◌, subst, arith}
+use Rattle.std.proofs.Math.Seq.{drop-cons}
+use Rattle.std.proofs.lemmas.List.{drop_all}
+use Rattle.perm_values.specs.declared.no_memory.NoMemory.{NoMemory}
+use Rattle.bag_algebra.proofs.Truths.{and_true}
+use Rattle.bag_algebra.specs.Kinds.{width_of}
+use Rattle.bag_algebra.specs.Rewriting.{IsRewrite, is_plain}
+use Rattle.bag_algebra.specs.declared.expr.Expr.{Expr}
+use Rattle.bag_algebra.specs.declared.query.Query.{Query}
+use Rattle.bag_algebra.specs.declared.query.SubKind.{SubKind}
+use Rattle.bag_algebra.specs.declared.query.Sublink.{Sublink}
+use Rattle.lateral_rewrite.specs.Dependent.{beside, choice_of, chosen_beside, chosen_provenance, contributed, contributed_by, provenance_of, valued, value_items}
+use Rattle.lateral_rewrite.specs.declared.choices.Choice.{Choice}
+use Rattle.query_laws.specs.Standing.{SubStands, SubsStand}
+use Rattle.rewrite_base.specs.KeptColumns.{columns_kept}
+use Rattle.rewrite_move.proofs.LikeQueries.{like-beside, like-beside_row, like-columns_kept}
+use Rattle.rewrite_move.specs.Moved.{Like, SubsTraced, all_moved, moved, moved_by}
+use Rattle.rewrite_move.specs.Traced.{below_by, below_groups, traced_of}
+use Rattle.spine_joins.specs.Spines.{IsBeside}
+
+-- ---- one sublink
+
+plain-provenance : (r : Query) (own : ℕ) → is_plain r ≡ true → is_plain (provenance_of r own) ≡ true
+plain-provenance r own plain = and_true (is_plain r) ∙ plain
+
+plain-chosen : (choice : Choice) (place : ℕ) (stand : Sublink) (r : Query) → is_plain r ≡ true → is_plain (chosen_provenance choice place stand r) ≡ true
+plain-chosen choice place stand r plain = and_true (is_plain r && true) ∙ and_true (is_plain r) ∙ plain
+
+module _ (whole rows : Query) (l : Like whole rows) (r : Query) (plain : is_plain r ≡ true) where
+  -- the provenance of all rows
+  pub all-moved : (p : Query) (own : ℕ) → IsBeside rows (provenance_of r own) p → Like (beside whole (provenance_of r own)) p
+  all-moved p own is = like-beside whole rows (provenance_of r own) p l (plain-provenance r own plain) is
+
+  -- that of the rows that a value chooses
+  pub chosen-moved : (choice : Choice) (operand : Expr) (stand : Sublink) (pairs : Query) (place : ℕ) → is_plain stand.query ≡ true → place ≡ width_of rows →
+      IsBeside (valued rows stand operand) (chosen_provenance choice place stand r) pairs →
+      Like (chosen_beside choice operand whole stand r) (columns_kept pairs place 2)
+  chosen-moved choice operand stand pairs place of_query at is =
+      let there : place ≡ width_of whole = at ∙ ap length l.kinds in
+      subst (λ n. Like (columns_kept (beside (valued whole stand operand) (chosen_provenance choice n stand r)) n 2) (columns_kept pairs place 2)) there
+      (like-columns_kept (beside (valued whole stand operand) (chosen_provenance choice place stand r)) pairs
+      (like-beside (valued whole stand operand) (valued rows stand operand) (chosen_provenance choice place stand r) pairs
+      (like-beside_row whole rows l (value_items stand operand) stand of_query) (plain-chosen choice place stand r plain) is) place 2)
+
+-- ---- one after another
+
+opened : {X : Type 0} (xs : List X) (at : ℕ) (x : X) → at < length xs → x ≡ get_or xs at x → drop at xs ≡ x ∷ drop (at + 1) xs
+opened xs at x within e =
+    let next : suc at ≡ at + 1 = omega arith in
+    drop-cons xs at x within ∙ (λ i. sym e i ∷ drop (next i) xs)
+
+-- what a loop has so far: rows like those of the sublinks before, of which the others make the whole
+pub record SoFar (rows whole : Query) (subs standing : List Sublink) (rewritings : List Query) (at : ℕ) : Type 0 where
+  pub reached : Query
+  pub like : Like reached whole
+  pub same : all_moved reached (drop at subs) (drop at standing) (drop at rewritings) ≡ all_moved rows subs standing rewritings
+
+pub so_far-first : (rows : Query) (subs standing : List Sublink) (rewritings : List Query) → Like rows rows → SoFar rows rows subs standing rewritings 0
+so_far-first rows subs standing rewritings l = record { reached = rows; like = l; same = refl }
+
+pub so_far-next : (rows whole next : Query) (subs standing : List Sublink) (rewritings : List Query) (at : ℕ) (sub stand : Sublink) (rewriting : Query) →
+    at < length subs → at < length standing → at < length rewritings →
+    sub ≡ get_or subs at sub → stand ≡ get_or standing at stand → rewriting ≡ get_or rewritings at rewriting →
+    SoFar rows whole subs standing rewritings at → ((before : Query) → Like before whole → Like (moved before sub stand rewriting) next) →
+    SoFar rows next subs standing rewritings (at + 1)
+so_far-next rows whole next subs standing rewritings at sub stand rewriting h g k e f d so step = record {
+  reached = moved so.reached sub stand rewriting;
+  like = step so.reached so.like;
+  same = sym (λ i. all_moved so.reached (opened subs at sub h e i) (opened standing at stand g f i) (opened rewritings at rewriting k d i)) ∙ so.same;
+}
+
+pub so_far-last : (rows whole : Query) (subs standing : List Sublink) (rewritings : List Query) (at : ℕ) → length subs ≤ at → SoFar rows whole subs standing rewritings at →
+    Like (all_moved rows subs standing rewritings) whole
+so_far-last rows whole subs standing rewritings at far so =
+    subst (λ q. Like q whole)
+    (ap (λ rest. all_moved so.reached rest (drop at standing) (drop at rewritings)) (sym (drop_all at subs far)) ∙ so.same) so.like
+
+-- ---- as many, and one of each
+
+pub traced-length : (subs : List Sublink) (rewritings : List Query) → SubsTraced subs rewritings → length subs ≡ length rewritings
+traced-length [] [] s = refl
+traced-length [] (p ∷ ps) s = absurd s
+traced-length (sub ∷ subs) [] s = absurd s
+traced-length (sub ∷ subs) (p ∷ ps) s = ap suc (traced-length subs ps s.1)
+
+pub stand-at : (subs standing : List Sublink) (at : ℕ) (sub stand : Sublink) → SubsStand subs standing → at < length subs → SubStands (get_or subs at sub) (get_or standing at stand)
+stand-at [] standing at sub stand s h = absurd (omega (arith, h))
+stand-at (first ∷ subs) [] at sub stand s h = absurd s
+stand-at (first ∷ subs) (other ∷ standing) zero sub stand s h = s.0
+stand-at (first ∷ subs) (other ∷ standing) (suc at) sub stand s h = stand-at subs standing at sub stand s.1 (omega (arith, h))
+
+pub traced-at : (subs : List Sublink) (rewritings : List Query) (at : ℕ) (sub : Sublink) (rewriting : Query) → SubsTraced subs rewritings → at < length subs →
+    IsRewrite (traced_of (get_or subs at sub)) (get_or rewritings at rewriting)
+traced-at [] rewritings at sub rewriting s h = absurd (omega (arith, h))
+traced-at (first ∷ subs) [] at sub rewriting s h = absurd s
+traced-at (first ∷ subs) (p ∷ ps) zero sub rewriting s h = s.0
+traced-at (first ∷ subs) (p ∷ ps) (suc at) sub rewriting s h = traced-at subs ps at sub rewriting s.1 (omega (arith, h))
+
+-- ---- by kinds
+
+pub existing-moved : (sub stand : Sublink) (r : Query) (whole p : Query) (kind : SubKind) → sub.kind ≡ kind → below_by kind sub.query ≡ below_groups sub.query →
+    moved_by kind whole sub stand r ≡ beside whole (provenance_of r (width_of (below_groups sub.query))) →
+    Like (beside whole (provenance_of r (width_of (traced_of sub)))) p → Like (moved whole sub stand r) p
+existing-moved sub stand r whole p kind e below made l =
+    let query : traced_of sub ≡ below_groups sub.query = ap (λ k. below_by k sub.query) e ∙ below in
+    let is : beside whole (provenance_of r (width_of (traced_of sub))) ≡ moved whole sub stand r =
+    ap (λ q. beside whole (provenance_of r (width_of q))) query ∙ sym made ∙ sym (ap (λ k. moved_by k whole sub stand r) e) in
+    subst (λ q. Like q p) is l
+
+pub compared-moved : (sub stand : Sublink) (r : Query) (whole p : Query) (kind : SubKind) → sub.kind ≡ kind → moved_by kind whole sub stand r ≡ contributed whole stand r →
+    Like (contributed whole stand r) p → Like (moved whole sub stand r) p
+compared-moved sub stand r whole p kind e made l = subst (λ q. Like q p) (sym made ∙ sym (ap (λ k. moved_by k whole sub stand r) e)) l
+
+module _ (whole : Query) (stand : Sublink) (r p : Query) where
+  pub contributed-none : choice_of stand.kind ≡ None → Like (beside whole (provenance_of r (width_of stand.query))) p → Like (contributed whole stand r) p
+  contributed-none e l = subst (λ q. Like q p) (sym (ap (λ ch. contributed_by ch stand.tested whole stand r) e)) l
+
+  pub contributed-untested : (choice : Choice) → choice_of stand.kind ≡ Some choice → stand.tested ≡ None → Like (beside whole (provenance_of r (width_of stand.query))) p →
+      Like (contributed whole stand r) p
+  contributed-untested choice e t l = subst (λ q. Like q p) (sym (λ i. contributed_by (e i) (t i) whole stand r)) l
+
+  pub contributed-chosen : (choice : Choice) (operand : Expr) → choice_of stand.kind ≡ Some choice → stand.tested ≡ Some operand → Like (chosen_beside choice operand whole stand r) p →
+      Like (contributed whole stand r) p
+  contributed-chosen choice operand e t l = subst (λ q. Like q p) (sym (λ i. contributed_by (e i) (t i) whole stand r)) l
+
+-- what holds of the value of a call holds further
+pub kept_ok : {X : Type 0} (P Q : X → Type 0) (result : Result X NoMemory) → ((x : X) → P x → Q x) → IfOk result P → IfOk result Q
+kept_ok P Q (Ok x) keep h = keep x h
+kept_ok P Q (Err error) keep h = tt

@@ -1,0 +1,24 @@
+use Rattle.std.proofs.Common.{sym, subst, subst₂, IfOk}
+use Rattle.bag_algebra.specs.Rewriting.{IsRewrite}
+use Rattle.bag_algebra.specs.declared.query.Query.TheVariants.{Filter}
+use Rattle.rewrite_move.proofs.MovedRows.{kept_ok}
+use Rattle.rewrite_move.proofs.WholeRules.{filter-rewrites, own-rows-like}
+use Rattle.rewrite_move.proofs.rules.filter_moved.Goals as goal
+use Rattle.rewrite_move.specs.Moved.{Like, SubsTraced, all_moved}
+
+pub with_contributions-requires : goal.with_contributions-requires
+with_contributions-requires c = record {
+  plain = subst (λ rows. Like rows rows) (sym c.in_ok-rows.ensures)
+      (own-rows-like c.args.input.now c.args.rewriting c.requires.input c.args.subs.now c.args.standing.now c.args.sub_rewritings c.requires.standing c.requires.traced c.args.condition.now);
+  standing = c.requires.standing;
+  traced = subst (SubsTraced c.args.subs.now) (sym c.as_slice.ensures) c.requires.traced;
+}
+
+pub returns : goal.returns
+returns c =
+    kept_ok (Like (all_moved (Filter c.args.rewriting c.args.condition.now c.args.standing.now) c.args.subs.now c.args.standing.now c.args.sub_rewritings))
+    (IsRewrite (Filter c.args.input.now c.args.condition.now c.args.subs.now)) c.with_contributions.result
+    (λ p l. filter-rewrites c.args.input.now c.args.rewriting c.requires.input c.args.subs.now c.args.standing.now c.args.sub_rewritings c.requires.standing c.requires.traced
+    c.args.condition.now p l)
+    (subst₂ (λ rows rewritings. IfOk c.with_contributions.result (λ p. Like (all_moved rows c.args.subs.now c.args.standing.now rewritings) p))
+    c.in_ok-rows.ensures c.as_slice.ensures c.with_contributions.ensures)

@@ -1,0 +1,27 @@
+use Rattle.std.proofs.Common.{◌≡◌, sym, subst, subst₂, length, IfOk}
+use Rattle.bag_algebra.specs.Kinds.{width_of}
+use Rattle.bag_algebra.specs.Rewriting.{IsRewrite}
+use Rattle.bag_algebra.specs.declared.query.Query.TheVariants.{Project}
+use Rattle.contribution.proofs.NodeQueries.{of_made}
+use Rattle.rewrite_move.proofs.WholeRules.{project-rewrites, own-items-like}
+use Rattle.rewrite_move.proofs.rules.project_moved.Goals as goal
+use Rattle.rewrite_move.specs.Moved.{Like, SubsTraced, all_moved}
+use Rattle.rewrite_sublink.specs.Candidates.{answer_columns}
+
+pub with_contributions-requires : goal.with_contributions-requires
+with_contributions-requires c = record {
+  plain = subst (λ rows. Like rows rows) (sym c.in_ok-rows.ensures)
+      (own-items-like c.args.input.now c.args.rewriting c.requires.input c.args.subs.now c.args.standing.now c.args.sub_rewritings c.requires.standing c.requires.traced c.args.items.now);
+  standing = c.requires.standing;
+  traced = subst (SubsTraced c.args.subs.now) (sym c.as_slice.ensures) c.requires.traced;
+}
+
+pub returns : goal.returns
+returns c =
+    of_made (IsRewrite (Project c.args.input.now c.args.items.now c.args.subs.now)) c.answer_columns.result
+    (answer_columns c.in_ok-whole.whole (width_of c.args.input.now) (width_of c.args.rewriting) (length c.args.items.now))
+    (subst₂ (λ own row. IfOk c.answer_columns.result (λ p. p ≡ answer_columns c.in_ok-whole.whole own row (length c.args.items.now)))
+    c.in-Ok.ensures.columns c.in-Ok-exact_width.ensures.columns c.answer_columns.ensures)
+    (project-rewrites c.args.input.now c.args.rewriting c.requires.input c.args.subs.now c.args.standing.now c.args.sub_rewritings c.requires.standing c.requires.traced
+    c.args.items.now c.in_ok-whole.whole
+    (subst₂ (λ rows rewritings. Like (all_moved rows c.args.subs.now c.args.standing.now rewritings) c.in_ok-whole.whole) c.in_ok-rows.ensures c.as_slice.ensures c.in_ok-whole.ensures))

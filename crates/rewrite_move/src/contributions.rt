@@ -1,0 +1,134 @@
+//! Rows beside the contributions of sublinks, by ordinary joins where these serve, and else by dependent joins.
+ghost use Rattle.std.specs.Prelude.{◌≡◌, true, IfOk};
+ghost use Rattle.bag_algebra.specs.Kinds.{width_of};
+ghost use Rattle.bag_algebra.specs.Rewriting.{IsRewrite, is_plain};
+ghost use Rattle.bag_algebra.specs.declared.query.Query.{Query};
+ghost use Rattle.lateral_rewrite.specs.Dependent.{chosen_beside, contributed, provenance_of};
+ghost use Rattle.query_laws.specs.Standing.{SubStands, SubsStand};
+ghost use Rattle.rewrite_move.specs.Moved.{Like, SubsTraced, all_moved, moved};
+ghost use Rattle.rewrite_move.specs.Traced.{traced_of};
+ghost use Rattle.spine_joins.specs.Spines.{IsBeside};
+
+use crate::below::traced;
+use bag_algebra::{Expr, Query, SubKind, Sublink};
+use lateral_rewrite::{Choice, choice_of, chosen_provenance, valued};
+use perm_values::{Copyable, NoMemory};
+use rewrite_base::{columns_kept, exact_width};
+use spine_joins::beside;
+use std::alloc::Global;
+
+/// The rows, and for each sublink in turn its contributions, from a rewriting of what is traced for it.
+pub(crate) fn with_contributions(
+    alloc: Global,
+    rows: Query,
+    subs: &[Sublink],
+    standing: &[Sublink],
+    rewritings: &[Query],
+) -> Result<Query, NoMemory>
+    requires plain { Like rows rows }
+    requires standing { SubsStand subs.now standing.now }
+    requires traced { SubsTraced subs.now rewritings.now }
+    ensures { IfOk result (λ p. Like (all_moved rows subs.now standing.now rewritings.now) p) }
+{
+    let mut whole = rows;
+    for at in 0..subs.len() {
+        whole = with_contribution(alloc, whole, &subs[at], &standing[at], &rewritings[at])?;
+    }
+    Ok(whole)
+}
+
+fn with_contribution(
+    alloc: Global,
+    rows: Query,
+    sub: &Sublink,
+    standing: &Sublink,
+    rewriting: &Query,
+) -> Result<Query, NoMemory>
+    requires standing { SubStands sub.now standing.now }
+    requires traced { IsRewrite (traced_of sub.now) rewriting.now }
+    ensures { (whole : Query) → Like whole rows →
+        IfOk result (λ p. Like (moved whole sub.now standing.now rewriting.now) p) }
+{
+    match sub.kind {
+        SubKind::Exists => beside_all(alloc, rows, traced(sub), rewriting),
+        SubKind::Any(_) => beside_compared(alloc, rows, standing, rewriting),
+        SubKind::All(_) => beside_compared(alloc, rows, standing, rewriting),
+        SubKind::Scalar => beside_all(alloc, rows, traced(sub), rewriting),
+    }
+}
+
+/// The rows beside the provenance of all rows of the rewriting of a query.
+fn beside_all(
+    alloc: Global,
+    rows: Query,
+    query: &Query,
+    rewriting: &Query,
+) -> Result<Query, NoMemory>
+    ensures { IfOk result (λ p. IsBeside rows (provenance_of rewriting.now (width_of query.now)) p) }
+{
+    let Ok(right) = provenance(alloc, query, rewriting) else {
+        drop(rows);
+        return Err(NoMemory);
+    };
+    beside(alloc, rows, right)
+}
+
+/// The provenance columns of the rewriting of a query.
+fn provenance(alloc: Global, query: &Query, rewriting: &Query) -> Result<Query, NoMemory>
+    ensures { IfOk result (λ p. p ≡ provenance_of rewriting.now (width_of query.now)) }
+{
+    let own = exact_width(query)?;
+    let rows = rewriting.copy(alloc)?;
+    columns_kept(alloc, rows, 0, own)
+}
+
+/// The rows beside the provenance of those rows that an ANY or ALL lets contribute.
+fn beside_compared(
+    alloc: Global,
+    rows: Query,
+    standing: &Sublink,
+    rewriting: &Query,
+) -> Result<Query, NoMemory>
+    requires plain { is_plain rewriting.now ≡ true }
+    requires query { is_plain standing.now.query ≡ true }
+    ensures { (whole : Query) → Like whole rows →
+        IfOk result (λ p. Like (contributed whole standing.now rewriting.now) p) }
+{
+    match choice_of(standing.kind) {
+        None => beside_all(alloc, rows, &standing.query, rewriting),
+        Some(choice) => match &standing.tested {
+            None => beside_all(alloc, rows, &standing.query, rewriting),
+            Some(operand) => beside_chosen(alloc, rows, standing, operand, choice, rewriting),
+        },
+    }
+}
+
+/// The rows beside the provenance of those rows that the value of the sublink chooses.
+fn beside_chosen(
+    alloc: Global,
+    rows: Query,
+    standing: &Sublink,
+    operand: &Expr,
+    choice: Choice,
+    rewriting: &Query,
+) -> Result<Query, NoMemory>
+    requires plain { is_plain rewriting.now ≡ true }
+    requires query { is_plain standing.now.query ≡ true }
+    ensures { (whole : Query) → Like whole rows →
+        IfOk result (λ p. Like (chosen_beside choice operand.now whole standing.now rewriting.now) p) }
+{
+    let Ok(place) = exact_width(&rows) else {
+        drop(rows);
+        return Err(NoMemory);
+    };
+    let Ok(right) = chosen_provenance(alloc, choice, place, standing, rewriting) else {
+        drop(rows);
+        return Err(NoMemory);
+    };
+    let Ok(left) = valued(alloc, rows, standing, operand) else {
+        drop(right);
+        return Err(NoMemory);
+    };
+    let pairs = beside(alloc, left, right)?;
+    columns_kept(alloc, pairs, place, 2)
+}

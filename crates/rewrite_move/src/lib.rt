@@ -1,0 +1,12 @@
+//! The rules of Filters and Projects with sublinks that join with what contributes. What is traced for a sublink is its query, and where
+//! every row of that contributes, what stands below projections, DISTINCTs and groups.
+#![tactic(auto)]
+
+mod below;
+mod contributions;
+mod laws;
+mod rules;
+
+pub use below::traced;
+pub use laws::{traced_sublinks_contribute_the_same, what_stands_for_a_rewriting_is_one};
+pub use rules::{filter_moved, project_moved};

@@ -1,0 +1,7 @@
+use Rattle.std.proofs.Common.{◌≡◌, ◌≤◌, take, drop, reverse}
+use Rattle.script_places.specs.Places.{back_to_feed}
+use Rattle.script_places.proofs.line.line_start.Given as goal
+
+-- the last line of the bytes so far begins there
+abbrev pub invariant-loop-at : goal.invariant-loop-at
+invariant-loop-at l = (l.start ≤ l.at) × (drop l.start (take l.at l.before) ≡ reverse (back_to_feed (take l.at l.before)))

@@ -1,0 +1,10 @@
+//! Where an offset stands in a script: the line and the column, as a person counts them.
+#![tactic(auto)]
+
+mod laws;
+mod line;
+mod place;
+
+pub use laws::characters_have_places_of_their_own;
+pub use line::line_at;
+pub use place::{Place, place_of};

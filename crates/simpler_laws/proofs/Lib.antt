@@ -1,0 +1,9 @@
+pub mod Added
+pub mod CalmFilters
+pub mod ColumnItems
+pub mod Gathered
+pub mod InnerJoins
+pub mod Parting
+pub mod Reading
+pub mod TestedQueries
+pub mod Testing

@@ -1,0 +1,17 @@
+//! What makes a query simpler: the tests that a condition consists of, where in a query each of them may be made, and the laws
+//! by which they move there.
+#![tactic(auto)]
+
+mod columns;
+mod conditions;
+mod filters;
+mod lowering;
+mod nodes;
+mod pairs;
+
+pub use columns::reads_only;
+pub use conditions::{conjunction, conjuncts, with_conjuncts};
+pub use filters::{Parts, all_fault_free, filter_parts};
+pub use lowering::lowered;
+pub use nodes::{filter_on, inner_join, tested};
+pub use pairs::{Sides, join_sides};

@@ -1,0 +1,6 @@
+//! A simpler query in the place of a query without PROVENANCE.
+#![tactic(auto)]
+
+mod passes;
+
+pub use passes::simplify;

@@ -1,0 +1,2 @@
+pub mod PlacedColumns
+pub mod Spines

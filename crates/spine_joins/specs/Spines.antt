@@ -1,0 +1,101 @@
+-- Right sides of dependent joins that ordinary joins serve: a tower of selections and projections without sublinks over a
+-- query that reads no outer row and meets no fault.
+use Rattle.std.specs.Prelude.{◌≡◌, ⊤, ℕ, suc, Bool, true, false, ◌&&◌, ◌==◌, nat_le, List, [], ◌∷◌, ◌++◌, Option, Some, None}
+use Rattle.std.specs.List.{list_all}
+use Rattle.null_logic.specs.declared.operator.Operator.TheVariants.{And}
+use Rattle.perm_values.specs.declared.kind.Kind.{Kind}
+use Rattle.bag_algebra.specs.Bags.{Row}
+use Rattle.bag_algebra.specs.Closed.{is_closed}
+use Rattle.bag_algebra.specs.FaultFree.{faultless, items_faultless, fault_free}
+use Rattle.bag_algebra.specs.Kinds.{kinds_of}
+use Rattle.bag_algebra.specs.Meaning.{Database, meaning}
+use Rattle.bag_algebra.specs.Means.{keeps_left}
+use Rattle.bag_algebra.specs.Rewriting.{SameRows, is_plain}
+use Rattle.bag_algebra.specs.TablesRead.{ReadsAmong}
+use Rattle.bag_algebra.specs.WellFormed.{WellFormed}
+use Rattle.bag_algebra.specs.built.Patterns.{OpOf, ChainOf, CaseOf, IsNullOf, IsTruthOf, SameOf, FilterOf, ProjectOf, JoinOf, ApplyOf}
+use Rattle.bag_algebra.specs.declared.expr.Expr.{Expr}
+use Rattle.bag_algebra.specs.declared.expr.Expr.TheVariants.{Col, Lit, Op, Sub}
+use Rattle.bag_algebra.specs.declared.expr.Item.{Item}
+use Rattle.bag_algebra.specs.declared.query.JoinKind.{JoinKind}
+use Rattle.bag_algebra.specs.declared.query.JoinKind.TheVariants.{Left}
+use Rattle.bag_algebra.specs.declared.query.Query.{Query, end_of-Sublink}
+use Rattle.contribution.specs.Conjunctions.{always}
+use Rattle.contribution.specs.Fitting.{Fitting}
+use Rattle.contribution.specs.ItemKinds.{column_of}
+use Rattle.spine_joins.specs.PlacedColumns.{IsPlaced, ItemsPlaced}
+use Rattle.spine_joins.specs.declared.spine.Spine.{Spine}
+
+-- the columns of a row of these kinds that stand behind so many others
+abbrev pub items_behind : ℕ → List Kind → List Item
+items_behind before [] = []
+items_behind before (kind ∷ kinds) = column_of kind before ∷ items_behind (suc before) kinds
+
+-- a test and one more
+abbrev pub tests_with : Option Expr → Expr → Expr
+tests_with None other = other
+tests_with (Some test) other = Op And (test ∷ other ∷ [])
+
+-- the spine with a test more, and with other items in the place of its own
+abbrev pub spine_with : Spine → Expr → Spine
+spine_with spine other = record { base = spine.base; test = Some (tests_with spine.test other); items = spine.items }
+
+abbrev pub spine_over : Spine → List Item → Spine
+spine_over spine items = record { base = spine.base; test = spine.test; items = items }
+
+-- above a test a condition is looked at only where that is true, and in a join on every pair, so it has to be free of faults
+abbrev pub MayFollow : Option Expr → Expr → Type 0
+MayFollow None condition = ⊤
+MayFollow (Some test) condition = faultless condition ≡ true
+
+-- The query is this spine beside rows of so many columns: each row of it, under one of these rows, is what the items make of
+-- that row and a row of the base on which the test is true.
+pub data IsSpine (width : ℕ) : Query → Spine → Type 0 where
+  closed : (q : Query) → is_closed q ≡ true → fault_free q ≡ true →
+      IsSpine width q (record { base = q; test = None; items = items_behind width (kinds_of q) })
+  filtered : (input : Query) (spine : Spine) (condition placed : Expr) → IsSpine width input spine →
+      IsPlaced spine.items condition placed → MayFollow spine.test condition →
+      IsSpine width (FilterOf input condition [] end_of-Sublink) (spine_with spine placed)
+  projected : (input : Query) (spine : Spine) (items placed : List Item) → IsSpine width input spine →
+      ItemsPlaced spine.items items placed → items_faultless items ≡ true →
+      IsSpine width (ProjectOf input items [] end_of-Sublink) (spine_over spine placed)
+
+-- a column behind so many others
+abbrev pub is_behind : ℕ → Expr → Bool
+is_behind width (Col level place) = (level == 0) && nat_le width place
+is_behind width (Lit v kind) = false
+is_behind width (OpOf op _ parts) = false
+is_behind width (ChainOf first _ steps) = false
+is_behind width (CaseOf _ arms otherwise) = false
+is_behind width (Sub number) = false
+is_behind width (IsNullOf part) = false
+is_behind width (IsTruthOf truth part) = false
+is_behind width (SameOf first second) = false
+
+-- beside a row that meets no other the items have to be NULL, as columns of the base are
+abbrev pub all_behind : ℕ → List Item → Bool
+all_behind width items = list_all (λ (item : Item). is_behind width item.expr) items
+
+abbrev pub Suits : JoinKind → ℕ → List Item → Type 0
+Suits kind width items = keeps_left kind ≡ true → all_behind width items ≡ true
+
+-- on what the rows are joined with those of the base
+abbrev pub test_of : Option Expr → Expr
+test_of None = always
+test_of (Some test) = test
+
+-- the rows of the left query, each beside what the items make of it and a row of the base
+abbrev pub spine_join : JoinKind → Query → Spine → Query
+spine_join kind left spine =
+    ProjectOf (JoinOf kind left spine.base (test_of spine.test) [] end_of-Sublink)
+    (items_behind 0 (kinds_of left) ++ spine.items) [] end_of-Sublink
+
+-- p is what the dependent join of the rows with the right query is that keeps left rows: of the same columns, plain where both
+-- are, over their tables alone, well formed where that join is, and with the same rows or faults whatever fits that
+pub record IsBeside (rows right p : Query) : Type 0 where
+  pub kinds : kinds_of p ≡ kinds_of rows ++ kinds_of right
+  pub plain : is_plain p ≡ (is_plain rows && is_plain right)
+  pub tables : ReadsAmong p (ApplyOf Left rows right)
+  pub formed : (outer : List (List Kind)) → WellFormed outer (ApplyOf Left rows right) → WellFormed outer p
+  pub same : (outer : List (List Kind)) (db : Database) (env : List Row) → Fitting outer (ApplyOf Left rows right) db env →
+      SameRows (meaning (ApplyOf Left rows right) db env) (meaning p db env)

@@ -1,0 +1,11 @@
+//! Nodes over what stands for their parts, taken as the results of the calls that make these.
+#![tactic(auto)]
+
+mod nodes;
+mod sublinks;
+
+pub use nodes::{
+    aggregate_standing, apply_standing, distinct_standing, except_standing, filter_standing,
+    intersect_standing, join_standing, limit_standing, project_standing, table, union_standing,
+};
+pub use sublinks::add_standing;

@@ -1,0 +1,184 @@
+"""The program's answers, statement by statement, as bytes, and as tables of values.
+
+A second run of a script, with questions of our own between its statements, tells where each answer begins and ends, and how many
+columns a query has without PROVENANCE. Its answers are compared with those of the first, to the byte.
+"""
+import os
+import pathlib
+import re
+import subprocess
+import tempfile
+from dataclasses import dataclass, field
+
+import scripts
+
+LONGEST_SCRIPT = 1 << 20
+FIELD = re.compile(rb'"((?:[^"]|"")*)"|([^,\n"]*)')
+COUNT = re.compile(rb"\((\d+) rows\)\n")
+REFUSAL = re.compile(rb"error E(\d\d)(?: at (\d+)| [a-z0-9 ]+)?\n\Z")
+
+
+class Bare(str):
+    """A field without quotes: an integer or a truth value. NULL is None, and a text is a plain str."""
+
+
+@dataclass
+class Table:
+    names: list
+    rows: list
+
+
+def record(text, at):
+    """The fields of the record that begins there, and where the next one begins."""
+    fields = []
+    while True:
+        match = FIELD.match(text, at)
+        quoted, bare = match[1], match[2]
+        if quoted is not None:
+            fields.append(quoted.replace(b'""', b'"').decode())
+        else:
+            fields.append(Bare(bare.decode()) if bare else None)
+        at = match.end() + 1
+        if text[match.end():at] != b",":
+            return tuple(fields), at
+
+
+def table(text):
+    """The answer of a query as a table; None where the text is none."""
+    if not text.startswith(b'"'):
+        return None
+    names, at = record(text, 0)
+    rows = []
+    while not (counted := COUNT.match(text, at)):
+        if at >= len(text):
+            return None
+        row, at = record(text, at)
+        rows.append(row)
+    fits = counted.end() == len(text) and int(counted[1]) == len(rows) and all(len(row) == len(names) for row in rows)
+    return Table(list(names), rows) if fits else None
+
+
+@dataclass
+class Answer:
+    """What a statement answered. `plain` is what it answers without the word PROVENANCE, where it has that."""
+
+    statement: scripts.Statement
+    text: bytes
+    plain: Table | None = None
+    relations: dict = field(default_factory=dict)
+
+
+@dataclass
+class Run:
+    """A run of a script: what it wrote, on both streams, its status, and its answers; None where they can't be told apart."""
+
+    written: bytes
+    said: bytes
+    status: int
+    answers: list | None = None
+
+
+def run(program, script):
+    done = subprocess.run([program, script], stdin=subprocess.DEVNULL, capture_output=True)
+    return Run(done.stdout, done.stderr, done.returncode)
+
+
+@dataclass(frozen=True)
+class Question:
+    """A query of our own behind the statement of this number: of the columns of what it made, or of its plain answer."""
+
+    statement: int
+    text: bytes
+
+
+def questions(script, statements):
+    found = []
+    for number, statement in enumerate(statements):
+        word = statement.provenance()
+        if word:
+            text = script[statement.start:word.start] + b" " * (word.end - word.start) + script[word.end:statement.end]
+            found.append(Question(number, text))
+        elif statement.made():
+            found.append(Question(number, b"SELECT * FROM " + scripts.quoted(statement.made()) + b" LIMIT 0"))
+    return found
+
+
+def asked_script(script, statements, asked, mark):
+    """The script with a mark in front of each statement and question, the order of these, and where each statement went."""
+    parts, order, moved, length = [], [], {}, 0
+    behind = {}
+    for question in asked:
+        behind.setdefault(question.statement, []).append(question)
+    for number, statement in enumerate(statements):
+        for item in [number, *behind.get(number, [])]:
+            front = b"SELECT '%s %d' AS mark;\n" % (mark, len(order))
+            if item == number:
+                moved[number] = length + len(front)
+            order.append(item)
+            parts.append(front + (script[statement.start:statement.end] if item == number else item.text) + b"\n;\n")
+            length += len(parts[-1])
+    return b"".join(parts), order, moved
+
+
+def free_mark(*texts):
+    """A text that stands in none of these."""
+    number = 0
+    while any(b"mark%d " % number in text for text in texts):
+        number += 1
+    return b"mark%d" % number
+
+
+def segments(written, mark):
+    """What stands behind each mark, in order; None where something stands in front of the first."""
+    front = re.compile(rb'"mark"\n"%s \d+"\n\(1 rows\)\n' % mark)
+    first, *rest = front.split(written)
+    return None if first else rest
+
+
+def moved_back(text, statement, moved):
+    """A refusal of the statement as it is where the statement stands in the script."""
+    found = REFUSAL.search(text)
+    if not found or not found[2]:
+        return text
+    return text[:found.start(2)] + b"%d" % (int(found[2]) - moved + statement.start) + text[found.end(2):]
+
+
+def ask(program, script, told):
+    """The answers of the script's statements, of which `told` is a run; None where a second run doesn't tell them apart."""
+    statements = scripts.statements(script)
+    asked = questions(script, statements)
+    mark = free_mark(script, told.written)
+    while True:
+        text, order, moved = asked_script(script, statements, asked, mark)
+        if len(text) > LONGEST_SCRIPT:
+            return None
+        with tempfile.TemporaryDirectory() as folder:
+            path = os.path.join(folder, "asked.sql")
+            pathlib.Path(path).write_bytes(text)
+            second = run(program, path)
+        found = segments(second.written, mark)
+        if found is None or len(found) > len(order):
+            return None
+        last = order[len(found) - 1] if found else None
+        if len(found) == len(order) and second.status == 0 or isinstance(last, int):
+            break
+        # A question of our own was refused, as a view that meets a fault: it isn't asked again.
+        if last is None or last not in asked:
+            return None
+        asked.remove(last)
+    return joined(statements, order, moved, found, told)
+
+
+def joined(statements, order, moved, found, told):
+    answers, relations = [], {}
+    for item, text in zip(order, found):
+        if isinstance(item, int):
+            statement = statements[item]
+            answers.append(Answer(statement, moved_back(text, statement, moved[item]), relations=dict(relations)))
+            continue
+        answered = table(text)
+        if statements[item.statement].provenance():
+            answers[-1].plain = answered
+        elif answered:
+            relations.setdefault(statements[item.statement].made().decode(), []).append(answered.names)
+    return answers if b"".join(it.text for it in answers) == told.written else None

@@ -1,0 +1,304 @@
+#!/usr/bin/env python3
+"""Tests ./page: page_test.py [--pictures FOLDER].
+
+Each page is read back: from its tables alone, row by row and witness by witness, every answer has to come out as the program
+wrote it. Then pages are opened in a headless Chromium, where one is installed: opened by keyboard and by mouse, a row chosen,
+printed, with names and values that would be markup, and with 10^4 rows. The pictures are written to the folder.
+"""
+import argparse
+import html.parser
+import os
+import pathlib
+import re
+import subprocess
+import sys
+import tempfile
+import time
+
+import answers
+import browser
+import scripts
+
+TOP = pathlib.Path(__file__).resolve().parent.parent
+PROGRAM = os.environ.get("PERM") or str(TOP / "perm")
+# The wanted time for a page of 10^4 rows to be loaded, in seconds.
+LOADED = 60
+
+HOSTILE = """CREATE TABLE "<script>x=1</script>" ("</td><b>" TEXT, "&amp;" INTEGER, "a,""b" TEXT);
+INSERT INTO "<script>x=1</script>" VALUES ('<img src=x onerror=''window.pwned=1''>', 1, ''), ('</table></script><script>window.pwned=1</script>', 2, NULL),
+  ('"', 3, 'two
+lines'), (NULL, NULL, NULL), ('&lt;', 4, '(1 rows)'), ('\u202eabc', 5, '"mark"');
+-- <script>window.pwned=1</script>
+SELECT * FROM "<script>x=1</script>";
+SELECT PROVENANCE "</td><b>", "&amp;" > 2 AS "<i>" FROM "<script>x=1</script>" ORDER BY 1 DESC;
+CREATE TABLE "prov_r" (a INTEGER); CREATE TABLE r (a INTEGER, "1_a" INTEGER);
+INSERT INTO r VALUES (1, 2), (1, 2), (3, NULL), (NULL, NULL); INSERT INTO "prov_r" VALUES (1);
+SELECT PROVENANCE x.a FROM r x LEFT JOIN prov_r p ON x.a = p.a;
+SELECT PROVENANCE r.a FROM r, (SELECT a, "1_a" AS "1_b" FROM r) q BASERELATION WHERE q.a = r.a;
+SELECT PROVENANCE a FROM r PROVENANCE (a, "1_a");
+SELECT PROVENANCE COUNT(*) FROM r WHERE a > 9;
+SELECT PROVENANCE x.a FROM (SELECT PROVENANCE a FROM r) x, r y WHERE x.a = y.a;
+SELECT PROVENANCE 1;
+CREATE TABLE kept AS SELECT PROVENANCE a FROM r; SHOW FRESH kept; INSERT INTO r VALUES (7, 7); SHOW FRESH kept; SHOW FRESH r;
+SELECT PROVENANCE a FROM kept;
+CREATE VIEW v AS SELECT a / 0 AS a FROM r;
+SELECT PROVENANCE a FROM r WHERE a = 1; ;
+SELECT a / (a - 1) FROM r;
+SELECT 1;
+"""
+
+
+class Row(list):
+    """The cells of a row; `empty` where it says that there is no row."""
+
+    empty = False
+
+
+class Tables(html.parser.HTMLParser):
+    """The tables of a page, with those inside their cells; cells are as the program writes them."""
+
+    def __init__(self):
+        super().__init__()
+        self.tables, self.open, self.text = [], [], None
+
+    def handle_starttag(self, tag, given):
+        given = dict(given)
+        if tag == "table":
+            self.open.append({"class": given["class"], "names": [], "rows": [], "inside": []})
+            (self.open[-2]["inside"] if len(self.open) > 1 else self.tables).append(self.open[-1])
+        elif tag in ("td", "th") and self.open:
+            self.text = {"tag": tag, "class": given.get("class", ""), "text": ""}
+            table = self.open[-1]
+            (table["names"] if tag == "th" else table["rows"][-1]).append(self.text)
+        elif tag == "tr" and self.open:
+            self.text = None
+            if self.open[-1]["names"]:
+                self.open[-1]["rows"].append(Row())
+                self.open[-1]["rows"][-1].empty = given.get("class") == "none"
+        elif tag in ("caption", "details"):
+            self.text = None
+
+    def handle_endtag(self, tag):
+        if tag == "table":
+            self.open.pop()
+            self.text = None
+
+    def handle_data(self, data):
+        if self.text is not None:
+            self.text["text"] += data
+
+
+def value(cell):
+    text = cell["text"].removesuffix("\n")
+    if cell["class"] == "null":
+        return None if text == "NULL" else ""
+    return text
+
+
+def numbers(text):
+    found = []
+    for part in text.strip().split(", "):
+        first, _, last = part.partition("–")
+        found += range(int(first), int(last or first) + 1)
+    return found
+
+
+def restored(table):
+    """The rows of a table of the page, with those of witnesses behind them."""
+    if "why" not in table["class"].split():
+        return [tuple(map(value, row)) for row in table["rows"]]
+    rows, inside = [], iter(table["inside"])
+    width = len([it for it in table["names"] if it["class"] != "fill"])
+    plain = [row for row in table["rows"] if len(row) == width + 1]
+    groups = sources_of(table, len(plain))
+    for row, sources in zip(plain, groups):
+        own = tuple(map(value, row[:width]))
+        count = max([it for source in sources for it in witnesses(source)], default=1)
+        for number in range(1, count + 1):
+            rows.append(own + tuple(it for source in sources for it in witness(source, number)))
+    return rows
+
+
+def sources_of(table, count):
+    """The tables of sources of each plain row: as many for each."""
+    inside = table["inside"]
+    each = len(inside) // count if count else 0
+    return [inside[at * each:(at + 1) * each] for at in range(count)]
+
+
+def columns(source):
+    return [it for it in source["names"] if it["class"] != "w"]
+
+
+def witnesses(source):
+    if len(columns(source)) == len(source["names"]):
+        return [1]
+    return [it for row in source["rows"] for it in numbers(row[-1]["text"])]
+
+
+def witness(source, number):
+    """The source's row in the witness of that number."""
+    width = len(columns(source))
+    several = width < len(source["names"])
+    for row in source["rows"]:
+        if several and number not in numbers(row[-1]["text"]):
+            continue
+        return (None,) * width if row.empty else tuple(map(value, row[:width]))
+    raise Failed(f"no row of witness {number}")
+
+
+def shown_value(text):
+    """A value as the page shows it."""
+    import html_page
+
+    return text if text is None else html_page.UNSHOWN.sub(lambda it: f"\\u{ord(it[0]):04x}", text)
+
+
+def wanted(script, told):
+    """The tables of the answers: their rows as texts."""
+    found = []
+    for answer in answers.ask(PROGRAM, script, told):
+        table = answers.table(answer.text)
+        if table:
+            found.append([tuple(map(shown_value, row)) for row in table.rows])
+    return found
+
+
+def compare(path):
+    """The page of a script, and whether its tables are the answers."""
+    done = subprocess.run([str(TOP / "page"), path], capture_output=True)
+    told = answers.run(PROGRAM, path)
+    if done.returncode != told.status or done.stderr:
+        return done.stdout, f"status {done.returncode}, {done.stderr.decode()}"
+    reader = Tables()
+    reader.feed(done.stdout.decode())
+    rows = [restored(table) for table in reader.tables]
+    right = wanted(pathlib.Path(path).read_bytes(), told)
+    if len(rows) != len(right):
+        return done.stdout, f"{len(rows)} tables, not {len(right)}"
+    for number, (one, other) in enumerate(zip(rows, right)):
+        if sorted(one, key=repr) != sorted(other, key=repr):
+            return done.stdout, f"table {number} is {one}, not {other}"
+    return done.stdout, None
+
+
+def large(folder):
+    """A script whose answer has 10^4 rows, each with a witness of three sources."""
+    file = os.path.join(folder, "many.csv")
+    pathlib.Path(file).write_text("".join(f"{number},article {number % 97},{number * 7 % 1000}\n" for number in range(10_000)))
+    path = os.path.join(folder, "many.sql")
+    pathlib.Path(path).write_text(f"""CREATE TABLE orders (number INTEGER, article TEXT, price INTEGER);
+COPY orders FROM '{file}';
+CREATE TABLE groups (low INTEGER, name TEXT); INSERT INTO groups VALUES (0, 'even'), (1, 'odd');
+SELECT PROVENANCE o.number, o.article, g.name FROM orders o JOIN groups g ON o.number % 2 = g.low JOIN orders p ON p.number = o.number;
+""")
+    return path
+
+
+class Failed(Exception):
+    pass
+
+
+def expect(told, what):
+    if not told:
+        raise Failed(what)
+
+
+def in_browser(pages, pictures):
+    with browser.Browser() as window:
+        report(window, pages["report"], pictures)
+        hostile(window, pages["hostile"])
+        many(window, pages["many"])
+
+
+def report(window, path, pictures):
+    window.open(path)
+    expect(not window.complaints(), f"the browser complains: {window.complaints()}")
+    for _ in range(50):
+        window.press("Tab")
+        if window.value("document.activeElement.tagName") == "SUMMARY":
+            break
+    expect(window.value("document.activeElement.tagName") == "SUMMARY", "no summary is reached by the keyboard")
+    window.press("Enter", text="\r")
+    expect(window.value("document.activeElement.parentElement.open"), "Enter opens no witnesses")
+    window.press("Tab")
+    expect(window.value("document.activeElement.tagName") == "TR", "no source row is reached by the keyboard")
+    window.press(" ", code="Space", text=" ")
+    expect(window.value("document.activeElement.classList.contains('chosen')"), "the space bar chooses no row")
+    window.press("Escape")
+    expect(window.value("document.querySelectorAll('.chosen, .same, .with').length") == 0, "Escape leaves marks")
+    if pictures:
+        window.value("document.activeElement.blur()")
+        window.shot(os.path.join(pictures, "page-report-whole.png"), whole=True)
+    row = "table.source:nth-of-type(2) tbody tr:nth-of-type(2)"
+    window.click(row)
+    expect(window.value("document.querySelectorAll('.same').length") == 2, "the invoice isn't marked in both places")
+    expect(window.value("document.querySelectorAll('.with').length") == 2, "what stands beside the invoice isn't marked")
+    if pictures:
+        top = window.value("document.querySelector('table.why').closest('article').previousElementSibling.getBoundingClientRect().top + scrollY")
+        window.value("document.activeElement.blur()")
+        window.shot(os.path.join(pictures, "page-report.png"), top=top - 16, height=520)
+    window.click(row)
+    expect(window.value("document.querySelectorAll('.same').length") == 0, "a second click leaves marks")
+    window.value("document.querySelector('details').open = false")
+    window.media("print")
+    expect(window.value("document.querySelector('.sources').offsetHeight > 0"), "printed witnesses aren't open")
+    expect(window.printed() > 10_000, "nothing is printed")
+    window.media("")
+    expect(not window.value("document.querySelector('details').open"), "printing leaves the witnesses open")
+
+
+def hostile(window, path):
+    window.open(path)
+    expect(not window.complaints(), f"the browser complains: {window.complaints()}")
+    expect(window.value("window.pwned === undefined"), "a value ran as a script")
+    expect(window.value("document.scripts.length") == 1, "a value became a script")
+    expect(window.value("document.querySelectorAll('img, b b, i').length") == 0, "a value became markup")
+    cells = window.value("[...document.querySelectorAll('td')].map(it => it.textContent.replace(/\\n$/, ''))")
+    expect("<img src=x onerror='window.pwned=1'>" in cells, "a value isn't shown as it is")
+
+
+def many(window, path):
+    begun = time.monotonic()
+    window.open(path)
+    expect(window.value("document.querySelectorAll('tr.row').length") == 10_000, "not all rows are there")
+    took = time.monotonic() - begun
+    window.value("document.querySelectorAll('details')[5000].open = true")
+    window.click("details[open] tr[data-k]")
+    expect(window.value("document.querySelectorAll('.same').length") == 2, "the row isn't marked in both places")
+    print(f"page: 10^4 rows, {os.path.getsize(path) / 1e6:.1f} MB: loaded in {took:.1f} s", file=sys.stderr)
+    expect(took < LOADED, f"10^4 rows take {took:.1f} s")
+
+
+def main():
+    words = argparse.ArgumentParser()
+    words.add_argument("--pictures")
+    pictures = words.parse_args().pictures
+    os.chdir(TOP)
+    failed = False
+    with tempfile.TemporaryDirectory() as folder:
+        pathlib.Path(folder, "hostile.sql").write_text(HOSTILE)
+        texts = [*sorted(TOP.glob("examples/*.sql")), pathlib.Path(folder, "hostile.sql"), pathlib.Path(large(folder))]
+        pages = {}
+        for path in texts:
+            page, why = compare(os.path.relpath(path) if path.is_relative_to(TOP) else str(path))
+            pages[path.stem] = os.path.join(folder, path.stem + ".html")
+            pathlib.Path(pages[path.stem]).write_bytes(page)
+            if why:
+                print(f"page: {path.name}: {why}", file=sys.stderr)
+                failed = True
+        print(f"page: {len(texts)} pages were read back", file=sys.stderr)
+        if not browser.found():
+            print("page: no Chromium is installed (apt-get install chromium), so no page was opened in it", file=sys.stderr)
+        else:
+            try:
+                in_browser(pages, pictures)
+                print("page: opened in Chromium", file=sys.stderr)
+            except (Failed, OSError) as error:
+                print(f"page: {error}", file=sys.stderr)
+                failed = True
+    return failed
+
+
+if __name__ == "__main__":
+    sys.exit(main())

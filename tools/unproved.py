@@ -1,0 +1,89 @@
+#!/usr/bin/env python3
+"""Runs the program's sources, unproved, with the words of a command line: unproved.py [WORD ..].
+
+`rt try` runs them, in a folder of its own: so the script is handed on by its whole path, and each file that a COPY of it
+names by a path from the caller's folder is handed on as a copy under that path. What the program writes is written when it has
+ended, and its status is the status. It is 1, which the program never has, where there is no answer: where `rt try` fails, where
+the answer is longer than 2^20 bytes, where the run takes longer than ten minutes, and where a file can't be handed on.
+"""
+import os
+import pathlib
+import re
+import subprocess
+import sys
+
+import scripts
+
+TOP = pathlib.Path(__file__).resolve().parent.parent
+TOLD = (
+    "perm: not proved yet: this answer comes, in a minute or two, from the sources as they stand, unproved; "
+    "./build proves them in about half an hour, and then the proved program answers"
+)
+SECONDS = 600
+ENDED = re.compile(rb"^run=ended status=(\d+) .*proved=no\n\Z", re.M)
+# The lines of `rt try` itself, on the error stream.
+OWN = re.compile(rb"^(?:interpreter|checked|races|run|rt)(?::|=).*\n", re.M)
+
+
+def say(text):
+    print(text, file=sys.stderr, flush=True)
+
+
+def give_up(text):
+    say(f"perm: {text}")
+    sys.exit(1)
+
+
+def handed_on(name):
+    """The flags that hand on what the caller's folder has under the name, for the program to find it under the same name."""
+    if name.startswith("/") or not os.path.exists(name):
+        return []
+    within = os.path.normpath(name)
+    if within.split("/")[0] == ".." or "=" in within:
+        give_up(f"the unproved sources can't be given the file '{name}', only one below this folder; ./build first")
+    if os.path.isdir(name):
+        # A file in it makes the folder.
+        return ["--data", f"{within}/empty={os.devnull}"]
+    return ["--data", f"{within}={os.path.abspath(name)}"]
+
+
+def flags(words):
+    """What hands on the files of the script that the words name."""
+    found = []
+    if len(words) == 1 and os.path.isfile(words[0]):
+        try:
+            names = scripts.copied(pathlib.Path(words[0]).read_bytes())
+        except OSError:
+            names = []
+        for name in names:
+            found += handed_on(os.fsdecode(name))
+    return found
+
+
+def main(words):
+    say(TOLD)
+    call = ["rt", "try", "--seconds", str(SECONDS), *flags(words), "--"]
+    call += [os.path.join(os.getcwd(), word) if word and len(words) == 1 else word for word in words]
+    try:
+        done = subprocess.run(call, cwd=TOP / "crates/perm_cli", stdin=subprocess.DEVNULL, capture_output=True)
+    except OSError as error:
+        give_up(f"rt, of the kit that README.md names, can't be run ({error.strerror})")
+    ended = ENDED.search(done.stderr)
+    if not ended:
+        sys.stderr.buffer.write(done.stderr)
+        give_up("the unproved sources gave no answer; ./build first")
+    sys.stderr.buffer.write(OWN.sub(b"", done.stderr))
+    try:
+        sys.stdout.buffer.write(done.stdout)
+        sys.stdout.buffer.flush()
+    except OSError:
+        # As the program ends where its output fails, and nothing is left for the interpreter to flush.
+        os._exit(8)
+    return int(ended[1])
+
+
+if __name__ == "__main__":
+    try:
+        sys.exit(main(sys.argv[1:]))
+    except KeyboardInterrupt:
+        sys.exit(130)
