@@ -1,12 +1,12 @@
 -- Each variant is regular where its parts are, and each node where its fields are.
-use Rattle.std.specs.Prelude.{◌≡◌, ℕ, ◌≤◌, ℤ, Bool, List, Option, Some, is_some}
+use Rattle.std.specs.Prelude.{◌≡◌, ℕ, ◌≤◌, ℤ, Bool, true, List, Option, Some, is_some}
 use Rattle.std.specs.Int.{IsNonNegative}
 use Rattle.std.proofs.Common.{sym, subst}
 use Rattle.null_logic.specs.declared.compare.Compare.{Compare}
 use Rattle.null_logic.specs.declared.operator.Operator.{Operator}
 use Rattle.null_logic.specs.declared.truth.Truth.{Truth}
 use Rattle.perm_values.specs.declared.kind.Kind.{Kind}
-use Rattle.sql_tree.specs.Regular.{IsFilled, IsSeveral, Each, IfThere, IsConnective, has_argument, has_condition, RegularExpr, RegularBody, RegularBodyLayer, RegularStep, RegularArm, RegularQuery, RegularSet, RegularSetLayer, RegularSetStep, RegularItem, RegularItemLayer, RegularSource, RegularSourceLayer, RegularFrom, RegularJoin, RegularFromItem, RegularCore, regular_aggregate, regular_between, regular_case, regular_chain, regular_coalesce, regular_column, regular_compared, regular_core, regular_exists, regular_from, regular_in_list, regular_in_query, regular_inner, regular_integer, regular_is_distinct, regular_is_null, regular_is_truth, regular_join_step, regular_like, regular_logic, regular_named, regular_nots, regular_null, regular_null_if, regular_null_of, regular_paren, regular_quantified, regular_scalar, regular_set_chain, regular_set_core, regular_set_paren, regular_signs, regular_star, regular_table_star, regular_text, regular_truth, regular_value}
+use Rattle.sql_tree.specs.Regular.{IsFilled, IsSeveral, Each, IfThere, IsConnective, has_argument, has_condition, is_lateral, IsLateralItem, RegularExpr, RegularBody, RegularBodyLayer, RegularStep, RegularArm, RegularQuery, RegularSet, RegularSetLayer, RegularSetStep, RegularItem, RegularItemLayer, RegularSource, RegularSourceLayer, RegularFrom, RegularJoin, RegularFromItem, RegularCore, regular_aggregate, regular_between, regular_case, regular_chain, regular_coalesce, regular_column, regular_compared, regular_core, regular_exists, regular_from, regular_in_list, regular_in_query, regular_inner, regular_integer, regular_is_distinct, regular_is_null, regular_is_truth, regular_join_step, regular_like, regular_logic, regular_named, regular_nots, regular_null, regular_null_if, regular_null_of, regular_paren, regular_quantified, regular_scalar, regular_set_chain, regular_set_core, regular_set_paren, regular_signs, regular_star, regular_table_star, regular_text, regular_truth, regular_value}
 use Rattle.sql_tree.specs.declared.expression.AggWord.{AggWord}
 use Rattle.sql_tree.specs.declared.expression.ArmTree.{ArmTree}
 use Rattle.sql_tree.specs.declared.expression.ExprBody.TheVariants as e
@@ -154,10 +154,12 @@ from-regular first joins f j =
     regular_from (subst (λ v. RegularFromItem v.first) rolled f) (subst (λ v. Each RegularJoin v.joins) rolled j)
 
 pub join-regular : (operation : JoinWord) (item : FromItem) (condition : Option ExprTree)
-    → is_some condition ≡ has_condition operation → RegularFromItem item → IfThere RegularExpr condition
+    → is_some condition ≡ has_condition operation → (is_lateral operation ≡ true → IsLateralItem item) → RegularFromItem item
+    → IfThere RegularExpr condition
     → RegularJoin (roll-JoinStep (record { word = operation; item = item; condition = condition }))
-join-regular operation item condition same i c =
+join-regular operation item condition same l i c =
     let rolled = sym (out-roll-JoinStep (record { word = operation; item = item; condition = condition })) in
     regular_join_step
-    (subst (λ v. is_some v.condition ≡ has_condition v.word) rolled same) (subst (λ v. RegularFromItem v.item) rolled i)
+    (subst (λ v. is_some v.condition ≡ has_condition v.word) rolled same)
+    (subst (λ v. is_lateral v.word ≡ true → IsLateralItem v.item) rolled l) (subst (λ v. RegularFromItem v.item) rolled i)
     (subst (λ v. IfThere RegularExpr v.condition) rolled c)

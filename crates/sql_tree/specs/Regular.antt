@@ -81,13 +81,25 @@ has_argument word.Sum = true
 has_argument word.Min = true
 has_argument word.Max = true
 
--- a cross join alone has no condition
+-- a cross join has no condition, and neither has a lateral one: the TRUE behind ON says nothing
 abbrev pub has_condition : JoinWord → Bool
 has_condition join.Inner = true
 has_condition join.Left = true
 has_condition join.Right = true
 has_condition join.Full = true
 has_condition join.Cross = false
+has_condition join.CrossLateral = false
+has_condition join.LeftLateral = false
+
+-- the item behind it sees the row on the left
+abbrev pub is_lateral : JoinWord → Bool
+is_lateral join.Inner = false
+is_lateral join.Left = false
+is_lateral join.Right = false
+is_lateral join.Full = false
+is_lateral join.Cross = false
+is_lateral join.CrossLateral = true
+is_lateral join.LeftLateral = true
 
 abbrev pub RegularMark : ScopeMark → Type 0
 RegularMark mark.Plain = Unit {0}
@@ -118,6 +130,14 @@ ItemLayer = SelectItem-F ExprBody SelectItem SetTree FromSource ArmTree ExprStep
 
 abbrev pub SourceLayer : Type 0
 SourceLayer = FromSource-F ExprBody SelectItem SetTree FromSource ArmTree ExprStep ExprTree Core QueryTree SetStep FromItem FromTree JoinStep
+
+abbrev pub IsSubquery : SourceLayer → Type 0
+IsSubquery (FromSource-F.Named name) = ⊥
+IsSubquery (FromSource-F.Inner query) = Unit {0}
+
+-- what a lateral join reads: a subquery without a mark
+abbrev pub IsLateralItem : FromItem → Type 0
+IsLateralItem item = IsSubquery (out-FromSource item.source) × (item.mark ≡ mark.Plain)
 
 -- ---- expressions and queries
 
@@ -212,6 +232,7 @@ mutual
 
   pub data RegularJoin : JoinStep → Type 0 where
     regular_join_step : {step : JoinStep} → is_some (out-JoinStep step).condition ≡ has_condition (out-JoinStep step).word
+        → (is_lateral (out-JoinStep step).word ≡ true → IsLateralItem (out-JoinStep step).item)
         → RegularFromItem (out-JoinStep step).item
         → ((part : ExprTree) → (out-JoinStep step).condition ≡ Some part → RegularExpr part) → RegularJoin step
 
@@ -257,6 +278,7 @@ RegularStatementBody (st.DropView view) = Unit {0}
 RegularStatementBody (st.Select query) = RegularQuery query
 RegularStatementBody (st.Explain query) = RegularQuery query
 RegularStatementBody (st.ShowFresh table) = Unit {0}
+RegularStatementBody (st.Impact table condition query) = IfThere RegularExpr condition × RegularQuery query
 
 abbrev pub RegularStatement : Statement → Type 0
 RegularStatement statement = RegularStatementBody statement.body

@@ -11,6 +11,9 @@ pub enum JoinWord {
     Right,
     Full,
     Cross,
+    /// The subquery behind it sees the row on the left (ISO/IEC 9075-2, 'lateral derived table').
+    CrossLateral,
+    LeftLateral,
 }
 
 /// How far the provenance of an item of FROM is followed: as usual, to the item itself, or to these of its attributes.
@@ -29,7 +32,7 @@ pub struct FromTree {
     pub joins: List<JoinStep>,
 }
 
-/// One join, from the left; a cross join has no condition.
+/// One join, from the left; a cross join has no condition, and neither has a lateral one.
 #[derive(Drop)]
 #[cycle(tree)]
 pub struct JoinStep {

@@ -61,6 +61,12 @@ pub enum StatementBody {
     ShowFresh {
         table: Name,
     },
+    /// Which rows of the query would vanish if these rows of the table were deleted.
+    Impact {
+        table: Name,
+        condition: Option<ExprTree>,
+        query: QueryTree,
+    },
 }
 
 /// A column of CREATE TABLE.
