@@ -1,12 +1,12 @@
 -- What a rule spells is read, where the tokens behind it don't go on with it; so it has one value.
 use Rattle.std.proofs.Common.{◌≡◌, ℕ, zero, suc, ◌≤◌, Bool, true, false, cond, List, [], ◌∷◌, ◌++◌, length, refl, sym, ap, subst, ◌∙◌, append_assoc, append-nil, arith}
 use Rattle.std.proofs.lemmas.Map.Views.{list_any-from_Contains}
-use Rattle.sql_grammar.specs.Rules.{word, token, ◌then◌, ◌or◌, front, optional, many, placed, symbol, Grammar, RuleOf, ValueOf, StartsAt, Spelled, a_word, a_token, both, first, second, front_first, front_second, absent, present, no_more, one_more, at_place, as_symbol}
-use Rattle.sql_grammar.specs.Descent.{Outcome, Taken, Stopped, and_then, mapped, Tables, nullable, next_is, begins_with, start_of, singles, repeated, step, read}
+use Rattle.sql_grammar.specs.Rules.{◌then◌, many, placed, symbol, Grammar, RuleOf, ValueOf, StartsAt, Spelled, a_word, a_token, both, first, second, front_first, front_second, absent, present, no_more, one_more, at_place, as_symbol}
+use Rattle.sql_grammar.specs.Descent.{Outcome, Taken, and_then, mapped, Tables, nullable, next_is, begins_with, start_of, is_flat, fronts, repeated, step, read}
 use Rattle.sql_grammar.proofs.Sound.{IsTold, Claims, step-claims}
 use Rattle.sql_grammar.proofs.Begins.{both_true, none-left, none-right, has, HasBegins, Begins, begins}
 use Rattle.sql_grammar.proofs.Depth.{Falls, shorter, and_then-alike, read-is, read-claims}
-use Rattle.sql_grammar.proofs.Fine.{extends, extends_of, is_flat, apart, apart-law, IsFine, IsShut}
+use Rattle.sql_grammar.proofs.Fine.{extends, extends_of, last_of, apart, apart-law, EndsBefore, IsFine, IsShut}
 
 -- what holds of a grammar and its tables that the next token decides
 pub record IsDecided (g : Grammar) (tables : Tables g) (goes_on : g.Symbol → List g.Sort) : Type 0 where
@@ -27,10 +27,6 @@ module _ (g : Grammar) (tables : Tables g) (goes_on : g.Symbol → List g.Sort) 
   -- the tokens don't go on with what the rule spelled
   abbrev pub Ends : RuleOf g → List g.Token → Type 0
   Ends r rest = next_is g tables (extends_of g tables goes_on r) rest ≡ false
-
-  none_of_nothing : (rest : List g.Token) → next_is g tables [] rest ≡ false
-  none_of_nothing [] = refl
-  none_of_nothing (t ∷ rest) = refl
 
   ends-left : (xs ys : List g.Sort) (rest : List g.Token) → next_is g tables (xs ++ ys) rest ≡ false → next_is g tables xs rest ≡ false
   ends-left xs ys [] e = refl
@@ -88,14 +84,18 @@ module _ (g : Grammar) (tables : Tables g) (goes_on : g.Symbol → List g.Sort) 
   not_begun r s [] rest away b e = subst (λ empty. next_is g tables (cond empty (start_of g tables r) []) rest ≡ false) b e
   not_begun r s (t ∷ us) rest away b e = apart-law g tables decided.told (start_of g tables r) (start_of g tables s) t away b
 
+  pub flat-fronts : (r s : RuleOf g) → is_flat r ≡ true → fronts (r then s) ≡ fronts r ++ fronts s
+  flat-fronts r s flat = ap (λ f. fronts r ++ cond f (fronts s) []) flat
+
   -- tokens that spell a sequence of single tokens begin with its sorts
   flat-begins : {r : RuleOf g} {us : List g.Token} {x : ValueOf g r} → Spelled g r us x → (more : List (List g.Sort)) (rest : List g.Token) → is_flat r ≡ true
-      → begins_with g tables (singles r ++ more) (us ++ rest) ≡ begins_with g tables more rest
+      → begins_with g tables (fronts r ++ more) (us ++ rest) ≡ begins_with g tables more rest
   flat-begins (a_word {sort = sort} {t = t} e) more rest flat = rw (e, decided.has_begins.same.refl sort) refl
   flat-begins (a_token {sorts = sorts} {t = t} c) more rest flat = rw (list_any-from_Contains decided.has_begins.same (g.sort t) sorts c) refl
   flat-begins (both {r = r} {s = s} {us = us} {vs = vs} a b) more rest flat =
       let flats = both_true flat in
-      rw (append_assoc (singles r) (singles s) more, append_assoc us vs rest) (flat-begins a (singles s ++ more) (vs ++ rest) flats.0 ∙ flat-begins b more rest flats.1)
+      ap (λ sorts. begins_with g tables (sorts ++ more) ((us ++ vs) ++ rest)) (flat-fronts r s flats.0)
+      ∙ rw (append_assoc (fronts r) (fronts s) more, append_assoc us vs rest) (flat-begins a (fronts s ++ more) (vs ++ rest) flats.0 ∙ flat-begins b more rest flats.1)
   flat-begins (first a) more rest flat = absurd cc
   flat-begins (second a) more rest flat = absurd cc
   flat-begins (front_first a) more rest flat = absurd cc
@@ -107,37 +107,40 @@ module _ (g : Grammar) (tables : Tables g) (goes_on : g.Symbol → List g.Sort) 
   flat-begins (at_place a c) more rest flat = absurd cc
   flat-begins (as_symbol a) more rest flat = absurd cc
 
-  flat-spelled : {r : RuleOf g} {us : List g.Token} {x : ValueOf g r} → Spelled g r us x → (rest : List g.Token) → is_flat r ≡ true → begins_with g tables (singles r) (us ++ rest) ≡ true
-  flat-spelled {r = r} {us = us} a rest flat = ap (λ sorts. begins_with g tables sorts (us ++ rest)) (sym (append-nil (singles r))) ∙ flat-begins a [] rest flat
+  both-front : (r s : RuleOf g) (us vs rest : List g.Token)
+      → (is_flat r ≡ true → begins_with g tables (fronts r ++ fronts s) (us ++ (vs ++ rest)) ≡ true) → begins_with g tables (fronts r) (us ++ (vs ++ rest)) ≡ true
+      → begins_with g tables (fronts (r then s)) ((us ++ vs) ++ rest) ≡ true
+  both-front r s us vs rest whole one = by_flat (is_flat r) refl where
+    by_flat : (f : Bool) → is_flat r ≡ f → begins_with g tables (fronts r ++ cond f (fronts s) []) ((us ++ vs) ++ rest) ≡ true
+    by_flat true e = rw (append_assoc us vs rest) (whole e)
+    by_flat false e = rw (append_assoc us vs rest, append-nil (fronts r)) one
 
-  -- a sequence of single tokens is read whatever follows it
-  pub flat-fine : (r : RuleOf g) → is_flat r ≡ true → IsFine g tables goes_on r × (extends_of g tables goes_on r ≡ [])
-  flat-fine (word sort) flat = (tt, refl)
-  flat-fine (token sorts) flat = (tt, refl)
-  flat-fine (r then s) flat =
-      let flats = both_true flat in
-      let a = flat-fine r flats.0 in
-      let b = flat-fine s flats.1 in
-      ((a.0, b.0, rw a.1 refl), rw (a.1, b.1) (either (nullable tables.empty s) []))
-    where
-      either : (empty : Bool) (none : List g.Sort) → cond empty none none ≡ none
-      either true none = refl
-      either false none = refl
-  flat-fine (r or s) flat = absurd cc
-  flat-fine (front r s) flat = absurd cc
-  flat-fine (optional r) flat = absurd cc
-  flat-fine (many r) flat = absurd cc
-  flat-fine (placed r) flat = absurd cc
-  flat-fine (symbol n) flat = absurd cc
+  -- what a rule spells begins with the single tokens at its front
+  front-spelled : {r : RuleOf g} {us : List g.Token} {x : ValueOf g r} → Spelled g r us x → (rest : List g.Token) → begins_with g tables (fronts r) (us ++ rest) ≡ true
+  front-spelled (a_word {sort = sort} {t = t} e) rest = rw (e, decided.has_begins.same.refl sort) refl
+  front-spelled (a_token {sorts = sorts} {t = t} c) rest = rw (list_any-from_Contains decided.has_begins.same (g.sort t) sorts c) refl
+  front-spelled (both {r = r} {s = s} {us = us} {vs = vs} a b) rest =
+      both-front r s us vs rest (λ flat. flat-begins a (fronts s) (vs ++ rest) flat ∙ front-spelled b rest) (front-spelled a (vs ++ rest))
+  front-spelled (first a) rest = refl
+  front-spelled (second a) rest = refl
+  front-spelled (front_first a) rest = refl
+  front-spelled (front_second a) rest = refl
+  front-spelled absent rest = refl
+  front-spelled (present a) rest = refl
+  front-spelled no_more rest = refl
+  front-spelled (one_more a b) rest = refl
+  front-spelled (at_place a c) rest = front-spelled a rest
+  front-spelled (as_symbol a) rest = refl
 
   -- the first rule's tokens aren't in front where the other is read
-  not_front : (r s : RuleOf g) (ts rest : List g.Token) (y : ValueOf g s) → IsShut g tables goes_on r s → by s ts ≡ Taken y rest → begins_with g tables (singles r) ts ≡ false
-  not_front r s ts rest y shut e = by_test (begins_with g tables (singles r) ts) refl where
-    by_test : (b : Bool) → begins_with g tables (singles r) ts ≡ b → b ≡ false
+  not_front : (r s : RuleOf g) (ts rest : List g.Token) (y : ValueOf g s) → IsShut g tables goes_on r s → next_is g tables (last_of [] (fronts r)) rest ≡ false
+      → by s ts ≡ Taken y rest → begins_with g tables (fronts r) ts ≡ false
+  not_front r s ts rest y shut ends e = by_test (begins_with g tables (fronts r) ts) refl where
+    by_test : (b : Bool) → begins_with g tables (fronts r) ts ≡ b → b ≡ false
     by_test false f = refl
     by_test true f =
-        let stop = shut ts f in
-        let no : Stopped stop.0 ≡ Taken y rest = sym stop.1 ∙ e in
+        let before : EndsBefore g tables goes_on (fronts r) ts (Taken y rest) = subst (EndsBefore g tables goes_on (fronts r) ts) e (shut ts f) in
+        let no : true ≡ false = sym before.1 ∙ ends in
         absurd cc
 
   more-complete : (r : RuleOf g) (us vs rest : List g.Token) (x : ValueOf g r) (xs : List (ValueOf g r)) → nullable tables.empty r ≡ false → Begins g tables r us
@@ -181,12 +184,13 @@ module _ (g : Grammar) (tables : Tables g) (goes_on : g.Symbol → List g.Sort) 
       let e = complete a is.1 rest (ends-right (extends_of g tables goes_on r) (extends_of g tables goes_on s) rest (ends-left one _ rest ends)) in
       rw (not_begun r s us rest is.3 (begins g tables decided.has_begins a) (ends-right one _ rest ends), e) refl
   complete (front_first {r = r} {s = s} {us = us} a) is rest ends =
-      let own = flat-fine r is.1 in
-      let e = complete a own.0 rest (rw own.1 (none_of_nothing rest)) in
-      rw (flat-spelled a rest is.1, e) refl
+      let one : List g.Sort = extends_of g tables goes_on r ++ extends_of g tables goes_on s in
+      let e = complete a is.0 rest (ends-left (extends_of g tables goes_on r) (extends_of g tables goes_on s) rest (ends-left one _ rest ends)) in
+      rw (front-spelled a rest, e) refl
   complete (front_second {r = r} {s = s} {us = us} {y = y} a) is rest ends =
-      let e = complete a is.0 rest ends in
-      rw (not_front r s (us ++ rest) rest y is.3 e, e) refl
+      let one : List g.Sort = extends_of g tables goes_on r ++ extends_of g tables goes_on s in
+      let e = complete a is.1 rest (ends-right (extends_of g tables goes_on r) (extends_of g tables goes_on s) rest (ends-left one _ rest ends)) in
+      rw (not_front r s (us ++ rest) rest y is.2 (ends-right one (last_of [] (fronts r)) rest ends) e, e) refl
   complete (absent {r = r}) is rest ends = rw (ends-left (start_of g tables r) (extends_of g tables goes_on r) rest ends) refl
   complete (present {r = r} {us = us} a) is rest ends =
       let e = complete a is.0 rest (ends-right (start_of g tables r) (extends_of g tables goes_on r) rest ends) in

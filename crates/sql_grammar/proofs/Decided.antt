@@ -1,8 +1,9 @@
 -- The next token decides each choice of the grammar of the SQL.
-use Rattle.std.proofs.Common.{◌≡◌, true, false, ◌&&◌, List, [], ◌∷◌, ◌++◌, refl, arith}
+use Rattle.std.proofs.Common.{◌≡◌, true, false, ◌&&◌, List, [], ◌∷◌, ◌++◌, refl, sym, subst, arith}
 use Rattle.sql_lexer.specs.declared.token.Token.{Token}
 use Rattle.sql_grammar.specs.Rules.{token, ◌then◌, word, symbol}
-use Rattle.sql_grammar.specs.Grammar.{sql, body}
+use Rattle.sql_grammar.specs.Descent.{fronts}
+use Rattle.sql_grammar.specs.Grammar.{SqlRule, sql, body, lateral}
 use Rattle.sql_grammar.specs.Sorts.{names, same_sort}
 use Rattle.sql_grammar.specs.Symbols as n
 use Rattle.sql_grammar.specs.Symbols.{Symbol}
@@ -11,8 +12,8 @@ use Rattle.sql_grammar.specs.declared.sort.Sort.{Sort}
 use Rattle.sql_grammar.specs.declared.sort.Sort.TheVariants as s
 use Rattle.sql_grammar.proofs.Begins.{both_true, has}
 use Rattle.sql_grammar.proofs.Complete.{IsDecided}
-use Rattle.sql_grammar.proofs.Fine.{extends, fine, IsFine, IsShut, within, within-law}
-use Rattle.sql_grammar.proofs.Shut.{value-stops}
+use Rattle.sql_grammar.proofs.Fine.{extends, fine, EndsBefore, IsFine, IsShut, within, within-law}
+use Rattle.sql_grammar.proofs.Shut.{value-stops, source-taken, joined-stops}
 use Rattle.sql_grammar.proofs.TablesHold.{told, has_begins, has_falls}
 
 abbrev primary_goes_on : List Sort
@@ -46,7 +47,7 @@ abbrev source_goes_on : List Sort
 source_goes_on = s.BaseRelation ∷ s.Provenance ∷ s.As ∷ names
 
 abbrev from_goes_on : List Sort
-from_goes_on = s.Cross ∷ join_begins ++ source_goes_on ++ expression_goes_on
+from_goes_on = s.Left ∷ s.Cross ∷ join_begins ++ source_goes_on ++ expression_goes_on
 
 abbrev core_goes_on : List Sort
 core_goes_on = s.Comma ∷ s.From ∷ s.Where ∷ s.Group ∷ s.Having ∷ from_goes_on
@@ -71,6 +72,7 @@ goes_on n.Delete = s.Where ∷ expression_goes_on
 goes_on n.Drop = []
 goes_on n.Explain = query_goes_on
 goes_on n.Show = []
+goes_on n.Impact = query_goes_on
 goes_on n.NameOf = []
 goes_on n.Names = s.Comma ∷ []
 goes_on n.Qualified = s.Dot ∷ []
@@ -98,6 +100,8 @@ goes_on n.Having = s.Having ∷ expression_goes_on
 goes_on n.From = from_goes_on
 goes_on n.Join = expression_goes_on ++ source_goes_on
 goes_on n.JoinKind = []
+goes_on n.LeftJoin = expression_goes_on
+goes_on n.CrossJoin = s.Opening ∷ source_goes_on
 goes_on n.Source = source_goes_on
 goes_on n.Aliased = s.As ∷ names
 goes_on n.Mark = s.BaseRelation ∷ s.Provenance ∷ []
@@ -150,6 +154,7 @@ extends-within n.Delete = refl
 extends-within n.Drop = refl
 extends-within n.Explain = refl
 extends-within n.Show = refl
+extends-within n.Impact = refl
 extends-within n.NameOf = refl
 extends-within n.Names = refl
 extends-within n.Qualified = refl
@@ -177,6 +182,8 @@ extends-within n.Having = refl
 extends-within n.From = refl
 extends-within n.Join = refl
 extends-within n.JoinKind = refl
+extends-within n.LeftJoin = refl
+extends-within n.CrossJoin = refl
 extends-within n.Source = refl
 extends-within n.Aliased = refl
 extends-within n.Mark = refl
@@ -212,8 +219,11 @@ extends-within n.Coalesce = refl
 extends-within n.NullIf = refl
 extends-within n.Reference = refl
 
+abbrev name_dot_star : SqlRule
+name_dot_star = token names then word s.Dot then word s.Star
+
 -- the tokens of `name . *` begin no value
-item-shut : IsShut sql sql_tables goes_on (token names then word s.Dot then word s.Star) (symbol n.ItemValue)
+item-shut : IsShut sql sql_tables goes_on name_dot_star (symbol n.ItemValue)
 item-shut [] e = absurd cc
 item-shut (t ∷ []) e = let parts = both_true {a = has sql sql_tables names t} {b = false} e in absurd cc
 item-shut (t ∷ u ∷ []) e =
@@ -224,7 +234,46 @@ item-shut (t ∷ u ∷ v ∷ rest) e =
     let parts = both_true {a = has sql sql_tables names t} {b = has sql sql_tables (s.Dot ∷ []) u && (has sql sql_tables (s.Star ∷ []) v && true)} e in
     let more = both_true {a = has sql sql_tables (s.Dot ∷ []) u} {b = has sql sql_tables (s.Star ∷ []) v && true} parts.1 in
     let last = both_true {a = has sql sql_tables (s.Star ∷ []) v} {b = true} more.1 in
-    (v ∷ rest, value-stops t u v rest parts.0 more.0 last.0, omega arith)
+    subst (EndsBefore sql sql_tables goes_on (fronts name_dot_star) (t ∷ u ∷ v ∷ rest)) (sym (value-stops t u v rest parts.0 more.0 last.0)) (omega arith)
+
+-- LATERAL and a parenthesis begin no source
+cross-shut : IsShut sql sql_tables goes_on lateral (symbol n.Source)
+cross-shut [] e = absurd cc
+cross-shut (t ∷ []) e = let parts = both_true {a = has sql sql_tables (s.Lateral ∷ []) t} {b = false} e in absurd cc
+cross-shut (t ∷ u ∷ rest) e =
+    let parts = both_true {a = has sql sql_tables (s.Lateral ∷ []) t} {b = has sql sql_tables (s.Opening ∷ []) u && true} e in
+    let last = both_true {a = has sql sql_tables (s.Opening ∷ []) u} {b = true} parts.1 in
+    subst (EndsBefore sql sql_tables goes_on (fronts lateral) (t ∷ u ∷ rest)) (sym (source-taken t u rest parts.0 last.0)) (omega arith, last.0)
+
+abbrev lateral_on : SqlRule
+lateral_on = lateral then word s.On then word s.True
+
+abbrev source_on : SqlRule
+source_on = symbol n.Source then word s.On then symbol n.Expr
+
+left-shut : IsShut sql sql_tables goes_on lateral_on source_on
+left-shut [] e = absurd cc
+left-shut (t ∷ []) e = let parts = both_true {a = has sql sql_tables (s.Lateral ∷ []) t} {b = false} e in absurd cc
+left-shut (t ∷ u ∷ rest) e =
+    let parts = both_true {a = has sql sql_tables (s.Lateral ∷ []) t} {b = has sql sql_tables (s.Opening ∷ []) u && true} e in
+    let last = both_true {a = has sql sql_tables (s.Opening ∷ []) u} {b = true} parts.1 in
+    subst (EndsBefore sql sql_tables goes_on (fronts lateral_on) (t ∷ u ∷ rest)) (sym (joined-stops t u rest parts.0 last.0)) (omega arith)
+
+star-fine : IsFine sql sql_tables goes_on name_dot_star
+unfolding same_sort
+star-fine = fine sql sql_tables goes_on name_dot_star refl
+
+lateral-fine : IsFine sql sql_tables goes_on lateral
+unfolding same_sort
+lateral-fine = fine sql sql_tables goes_on lateral refl
+
+lateral_on-fine : IsFine sql sql_tables goes_on lateral_on
+unfolding same_sort
+lateral_on-fine = fine sql sql_tables goes_on lateral_on refl
+
+joined-fine : IsFine sql sql_tables goes_on source_on
+unfolding same_sort
+joined-fine = fine sql sql_tables goes_on source_on refl
 
 all_fine : (n : Symbol) → IsFine sql sql_tables goes_on (body n)
 unfolding same_sort
@@ -243,6 +292,7 @@ all_fine n.Delete = fine sql sql_tables goes_on (body n.Delete) refl
 all_fine n.Drop = fine sql sql_tables goes_on (body n.Drop) refl
 all_fine n.Explain = fine sql sql_tables goes_on (body n.Explain) refl
 all_fine n.Show = fine sql sql_tables goes_on (body n.Show) refl
+all_fine n.Impact = fine sql sql_tables goes_on (body n.Impact) refl
 all_fine n.NameOf = fine sql sql_tables goes_on (body n.NameOf) refl
 all_fine n.Names = fine sql sql_tables goes_on (body n.Names) refl
 all_fine n.Qualified = fine sql sql_tables goes_on (body n.Qualified) refl
@@ -260,7 +310,7 @@ all_fine n.Key = fine sql sql_tables goes_on (body n.Key) refl
 all_fine n.Limit = fine sql sql_tables goes_on (body n.Limit) refl
 all_fine n.CoreOf = fine sql sql_tables goes_on (body n.CoreOf) refl
 all_fine n.Items = fine sql sql_tables goes_on (body n.Items) refl
-all_fine n.Item = (tt, (tt, refl, refl, item-shut), refl, refl)
+all_fine n.Item = (tt, (star-fine, tt, item-shut), refl, refl)
 all_fine n.ItemValue = fine sql sql_tables goes_on (body n.ItemValue) refl
 all_fine n.Alias = fine sql sql_tables goes_on (body n.Alias) refl
 all_fine n.Sources = fine sql sql_tables goes_on (body n.Sources) refl
@@ -270,6 +320,8 @@ all_fine n.Having = fine sql sql_tables goes_on (body n.Having) refl
 all_fine n.From = fine sql sql_tables goes_on (body n.From) refl
 all_fine n.Join = fine sql sql_tables goes_on (body n.Join) refl
 all_fine n.JoinKind = fine sql sql_tables goes_on (body n.JoinKind) refl
+all_fine n.LeftJoin = (tt, ((tt, refl), (tt, (lateral_on-fine, joined-fine, left-shut), refl), refl), refl)
+all_fine n.CrossJoin = (tt, (tt, (lateral-fine, tt, cross-shut), refl), refl)
 all_fine n.Source = fine sql sql_tables goes_on (body n.Source) refl
 all_fine n.Aliased = fine sql sql_tables goes_on (body n.Aliased) refl
 all_fine n.Mark = fine sql sql_tables goes_on (body n.Mark) refl

@@ -2,9 +2,14 @@
 use Rattle.std.proofs.Common.{◌≡◌, suc, ◌+◌, Bool, true, false, not, ◌&&◌, ◌||◌, cond, List, [], ◌∷◌, ◌++◌, length, refl, sym, subst, ◌∙◌}
 use Rattle.std.specs.List.{list_any, list_all}
 use Rattle.sql_grammar.specs.Rules.{Rule, word, token, ◌then◌, ◌or◌, front, optional, many, placed, symbol, Grammar, RuleOf}
-use Rattle.sql_grammar.specs.Descent.{Stopped, Tables, nullable, starts, begins_with, start_of, singles, step, read}
+use Rattle.sql_grammar.specs.Descent.{Outcome, Taken, Stopped, Tables, nullable, starts, next_is, begins_with, start_of, fronts, step, read}
 use Rattle.sql_grammar.proofs.Sound.{IsTold}
 use Rattle.sql_grammar.proofs.Begins.{both_true, has}
+
+-- the sorts of the last of some tokens, where there is one behind a first
+abbrev pub last_of : {Sort : Type 0} → List Sort → List (List Sort) → List Sort
+last_of sorts [] = sorts
+last_of sorts (next ∷ more) = last_of next more
 
 -- the sorts with which what a rule spelled may go on
 abbrev pub extends : {Sort Symbol : Type 0} → (Symbol → Bool) → (Symbol → List Sort) → (Symbol → List Sort) → Rule Sort Symbol → List Sort
@@ -13,23 +18,12 @@ extends empty begins goes_on (token sorts) = []
 extends empty begins goes_on (r then s) = extends empty begins goes_on s ++ cond (nullable empty s) (extends empty begins goes_on r) []
 extends empty begins goes_on (r or s) =
     extends empty begins goes_on r ++ extends empty begins goes_on s ++ cond (nullable empty s) (starts empty begins r) []
-extends empty begins goes_on (front r s) = extends empty begins goes_on s
+extends empty begins goes_on (front r s) =
+    extends empty begins goes_on r ++ extends empty begins goes_on s ++ last_of [] (fronts r)
 extends empty begins goes_on (optional r) = starts empty begins r ++ extends empty begins goes_on r
 extends empty begins goes_on (many r) = starts empty begins r ++ extends empty begins goes_on r
 extends empty begins goes_on (placed r) = extends empty begins goes_on r
 extends empty begins goes_on (symbol n) = goes_on n
-
--- a sequence of single tokens, at least one
-abbrev pub is_flat : {Sort Symbol : Type 0} → Rule Sort Symbol → Bool
-is_flat (word sort) = true
-is_flat (token sorts) = true
-is_flat (r then s) = is_flat r && is_flat s
-is_flat (r or s) = false
-is_flat (front r s) = false
-is_flat (optional r) = false
-is_flat (many r) = false
-is_flat (placed r) = false
-is_flat (symbol n) = false
 
 -- no sort is in both
 abbrev pub apart : {Sort : Type 0} → (Sort → Sort → Bool) → List Sort → List Sort → Bool
@@ -39,10 +33,14 @@ module _ (g : Grammar) (tables : Tables g) (goes_on : g.Symbol → List g.Sort) 
   abbrev pub extends_of : RuleOf g → List g.Sort
   extends_of r = extends tables.empty tables.begins goes_on r
 
-  -- where the tokens begin with those of the first rule, the other stops at the last of these
+  -- reading ends before the last of the tokens that are of these sorts
+  abbrev pub EndsBefore : {X : Type 0} → List (List g.Sort) → List g.Token → Outcome g.Token X → Type 0
+  EndsBefore sorts ts (Stopped rest) = length rest + length sorts ≡ suc (length ts)
+  EndsBefore sorts ts (Taken x rest) = (length rest + length sorts ≡ suc (length ts)) × (next_is g tables (last_of [] sorts) rest ≡ true)
+
+  -- where the tokens begin with those at the front of the first rule, the other ends before the last of these
   abbrev pub IsShut : RuleOf g → RuleOf g → Type 0
-  IsShut r s = (ts : List g.Token) → begins_with g tables (singles r) ts ≡ true
-      → (rest : List g.Token) × (step g tables (read g tables) s ts ≡ Stopped rest) × (length rest + length (singles r) ≡ suc (length ts))
+  IsShut r s = (ts : List g.Token) → begins_with g tables (fronts r) ts ≡ true → EndsBefore (fronts r) ts (step g tables (read g tables) s ts)
 
   -- the next token decides each choice, and whether to go on
   abbrev pub IsFine : RuleOf g → Type 0
@@ -50,7 +48,7 @@ module _ (g : Grammar) (tables : Tables g) (goes_on : g.Symbol → List g.Sort) 
   IsFine (token sorts) = Unit {0}
   IsFine (r then s) = IsFine r × IsFine s × (apart g.same (extends_of r) (start_of g tables s) ≡ true)
   IsFine (r or s) = IsFine r × IsFine s × (nullable tables.empty r ≡ false) × (apart g.same (start_of g tables r) (start_of g tables s) ≡ true)
-  IsFine (front r s) = IsFine s × (is_flat r ≡ true) × (nullable tables.empty s ≡ false) × IsShut r s
+  IsFine (front r s) = IsFine r × IsFine s × IsShut r s
   IsFine (optional r) = IsFine r × (nullable tables.empty r ≡ false)
   IsFine (many r) = IsFine r × (nullable tables.empty r ≡ false) × (apart g.same (extends_of r) (start_of g tables r) ≡ true)
   IsFine (placed r) = IsFine r × (nullable tables.empty r ≡ false)

@@ -1,12 +1,12 @@
 -- Where and how reading ends depends on the tokens up to the one at which it ends.
 use Rattle.std.proofs.Common.{◌≡◌, ℕ, zero, suc, ◌+◌, ◌*◌, ◌≤◌, ◌<◌, Bool, true, false, ◌||◌, cond, List, [], ◌∷◌, ◌++◌, length, Some, inl, inr, refl, sym, ap, subst, ◌∙◌, append_assoc, append-nil, length-append, mul-le-mul_right, ltb-true, arith}
 use Rattle.sql_grammar.specs.Rules.{word, token, ◌then◌, ◌or◌, front, optional, many, placed, symbol, Grammar, RuleOf, ValueOf}
-use Rattle.sql_grammar.specs.Descent.{Outcome, Taken, Stopped, and_then, mapped, Tables, nullable, next_is, begins_with, start_of, singles, offset_of, take_word, take_token, read}
+use Rattle.sql_grammar.specs.Descent.{Outcome, Taken, Stopped, and_then, mapped, Tables, nullable, next_is, begins_with, start_of, is_flat, fronts, offset_of, take_word, take_token, read}
 use Rattle.sql_grammar.proofs.Sound.{Claims, Spells}
 use Rattle.sql_grammar.proofs.Begins.{both_true, has}
 use Rattle.sql_grammar.proofs.Depth.{below, Below, all_below, no_longer, shorter, read-is}
-use Rattle.sql_grammar.proofs.Fine.{is_flat, IsFine}
-use Rattle.sql_grammar.proofs.Complete.{IsDecided, by, by-claims, many-is, flat-fine}
+use Rattle.sql_grammar.proofs.Fine.{EndsBefore, IsFine}
+use Rattle.sql_grammar.proofs.Complete.{IsDecided, by, by-claims, many-is, flat-fronts}
 use Rattle.sql_grammar.proofs.Swapped.{Swapped, here, there, swapped-longer, swapped-lengths, swapped-longer', swapped, swapped-end, left_of, with_left, Kept, mapped-kept, next_is-swapped, begins_with-swapped}
 
 pub or_false : (a : Bool) → a || false ≡ true → a ≡ true
@@ -32,9 +32,18 @@ module _ (g : Grammar) (tables : Tables g) (goes_on : g.Symbol → List g.Sort) 
   read_left : (r : RuleOf g) (ts : List g.Token) → length (left_of (reads r ts)) ≤ length ts
   read_left r ts = left-no_longer r ts (reads r ts) (by-claims g tables goes_on decided r ts)
 
+  flat-split : (r s : RuleOf g) (more : List (List g.Sort)) (ts : List g.Token) → is_flat r ≡ true
+      → begins_with g tables (fronts (r then s) ++ more) ts ≡ begins_with g tables (fronts r ++ (fronts s ++ more)) ts
+  flat-split r s more ts flat =
+      ap (λ l. begins_with g tables (l ++ more) ts) (flat-fronts g tables goes_on decided r s flat)
+      ∙ ap (λ l. begins_with g tables l ts) (append_assoc (fronts r) (fronts s) more)
+
+  flat-length : (r s : RuleOf g) → is_flat r ≡ true → length (fronts (r then s)) ≡ length (fronts r) + length (fronts s)
+  flat-length r s flat = ap length (flat-fronts g tables goes_on decided r s flat) ∙ length-append (fronts r) (fronts s)
+
   -- a sequence of single tokens is read where its sorts are in front
-  flat-read : (r : RuleOf g) (more : List (List g.Sort)) (ts : List g.Token) → is_flat r ≡ true → begins_with g tables (singles r ++ more) ts ≡ true
-      → (x : ValueOf g r) × (m : List g.Token) × (reads r ts ≡ Taken x m) × (length m + length (singles r) ≡ length ts) × (begins_with g tables more m ≡ true)
+  flat-read : (r : RuleOf g) (more : List (List g.Sort)) (ts : List g.Token) → is_flat r ≡ true → begins_with g tables (fronts r ++ more) ts ≡ true
+      → (x : ValueOf g r) × (m : List g.Token) × (reads r ts ≡ Taken x m) × (length m + length (fronts r) ≡ length ts) × (begins_with g tables more m ≡ true)
   flat-read (word sort) more [] flat e = absurd cc
   flat-read (word sort) more (t ∷ rest) flat e =
       let parts = both_true {a = has g tables (sort ∷ []) t} {b = begins_with g tables more rest} e in
@@ -45,15 +54,57 @@ module _ (g : Grammar) (tables : Tables g) (goes_on : g.Symbol → List g.Sort) 
       (t, rest, rw parts.0 refl, omega arith, parts.1)
   flat-read (r then s) more ts flat e =
       let flats = both_true flat in
-      let a = flat-read r (singles s ++ more) ts flats.0 (ap (λ l. begins_with g tables l ts) (sym (append_assoc (singles r) (singles s) more)) ∙ e) in
+      let a = flat-read r (fronts s ++ more) ts flats.0 (sym (flat-split r s more ts flats.0) ∙ e) in
       let b = flat-read s more a.1 flats.1 a.4 in
-      ((a.0, b.0), b.1, rw (a.2, b.2) refl, omega (arith, a.3, b.3, length-append (singles r) (singles s)), b.4)
+      ((a.0, b.0), b.1, rw (a.2, b.2) refl, omega (arith, a.3, b.3, flat-length r s flats.0), b.4)
   flat-read (r or s) more ts flat e = absurd cc
   flat-read (front r s) more ts flat e = absurd cc
   flat-read (optional r) more ts flat e = absurd cc
   flat-read (many r) more ts flat e = absurd cc
   flat-read (placed r) more ts flat e = absurd cc
   flat-read (symbol n) more ts flat e = absurd cc
+
+  -- so many tokens of the front at least are read
+  abbrev IsPast : (r : RuleOf g) → List (List g.Sort) → List g.Token → Type 0
+  IsPast r sorts ts = length (left_of (reads r ts)) + length sorts ≤ length ts
+
+  abbrev followed : (r s : RuleOf g) → Outcome g.Token (ValueOf g r) → Outcome g.Token (ValueOf g (r then s))
+  followed r s o = and_then o (λ x mid. mapped (λ y. (x, y)) (reads s mid))
+
+  then_left : (r s : RuleOf g) (o : Outcome g.Token (ValueOf g r)) → length (left_of (followed r s o)) ≤ length (left_of o)
+  then_left r s (Stopped rest) = omega arith
+  then_left r s (Taken x mid) = omega (arith, read_left s mid, ap length (left-mapped {Y = ValueOf g (r then s)} (λ y. (x, y)) (reads s mid)))
+
+  then-past : (r s : RuleOf g) (ts : List g.Token) → (begins_with g tables (fronts r) ts ≡ true → IsPast r (fronts r) ts)
+      → ((mid : List g.Token) → begins_with g tables (fronts s) mid ≡ true → IsPast s (fronts s) mid)
+      → begins_with g tables (fronts (r then s)) ts ≡ true → IsPast (r then s) (fronts (r then s)) ts
+  then-past r s ts one next e = by_flat (is_flat r) refl e where
+    by_flat : (f : Bool) → is_flat r ≡ f → begins_with g tables (fronts r ++ cond f (fronts s) []) ts ≡ true → IsPast (r then s) (fronts r ++ cond f (fronts s) []) ts
+    by_flat true flat e =
+        let a = flat-read r (fronts s) ts flat e in
+        let on = ap left_of (ap (followed r s) a.2) ∙ left-mapped {Y = ValueOf g (r then s)} (λ y. (a.0, y)) (reads s a.1) in
+        omega (arith, ap length on, next a.1 a.4, a.3, length-append (fronts r) (fronts s))
+    by_flat false flat e =
+        let same = append-nil (fronts r) in
+        let a = one (ap (λ l. begins_with g tables l ts) (sym same) ∙ e) in
+        omega (arith, a, then_left r s (reads r ts), ap length same)
+
+  -- the single tokens at the front of a rule are read where their sorts are in front
+  front-read : (r : RuleOf g) (ts : List g.Token) → begins_with g tables (fronts r) ts ≡ true → IsPast r (fronts r) ts
+  front-read (word sort) ts e = let a = flat-read (word sort) [] ts refl e in omega (arith, a.3, ap length (ap left_of a.2))
+  front-read (token sorts) ts e = let a = flat-read (token sorts) [] ts refl e in omega (arith, a.3, ap length (ap left_of a.2))
+  front-read (r then s) ts e = then-past r s ts (front-read r ts) (front-read s) e
+  front-read (r or s) ts e = omega (arith, read_left (r or s) ts)
+  front-read (front r s) ts e = omega (arith, read_left (front r s) ts)
+  front-read (optional r) ts e = omega (arith, read_left (optional r) ts)
+  front-read (many r) ts e = omega (arith, read_left (many r) ts)
+  front-read (placed r) ts e = omega (arith, front-read r ts e, ap length (left-mapped {Y = ValueOf g (placed r)} (λ x. (offset_of g tables ts, x)) (reads r ts)))
+  front-read (symbol n) ts e = omega (arith, read_left (symbol n) ts)
+
+  before-left : {X : Type 0} (sorts : List (List g.Sort)) (ts : List g.Token) (o : Outcome g.Token X) → EndsBefore g tables goes_on sorts ts o
+      → length (left_of o) + length sorts ≡ suc (length ts)
+  before-left sorts ts (Stopped rest) e = e
+  before-left sorts ts (Taken x rest) e = e.0
 
   module _ (t : g.Token) (rest ws : List g.Token) where
     abbrev Swap : List g.Token → List g.Token → Type 0
@@ -103,32 +154,32 @@ module _ (g : Grammar) (tables : Tables g) (goes_on : g.Symbol → List g.Sort) 
     -- which way a choice by a front goes
     front-kept : (r s : RuleOf g) (ts us : List g.Token) → IsFine g tables goes_on (front r s) → Swap ts us → Keeps (reads r ts) (reads r us) → Keeps (reads s ts) (reads s us)
         → Keeps (reads (front r s) ts) (reads (front r s) us)
-    front-kept r s ts us is swap a b = by_tests (begins_with g tables (singles r) ts) (begins_with g tables (singles r) us) refl refl where
-      differ : begins_with g tables (singles r) ts ≡ true → begins_with g tables (singles r) us ≡ false → length (singles r) + length rest ≤ length ts → ⊥
-      differ e f few = let no : true ≡ false = sym e ∙ begins_with-swapped g tables t rest ws (singles r) swap few ∙ f in absurd cc
+    front-kept r s ts us is swap a b = by_tests (begins_with g tables (fronts r) ts) (begins_with g tables (fronts r) us) refl refl where
+      differ : begins_with g tables (fronts r) ts ≡ true → begins_with g tables (fronts r) us ≡ false → length (fronts r) + length rest ≤ length ts → ⊥
+      differ e f few = let no : true ≡ false = sym e ∙ begins_with-swapped g tables t rest ws (fronts r) swap few ∙ f in absurd cc
 
-      differ' : begins_with g tables (singles r) ts ≡ false → begins_with g tables (singles r) us ≡ true → length (singles r) + length rest ≤ length ts → ⊥
-      differ' e f few = let no : false ≡ true = sym e ∙ begins_with-swapped g tables t rest ws (singles r) swap few ∙ f in absurd cc
+      differ' : begins_with g tables (fronts r) ts ≡ false → begins_with g tables (fronts r) us ≡ true → length (fronts r) + length rest ≤ length ts → ⊥
+      differ' e f few = let no : false ≡ true = sym e ∙ begins_with-swapped g tables t rest ws (fronts r) swap few ∙ f in absurd cc
 
-      by_tests : (c d : Bool) → begins_with g tables (singles r) ts ≡ c → begins_with g tables (singles r) us ≡ d
+      by_tests : (c d : Bool) → begins_with g tables (fronts r) ts ≡ c → begins_with g tables (fronts r) us ≡ d
           → Keeps (cond c (mapped inl (reads r ts)) (mapped inr (reads s ts))) (cond d (mapped inl (reads r us)) (mapped inr (reads s us)))
       by_tests true true e f = mapped-kept t rest ws inl (reads r ts) (reads r us) a
       by_tests false false e f = mapped-kept t rest ws inr (reads s ts) (reads s us) b
       by_tests true false e f =
-          let one = flat-read r [] ts is.1 (ap (λ l. begins_with g tables l ts) (append-nil (singles r)) ∙ e) in
-          let far : ¬ (length (singles r) + length rest ≤ length ts) = differ e f in
-          let left = ap length (left-mapped {Y = ValueOf g (front r s)} inl (reads r ts) ∙ ap left_of one.2) in
-          inr (omega (arith, left, one.3))
-      by_tests false true e f = past (is.3 us f) b where
-        past : (m : List g.Token) × (reads s us ≡ Stopped m) × (length m + length (singles r) ≡ suc (length us)) → Keeps (reads s ts) (reads s us)
+          let one = front-read r ts e in
+          let far : ¬ (length (fronts r) + length rest ≤ length ts) = differ e f in
+          let left = ap length (left-mapped {Y = ValueOf g (front r s)} inl (reads r ts)) in
+          inr (omega (arith, left, one))
+      by_tests false true e f = past (before-left (fronts r) us (reads s us) (is.2 us f)) b where
+        past : length (left_of (reads s us)) + length (fronts r) ≡ suc (length us) → Keeps (reads s ts) (reads s us)
             → Keeps (mapped inr (reads s ts)) (mapped inl (reads r us))
         past stop (inr k) = inr (omega (arith, ap length (left-mapped {Y = ValueOf g (front r s)} inr (reads s ts)), k))
         past stop (inl k) =
             let same : left_of (reads s us) ≡ k.0 = ap left_of k.2 ∙ left-with k.0 (reads s ts) in
-            let counts = ap length (sym (ap left_of stop.1) ∙ same) in
+            let counts = ap length same in
             let lengths = swapped-lengths t rest ws swap in
             let longer = swapped-longer' t rest ws k.1 in
-            absurd (differ' e f (omega (arith, counts, stop.2, lengths, longer)))
+            absurd (differ' e f (omega (arith, counts, stop, lengths, longer)))
 
     -- symbols whose calls go less deep than this
     abbrev KeptBelow : ℕ → Type 0
@@ -190,8 +241,7 @@ module _ (g : Grammar) (tables : Tables g) (goes_on : g.Symbol → List g.Sort) 
       rule-kept (r or s) is k ts us swap lower fits = or-kept r s (rule-kept r is.0) (rule-kept s is.1) k ts us swap lower fits
       rule-kept (front r s) is k ts us swap lower fits =
           let parts = both_true lower in
-          let own = flat-fine g tables goes_on decided r is.1 in
-          front-kept r s ts us is swap (rule-kept r own.0 k ts us swap parts.0 fits) (rule-kept s is.0 k ts us swap parts.1 fits)
+          front-kept r s ts us is swap (rule-kept r is.0 k ts us swap parts.0 fits) (rule-kept s is.1 k ts us swap parts.1 fits)
       rule-kept (optional r) is k ts us swap lower fits =
           cond-kept (next_is g tables (start_of g tables r) ts) (next_is g tables (start_of g tables r) us) _ _ _ _
           (next_is-swapped g tables t rest ws (start_of g tables r) swap)

@@ -6,7 +6,7 @@ use Rattle.sql_grammar.specs.Building.{Word}
 use Rattle.sql_grammar.specs.Rules.{word, token, ◌then◌, optional, placed, symbol}
 use Rattle.sql_grammar.specs.Cursors.{reading, one, past, offset, sees}
 use Rattle.sql_grammar.specs.Descent.{Outcome, Taken, Stopped, and_then, mapped, begins_with, step}
-use Rattle.sql_grammar.specs.Grammar.{sql, body, list_of, in_parentheses}
+use Rattle.sql_grammar.specs.Grammar.{sql, body, list_of, in_parentheses, derived}
 use Rattle.sql_grammar.specs.built.Pieces as piece
 use Rattle.sql_grammar.specs.Sorts.{names, sort_of, same_sort}
 use Rattle.sql_grammar.specs.Symbols as n
@@ -24,7 +24,10 @@ use Rattle.sql_tree.specs.declared.query.SetTree.{SetTree}
 use Rattle.sql_tree.specs.declared.query.SetTree.TheVariants.{Chain}
 use Rattle.sql_tree.specs.declared.query.SetWord.{SetWord}
 use Rattle.sql_tree.specs.declared.query.SetWord.TheVariants.{Intersect}
+use Rattle.sql_tree.specs.declared.source.FromItem.{FromItem}
 use Rattle.sql_tree.specs.declared.source.FromTree.{FromTree}
+use Rattle.sql_tree.specs.declared.source.JoinStep.{JoinStep}
+use Rattle.sql_tree.specs.declared.source.JoinWord.{JoinWord}
 use Rattle.sql_tree.specs.declared.source.ScopeMark.TheVariants.{Plain, BaseRelation, External}
 use Rattle.sql_tree.specs.declared.query.OrderKey.TheVariants.{Named, Position}
 use Rattle.sql_grammar.proofs.Listing.{mapped-mapped}
@@ -133,14 +136,23 @@ mark_is tokens =
 pub aliased_is : (tokens : List Token) → reading n.Aliased tokens ≡ cond (sees names tokens) (piece.named_source tokens) (piece.inner_source tokens)
 aliased_is tokens =
     reading_is n.Aliased tokens
-    ∙ choice_of b.aliased (sees names tokens) (piece.by (symbol n.NameOf then symbol n.Alias) tokens)
-    (piece.by (word s.Opening then symbol n.Query then word s.Closing then optional (word s.As) then symbol n.NameOf) tokens)
+    ∙ choice_of b.aliased (sees names tokens) (piece.by (symbol n.NameOf then symbol n.Alias) tokens) (piece.by derived tokens)
 
-pub join_is : (tokens : List Token) → reading n.Join tokens ≡ cond (sees join_begins tokens) (piece.joined_on tokens) (piece.crossed tokens)
+pub join_is : (tokens : List Token) → reading n.Join tokens
+    ≡ cond (sees join_begins tokens) (piece.joined_on tokens) (cond (sees (s.Left ∷ []) tokens) (reading n.LeftJoin tokens) (reading n.CrossJoin tokens))
 join_is tokens =
     reading_is n.Join tokens
-    ∙ choice_of b.join_step (sees join_begins tokens) (piece.by (symbol n.JoinKind then symbol n.Source then word s.On then symbol n.Expr) tokens)
-    (piece.by (word s.Cross then word s.Join then symbol n.Source) tokens)
+    ∙ by_tests (sees join_begins tokens) (sees (s.Left ∷ []) tokens)
+    (piece.by (symbol n.JoinKind then symbol n.Source then word s.On then symbol n.Expr) tokens) (reading n.LeftJoin tokens) (reading n.CrossJoin tokens)
+  where
+    by_tests : (c d : Bool) (x : Outcome Token (JoinWord × (FromItem × (Word × ExprTree)))) (y z : Outcome Token JoinStep)
+        → mapped b.join_step (cond c (mapped inl x) (mapped inr (cond d (mapped inl y) (mapped inr z)))) ≡ cond c (mapped b.joined_on x) (cond d y z)
+    by_tests true d (Stopped rest) y z = refl
+    by_tests true d (Taken v rest) y z = refl
+    by_tests false true x (Stopped rest) z = refl
+    by_tests false true x (Taken v rest) z = refl
+    by_tests false false x y (Stopped rest) = refl
+    by_tests false false x y (Taken v rest) = refl
 
 -- an optional list behind a word
 sources_if : (there : Bool) (tokens : List Token) (o : Outcome Token Word) (l : List Token → Outcome Token (FromTree × List (Word × FromTree)))

@@ -1,5 +1,5 @@
 -- What the rules of queries build of regular parts is regular.
-use Rattle.std.proofs.Common.{◌≡◌, inl, inr, Bool, true, false, List, [], ◌∷◌, Some, None, refl}
+use Rattle.std.proofs.Common.{◌≡◌, ℕ, inl, inr, Bool, true, false, List, [], ◌∷◌, Some, None, refl, sym, subst, ◌∙◌}
 use Rattle.std.specs.Prelude.{if◌then◌else◌, option_map, is_some}
 use Rattle.sql_grammar.specs.Building as b
 use Rattle.sql_grammar.specs.Symbols as n
@@ -7,10 +7,17 @@ use Rattle.sql_grammar.specs.declared.sort.Sort.TheVariants as s
 use Rattle.sql_grammar.proofs.Holding.{none-each, none-there, some-there}
 use Rattle.sql_grammar.proofs.RegularTrees.{Builds, items-each}
 use Rattle.sql_tree.proofs.Made as made
-use Rattle.sql_tree.specs.Regular.{Each, IsTokenNumber, RegularOrder, RegularExpr, RegularSet, RegularSetStep, RegularFrom, RegularItem, has_condition, regular_query, regular_set_step, regular_from_item}
+use Rattle.sql_tree.specs.Regular.{Each, IsTokenNumber, RegularOrder, RegularExpr, RegularSet, RegularSetStep, RegularQuery, RegularFrom, RegularFromItem, RegularJoin, RegularItem, has_condition, is_lateral, IsSubquery, IsLateralItem, regular_query, regular_set_step, regular_from_item}
 use Rattle.sql_tree.specs.declared.query.SetStep.{SetStep}
 use Rattle.sql_tree.specs.declared.query.SetTree.{SetTree}
-use Rattle.sql_tree.specs.declared.source.JoinWord.TheVariants.{Left, Right, Full, Cross}
+use Rattle.sql_tree.specs.declared.expression.ExprTree.{ExprTree}
+use Rattle.sql_tree.specs.declared.name.Name.{Name}
+use Rattle.sql_tree.specs.declared.query.QueryTree.{QueryTree}
+use Rattle.sql_tree.specs.declared.source.FromItem.{FromItem}
+use Rattle.sql_tree.specs.declared.source.FromSource.TheVariants.{Inner, outs-Inner}
+use Rattle.sql_tree.specs.declared.source.JoinWord.{JoinWord}
+use Rattle.sql_tree.specs.declared.source.JoinWord.TheVariants.{Left, Right, Full, Cross, CrossLateral, LeftLateral}
+use Rattle.sql_tree.specs.declared.source.ScopeMark.TheVariants.{Plain}
 
 -- ---- set operations
 
@@ -93,18 +100,46 @@ having-builds (Some (having, part)) h = some-there RegularExpr part h.1
 pub from-builds : Builds n.From
 from-builds (first, joins) h = made.from-regular first joins h.0 h.1
 
-pub join-builds : Builds n.Join
-join-builds (inl (operation, (item, (on, condition)))) h = made.join-regular operation item (Some condition) h.0 h.1.0 (some-there RegularExpr condition h.1.1.1)
-join-builds (inr (cross, (join_word, item))) h = made.join-regular Cross item None refl h.1.1 (none-there RegularExpr)
+on-regular : (operation : JoinWord) (item : FromItem) (condition : ExprTree) → true ≡ has_condition operation → is_lateral operation ≡ false
+    → RegularFromItem item → RegularExpr condition → RegularJoin (b.joined_on (operation, (item, (tt, condition))))
+on-regular operation item condition same free i c =
+    made.join-regular operation item (Some condition) same (λ e. let no : true ≡ false = sym e ∙ free in absurd cc) i (some-there RegularExpr condition c)
 
-outer-conditional : (left right : Bool) → true ≡ has_condition (if left then Left else (if right then Right else Full))
-outer-conditional true right = refl
-outer-conditional false true = refl
-outer-conditional false false = refl
+pub join-builds : Builds n.Join
+join-builds (inl (operation, (item, (on, condition)))) h = on-regular operation item condition h.0.0 h.0.1 h.1.0 h.1.1.1
+join-builds (inr (inl left)) h = h
+join-builds (inr (inr cross)) h = h
+
+abbrev IsPlainJoin : JoinWord → Type 0
+IsPlainJoin word = (true ≡ has_condition word) × (is_lateral word ≡ false)
+
+outer-conditional : (right : Bool) → IsPlainJoin (if right then Right else Full)
+outer-conditional true = (refl, refl)
+outer-conditional false = (refl, refl)
 
 pub join_kind-builds : Builds n.JoinKind
-join_kind-builds (inl inner) h = refl
-join_kind-builds (inr (t, outer)) h = outer-conditional (b.is t s.Left) (b.is t s.Right)
+join_kind-builds (inl inner) h = (refl, refl)
+join_kind-builds (inr (t, outer)) h = outer-conditional (b.is t s.Right)
+
+lateral-regular : (at : ℕ) (query : QueryTree) (name : Name) → RegularQuery query
+    → RegularFromItem (record { at = at; source = Inner query; alias = Some name; mark = Plain })
+lateral-regular at query name q = regular_from_item (made.inner-regular query name q) tt
+
+-- a lateral item is a subquery without a mark
+lateral-is : (at : ℕ) (query : QueryTree) (name : Name) → IsLateralItem (record { at = at; source = Inner query; alias = Some name; mark = Plain })
+lateral-is at query name = (subst IsSubquery (sym (outs-Inner query)) tt, refl)
+
+pub left_join-builds : Builds n.LeftJoin
+left_join-builds (left, (outer, (join_word, inl ((word, (at, (opening, (query, (closing, (as_word, name)))))), (on, true_word))))) h =
+    made.join-regular LeftLateral (b.lateral (word, (at, (opening, (query, (closing, (as_word, name))))))) None refl (λ _. lateral-is at query name)
+    (lateral-regular at query name h.1.1.1.0.1.1.0) (none-there RegularExpr)
+left_join-builds (left, (outer, (join_word, inr (item, (on, condition))))) h = on-regular Left item condition refl refl h.1.1.1.0 h.1.1.1.1.1
+
+pub cross_join-builds : Builds n.CrossJoin
+cross_join-builds (cross, (join_word, inl (word, (at, (opening, (query, (closing, (as_word, name)))))))) h =
+    made.join-regular CrossLateral (b.lateral (word, (at, (opening, (query, (closing, (as_word, name))))))) None refl (λ _. lateral-is at query name)
+    (lateral-regular at query name h.1.1.1.1.0) (none-there RegularExpr)
+cross_join-builds (cross, (join_word, inr item)) h = made.join-regular Cross item None refl (λ e. absurd cc) h.1.1 (none-there RegularExpr)
 
 pub source-builds : Builds n.Source
 source-builds ((at, (read, name)), scope) h = regular_from_item h.0 h.1

@@ -38,7 +38,8 @@ statement-builds (at, inr (inr (inr (inl x)))) h = h
 statement-builds (at, inr (inr (inr (inr (inl x))))) h = h
 statement-builds (at, inr (inr (inr (inr (inr (inl x)))))) h = h
 statement-builds (at, inr (inr (inr (inr (inr (inr (inl x))))))) h = h
-statement-builds (at, inr (inr (inr (inr (inr (inr (inr query))))))) h = h
+statement-builds (at, inr (inr (inr (inr (inr (inr (inr (inl x)))))))) h = h
+statement-builds (at, inr (inr (inr (inr (inr (inr (inr (inr query)))))))) h = h
 
 pub create-builds : Builds n.Create
 create-builds (create, inl table) h = h.1
@@ -90,6 +91,9 @@ drop-builds (drop, inr (view_word, view)) h = tt
 
 pub explain-builds : Builds n.Explain
 explain-builds v h = h.1.1
+
+pub impact-builds : Builds n.Impact
+impact-builds (impact, (delete, (from, (table, (condition, (of_word, query)))))) h = (h.1.1.1.1.0, h.1.1.1.1.1.1)
 
 pub names-builds : Builds n.Names
 names-builds (name, more) h = tt

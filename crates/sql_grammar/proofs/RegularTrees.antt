@@ -1,5 +1,5 @@
 -- When the tree of each symbol is regular. A function is where it makes a regular tree of regular parts.
-use Rattle.std.proofs.Common.{◌≡◌, ℕ, Bool, true, List, [], ◌∷◌, map}
+use Rattle.std.proofs.Common.{◌≡◌, ℕ, Bool, true, false, List, [], ◌∷◌, map}
 use Rattle.perm_values.specs.declared.kind.Kind.TheVariants.{Boolean}
 use Rattle.sql_grammar.specs.Building.{Word, items}
 use Rattle.sql_grammar.specs.Grammar.{sql}
@@ -8,7 +8,7 @@ use Rattle.sql_grammar.specs.Symbols.{Symbol, Tree}
 use Rattle.sql_grammar.proofs.Holding as holding
 use Rattle.sql_grammar.proofs.Holding.{none-each, cons-each, head-of, tail-of}
 use Rattle.sql_grammar.proofs.TokenNumbers.{HasNumber}
-use Rattle.sql_tree.specs.Regular.{IsTokenNumber, IsFilled, Each, IfThere, has_condition, RegularMark, RegularOrder, RegularExpr, RegularBody, RegularStep, RegularArm, RegularQuery, RegularSet, RegularSetStep, RegularCore, RegularItem, RegularFrom, RegularJoin, RegularFromItem, RegularSource, RegularColumn, RegularRow, RegularStatementBody, RegularStatement, Regular}
+use Rattle.sql_tree.specs.Regular.{IsTokenNumber, IsFilled, Each, IfThere, has_condition, is_lateral, RegularMark, RegularOrder, RegularExpr, RegularBody, RegularStep, RegularArm, RegularQuery, RegularSet, RegularSetStep, RegularCore, RegularItem, RegularFrom, RegularJoin, RegularFromItem, RegularSource, RegularColumn, RegularRow, RegularStatementBody, RegularStatement, Regular}
 use Rattle.sql_tree.specs.declared.expression.ExprTree.{ExprTree}
 use Rattle.sql_tree.specs.declared.query.SetTree.{SetTree}
 
@@ -28,6 +28,7 @@ RegularOf n.Delete tree = RegularStatementBody tree
 RegularOf n.Drop tree = RegularStatementBody tree
 RegularOf n.Explain tree = RegularStatementBody tree
 RegularOf n.Show tree = RegularStatementBody tree
+RegularOf n.Impact tree = RegularStatementBody tree
 RegularOf n.NameOf tree = Unit {0}
 RegularOf n.Names list = IsFilled list
 RegularOf n.Qualified tree = Unit {0}
@@ -54,7 +55,9 @@ RegularOf n.Groups list = Unit {0}
 RegularOf n.Having tree = IfThere RegularExpr tree
 RegularOf n.From tree = RegularFrom tree
 RegularOf n.Join tree = RegularJoin tree
-RegularOf n.JoinKind word = true ≡ has_condition word
+RegularOf n.JoinKind word = (true ≡ has_condition word) × (is_lateral word ≡ false)
+RegularOf n.LeftJoin tree = RegularJoin tree
+RegularOf n.CrossJoin tree = RegularJoin tree
 RegularOf n.Source tree = RegularFromItem tree
 RegularOf n.Aliased tree = RegularSource tree.0 tree.1
 RegularOf n.Mark tree = RegularMark tree

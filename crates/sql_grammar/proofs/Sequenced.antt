@@ -11,10 +11,8 @@ use Rattle.sql_grammar.specs.Sorts.{names}
 use Rattle.sql_grammar.specs.Symbols as n
 use Rattle.sql_grammar.specs.declared.sort.Sort.TheVariants as s
 use Rattle.sql_tree.specs.declared.name.Name.{Name}
-use Rattle.sql_tree.specs.declared.query.QueryTree.{QueryTree}
 use Rattle.sql_tree.specs.declared.query.SelectItem.{SelectItem}
 use Rattle.sql_tree.specs.declared.query.SelectItem.TheVariants.{TableStar}
-use Rattle.sql_tree.specs.declared.source.JoinWord.{JoinWord}
 use Rattle.sql_tree.specs.declared.source.JoinWord.TheVariants as join
 use Rattle.sql_grammar.proofs.Queries as queries
 use Rattle.sql_grammar.proofs.Steps.{reading_is}
@@ -63,15 +61,15 @@ outer_join (Taken t a) = by_outer (piece.word_at s.Outer a) where
 
 pub join_kind_is : (tokens : List Token) → reading n.JoinKind tokens
     ≡ cond (sees (s.Inner ∷ s.Join ∷ []) tokens) (mapped (λ _. join.Inner) (behind_option s.Inner s.Join tokens))
-    (and_then (one (s.Left ∷ s.Right ∷ s.Full ∷ []) tokens) (λ t a. mapped (λ _. b.outer_of t) (behind_option s.Outer s.Join a)))
+    (and_then (one (s.Right ∷ s.Full ∷ []) tokens) (λ t a. mapped (λ _. b.outer_of t) (behind_option s.Outer s.Join a)))
 join_kind_is tokens = reading_is n.JoinKind tokens ∙ by_test (sees (s.Inner ∷ s.Join ∷ []) tokens) where
   by_test : (c : Bool)
       → mapped b.join_word (cond c (mapped inl (and_then (piece.word_at s.Inner tokens) (λ w a. mapped (λ y. (w, y)) (past s.Join a))))
-      (mapped inr (and_then (one (s.Left ∷ s.Right ∷ s.Full ∷ []) tokens) (λ t a. mapped (λ y. (t, y)) (and_then (piece.word_at s.Outer a) (λ w c. mapped (λ y. (w, y)) (past s.Join c)))))))
+      (mapped inr (and_then (one (s.Right ∷ s.Full ∷ []) tokens) (λ t a. mapped (λ y. (t, y)) (and_then (piece.word_at s.Outer a) (λ w c. mapped (λ y. (w, y)) (past s.Join c)))))))
       ≡ cond c (mapped (λ _. join.Inner) (behind_option s.Inner s.Join tokens))
-      (and_then (one (s.Left ∷ s.Right ∷ s.Full ∷ []) tokens) (λ t a. mapped (λ _. b.outer_of t) (behind_option s.Outer s.Join a)))
+      (and_then (one (s.Right ∷ s.Full ∷ []) tokens) (λ t a. mapped (λ _. b.outer_of t) (behind_option s.Outer s.Join a)))
   by_test true = inner_join (piece.word_at s.Inner tokens)
-  by_test false = outer_join (one (s.Left ∷ s.Right ∷ s.Full ∷ []) tokens)
+  by_test false = outer_join (one (s.Right ∷ s.Full ∷ []) tokens)
 
 -- ---- pieces
 

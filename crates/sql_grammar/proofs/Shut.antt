@@ -1,9 +1,10 @@
--- An item that begins with a name, a dot and a star is no value.
-use Rattle.std.proofs.Common.{◌≡◌, ◌||◌, Bool, true, false, cond, List, [], ◌∷◌, ◌++◌, inl, inr, refl, sym, ap, ◌∙◌}
+-- An item that begins with a name, a dot and a star is no value, and LATERAL before a parenthesis no table's name.
+use Rattle.std.proofs.Common.{◌≡◌, ◌||◌, Bool, true, false, cond, List, [], ◌∷◌, ◌++◌, None, inl, inr, refl, sym, ap, subst, ◌∙◌}
 use Rattle.std.specs.List.{list_any}
 use Rattle.sql_lexer.specs.declared.token.Token.{Token}
+use Rattle.sql_grammar.specs.Building as b
 use Rattle.sql_grammar.specs.Rules.{word, token, ◌then◌, ◌or◌, optional, many, placed, symbol}
-use Rattle.sql_grammar.specs.Descent.{Outcome, Stopped, and_then, mapped, start_of, repeated, step, read}
+use Rattle.sql_grammar.specs.Descent.{Outcome, Taken, Stopped, and_then, mapped, start_of, repeated, step, read}
 use Rattle.sql_grammar.specs.Grammar.{SqlRule, Given, sql, body, build, in_parentheses, plain_names}
 use Rattle.sql_grammar.specs.Sorts.{names, same_sort, sort_of}
 use Rattle.sql_grammar.specs.Symbols as n
@@ -16,6 +17,8 @@ use Rattle.sql_grammar.proofs.Depth.{read-is}
 use Rattle.sql_grammar.proofs.Fine.{apart, apart-law}
 use Rattle.sql_grammar.proofs.Local.{or_false}
 use Rattle.sql_grammar.proofs.TablesHold.{told, has_begins, has_falls}
+use Rattle.sql_tree.specs.declared.source.FromSource.TheVariants.{Named}
+use Rattle.sql_tree.specs.declared.source.ScopeMark.TheVariants.{Plain}
 
 abbrev reads : (r : SqlRule) → List Token → Outcome Token (Given r)
 reads r ts = step sql sql_tables (read sql sql_tables) r ts
@@ -155,3 +158,56 @@ module _ (t u v : Token) (more : List Token) (name : is_one names t ≡ true) (d
       let both = stops_so n.Both ts (v ∷ more) (stops_first (symbol n.Negated) (many (word s.And then symbol n.Negated)) ts (v ∷ more) negated) in
       let expr = stops_so n.Expr ts (v ∷ more) (stops_first (symbol n.Both) (many (word s.Or then symbol n.Both)) ts (v ∷ more) both) in
       stops_so n.ItemValue ts (v ∷ more) (stops_first (symbol n.Expr) (symbol n.Alias) ts (v ∷ more) expr)
+
+-- ---- LATERAL before a parenthesis
+
+or_nothing : (a : Bool) → a || false ≡ false → a ≡ false
+or_nothing true e = absurd cc
+or_nothing false e = refl
+
+module _ (t u : Token) (more : List Token) (is_word : is_one (s.Lateral ∷ []) t ≡ true) (opening : is_one (s.Opening ∷ []) u ≡ true) where
+  is_lateral : sort_of t ≡ s.Lateral
+  is_lateral = told.sound (sort_of t) s.Lateral (or_false (same_sort (sort_of t) s.Lateral) is_word)
+
+  is_name : is_one names t ≡ true
+  unfolding same_sort
+  is_name = subst (λ sort. list_any (same_sort sort) names ≡ true) (sym is_lateral) refl
+
+  -- a parenthesis is of none of these sorts
+  unnamed : is_one (s.As ∷ names) u ≡ false
+  unfolding same_sort
+  unnamed = apart-law sql sql_tables told (s.As ∷ names) (s.Opening ∷ []) u refl opening
+
+  unmarked : is_one (s.BaseRelation ∷ s.Provenance ∷ []) u ≡ false
+  unfolding same_sort
+  unmarked = apart-law sql sql_tables told (s.BaseRelation ∷ s.Provenance ∷ []) (s.Opening ∷ []) u refl opening
+
+  no_on : is_one (s.On ∷ []) u ≡ false
+  unfolding same_sort
+  no_on = apart-law sql sql_tables told (s.On ∷ []) (s.Opening ∷ []) u refl opening
+
+  is_no_on : same_sort (sort_of u) s.On ≡ false
+  is_no_on = or_nothing (same_sort (sort_of u) s.On) no_on
+
+  reads_so : (n : Symbol) (ts rest : List Token) (v : Given (body n)) → reads (body n) ts ≡ Taken v rest → read sql sql_tables n ts ≡ Taken (build n v) rest
+  reads_so n ts rest v e = read-is sql sql_tables told has_begins has_falls n ts ∙ ap (mapped (build n)) e
+
+  name-taken : read sql sql_tables n.NameOf (t ∷ u ∷ more) ≡ Taken (b.name_of t) (u ∷ more)
+  name-taken = reads_so n.NameOf (t ∷ u ∷ more) (u ∷ more) t (rw is_name refl)
+
+  no_alias : read sql sql_tables n.Alias (u ∷ more) ≡ Taken None (u ∷ more)
+  no_alias = reads_so n.Alias (u ∷ more) (u ∷ more) None (rw unnamed refl)
+
+  no_mark : read sql sql_tables n.Mark (u ∷ more) ≡ Taken Plain (u ∷ more)
+  no_mark = reads_so n.Mark (u ∷ more) (u ∷ more) None (rw unmarked refl)
+
+  named-taken : read sql sql_tables n.Aliased (t ∷ u ∷ more) ≡ Taken (Named (b.name_of t), None) (u ∷ more)
+  named-taken = reads_so n.Aliased (t ∷ u ∷ more) (u ∷ more) (inl (b.name_of t, None)) (rw (is_name, name-taken, no_alias) refl)
+
+  -- as a source it is a table's name, and the parenthesis is left
+  pub source-taken : read sql sql_tables n.Source (t ∷ u ∷ more) ≡ Taken (b.from_item ((t.start, (Named (b.name_of t), None)), Plain)) (u ∷ more)
+  source-taken = reads_so n.Source (t ∷ u ∷ more) (u ∷ more) ((t.start, (Named (b.name_of t), None)), Plain) (rw (named-taken, no_mark) refl)
+
+  -- and no ON stands behind it
+  pub joined-stops : reads (symbol n.Source then word s.On then symbol n.Expr) (t ∷ u ∷ more) ≡ Stopped (u ∷ more)
+  joined-stops = rw (source-taken, is_no_on) refl

@@ -3,7 +3,7 @@ use Rattle.std.proofs.Common.{◌≡◌, inl, inr, ℕ, zero, suc, Bool, true, f
 use Rattle.std.specs.List.{list_any}
 use Rattle.std.proofs.lemmas.Map.Views.{Contains-from_any}
 use Rattle.sql_grammar.specs.Rules.{word, token, ◌then◌, ◌or◌, front, optional, many, placed, symbol, Grammar, RuleOf, ValueOf, StartsAt, Spelled, a_word, a_token, both, first, second, front_first, front_second, absent, present, no_more, one_more, at_place, as_symbol}
-use Rattle.sql_grammar.specs.Descent.{Outcome, Taken, Stopped, and_then, mapped, Tables, next_is, begins_with, start_of, singles, offset_of, take_word, take_token, repeated, step, reading_to}
+use Rattle.sql_grammar.specs.Descent.{Outcome, Taken, Stopped, and_then, mapped, Tables, next_is, begins_with, start_of, fronts, offset_of, take_word, take_token, repeated, step, reading_to}
 
 -- the test of a grammar's sorts tells them apart
 pub record IsTold (g : Grammar) : Type 0 where
@@ -98,7 +98,7 @@ module _ (g : Grammar) where
           (mapped-claims r (r or s) ts inl _ (λ us x. first) (step-claims r ts))
           (mapped-claims s (r or s) ts inr _ (λ us x. second) (step-claims s ts))
       step-claims (front r s) ts =
-          cond-claims (front r s) ts (begins_with g tables (singles r) ts) _ _
+          cond-claims (front r s) ts (begins_with g tables (fronts r) ts) _ _
           (mapped-claims r (front r s) ts inl _ (λ us x. front_first) (step-claims r ts))
           (mapped-claims s (front r s) ts inr _ (λ us x. front_second) (step-claims s ts))
       step-claims (optional r) ts =

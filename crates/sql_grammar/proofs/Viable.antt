@@ -1,7 +1,7 @@
 -- Where reading stops, the tokens before begin something that the rule spells.
 use Rattle.std.proofs.Common.{◌≡◌, ℕ, zero, suc, Bool, true, false, ◌&&◌, cond, List, [], ◌∷◌, ◌++◌, length, Option, Some, None, is_some, option_map, inl, inr, refl, sym, ap, subst, ◌∙◌, append_assoc, arith}
 use Rattle.sql_grammar.specs.Rules.{Rule, word, token, ◌then◌, ◌or◌, front, optional, many, placed, symbol, Grammar, RuleOf, ValueOf, Spelled, a_word, a_token, both, first, second, front_first, front_second, absent, present, no_more, one_more, at_place, as_symbol}
-use Rattle.sql_grammar.specs.Descent.{Outcome, Taken, Stopped, and_then, mapped, Tables, next_is, begins_with, start_of, singles, offset_of, take_word, take_token, repeated, step, reading_to, read}
+use Rattle.sql_grammar.specs.Descent.{Outcome, Taken, Stopped, and_then, mapped, Tables, next_is, begins_with, start_of, fronts, offset_of, take_word, take_token, repeated, step, reading_to, read}
 use Rattle.sql_grammar.proofs.Sound.{IsTold, Claims, Spells, step-claims, reading-claims}
 use Rattle.sql_grammar.proofs.Begins.{both_true}
 
@@ -163,7 +163,7 @@ module _ (g : Grammar) where
             (mapped-viable s (r or s) ts inr _ (λ us x a. (inr x, second a)) (step-viable s parts.1 ts))
         step-viable (front r s) full ts =
             let parts = both_true full in
-            cond-viable (front r s) ts (begins_with g tables (singles r) ts) _ _
+            cond-viable (front r s) ts (begins_with g tables (fronts r) ts) _ _
             (mapped-viable r (front r s) ts inl _ (λ us x a. (inl x, front_first a)) (step-viable r parts.0 ts))
             (mapped-viable s (front r s) ts inr _ (λ us x a. (inr x, front_second a)) (step-viable s parts.1 ts))
         step-viable (optional r) full ts =

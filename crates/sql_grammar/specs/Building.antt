@@ -99,7 +99,7 @@ abbrev pub aggregate_of : Token → AggWord
 aggregate_of t = if is t s.Sum then word.Sum else (if is t s.Min then word.Min else word.Max)
 
 abbrev pub outer_of : Token → JoinWord
-outer_of t = if is t s.Left then join.Left else (if is t s.Right then join.Right else join.Full)
+outer_of t = if is t s.Right then join.Right else join.Full
 
 abbrev pub literal_of : Token → ExprBody
 literal_of t =
@@ -298,9 +298,35 @@ sources (Some (from, list)) = items list
 abbrev pub from_tree : FromItem × List JoinStep → FromTree
 from_tree (first, joins) = roll-FromTree (record { first = first; joins = joins })
 
-abbrev pub join_step : (JoinWord × (FromItem × (Word × ExprTree))) ⊎ (Word × (Word × FromItem)) → JoinStep
-join_step (inl (operation, (source, (on, condition)))) = roll-JoinStep (record { word = operation; item = source; condition = Some condition })
-join_step (inr (cross, (join_word, source))) = roll-JoinStep (record { word = join.Cross; item = source; condition = None })
+abbrev pub joined_on : JoinWord × (FromItem × (Word × ExprTree)) → JoinStep
+joined_on (operation, (source, (on, condition))) = roll-JoinStep (record { word = operation; item = source; condition = Some condition })
+
+abbrev pub joined_freely : JoinWord → FromItem → JoinStep
+joined_freely operation source = roll-JoinStep (record { word = operation; item = source; condition = None })
+
+abbrev pub join_step : (JoinWord × (FromItem × (Word × ExprTree))) ⊎ (JoinStep ⊎ JoinStep) → JoinStep
+join_step (inl v) = joined_on v
+join_step (inr (inl left)) = left
+join_step (inr (inr cross)) = cross
+
+-- a query in parentheses, with its name
+abbrev pub Derived : Type 0
+Derived = Word × (QueryTree × (Word × (Option Word × Name)))
+
+abbrev pub derived : Derived → FromSource × Option Name
+derived (opening, (query, (closing, (as_word, name)))) = (source.Inner query, Some name)
+
+-- a lateral item has no mark
+abbrev pub lateral : Word × (ℕ × Derived) → FromItem
+lateral (lateral_word, (at, v)) = record { at = at; source = (derived v).0; alias = (derived v).1; mark = mark.Plain }
+
+abbrev pub left_joined : ((Word × (ℕ × Derived)) × (Word × Word)) ⊎ (FromItem × (Word × ExprTree)) → JoinStep
+left_joined (inl (v, (on, true_word))) = joined_freely join.LeftLateral (lateral v)
+left_joined (inr v) = joined_on (join.Left, v)
+
+abbrev pub crossed : (Word × (ℕ × Derived)) ⊎ FromItem → JoinStep
+crossed (inl v) = joined_freely join.CrossLateral (lateral v)
+crossed (inr source) = joined_freely join.Cross source
 
 abbrev pub join_word : (Option Word × Word) ⊎ (Token × (Option Word × Word)) → JoinWord
 join_word (inl inner) = join.Inner
@@ -309,9 +335,9 @@ join_word (inr (t, outer)) = outer_of t
 abbrev pub from_item : (ℕ × (FromSource × Option Name)) × ScopeMark → FromItem
 from_item ((at, (source, name)), scope) = record { at = at; source = source; alias = name; mark = scope }
 
-abbrev pub aliased : (Name × Option Name) ⊎ (Word × (QueryTree × (Word × (Option Word × Name)))) → FromSource × Option Name
+abbrev pub aliased : (Name × Option Name) ⊎ Derived → FromSource × Option Name
 aliased (inl (table, name)) = (source.Named table, name)
-aliased (inr (opening, (query, (closing, (as_word, name))))) = (source.Inner query, Some name)
+aliased (inr v) = derived v
 
 abbrev pub scope_mark : Option (Word ⊎ (Word × (Word × (List Name × Word)))) → ScopeMark
 scope_mark None = mark.Plain
@@ -352,6 +378,9 @@ row (at, (opening, (values, closing))) = record { at = at; values = values }
 
 abbrev pub delete : Word × (Word × (Name × Option ExprTree)) → StatementBody
 delete (delete_word, (from, (table, condition))) = st.Delete table condition
+
+abbrev pub impact : Word × (Word × (Word × (Name × (Option ExprTree × (Word × QueryTree))))) → StatementBody
+impact (impact_word, (delete_word, (from, (table, (condition, (of_word, query)))))) = st.Impact table condition query
 
 abbrev pub drop_what : Word × ((Word × Name) ⊎ (Word × Name)) → StatementBody
 drop_what (drop_word, inl (table_word, table)) = st.DropTable table

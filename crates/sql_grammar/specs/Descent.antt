@@ -49,17 +49,29 @@ starts empty begins (many r) = starts empty begins r
 starts empty begins (placed r) = starts empty begins r
 starts empty begins (symbol n) = begins n
 
--- the sorts of a sequence of single tokens
-abbrev pub singles : {Sort Symbol : Type 0} → Rule Sort Symbol → List (List Sort)
-singles (word sort) = (sort ∷ []) ∷ []
-singles (token sorts) = sorts ∷ []
-singles (r then s) = singles r ++ singles s
-singles (r or s) = []
-singles (front r s) = []
-singles (optional r) = []
-singles (many r) = []
-singles (placed r) = singles r
-singles (symbol n) = []
+-- a sequence of single tokens, at least one
+abbrev pub is_flat : {Sort Symbol : Type 0} → Rule Sort Symbol → Bool
+is_flat (word sort) = true
+is_flat (token sorts) = true
+is_flat (r then s) = is_flat r && is_flat s
+is_flat (r or s) = false
+is_flat (front r s) = false
+is_flat (optional r) = false
+is_flat (many r) = false
+is_flat (placed r) = false
+is_flat (symbol n) = false
+
+-- the sorts of the single tokens at the front of a rule, up to the first part that isn't one
+abbrev pub fronts : {Sort Symbol : Type 0} → Rule Sort Symbol → List (List Sort)
+fronts (word sort) = (sort ∷ []) ∷ []
+fronts (token sorts) = sorts ∷ []
+fronts (r then s) = fronts r ++ cond (is_flat r) (fronts s) []
+fronts (r or s) = []
+fronts (front r s) = []
+fronts (optional r) = []
+fronts (many r) = []
+fronts (placed r) = fronts r
+fronts (symbol n) = []
 
 module _ (g : Grammar) (tables : Tables g) where
   -- whether the next token is of one of these sorts
@@ -102,7 +114,7 @@ module _ (g : Grammar) (tables : Tables g) where
   step calls (token sorts) ts = take_token sorts ts
   step calls (r then s) ts = and_then (step calls r ts) (λ x mid. mapped (λ y. (x, y)) (step calls s mid))
   step calls (r or s) ts = cond (next_is (start_of r) ts) (mapped inl (step calls r ts)) (mapped inr (step calls s ts))
-  step calls (front r s) ts = cond (begins_with (singles r) ts) (mapped inl (step calls r ts)) (mapped inr (step calls s ts))
+  step calls (front r s) ts = cond (begins_with (fronts r) ts) (mapped inl (step calls r ts)) (mapped inr (step calls s ts))
   step calls (optional r) ts = cond (next_is (start_of r) ts) (mapped Some (step calls r ts)) (Taken None ts)
   step calls (many r) ts = repeated (start_of r) (step calls r) (length ts) ts
   step calls (placed r) ts = mapped (λ x. (offset_of ts, x)) (step calls r ts)

@@ -28,8 +28,23 @@ kinds = s.Integer ∷ s.Int ∷ s.BigInt ∷ s.Text ∷ []
 -- the names that are no function's word
 abbrev pub plain_names : List Sort
 plain_names =
-    s.Plain ∷ s.Quoted ∷ s.View ∷ s.Copy ∷ s.Header ∷ s.Explain ∷ s.Rewrite ∷ s.Show ∷ s.Fresh ∷ s.Integer ∷ s.Int ∷ s.BigInt ∷
-    s.Text ∷ s.Boolean ∷ []
+    s.Plain ∷ s.Quoted ∷ s.View ∷ s.Copy ∷ s.Header ∷ s.Explain ∷ s.Rewrite ∷ s.Show ∷ s.Fresh ∷ s.Impact ∷ s.Of ∷
+    s.Lateral ∷ s.Integer ∷ s.Int ∷ s.BigInt ∷ s.Text ∷ s.Boolean ∷ []
+
+-- a query as an item of FROM: it has to have a name
+abbrev pub derived : SqlRule
+derived = word s.Opening then symbol n.Query then word s.Closing then optional (word s.As) then symbol n.NameOf
+
+-- the word LATERAL is a name where no parenthesis follows it
+abbrev pub lateral : SqlRule
+lateral = word s.Lateral then placed derived
+
+-- what stands behind LEFT JOIN, and behind CROSS JOIN
+abbrev pub left_joined : SqlRule
+left_joined = front (lateral then word s.On then word s.True) (symbol n.Source then word s.On then symbol n.Expr)
+
+abbrev pub crossed : SqlRule
+crossed = front lateral (symbol n.Source)
 
 -- the rule of each symbol
 abbrev pub body : Symbol → SqlRule
@@ -37,7 +52,7 @@ abbrev pub body : Symbol → SqlRule
 body n.ScriptOf = optional (symbol n.StatementOf) then many (word s.Semicolon then optional (symbol n.StatementOf))
 body n.StatementOf = placed (
     symbol n.Create or symbol n.Copy or symbol n.Insert or symbol n.Delete or symbol n.Drop or symbol n.Explain or symbol n.Show
-    or symbol n.Query)
+    or symbol n.Impact or symbol n.Query)
 body n.Create = word s.Create then (symbol n.CreateTable or symbol n.CreateView)
 body n.CreateTable = word s.Table then symbol n.NameOf then (symbol n.Columns or (word s.As then symbol n.Query))
 body n.CreateView = word s.View then symbol n.NameOf then word s.As then symbol n.Query
@@ -53,6 +68,8 @@ body n.Delete = word s.Delete then word s.From then symbol n.NameOf then symbol 
 body n.Drop = word s.Drop then ((word s.Table then symbol n.NameOf) or (word s.View then symbol n.NameOf))
 body n.Explain = word s.Explain then word s.Rewrite then symbol n.Query
 body n.Show = word s.Show then word s.Fresh then symbol n.NameOf
+body n.Impact =
+    word s.Impact then word s.Delete then word s.From then symbol n.NameOf then symbol n.Condition then word s.Of then symbol n.Query
 -- names
 body n.NameOf = token names
 body n.Names = list_of (symbol n.NameOf)
@@ -84,15 +101,14 @@ body n.Groups = optional (word s.Group then word s.By then list_of (symbol n.Col
 body n.Having = optional (word s.Having then symbol n.Expr)
 body n.From = symbol n.Source then many (symbol n.Join)
 body n.Join =
-    (symbol n.JoinKind then symbol n.Source then word s.On then symbol n.Expr)
-    or (word s.Cross then word s.Join then symbol n.Source)
+    (symbol n.JoinKind then symbol n.Source then word s.On then symbol n.Expr) or symbol n.LeftJoin or symbol n.CrossJoin
 body n.JoinKind =
     (optional (word s.Inner) then word s.Join)
-    or (token (s.Left ∷ s.Right ∷ s.Full ∷ []) then optional (word s.Outer) then word s.Join)
+    or (token (s.Right ∷ s.Full ∷ []) then optional (word s.Outer) then word s.Join)
+body n.LeftJoin = word s.Left then optional (word s.Outer) then word s.Join then left_joined
+body n.CrossJoin = word s.Cross then word s.Join then crossed
 body n.Source = placed (symbol n.Aliased) then symbol n.Mark
-body n.Aliased =
-    (symbol n.NameOf then symbol n.Alias)
-    or (word s.Opening then symbol n.Query then word s.Closing then optional (word s.As) then symbol n.NameOf)
+body n.Aliased = (symbol n.NameOf then symbol n.Alias) or derived
 body n.Mark = optional (word s.BaseRelation or (word s.Provenance then in_parentheses (symbol n.Names)))
 -- expressions
 body n.Expr = symbol n.Both then many (word s.Or then symbol n.Both)
@@ -144,7 +160,7 @@ Given r = Value Token Tree r
 -- the tree of what the rule of each symbol gives
 abbrev pub build : (n : Symbol) → Given (body n) → Tree n
 build n.ScriptOf = b.script
-build n.StatementOf = λ v. b.statement (v.0, b.one_of (b.one_of (b.one_of (b.one_of (b.one_of (b.one_of (b.one_of st.Select)))))) v.1)
+build n.StatementOf = λ v. b.statement (v.0, b.one_of (b.one_of (b.one_of (b.one_of (b.one_of (b.one_of (b.one_of (b.one_of st.Select))))))) v.1)
 build n.Create = λ v. b.one_of (λ view. view) v.1
 build n.CreateTable = b.create_table
 build n.CreateView = b.create_view
@@ -158,6 +174,7 @@ build n.Delete = b.delete
 build n.Drop = b.drop_what
 build n.Explain = λ v. st.Explain v.1.1
 build n.Show = λ v. st.ShowFresh v.1.1
+build n.Impact = b.impact
 build n.NameOf = b.name_of
 build n.Names = b.items
 build n.Qualified = b.clause
@@ -185,6 +202,8 @@ build n.Having = b.clause
 build n.From = b.from_tree
 build n.Join = b.join_step
 build n.JoinKind = b.join_word
+build n.LeftJoin = λ v. b.left_joined v.1.1.1
+build n.CrossJoin = λ v. b.crossed v.1.1
 build n.Source = b.from_item
 build n.Aliased = b.aliased
 build n.Mark = b.scope_mark

@@ -13,7 +13,7 @@ pub data Rule (Sort Symbol : Type 0) : Type 0 where
   ◌then◌ : Rule Sort Symbol → Rule Sort Symbol → Rule Sort Symbol
   -- a choice, which the next token decides
   ◌or◌ : Rule Sort Symbol → Rule Sort Symbol → Rule Sort Symbol
-  -- a choice, which all tokens of the first rule decide: it is a sequence of single tokens
+  -- a choice, which the single tokens at the front of the first rule decide
   front : Rule Sort Symbol → Rule Sort Symbol → Rule Sort Symbol
   optional : Rule Sort Symbol → Rule Sort Symbol
   -- any number of times

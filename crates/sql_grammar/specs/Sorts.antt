@@ -31,7 +31,8 @@ reserved =
 abbrev pub free : List (List ℕ × Sort)
 free =
     (codes "view", s.View) ∷ (codes "copy", s.Copy) ∷ (codes "header", s.Header) ∷ (codes "explain", s.Explain) ∷
-    (codes "rewrite", s.Rewrite) ∷ (codes "show", s.Show) ∷ (codes "fresh", s.Fresh) ∷ (codes "integer", s.Integer) ∷
+    (codes "rewrite", s.Rewrite) ∷ (codes "show", s.Show) ∷ (codes "fresh", s.Fresh) ∷ (codes "impact", s.Impact) ∷
+    (codes "of", s.Of) ∷ (codes "lateral", s.Lateral) ∷ (codes "integer", s.Integer) ∷
     (codes "int", s.Int) ∷ (codes "bigint", s.BigInt) ∷ (codes "text", s.Text) ∷ (codes "boolean", s.Boolean) ∷
     (codes "count", s.Count) ∷ (codes "sum", s.Sum) ∷ (codes "min", s.Min) ∷ (codes "max", s.Max) ∷
     (codes "coalesce", s.Coalesce) ∷ (codes "nullif", s.NullIf) ∷ []
@@ -70,4 +71,4 @@ same_sort = sameb the_type
 abbrev pub names : List Sort
 names =
     s.Plain ∷ s.Quoted ∷ s.View ∷ s.Copy ∷ s.Header ∷ s.Explain ∷ s.Rewrite ∷ s.Show ∷
-    s.Fresh ∷ s.Integer ∷ s.Int ∷ s.BigInt ∷ s.Text ∷ s.Boolean ∷ s.Count ∷ s.Sum ∷ s.Min ∷ s.Max ∷ s.Coalesce ∷ s.NullIf ∷ []
+    s.Fresh ∷ s.Impact ∷ s.Of ∷ s.Lateral ∷ s.Integer ∷ s.Int ∷ s.BigInt ∷ s.Text ∷ s.Boolean ∷ s.Count ∷ s.Sum ∷ s.Min ∷ s.Max ∷ s.Coalesce ∷ s.NullIf ∷ []

@@ -42,6 +42,7 @@ pub data Symbol : Type 0 where
   Drop : Symbol
   Explain : Symbol
   Show : Symbol
+  Impact : Symbol
   -- names
   NameOf : Symbol
   Names : Symbol
@@ -72,6 +73,8 @@ pub data Symbol : Type 0 where
   From : Symbol
   Join : Symbol
   JoinKind : Symbol
+  LeftJoin : Symbol
+  CrossJoin : Symbol
   Source : Symbol
   Aliased : Symbol
   Mark : Symbol
@@ -125,6 +128,7 @@ Tree Delete = StatementBody
 Tree Drop = StatementBody
 Tree Explain = StatementBody
 Tree Show = StatementBody
+Tree Impact = StatementBody
 Tree NameOf = Name
 Tree Names = List Name
 Tree Qualified = Option Name
@@ -152,6 +156,8 @@ Tree Having = Option ExprTree
 Tree From = FromTree
 Tree Join = JoinStep
 Tree JoinKind = JoinWord
+Tree LeftJoin = JoinStep
+Tree CrossJoin = JoinStep
 Tree Source = FromItem
 Tree Aliased = FromSource × Option Name
 Tree Mark = ScopeMark
@@ -204,6 +210,7 @@ rank Delete = 0
 rank Drop = 0
 rank Explain = 0
 rank Show = 0
+rank Impact = 0
 rank NameOf = 0
 rank Names = 1
 rank Qualified = 0
@@ -231,6 +238,8 @@ rank Having = 0
 rank From = 4
 rank Join = 1
 rank JoinKind = 0
+rank LeftJoin = 0
+rank CrossJoin = 0
 rank Source = 3
 rank Aliased = 2
 rank Mark = 0

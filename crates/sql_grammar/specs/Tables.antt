@@ -23,10 +23,10 @@ abbrev pub query_begins : List Sort
 query_begins = s.Select ∷ s.Opening ∷ []
 
 abbrev pub statement_begins : List Sort
-statement_begins = s.Create ∷ s.Copy ∷ s.Insert ∷ s.Delete ∷ s.Drop ∷ s.Explain ∷ s.Show ∷ query_begins
+statement_begins = s.Create ∷ s.Copy ∷ s.Insert ∷ s.Delete ∷ s.Drop ∷ s.Explain ∷ s.Show ∷ s.Impact ∷ query_begins
 
 abbrev pub join_begins : List Sort
-join_begins = s.Inner ∷ s.Join ∷ s.Left ∷ s.Right ∷ s.Full ∷ []
+join_begins = s.Inner ∷ s.Join ∷ s.Right ∷ s.Full ∷ []
 
 -- whether nothing spells it
 abbrev pub empty : Symbol → Bool
@@ -45,6 +45,7 @@ empty n.Delete = false
 empty n.Drop = false
 empty n.Explain = false
 empty n.Show = false
+empty n.Impact = false
 empty n.NameOf = false
 empty n.Names = false
 empty n.Qualified = true
@@ -72,6 +73,8 @@ empty n.Having = true
 empty n.From = false
 empty n.Join = false
 empty n.JoinKind = false
+empty n.LeftJoin = false
+empty n.CrossJoin = false
 empty n.Source = false
 empty n.Aliased = false
 empty n.Mark = true
@@ -124,6 +127,7 @@ begins n.Delete = s.Delete ∷ []
 begins n.Drop = s.Drop ∷ []
 begins n.Explain = s.Explain ∷ []
 begins n.Show = s.Show ∷ []
+begins n.Impact = s.Impact ∷ []
 begins n.NameOf = names
 begins n.Names = names
 begins n.Qualified = s.Dot ∷ []
@@ -149,8 +153,10 @@ begins n.Condition = s.Where ∷ []
 begins n.Groups = s.Group ∷ []
 begins n.Having = s.Having ∷ []
 begins n.From = names ++ (s.Opening ∷ [])
-begins n.Join = join_begins ++ (s.Cross ∷ [])
+begins n.Join = join_begins ++ (s.Left ∷ s.Cross ∷ [])
 begins n.JoinKind = join_begins
+begins n.LeftJoin = s.Left ∷ []
+begins n.CrossJoin = s.Cross ∷ []
 begins n.Source = names ++ (s.Opening ∷ [])
 begins n.Aliased = names ++ (s.Opening ∷ [])
 begins n.Mark = s.BaseRelation ∷ s.Provenance ∷ []

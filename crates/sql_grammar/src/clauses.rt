@@ -17,10 +17,7 @@ use sql_tree::{FromSource, JoinWord, Name, OrderTree, ScopeMark, SelectItem};
 fn outer_of(token: &Token<'_>) -> JoinWord
     ensures { result ≡ b.outer_of token.now }
 {
-    let sort = sort_of(token);
-    if same_sort(sort, Sort::Left) {
-        JoinWord::Left
-    } else if same_sort(sort, Sort::Right) {
+    if same_sort(sort_of(token), Sort::Right) {
         JoinWord::Right
     } else {
         JoinWord::Full
@@ -37,7 +34,7 @@ impl<'a> Cursor<'a> {
             self.past_behind(Sort::Inner, Sort::Join)?;
             Ok(JoinWord::Inner)
         } else {
-            let token = self.one(&[Sort::Left, Sort::Right, Sort::Full])?;
+            let token = self.one(&[Sort::Right, Sort::Full])?;
             self.past_behind(Sort::Outer, Sort::Join)?;
             Ok(outer_of(token))
         }

@@ -95,6 +95,9 @@ pub enum Sort {
     Rewrite,
     Show,
     Fresh,
+    Impact,
+    Of,
+    Lateral,
     Integer,
     Int,
     BigInt,
@@ -110,13 +113,14 @@ pub enum Sort {
 
 // The words of the grammar, in lower case, by the number of their letters.
 
-const WORDS_OF_2: [(&str, Sort); 6] = [
+const WORDS_OF_2: [(&str, Sort); 7] = [
     ("as", Sort::As),
     ("by", Sort::By),
     ("in", Sort::In),
     ("is", Sort::Is),
     ("on", Sort::On),
     ("or", Sort::Or),
+    ("of", Sort::Of),
 ];
 
 const WORDS_OF_3: [(&str, Sort); 10] = [
@@ -171,7 +175,7 @@ const WORDS_OF_5: [(&str, Sort); 13] = [
     ("count", Sort::Count),
 ];
 
-const WORDS_OF_6: [(&str, Sort); 11] = [
+const WORDS_OF_6: [(&str, Sort); 12] = [
     ("create", Sort::Create),
     ("delete", Sort::Delete),
     ("except", Sort::Except),
@@ -181,15 +185,17 @@ const WORDS_OF_6: [(&str, Sort); 11] = [
     ("select", Sort::Select),
     ("values", Sort::Values),
     ("header", Sort::Header),
+    ("impact", Sort::Impact),
     ("bigint", Sort::BigInt),
     ("nullif", Sort::NullIf),
 ];
 
-const WORDS_OF_7: [(&str, Sort); 6] = [
+const WORDS_OF_7: [(&str, Sort); 7] = [
     ("between", Sort::Between),
     ("unknown", Sort::Unknown),
     ("explain", Sort::Explain),
     ("rewrite", Sort::Rewrite),
+    ("lateral", Sort::Lateral),
     ("integer", Sort::Integer),
     ("boolean", Sort::Boolean),
 ];
@@ -223,7 +229,7 @@ pub const SYMBOLS: [(&str, Sort); 16] = [
 ];
 
 /// The sorts of tokens that may be a name.
-pub const NAMES: [Sort; 20] = [
+pub const NAMES: [Sort; 23] = [
     Sort::Plain,
     Sort::Quoted,
     Sort::View,
@@ -233,6 +239,9 @@ pub const NAMES: [Sort; 20] = [
     Sort::Rewrite,
     Sort::Show,
     Sort::Fresh,
+    Sort::Impact,
+    Sort::Of,
+    Sort::Lateral,
     Sort::Integer,
     Sort::Int,
     Sort::BigInt,

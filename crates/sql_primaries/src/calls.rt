@@ -15,7 +15,7 @@ use sql_tree::{AggWord, ExprBody, ExprTree, Name, QueryTree};
 use std::alloc::Global;
 
 /// The names that are no function's word.
-const PLAIN_NAMES: [Sort; 14] = [
+const PLAIN_NAMES: [Sort; 17] = [
     Sort::Plain,
     Sort::Quoted,
     Sort::View,
@@ -25,6 +25,9 @@ const PLAIN_NAMES: [Sort; 14] = [
     Sort::Rewrite,
     Sort::Show,
     Sort::Fresh,
+    Sort::Impact,
+    Sort::Of,
+    Sort::Lateral,
     Sort::Integer,
     Sort::Int,
     Sort::BigInt,

@@ -9,12 +9,13 @@ ghost use Rattle.sql_grammar.specs.Symbols as n;
 ghost use Rattle.sql_queries.specs.built.Sources as spelled;
 
 use crate::grammar::Queries;
-use perm_values::{Boxed, List};
+use perm_values::{Boxed, List, NoMemory};
 use sql_grammar::{Cursor, NAMES, Sort, Unread, all_items, list_of, same_sort, sort_of};
 use sql_lexer::Token;
 use sql_tree::{
     ExprTree, FromItem, FromSource, FromTree, JoinStep, JoinWord, Name, QueryTree, ScopeMark,
 };
+use std::alloc::Global;
 
 /// The name of an inner query, behind the parenthesis that closes it.
 fn name_behind(cursor: &mut Cursor<'_>) -> Result<Name, Unread>
@@ -44,6 +45,42 @@ fn marked(
         mark,
     };
     Ok(Boxed::new(cursor.alloc(), item)?)
+}
+
+/// Whether LATERAL stands next and is no name: a parenthesis follows it.
+fn sees_lateral(cursor: &Cursor<'_>) -> bool
+    ensures { result ≡ spelled.sees_lateral cursor.now }
+{
+    cursor.sees_pair(&[Sort::Lateral], &[Sort::Opening])
+}
+
+/// An item of FROM that has no mark.
+fn unmarked(
+    alloc: Global,
+    at: usize,
+    aliased: (FromSource, Option<Name>),
+) -> Result<Boxed<FromItem>, NoMemory>
+    ensures { IfOk result (λ item. item ≡ spelled.unmarked at aliased) }
+{
+    let (source, alias) = aliased;
+    let item = FromItem {
+        at,
+        source,
+        alias,
+        mark: ScopeMark::Plain,
+    };
+    Boxed::new(alloc, item)
+}
+
+/// A join without a condition.
+fn joined_freely(word: JoinWord, item: Boxed<FromItem>) -> JoinStep
+    ensures { result ≡ b.joined_freely word item }
+{
+    JoinStep {
+        word,
+        item: item.into_inner(),
+        condition: None,
+    }
 }
 
 impl<
@@ -89,14 +126,28 @@ impl<
         marked(cursor, at, aliased)
     }
 
-    #[tactic(auto, using(crate::proofs::Parts::joined_on_is))]
-    fn joined_on(&self, cursor: &mut Cursor<'_>) -> Result<JoinStep, Unread>
+    /// A query that sees the items before it, behind the word that says so.
+    #[tactic(auto, using(crate::proofs::Parts::lateral_item_is))]
+    fn lateral_item(&self, cursor: &mut Cursor<'_>) -> Result<Boxed<FromItem>, Unread>
         requires sound { NestReads self.now.nest F.pre G.pre F.post G.post }
         requires below { length cursor.old ≤ self.now.nest.most }
-        ensures given { spec.Reads result (piece.joined_on cursor.old) cursor.new }
+        ensures given { spec.Reads result (piece.lateral_item cursor.old) cursor.new }
         ensures fewer { IfOk result (λ _. length cursor.new < length cursor.old) }
     {
-        let word = cursor.join_kind()?;
+        cursor.past(Sort::Lateral)?;
+        let at = cursor.offset();
+        let aliased = self.inner_source(cursor)?;
+        Ok(unmarked(cursor.alloc(), at, aliased)?)
+    }
+
+    /// An item and the condition on which it is joined.
+    #[tactic(auto, using(crate::proofs::Parts::source_on_is))]
+    fn source_on(&self, cursor: &mut Cursor<'_>, word: JoinWord) -> Result<JoinStep, Unread>
+        requires sound { NestReads self.now.nest F.pre G.pre F.post G.post }
+        requires below { length cursor.old ≤ self.now.nest.most }
+        ensures given { spec.Reads result (spelled.source_on word cursor.old) cursor.new }
+        ensures fewer { IfOk result (λ _. length cursor.new < length cursor.old) }
+    {
         let item = self.from_item(cursor)?;
         cursor.past(Sort::On)?;
         let condition = self.nest.expression(cursor)?;
@@ -107,6 +158,57 @@ impl<
         })
     }
 
+    #[tactic(auto, using(crate::proofs::Parts::joined_on_is))]
+    fn joined_on(&self, cursor: &mut Cursor<'_>) -> Result<JoinStep, Unread>
+        requires sound { NestReads self.now.nest F.pre G.pre F.post G.post }
+        requires below { length cursor.old ≤ self.now.nest.most }
+        ensures given { spec.Reads result (piece.joined_on cursor.old) cursor.new }
+        ensures fewer { IfOk result (λ _. length cursor.new < length cursor.old) }
+    {
+        let word = cursor.join_kind()?;
+        self.source_on(cursor, word)
+    }
+
+    #[tactic(auto, using(crate::proofs::Parts::lateral_on_is))]
+    fn lateral_on(&self, cursor: &mut Cursor<'_>) -> Result<JoinStep, Unread>
+        requires sound { NestReads self.now.nest F.pre G.pre F.post G.post }
+        requires below { length cursor.old ≤ self.now.nest.most }
+        ensures given { spec.Reads result (spelled.lateral_on cursor.old) cursor.new }
+        ensures fewer { IfOk result (λ _. length cursor.new < length cursor.old) }
+    {
+        let item = self.lateral_item(cursor)?;
+        cursor.past_both(Sort::On, Sort::True)?;
+        Ok(joined_freely(JoinWord::LeftLateral, item))
+    }
+
+    /// What stands behind LEFT JOIN.
+    #[tactic(auto, using(crate::proofs::Parts::left_joined_is))]
+    fn left_joined(&self, cursor: &mut Cursor<'_>) -> Result<JoinStep, Unread>
+        requires sound { NestReads self.now.nest F.pre G.pre F.post G.post }
+        requires below { length cursor.old ≤ self.now.nest.most }
+        ensures given { spec.Reads result (piece.left_joined cursor.old) cursor.new }
+        ensures fewer { IfOk result (λ _. length cursor.new < length cursor.old) }
+    {
+        if sees_lateral(cursor) {
+            self.lateral_on(cursor)
+        } else {
+            self.source_on(cursor, JoinWord::Left)
+        }
+    }
+
+    #[tactic(auto, using(crate::proofs::Parts::left_join_is))]
+    fn left_join(&self, cursor: &mut Cursor<'_>) -> Result<JoinStep, Unread>
+        requires sound { NestReads self.now.nest F.pre G.pre F.post G.post }
+        requires below { length cursor.old ≤ self.now.nest.most }
+        ensures given { spec.Reads result (spec.reading n.LeftJoin cursor.old) cursor.new }
+        ensures fewer { IfOk result (λ _. length cursor.new < length cursor.old) }
+    {
+        cursor.past(Sort::Left)?;
+        cursor.past_behind(Sort::Outer, Sort::Join)?;
+        self.left_joined(cursor)
+    }
+
+    /// What stands behind CROSS JOIN.
     #[tactic(auto, using(crate::proofs::Parts::crossed_is))]
     fn crossed(&self, cursor: &mut Cursor<'_>) -> Result<JoinStep, Unread>
         requires sound { NestReads self.now.nest F.pre G.pre F.post G.post }
@@ -114,13 +216,24 @@ impl<
         ensures given { spec.Reads result (piece.crossed cursor.old) cursor.new }
         ensures fewer { IfOk result (λ _. length cursor.new < length cursor.old) }
     {
+        if sees_lateral(cursor) {
+            let item = self.lateral_item(cursor)?;
+            Ok(joined_freely(JoinWord::CrossLateral, item))
+        } else {
+            let item = self.from_item(cursor)?;
+            Ok(joined_freely(JoinWord::Cross, item))
+        }
+    }
+
+    #[tactic(auto, using(crate::proofs::Parts::cross_join_is))]
+    fn cross_join(&self, cursor: &mut Cursor<'_>) -> Result<JoinStep, Unread>
+        requires sound { NestReads self.now.nest F.pre G.pre F.post G.post }
+        requires below { length cursor.old ≤ self.now.nest.most }
+        ensures given { spec.Reads result (spec.reading n.CrossJoin cursor.old) cursor.new }
+        ensures fewer { IfOk result (λ _. length cursor.new < length cursor.old) }
+    {
         cursor.past_both(Sort::Cross, Sort::Join)?;
-        let item = self.from_item(cursor)?;
-        Ok(JoinStep {
-            word: JoinWord::Cross,
-            item: item.into_inner(),
-            condition: None,
-        })
+        self.crossed(cursor)
     }
 
     #[tactic(auto, using(sql_grammar::proofs::Queries::join_is))]
@@ -130,10 +243,12 @@ impl<
         ensures given { spec.Reads result (spec.reading n.Join cursor.old) cursor.new }
         ensures fewer { IfOk result (λ _. length cursor.new < length cursor.old) }
     {
-        if cursor.sees_any(&[Sort::Inner, Sort::Join, Sort::Left, Sort::Right, Sort::Full]) {
+        if cursor.sees_any(&[Sort::Inner, Sort::Join, Sort::Right, Sort::Full]) {
             self.joined_on(cursor)
+        } else if cursor.sees(Sort::Left) {
+            self.left_join(cursor)
         } else {
-            self.crossed(cursor)
+            self.cross_join(cursor)
         }
     }
 
@@ -148,9 +263,9 @@ impl<
             &[
                 Sort::Inner,
                 Sort::Join,
-                Sort::Left,
                 Sort::Right,
                 Sort::Full,
+                Sort::Left,
                 Sort::Cross,
             ],
             |cursor: &mut Cursor<'_>| self.join(cursor),

@@ -1,12 +1,12 @@
 -- Pieces of rules that have functions of their own.
 use Rattle.std.specs.Prelude.{ℕ, ℤ, Bool, List, [], ◌∷◌, ◌++◌, Option, is_some, option_map}
-use Rattle.std.proofs.Common.{inl, inr}
+use Rattle.std.proofs.Common.{inl}
 use Rattle.sql_lexer.specs.declared.token.Token.{Token}
 use Rattle.sql_grammar.specs.Building as b
 use Rattle.sql_grammar.specs.Building.{Word}
 use Rattle.sql_grammar.specs.Cursors.{reading, past, one}
 use Rattle.sql_grammar.specs.Descent.{Outcome, and_then, mapped, begins_with, step}
-use Rattle.sql_grammar.specs.Grammar.{SqlRule, Given, sql, in_parentheses}
+use Rattle.sql_grammar.specs.Grammar.{SqlRule, Given, sql, in_parentheses, derived, lateral, left_joined as left_joined_rule, crossed as crossed_rule}
 use Rattle.sql_grammar.specs.Lists.{all_of, listed}
 use Rattle.sql_grammar.specs.Sorts.{names}
 use Rattle.sql_grammar.specs.Rules.{word, token, ◌then◌, optional, placed, symbol}
@@ -16,6 +16,7 @@ use Rattle.sql_grammar.specs.declared.sort.Sort.{Sort}
 use Rattle.sql_grammar.specs.declared.sort.Sort.TheVariants as s
 use Rattle.sql_tree.specs.declared.name.ColRef.{ColRef}
 use Rattle.sql_tree.specs.declared.name.Name.{Name}
+use Rattle.sql_tree.specs.declared.source.FromItem.{FromItem}
 use Rattle.sql_tree.specs.declared.source.FromSource.{FromSource}
 use Rattle.sql_tree.specs.declared.source.FromTree.{FromTree}
 use Rattle.sql_tree.specs.declared.source.JoinStep.{JoinStep}
@@ -72,16 +73,23 @@ named_source tokens = mapped (λ v. b.aliased (inl v)) (by (symbol n.NameOf then
 
 abbrev pub inner_source : List Token → Outcome Token (FromSource × Option Name)
 inner_source tokens =
-    mapped (λ v. b.aliased (inr v)) (by (word s.Opening then symbol n.Query then word s.Closing then optional (word s.As) then symbol n.NameOf) tokens)
+    mapped b.derived (by derived tokens)
 
 abbrev pub joined_on : List Token → Outcome Token JoinStep
-joined_on tokens = mapped (λ v. b.join_step (inl v)) (by (symbol n.JoinKind then symbol n.Source then word s.On then symbol n.Expr) tokens)
+joined_on tokens = mapped b.joined_on (by (symbol n.JoinKind then symbol n.Source then word s.On then symbol n.Expr) tokens)
+
+abbrev pub lateral_item : List Token → Outcome Token FromItem
+lateral_item tokens = mapped b.lateral (by lateral tokens)
+
+-- what stands behind LEFT JOIN, and behind CROSS JOIN
+abbrev pub left_joined : List Token → Outcome Token JoinStep
+left_joined tokens = mapped b.left_joined (by left_joined_rule tokens)
 
 abbrev pub crossed : List Token → Outcome Token JoinStep
-crossed tokens = mapped (λ v. b.join_step (inr v)) (by (word s.Cross then word s.Join then symbol n.Source) tokens)
+crossed tokens = mapped b.crossed (by crossed_rule tokens)
 
 abbrev pub joins : List Token → Outcome Token (List JoinStep)
-joins tokens = all_of (join_begins ++ (s.Cross ∷ [])) (reading n.Join) tokens
+joins tokens = all_of (join_begins ++ (s.Left ∷ s.Cross ∷ [])) (reading n.Join) tokens
 
 abbrev pub from_list : List Token → Outcome Token (List FromTree)
 from_list tokens = listed s.Comma (reading n.From) tokens

@@ -5,14 +5,5 @@ use Rattle.sql_queries.proofs.grammar.Queries.joined_on.Goals as goal
 pub returns-in_err-word-clause-given : goal.returns-in_err-word-clause-given
 returns-in_err-word-clause-given g c = grind (arith, joined_on_is)
 
-pub returns-in_err-item-clause-given : goal.returns-in_err-item-clause-given
-returns-in_err-item-clause-given g c = grind (arith, joined_on_is)
-
-pub returns-in_err-past-clause-given : goal.returns-in_err-past-clause-given
-returns-in_err-past-clause-given g c = grind (arith, joined_on_is)
-
-pub returns-in_err-condition-clause-given : goal.returns-in_err-condition-clause-given
-returns-in_err-condition-clause-given g c = grind (arith, joined_on_is)
-
 pub returns-clause-given : goal.returns-clause-given
 returns-clause-given g c = grind (arith, joined_on_is)
