@@ -15,7 +15,16 @@ sys.path.insert(0, str(pathlib.Path(__file__).resolve().parent.parent / "tools")
 import scripts  # noqa: E402
 
 # Forms that the program refuses by name.
-UNBUILT = {"statement: EXPLAIN REWRITE query"}
+UNBUILT = {
+    "statement: EXPLAIN REWRITE query",
+    "statement: IMPACT DELETE FROM name [WHERE expression] OF query",
+    "statement: WHERE expression (in IMPACT DELETE FROM name [WHERE expression] OF query)",
+    "join: CROSS JOIN LATERAL ( query ) [AS] name",
+    "join: AS (in CROSS JOIN LATERAL ( query ) [AS] name)",
+    "join: LEFT [OUTER] JOIN LATERAL ( query ) [AS] name ON TRUE",
+    "join: OUTER (in LEFT [OUTER] JOIN LATERAL ( query ) [AS] name ON TRUE)",
+    "join: AS (in LEFT [OUTER] JOIN LATERAL ( query ) [AS] name ON TRUE)",
+}
 PART = re.compile(r"'(?P<mark>[^']+)'|(?P<name>[A-Za-z]+)|(?P<sign>[][{}()|])|\s+")
 BLOCK = re.compile(r"^```(.*)\n((?:.*\n)*?)```$", re.M)
 SPELLED = {"subquery": "query"}

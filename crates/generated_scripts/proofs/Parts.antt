@@ -130,7 +130,7 @@ traced_groups items sources groups =
 -- ---- statements
 
 abbrev pub queried : Plan (symbol n.CoreOf) → Plan (symbol n.StatementOf)
-queried p = as_symbol (at_start (second (second (second (second (second (second (second (query (core p))))))))))
+queried p = as_symbol (at_start (second (second (second (second (second (second (second (second (query (core p)))))))))))
 
 abbrev pub integers : (text : List ℕ) → IsPlain text → Plan (symbol n.Column)
 integers text is = as_symbol (both (name text is) (as_symbol (a_choice {sort = s.Integer} refl here)))

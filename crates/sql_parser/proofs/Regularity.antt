@@ -7,8 +7,8 @@ use Rattle.sql_grammar.specs.Symbols as n
 use Rattle.sql_grammar.specs.Symbols.{Symbol}
 use Rattle.sql_grammar.proofs.Holding.{spelled-holds}
 use Rattle.sql_grammar.proofs.RegularExpressions.{expr-builds, exprs-builds, both-builds, negated-builds, test-builds, is_test-builds, compared-builds, comparison-builds, ranged-builds, range-builds, members-builds, sum-builds, product-builds, sum_step-builds, product_step-builds, sign-builds, primary-builds, literal-builds, cast-builds, case-builds, arm-builds, otherwise-builds, exists-builds, parentheses-builds, count-builds, counted-builds, aggregate-builds, coalesce-builds, null_if-builds, reference-builds}
-use Rattle.sql_grammar.proofs.RegularQueries.{query-builds, inner-builds, in_parentheses-builds, operand-builds, query_rest-builds, term-builds, intersect_step-builds, union_step-builds, order-builds, key-builds, limit-builds, core-builds, items-builds, item-builds, item_value-builds, sources-builds, condition-builds, having-builds, from-builds, join-builds, join_kind-builds, source-builds, aliased-builds, mark-builds}
-use Rattle.sql_grammar.proofs.RegularStatements.{script-builds, statement-builds, create-builds, create_table-builds, create_view-builds, columns-builds, column-builds, column_kind-builds, copy-builds, insert-builds, row-builds, delete-builds, drop-builds, explain-builds, names-builds}
+use Rattle.sql_grammar.proofs.RegularQueries.{query-builds, inner-builds, in_parentheses-builds, operand-builds, query_rest-builds, term-builds, intersect_step-builds, union_step-builds, order-builds, key-builds, limit-builds, core-builds, items-builds, item-builds, item_value-builds, sources-builds, condition-builds, having-builds, from-builds, join-builds, join_kind-builds, left_join-builds, cross_join-builds, source-builds, aliased-builds, mark-builds}
+use Rattle.sql_grammar.proofs.RegularStatements.{script-builds, statement-builds, create-builds, create_table-builds, create_view-builds, columns-builds, column-builds, column_kind-builds, copy-builds, insert-builds, row-builds, delete-builds, drop-builds, explain-builds, impact-builds, names-builds}
 use Rattle.sql_grammar.proofs.RegularTrees.{RegularOf, Builds}
 use Rattle.sql_grammar.proofs.TokenNumbers.{HasNumber}
 use Rattle.sql_tree.specs.Regular.{Each, Regular}
@@ -30,6 +30,7 @@ builds n.Delete = delete-builds
 builds n.Drop = drop-builds
 builds n.Explain = explain-builds
 builds n.Show = λ v h. tt
+builds n.Impact = impact-builds
 builds n.NameOf = λ v h. tt
 builds n.Names = names-builds
 builds n.Qualified = λ v h. tt
@@ -57,6 +58,8 @@ builds n.Having = having-builds
 builds n.From = from-builds
 builds n.Join = join-builds
 builds n.JoinKind = join_kind-builds
+builds n.LeftJoin = left_join-builds
+builds n.CrossJoin = cross_join-builds
 builds n.Source = source-builds
 builds n.Aliased = aliased-builds
 builds n.Mark = mark-builds

@@ -8,6 +8,7 @@ use Rattle.sql_grammar.specs.Descent.{Outcome, Taken, Stopped, and_then, mapped}
 use Rattle.sql_grammar.specs.Grammar.{build}
 use Rattle.sql_grammar.specs.Lists.{listed}
 use Rattle.sql_grammar.specs.built.Pieces.{passes}
+use Rattle.sql_grammar.specs.built.Sequences.{both}
 use Rattle.sql_parser.specs.built.Statements.{mark_of, marked, null, statement_body, optional_statement, statements}
 use Rattle.sql_grammar.specs.Symbols as n
 use Rattle.sql_grammar.specs.Tables.{begins}
@@ -36,11 +37,16 @@ pub insert_is : (tokens : List Token) → reading n.Insert tokens
     and_then (past s.Values third) (λ values rest. mapped (λ list. st.Insert table list) (listed s.Comma (reading n.Row) rest)))))
 insert_is tokens = reading_is n.Insert tokens ∙ simp (fused, pushed, pulled, nested)
 
+pub impact_is : (tokens : List Token) → reading n.Impact tokens
+    ≡ and_then (past s.Impact tokens) (λ word first. and_then (both s.Delete s.From first) (λ words second. and_then (reading n.NameOf second) (λ table third.
+    and_then (reading n.Condition third) (λ condition fourth. and_then (past s.Of fourth) (λ of last. mapped (λ query. st.Impact table condition query) (reading n.Query last))))))
+impact_is tokens = reading_is n.Impact tokens ∙ simp (fused, pushed, pulled, nested)
+
 pub statement_is : (tokens : List Token) → reading n.StatementOf tokens ≡ mapped (λ body. record { at = offset tokens; body = body }) (statement_body tokens)
 statement_is tokens =
     reading_is n.StatementOf tokens
     ∙ fused (build n.StatementOf) (λ x. (offset tokens, x)) _
-    ∙ sym (fused (λ body. b.statement (offset tokens, body)) (b.one_of (b.one_of (b.one_of (b.one_of (b.one_of (b.one_of (b.one_of st.Select))))))) _)
+    ∙ sym (fused (λ body. b.statement (offset tokens, body)) (b.one_of (b.one_of (b.one_of (b.one_of (b.one_of (b.one_of (b.one_of (b.one_of st.Select)))))))) _)
     ∙ ap (mapped (λ body. b.statement (offset tokens, body)))
     (chosen (sees (begins n.Create) tokens) _ _ _ _
     (chosen (sees (begins n.Copy) tokens) _ _ _ _
@@ -48,7 +54,8 @@ statement_is tokens =
     (chosen (sees (begins n.Delete) tokens) _ _ _ _
     (chosen (sees (begins n.Drop) tokens) _ _ _ _
     (chosen (sees (begins n.Explain) tokens) _ _ _ _
-    (chosen (sees (begins n.Show) tokens) _ _ _ _ refl)))))))
+    (chosen (sees (begins n.Show) tokens) _ _ _ _
+    (chosen (sees (begins n.Impact) tokens) _ _ _ _ refl))))))))
 
 pub script_is : (tokens : List Token) → reading n.ScriptOf tokens ≡ mapped (λ list. record { statements = list }) (statements tokens)
 script_is tokens =

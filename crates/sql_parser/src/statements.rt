@@ -17,7 +17,7 @@ use sql_tree::{ColumnDef, ExprTree, Script, Statement, StatementBody, ValuesRow}
 use std::alloc::Global;
 
 /// What begins a statement.
-const STATEMENTS: [Sort; 9] = [
+const STATEMENTS: [Sort; 10] = [
     Sort::Create,
     Sort::Copy,
     Sort::Insert,
@@ -25,6 +25,7 @@ const STATEMENTS: [Sort; 9] = [
     Sort::Drop,
     Sort::Explain,
     Sort::Show,
+    Sort::Impact,
     Sort::Select,
     Sort::Opening,
 ];
@@ -251,6 +252,24 @@ fn delete(cursor: &mut Cursor<'_>) -> Result<StatementBody, Unread>
     Ok(StatementBody::Delete { table, condition })
 }
 
+#[tactic(auto, using(crate::proofs::Stating::impact_is))]
+fn impact(cursor: &mut Cursor<'_>) -> Result<StatementBody, Unread>
+    ensures given { spec.Reads result (spec.reading n.Impact cursor.old) cursor.new }
+    ensures fewer { IfOk result (λ _. length cursor.new < length cursor.old) }
+{
+    cursor.past(Sort::Impact)?;
+    cursor.past_both(Sort::Delete, Sort::From)?;
+    let table = cursor.name()?;
+    let condition = condition(cursor)?.map(Boxed::into_inner);
+    cursor.past(Sort::Of)?;
+    let query = query(cursor)?.into_inner();
+    Ok(StatementBody::Impact {
+        table,
+        condition,
+        query,
+    })
+}
+
 fn statement_body(cursor: &mut Cursor<'_>) -> Result<StatementBody, Unread>
     ensures given { spec.Reads result (spelled.statement_body cursor.old) cursor.new }
     ensures fewer { IfOk result (λ _. length cursor.new < length cursor.old) }
@@ -269,6 +288,8 @@ fn statement_body(cursor: &mut Cursor<'_>) -> Result<StatementBody, Unread>
         explain(cursor)
     } else if cursor.sees(Sort::Show) {
         show(cursor)
+    } else if cursor.sees(Sort::Impact) {
+        impact(cursor)
     } else {
         let query = query(cursor)?.into_inner();
         Ok(StatementBody::Select { query })

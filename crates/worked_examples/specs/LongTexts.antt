@@ -63,7 +63,7 @@ tree-of_clauses = refl
 
 -- every statement
 abbrev pub statements : List ℕ
-statements = codes "CREATE TABLE t (a INTEGER, b INT, c BIGINT, d TEXT); CREATE TABLE \"T\" AS SELECT 1; CREATE VIEW v AS SELECT 1; COPY t FROM 'f' HEADER NULL '-'; COPY t FROM 'f'; INSERT INTO t VALUES (1, 'x'), (NULL, TRUE); DELETE FROM t WHERE a; DELETE FROM t; DROP TABLE t; DROP VIEW v; EXPLAIN REWRITE SELECT 1; SHOW FRESH t; SELECT 1"
+statements = codes "CREATE TABLE t (a INTEGER, b INT, c BIGINT, d TEXT); CREATE TABLE \"T\" AS SELECT 1; CREATE VIEW v AS SELECT 1; COPY t FROM 'f' HEADER NULL '-'; COPY t FROM 'f'; INSERT INTO t VALUES (1, 'x'), (NULL, TRUE); DELETE FROM t WHERE a; DELETE FROM t; DROP TABLE t; DROP VIEW v; EXPLAIN REWRITE SELECT 1; SHOW FRESH t; SELECT 1; IMPACT DELETE FROM t WHERE a OF SELECT 1; IMPACT DELETE FROM of OF SELECT 1"
 
 tree-of_statements : tree_in n.ScriptOf statements
     ≡ Some (record {
@@ -80,7 +80,9 @@ tree-of_statements : tree_in n.ScriptOf statements
           ∷ record { at = 257; body = st.DropView (name 267 (codes "v")) }
           ∷ record { at = 270; body = st.Explain (query 286 (select 286 (int 293 1))) }
           ∷ record { at = 296; body = st.ShowFresh (name 307 (codes "t")) }
-          ∷ record { at = 310; body = st.Select (query 310 (select 310 (int 317 1))) } ∷ [];
+          ∷ record { at = 310; body = st.Select (query 310 (select 310 (int 317 1))) }
+          ∷ record { at = 320; body = st.Impact (name 339 (codes "t")) (Some (a 347)) (query 352 (select 352 (int 359 1))) }
+          ∷ record { at = 362; body = st.Impact (name 381 (codes "of")) None (query 387 (select 387 (int 394 1))) } ∷ [];
     })
 unfolding tree_in
 tree-of_statements = refl

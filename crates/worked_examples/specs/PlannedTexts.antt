@@ -1,12 +1,13 @@
--- Worked examples of plans: a SELECT with a join, a UNION of queries in parentheses, and an EXISTS, each with its text.
+-- Worked examples of plans: a SELECT with a join, one with a lateral join, a UNION of queries in parentheses, and an EXISTS, each with its text.
 use Rattle.std.specs.Prelude.{◌≡◌, ℕ, List, codes, refl}
 use Rattle.std.specs.Fmt.{digits}
+use Rattle.sql_grammar.specs.Grammar.{derived as derived_rule}
 use Rattle.sql_grammar.specs.Rules.{◌then◌, symbol}
 use Rattle.sql_grammar.specs.Symbols as n
 use Rattle.sql_grammar.specs.declared.sort.Sort.TheVariants as s
 use Rattle.sql_plans.specs.Blanks.{Blank, left_out, none, both_blank, blank_symbol}
 use Rattle.sql_plans.specs.Levels.{a_name, a_number, a_column, literal, reference, operand, tested, expression, query, inner, core, enclosed, in_parentheses}
-use Rattle.sql_plans.specs.Plans.{Plan, here, a_word, a_choice, both, before, behind, first, second, front_second, present, one_last, at_start, as_symbol, text_of}
+use Rattle.sql_plans.specs.Plans.{Plan, here, a_word, a_choice, both, before, behind, first, second, front_first, front_second, present, one_last, at_start, as_symbol, text_of}
 
 -- ---- parts
 
@@ -54,6 +55,26 @@ select_join =
 
 example-join_text : text_of select_join ≡ codes "select \"a\" from \"t\" join \"u\" on \"a\" = \"b\" "
 example-join_text = refl
+
+-- ---- a lateral join
+
+abbrev derived : Plan derived_rule
+derived = both (a_word refl) (both (query (core (one 1))) (both (a_word refl) (behind left_out (a_name (codes "x")))))
+
+abbrev lateral_join : Plan (symbol n.Join)
+lateral_join =
+    as_symbol (second (first (as_symbol (both (a_word refl) (behind left_out (both (a_word refl)
+    (front_first (both (both (a_word refl) (at_start derived)) (both (a_word refl) (a_word refl))))))))))
+
+abbrev pub select_lateral : Plan (symbol n.Query)
+select_lateral =
+    query (core (as_symbol (at_start (both (a_word refl) (behind left_out (behind left_out (both (item (column (codes "a")))
+    (before (as_symbol (present (both (a_word refl) (before (as_symbol (both (table (codes "t")) (one_last lateral_join))) none))))
+    (both_blank (blank_symbol left_out) ungrouped)))))))))
+
+example-lateral_text : text_of select_lateral ≡ codes "select \"a\" from \"t\" left join lateral ( select 1 ) \"x\" on true "
+unfolding digits
+example-lateral_text = refl
 
 -- ---- a UNION of queries in parentheses
 

@@ -17,10 +17,10 @@ use Rattle.sql_tree.specs.declared.source.FromItem.{FromItem}
 use Rattle.sql_tree.specs.declared.source.FromSource.TheVariants as source
 use Rattle.sql_tree.specs.declared.source.FromTree.{FromTree, roll-FromTree}
 use Rattle.sql_tree.specs.declared.source.JoinStep.{roll-JoinStep}
-use Rattle.sql_tree.specs.declared.source.JoinWord.TheVariants.{Inner}
+use Rattle.sql_tree.specs.declared.source.JoinWord.TheVariants.{Inner, LeftLateral}
 use Rattle.sql_tree.specs.declared.source.ScopeMark.TheVariants.{Plain}
 use Rattle.sql_plans.specs.Plans.{value}
-use Rattle.worked_examples.specs.PlannedTexts.{select_join, union, select_exists}
+use Rattle.worked_examples.specs.PlannedTexts.{select_join, select_lateral, union, select_exists}
 
 -- ---- nodes, each at its offset
 
@@ -67,6 +67,18 @@ example-join : value 0 select_join ≡ query 0 (select 0 (column 7 (codes "a"))
     }) ∷ []) None)
 unfolding word_sort symbol_sort same_sort
 example-join = refl
+
+example-lateral : value 0 select_lateral ≡ query 0 (select 0 (column 7 (codes "a"))
+    (roll-FromTree (record {
+      first = table 16 (codes "t");
+      joins = roll-JoinStep (record {
+        word = LeftLateral;
+        item = record { at = 38; source = source.Inner (query 40 (select 40 (int 47 1) [] None)); alias = Some (name 51 (codes "x")); mark = Plain };
+        condition = None;
+      }) ∷ [];
+    }) ∷ []) None)
+unfolding word_sort symbol_sort same_sort digits
+example-lateral = refl
 
 example-union : value 0 union ≡ query 0 (set.Chain (set.Paren (query 2 (select 2 (int 9 1) [] None)))
     (record { word = Union; all = false; at = 19; operand = set.Paren (query 21 (select 21 (int 28 2) [] None)) } ∷ []))

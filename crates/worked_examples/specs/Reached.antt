@@ -25,7 +25,8 @@ texts =
     ∷ (n.Expr, codes "a = ANY (SELECT 1)") ∷ (n.Expr, codes "a >= ALL (SELECT 1)")
     ∷ (n.Expr, codes "CASE WHEN a THEN 1 WHEN b THEN 2 ELSE c END")
     ∷ (n.Query, codes "SELECT 1 UNION SELECT 2 INTERSECT SELECT 3") ∷ (n.Query, codes "SELECT 1 EXCEPT ALL SELECT 2 UNION SELECT 3")
-    ∷ (n.Query, codes "SELECT * FROM r x LEFT JOIN s ON a ORDER BY 1 DESC LIMIT 2") ∷ []
+    ∷ (n.Query, codes "SELECT * FROM r x LEFT JOIN s ON a ORDER BY 1 DESC LIMIT 2")
+    ∷ (n.Query, codes "SELECT * FROM r CROSS JOIN LATERAL (SELECT a) x") ∷ []
 
 -- ---- sorts
 
@@ -165,12 +166,15 @@ number n.Aggregate = 72
 number n.Coalesce = 73
 number n.NullIf = 74
 number n.Reference = 75
+number n.Impact = 76
+number n.LeftJoin = 77
+number n.CrossJoin = 78
 
 -- the numbers that no symbol has
 abbrev unseen_numbers : List Symbol → List ℕ → List ℕ
 unseen_numbers [] left = left
 unseen_numbers (name ∷ seen) left = unseen_numbers seen (filter (λ k. not (nat_eq (number name) k)) left)
 
-no-symbol_is_unseen : unseen_numbers (flat_map (λ (text : Symbol × List ℕ). read_in text.0 (tokens_in text.1)) texts) (range_with_len 0 76) ≡ []
+no-symbol_is_unseen : unseen_numbers (flat_map (λ (text : Symbol × List ℕ). read_in text.0 (tokens_in text.1)) texts) (range_with_len 0 79) ≡ []
 unfolding tokens_in read reading_to repeated word_sort symbol_sort same_sort
 no-symbol_is_unseen = refl

@@ -1,5 +1,5 @@
 -- Worked examples of the grammar: texts and their trees, with the offset of each node, written out by hand.
-use Rattle.std.specs.Prelude.{◌≡◌, ℕ, pos, Bool, true, false, List, [], ◌∷◌, Option, Some, None, codes, refl}
+use Rattle.std.specs.Prelude.{◌≡◌, ℕ, ◌+◌, pos, Bool, true, false, List, [], ◌∷◌, Option, Some, None, codes, refl}
 use Rattle.null_logic.specs.declared.arith.Arith.TheVariants as arith
 use Rattle.null_logic.specs.declared.compare.Compare.TheVariants as compare
 use Rattle.null_logic.specs.declared.operator.Operator.TheVariants.{And, Or}
@@ -23,8 +23,9 @@ use Rattle.sql_tree.specs.declared.query.SetWord.TheVariants.{Union, Except, Int
 use Rattle.sql_tree.specs.declared.source.FromItem.{FromItem}
 use Rattle.sql_tree.specs.declared.source.FromSource.TheVariants as source
 use Rattle.sql_tree.specs.declared.source.FromTree.{FromTree, roll-FromTree}
-use Rattle.sql_tree.specs.declared.source.JoinStep.{roll-JoinStep}
-use Rattle.sql_tree.specs.declared.source.JoinWord.TheVariants.{Left}
+use Rattle.sql_tree.specs.declared.source.JoinStep.{JoinStep, roll-JoinStep}
+use Rattle.sql_tree.specs.declared.source.JoinWord.{JoinWord}
+use Rattle.sql_tree.specs.declared.source.JoinWord.TheVariants.{Left, Cross, CrossLateral, LeftLateral}
 use Rattle.sql_tree.specs.declared.source.ScopeMark.TheVariants.{Plain}
 use Rattle.sql_tree.specs.declared.statement.StatementBody.TheVariants.{DropTable}
 use Rattle.sql_parser.specs.Texts.{tree_in}
@@ -209,6 +210,46 @@ example-join : tree_in n.Query (codes "SELECT * FROM r x LEFT JOIN s ON a ORDER 
     })
 unfolding tree_in
 example-join = refl
+
+abbrev joined_freely : JoinWord → FromItem → JoinStep
+joined_freely word item = roll-JoinStep (record { word = word; item = item; condition = None })
+
+-- a query as an item, which selects the column `a`
+abbrev derived : ℕ → Name → FromItem
+derived at alias = record { at = at; source = source.Inner (query (at + 1) (select (at + 1) (a (at + 8)))); alias = Some alias; mark = Plain }
+
+abbrev all_of : FromItem → List JoinStep → QueryTree
+all_of first joins = query 0 (selecting 0 (item.Star 7) (roll-FromTree (record { first = first; joins = joins }) ∷ []))
+
+-- a lateral item stands at its parenthesis
+example-cross_lateral : tree_in n.Query (codes "SELECT * FROM r CROSS JOIN LATERAL (SELECT a) x")
+    ≡ Some (all_of (source_at 14 (codes "r") None) (joined_freely CrossLateral (derived 35 (name 46 (codes "x"))) ∷ []))
+unfolding tree_in
+example-cross_lateral = refl
+
+example-left_lateral : tree_in n.Query (codes "SELECT * FROM r LEFT OUTER JOIN LATERAL (SELECT a) AS x ON TRUE")
+    ≡ Some (all_of (source_at 14 (codes "r") None) (joined_freely LeftLateral (derived 40 (name 54 (codes "x"))) ∷ []))
+unfolding tree_in
+example-left_lateral = refl
+
+-- no other condition than TRUE stands behind it
+example-lateral_condition : tree_in n.Query (codes "SELECT * FROM r LEFT JOIN LATERAL (SELECT a) x ON a") ≡ None
+unfolding tree_in
+example-lateral_condition = refl
+
+-- where no parenthesis follows LATERAL, it is a name
+example-lateral_name : tree_in n.Query (codes "SELECT * FROM r CROSS JOIN lateral LEFT JOIN lateral x ON a")
+    ≡ Some (all_of (source_at 14 (codes "r") None) (joined_freely Cross (source_at 27 (codes "lateral") None)
+    ∷ roll-JoinStep (record { word = Left; item = source_at 45 (codes "lateral") (Some (name 53 (codes "x"))); condition = Some (a 58) }) ∷ []))
+unfolding tree_in
+example-lateral_name = refl
+
+-- and so are IMPACT and OF
+example-free_words : tree_in n.Query (codes "SELECT impact FROM of lateral")
+    ≡ Some (query 0 (selecting 0 (item.Value (column 7 (codes "impact")) None)
+    (roll-FromTree (record { first = source_at 19 (codes "of") (Some (name 22 (codes "lateral"))); joins = [] }) ∷ [])))
+unfolding tree_in
+example-free_words = refl
 
 -- empty statements leave nothing behind
 example-script : tree_in n.ScriptOf (codes "; DROP TABLE t;;")

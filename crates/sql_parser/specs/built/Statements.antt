@@ -37,7 +37,8 @@ statement_body tokens =
     (cond (sees (begins n.Drop) tokens) (reading n.Drop tokens)
     (cond (sees (begins n.Explain) tokens) (reading n.Explain tokens)
     (cond (sees (begins n.Show) tokens) (reading n.Show tokens)
-    (mapped Select (reading n.Query tokens))))))))
+    (cond (sees (begins n.Impact) tokens) (reading n.Impact tokens)
+    (mapped Select (reading n.Query tokens)))))))))
 
 abbrev pub optional_statement : List Token → Outcome Token (Option Statement)
 optional_statement tokens = by (optional (symbol n.StatementOf)) tokens
