@@ -107,6 +107,7 @@ module _ (c : Contents) (sound : IsSound c) where
   body-stands (st.Select query) regular whole = answer-stands query regular whole
   body-stands (st.Explain query) regular whole = answer-stands query regular whole
   body-stands (st.ShowFresh table) regular whole = tt
+  body-stands (st.Impact table condition query) regular whole = answer-stands query regular.1 whole
 
 pub statement-stands : (c : Contents) (statement : Statement) → IsSound c → RegularStatement statement → words.breaks c statement ≡ []
     → BodyStands c statement.body (words.resolved c statement)

@@ -69,3 +69,4 @@ BodyStands c (st.DropView view) made = ⊤
 BodyStands c (st.Select query) made = StandsFor c query made
 BodyStands c (st.Explain query) made = StandsFor c query made
 BodyStands c (st.ShowFresh table) made = ⊤
+BodyStands c (st.Impact table condition query) made = StandsFor c query made

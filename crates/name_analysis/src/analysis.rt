@@ -6,7 +6,7 @@ ghost use Rattle.name_statements.specs.Own.{TellsFirst, own_breaks};
 ghost use Rattle.name_statements.specs.Resolves.{Resolves};
 
 use crate::conditions::delete;
-use crate::queries::{create_table_as, create_view, explain, select};
+use crate::queries::{create_table_as, create_view, explain, impact, select};
 use crate::rows::insert;
 use name_meaning::Resolved;
 use name_seen_parts::Refusal;
@@ -64,5 +64,10 @@ fn behind_names(alloc: Global, catalog: &Catalog, statement: Statement) -> Resul
         StatementBody::ShowFresh { table } => Ok(Resolved::ShowFresh {
             name: text_of(table),
         }),
+        StatementBody::Impact {
+            table,
+            condition,
+            query,
+        } => impact(alloc, catalog, table, condition, query),
     }
 }

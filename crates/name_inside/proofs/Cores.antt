@@ -22,7 +22,7 @@ use Rattle.sql_tree.specs.declared.source.JoinStep.{JoinStep, out-JoinStep}
 use Rattle.sql_tree.specs.declared.source.ScopeMark.{ScopeMark}
 use Rattle.name_meaning.proofs.Equations.{token, selectitem-star, selectitem-tablestar, selectitem-value, fromsource-named, fromsource-inner}
 use Rattle.name_meaning.specs.Cores.{BodyPart, Clauses, clause_breaks, core_clauses, core_over, core_seen, core_unlooked, group_break, group_scope, has_some, in_clause, optional_breaks, optional_inside, optional_meant, word_breaks}
-use Rattle.name_meaning.specs.Froms.{FromMeant, FromPart, ItemMeant, JoinPart, Read, SourcePart, beside_from, both_known, first_item, from_all, from_more, in_on, item_meant, join_all, join_item, label_of, on_breaks, on_meant, read_named, read_of, scope_items, scope_name}
+use Rattle.name_meaning.specs.Froms.{FromMeant, FromPart, ItemMeant, JoinPart, Read, SourcePart, beside_from, both_known, first_item, from_all, from_more, in_on, item_meant, join_all, join_item, label_of, on_breaks, on_meant, read_named, read_of, scope_items, scope_name, joined_item, unbuilt_breaks}
 use Rattle.name_meaning.specs.Items.{SelectPart, columns_meant, items_breaks, items_inside, no_columns, star_meant, table_star_meant}
 use Rattle.name_meaning.specs.Meanings.{Around, Inside, Meant, Part, QueryMeant, Surroundings, both_inside, is_whole, means_at, nothing_inside, query_means_at}
 use Rattle.name_meaning.specs.Queries.{SetStepPart, count_columns, asks_provenance, keys_breaks, keys_of, limited, operand_breaks, plain_query, query_with_provenance, query_seen, set_chain, set_joined, may_not_ask}
@@ -151,15 +151,20 @@ on-nothing outer (Some items) None bare none = refl
 on-nothing outer (Some items) (Some condition) bare none =
     bare (in_on items outer) refl (front-none (condition.means (in_on items outer)).breaks _ none)
 
-join-over : (outer : List Scope) (left : FromMeant) (step : JoinPart) (m : ItemMeant) → BareJoin step
-    → IsOver (held_from (join_item outer left step m)) (held_from left ∷ held_item m ∷ [])
-join-over outer left step m bare =
+join-over : (outer : List Scope) (left : FromMeant) (step : JoinPart) → BareJoin step
+    → IsOver (held_from (join_item outer left step (joined_item outer left.names step)))
+    (held_from left ∷ held_item (step.item.means outer left.names) ∷ [])
+join-over outer left step bare =
+    let m = step.item.means outer left.names in
+    let built = joined_item outer left.names step in
     let items = both_known left.items (scope_items m) in
-    over-pair (held_from (join_item outer left step m)) (held_from left) (held_item m)
-    (λ none. front-none (left.breaks ++ m.breaks) (on_breaks step.condition (on_meant outer items step.condition)) none)
+    let on = on_breaks step.condition (on_meant outer items step.condition) in
+    over-pair (held_from (join_item outer left step built)) (held_from left) (held_item m)
+    (λ none.
+    let operands = front-none (left.breaks ++ built.breaks) on none in
+    λ i. front-none left.breaks built.breaks operands i ++ back-none (unbuilt_breaks step.word step.item.at) m.breaks (back-none left.breaks built.breaks operands) i)
     (λ none. ap (both_inside left.inside)
-    (ap (both_inside m.inside) (on-nothing outer items step.condition bare
-    (back-none (left.breaks ++ m.breaks) (on_breaks step.condition (on_meant outer items step.condition)) none)) ∙ both-nothing m.inside))
+    (ap (both_inside m.inside) (on-nothing outer items step.condition bare (back-none (left.breaks ++ built.breaks) on none)) ∙ both-nothing m.inside))
 
 joins-over : (outer : List Scope) (left : FromMeant) (steps : List JoinPart) → Every BareJoin steps
     → IsOver (held_from (join_all outer left steps)) (held_from left ∷ held_joins outer left.names steps)
@@ -167,7 +172,7 @@ joins-over outer left [] bare = over-self (held_from left)
 joins-over outer left (step ∷ steps) bare =
     let m = step.item.means outer left.names in
     over-front (held_from left ∷ held_item m ∷ []) (held_joins outer (left.names ++ m.name ∷ []) steps)
-    (joins-over outer (join_item outer left step m) steps bare.1) (join-over outer left step m bare.0)
+    (joins-over outer (join_item outer left step (joined_item outer left.names step)) steps bare.1) (join-over outer left step bare.0)
 
 module _ (c : Contents) where
   on-bare : (condition : Option ExprTree) → BareOn (option_map (part_of c) condition)

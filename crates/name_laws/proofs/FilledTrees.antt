@@ -83,7 +83,7 @@ module _ (c : Contents) (sound : IsSound c) where
         (shown-first earlier ((from_item_of c layer.first).means outer earlier) (item outer earlier)) steps)
 
     filled-join : {step : JoinStep} → RegularJoin step → FilledJoin (join_of c step)
-    filled-join (regular_join_step {step = step} same item condition) =
+    filled-join (regular_join_step {step = step} same lateral item condition) =
         subst FilledJoin (sym (opened_join c step)) (filled-from_item item)
 
     filled-from_item : {item : FromItem} → RegularFromItem item → FilledItem (from_item_of c item)

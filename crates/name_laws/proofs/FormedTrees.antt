@@ -239,7 +239,7 @@ module _ (c : Contents) (sound : IsSound c) where
         (good-first outer earlier ((from_item_of c layer.first).means outer earlier) (item outer earlier)) steps)
 
     good-join : {step : JoinStep} → RegularJoin step → GoodJoin (join_of c step)
-    good-join (regular_join_step {step = step} same item condition) =
+    good-join (regular_join_step {step = step} same lateral item condition) =
         let layer = out-JoinStep step in
         subst GoodJoin (sym (opened_join c step))
         (good-from_item item, join-condition layer layer.condition (λ part is. good-expr (condition part is)))

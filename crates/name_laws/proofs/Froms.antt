@@ -36,7 +36,7 @@ use Rattle.perm_catalog.specs.declared.entries.ViewEntry.{ViewEntry}
 use Rattle.sql_tree.specs.declared.name.Name.{Name}
 use Rattle.sql_tree.specs.declared.source.ScopeMark.{ScopeMark}
 use Rattle.sql_tree.specs.declared.source.ScopeMark.TheVariants as mark
-use Rattle.name_meaning.specs.Froms.{names_of, names_at, all_places, table_columns, settled_columns, named_columns, Read, external, read_table, read_view, read_nothing, read_named, read_query, named_so, place_of, column_breaks, attribute_breaks, texts_of, marked, mark_breaks, SourcePart, named as named_source, inner as inner_source, ItemMeant, FromItemPart, read_of, read_names, item_meant, in_on, FromMeant, JoinPart, FromPart, join_kind, scope_items, both_known, first_item, on_meant, on_breaks, on_made, join_item, join_all, beside_from, from_more, from_all, yes}
+use Rattle.name_meaning.specs.Froms.{names_of, names_at, all_places, table_columns, settled_columns, named_columns, Read, external, read_table, read_view, read_nothing, read_named, read_query, named_so, place_of, column_breaks, attribute_breaks, texts_of, marked, mark_breaks, SourcePart, named as named_source, inner as inner_source, ItemMeant, FromItemPart, read_of, read_names, item_meant, in_on, FromMeant, JoinPart, FromPart, join_kind, scope_items, both_known, first_item, on_meant, on_breaks, on_made, join_item, joined_item, unbuilt_breaks, join_all, beside_from, from_more, from_all, yes}
 use Rattle.name_meaning.specs.Meanings.{Around, Part, OutColumn, QueryMeant, broken_if}
 use Rattle.name_meaning.specs.Scopes.{KnownColumn, ScopeItem, scope_of, numbered_columns, columns_from}
 use Rattle.name_meaning.specs.declared.answer.Break.{Break}
@@ -316,12 +316,19 @@ good-joined outer left step m l r condition whole =
           (sym known) (on-holds outer items step.condition (kinds_of left.query ++ kinds_of m.query) rows condition on_whole kinds hold));
     }
 
+good-joined_item : (step : JoinPart) → GoodFromItem step.item → (outer : List Scope) (earlier : List (List ℕ))
+    → GoodItemMeant outer (joined_item outer earlier step)
+good-joined_item step good outer earlier whole =
+    let item = good outer earlier (back-none (unbuilt_breaks step.word step.item.at) (step.item.means outer earlier).breaks whole) in
+    record { columns = item.columns; known = item.known; kinds = item.kinds; formed = item.formed }
+
 pub good-join_all : (outer : List Scope) (left : FromMeant) (steps : List JoinPart) → GoodFrom outer left → Every GoodJoin steps
     → GoodFrom outer (join_all outer left steps)
 good-join_all outer left [] l h = l
 good-join_all outer left (step ∷ steps) l h =
-    let m : ItemMeant = step.item.means outer left.names in
-    good-join_all outer (join_item outer left step m) steps (good-joined outer left step m l (h.0.0 outer left.names) h.0.1) h.1
+    let m : ItemMeant = joined_item outer left.names step in
+    good-join_all outer (join_item outer left step m) steps
+    (good-joined outer left step m l (good-joined_item step h.0.0 outer left.names) h.0.1) h.1
 
 good-beside : (outer : List Scope) (left right : FromMeant) → GoodFrom outer left → GoodFrom outer right → GoodFrom outer (beside_from left right)
 good-beside outer left right l r whole =

@@ -1,5 +1,5 @@
 -- The rows of a grouped core have its GROUP BY columns and then its aggregates.
-use Rattle.std.specs.Prelude.{◌≡◌, ℕ, zero, suc, ◌+◌, ◌<◌, Bool, true, false, List, [], ◌∷◌, ◌++◌, map, filter_map, length, nat_eq, position, slice_get, slice_index_or, Option, Some, None, option_map}
+use Rattle.std.specs.Prelude.{◌≡◌, ℕ, zero, suc, ◌+◌, ◌<◌, List, [], ◌∷◌, ◌++◌, filter_map, length, nat_eq, position, slice_get, Option, Some, None, option_map}
 use Rattle.std.proofs.Common.{refl, ap, sym, ◌∙◌, subst, arith, eqb-true}
 use Rattle.std.proofs.lemmas.List.{length-map}
 use Rattle.std.specs.List.{cons_option}
@@ -13,13 +13,10 @@ use Rattle.bag_algebra.specs.WellFormed.{PlacesIn, column_kind}
 use Rattle.bag_algebra.specs.declared.query.Aggr.{Aggr}
 use Rattle.sql_tree.specs.declared.name.ColRef.{ColRef}
 use Rattle.name_meaning.specs.Cores.{group_found, group_place}
-use Rattle.name_meaning.specs.Scopes.{place_among}
 use Rattle.name_meaning.specs.declared.scope.Found.{Found}
 use Rattle.name_meaning.specs.declared.scope.Found.TheVariants.{Absent as absent, Ambiguous as ambiguous, Column as found}
-use Rattle.name_meaning.specs.declared.scope.FoundColumn.{FoundColumn}
 use Rattle.name_meaning.specs.declared.scope.Scope.{Scope}
-use Rattle.name_meaning.specs.declared.scope.ScopeColumn.{ScopeColumn}
-use Rattle.name_laws.specs.Standing.{StandAt, HoldsScope, RowsHold, aggregate_kinds, AggregatesStand}
+use Rattle.name_laws.specs.Standing.{StandAt, HoldsScope, aggregate_kinds, AggregatesStand}
 use Rattle.name_laws.proofs.Columns.{look_up-kind}
 use Rattle.name_laws.proofs.Standing.{stand-behind, slice_get-front}
 

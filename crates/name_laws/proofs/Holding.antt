@@ -1,16 +1,16 @@
 -- The kinds of expressions that the constructors of code make, in words on plain lists of parts.
-use Rattle.std.specs.Prelude.{◌≡◌, ⊤, ℕ, zero, suc, ◌≤◌, Bool, true, false, cond, ◌&&◌, List, [], ◌∷◌, map, length}
-use Rattle.std.proofs.Common.{refl, ap, sym, ◌∙◌, subst, arith}
+use Rattle.std.specs.Prelude.{◌≡◌, ℕ, zero, suc, ◌≤◌, Bool, true, false, ◌&&◌, List, [], ◌∷◌, map, length}
+use Rattle.std.proofs.Common.{refl, ap, sym, subst, arith}
 use Rattle.std.specs.List.{AllByRecursion as Every}
 use mathlib.Core.Bool.{beq}
 use Rattle.null_logic.specs.declared.operator.Operator.{Operator}
 use Rattle.null_logic.specs.declared.operator.Operator.TheVariants as x
 use Rattle.null_logic.specs.declared.truth.Truth.{Truth}
 use Rattle.perm_values.specs.declared.kind.Kind.{Kind}
-use Rattle.perm_values.specs.declared.kind.Kind.TheVariants.{Integer, Text, Boolean}
-use Rattle.bag_algebra.specs.built.Openings.{row_of_parts, row_of_steps, Chain-is, Case-is, IsNull-is, IsTruth-is, Same-is}
+use Rattle.perm_values.specs.declared.kind.Kind.TheVariants.{Integer, Boolean}
+use Rattle.bag_algebra.specs.built.Openings.{row_of_steps, Chain-is, Case-is, IsNull-is, IsTruth-is, Same-is}
 use Rattle.bag_algebra.specs.built.Forms.{AllHave, AllStepsHave, AllArmsHave, parts_have-built, steps_have-built, arms_have-built, number_of_parts-built, number_of_steps-built, number_of_arms-built}
-use Rattle.bag_algebra.specs.WellFormed.{HasKind, PartsHave, op_form, is_additive, steps_are}
+use Rattle.bag_algebra.specs.WellFormed.{HasKind, op_form, is_additive, steps_are}
 use Rattle.bag_algebra.specs.declared.expr.Arm.{Arm}
 use Rattle.bag_algebra.specs.declared.expr.ChainStep.{ChainStep}
 use Rattle.bag_algebra.specs.declared.expr.Expr.{Expr}
@@ -18,7 +18,7 @@ use Rattle.bag_algebra.specs.declared.expr.Expr.TheBlock.{shape-the_row-ChainSte
 use Rattle.bag_algebra.specs.declared.expr.Expr.TheVariants.{Op, Chain, Case, IsNull, IsTruth, Same}
 use Rattle.bag_algebra.proofs.Forms.{op_form-kept}
 use Rattle.name_meaning.specs.Expressions.{first_of, second_of, negated_if, times}
-use Rattle.name_meaning.specs.Operands.{Operand, operand}
+use Rattle.name_meaning.specs.Operands.{operand}
 use Rattle.name_meaning.specs.Meanings.{Surroundings, Part}
 use Rattle.name_meaning.specs.declared.need.Need.{Need}
 use Rattle.name_laws.proofs.Needs.{taken, taken_kinds}

@@ -5,7 +5,6 @@ use Rattle.std.proofs.lemmas.List.{length-map}
 use Rattle.std.proofs.lemmas.List.FromFn.{length-range_with_len}
 use Rattle.std.specs.List.{list_any}
 use Rattle.std.specs.Option.{option_map_or}
-use Rattle.perm_values.specs.declared.kind.Kind.TheVariants as kind
 use Rattle.bag_algebra.specs.built.Openings.{kinds_of-Join, shape-Base}
 use Rattle.bag_algebra.specs.Kinds.{kinds_of, shape}
 use Rattle.bag_algebra.specs.WellFormed.{label_width}
@@ -26,7 +25,7 @@ use Rattle.sql_tree.specs.declared.name.Name.{Name}
 use Rattle.sql_tree.specs.declared.source.JoinWord.{JoinWord}
 use Rattle.sql_tree.specs.declared.source.ScopeMark.{ScopeMark}
 use Rattle.sql_tree.specs.declared.source.ScopeMark.TheVariants as mark
-use Rattle.name_meaning.specs.Froms.{names_of, names_at, all_places, table_columns, settled_columns, named_columns, Read, external, read_table, read_view, read_nothing, read_named, read_query, named_so, place_of, texts_of, marked, mark_breaks, SourcePart, named as named_source, inner as inner_source, ItemMeant, FromItemPart, read_of, read_names, item_meant, FromMeant, JoinPart, FromPart, join_kind, scope_items, both_known, first_item, on_meant, on_breaks, on_made, joined, join_item, join_all, beside_from, from_more, from_all, yes}
+use Rattle.name_meaning.specs.Froms.{names_of, names_at, all_places, table_columns, settled_columns, named_columns, Read, external, read_table, read_view, read_nothing, read_named, read_query, named_so, place_of, texts_of, marked, mark_breaks, SourcePart, named as named_source, inner as inner_source, ItemMeant, FromItemPart, read_of, read_names, item_meant, FromMeant, JoinPart, FromPart, join_kind, scope_items, both_known, first_item, on_meant, on_breaks, on_made, joined, join_item, joined_item, unbuilt_breaks, join_all, beside_from, from_more, from_all, yes}
 use Rattle.name_meaning.specs.Meanings.{Around, Meant, Part, OutColumn, QueryMeant, broken_if}
 use Rattle.name_meaning.specs.Scopes.{KnownColumn, ScopeItem}
 use Rattle.name_meaning.specs.declared.answer.Break.{Break}
@@ -211,14 +210,24 @@ module _ (c : Contents) where
         (every-append IsNamed (shape left.query) (shape m.query) (l.named sound) (r.named sound));
   }
 
+  good-joined_item : (step : JoinPart) → GoodFromItem step.item → (outer : List Scope) (earlier : List (List ℕ)) → GoodItem (joined_item outer earlier step)
+  good-joined_item step good outer earlier =
+      let item = good outer earlier in
+      record {
+        known = λ sound whole.
+            let is = item.known sound (back-none (unbuilt_breaks step.word step.item.at) (step.item.means outer earlier).breaks whole) in
+            record { columns = is.columns; known = is.known; kinds = is.kinds };
+        named = item.named;
+      }
+
   pub good-join_all : (outer : List Scope) (left : FromMeant) (steps : List JoinPart) → GoodFrom left → Every GoodJoin steps
       → GoodFrom (join_all outer left steps)
   good-join_all outer left [] l h = l
   good-join_all outer left (step ∷ steps) l h =
-      let m : ItemMeant = step.item.means outer left.names in
+      let m : ItemMeant = joined_item outer left.names step in
       let on : Option Meant = on_meant outer (both_known left.items (scope_items m)) step.condition in
       good-join_all outer (join_item outer left step m) steps
-      (good-joined left step.word step.condition m on l (h.0 outer left.names)) h.1
+      (good-joined left step.word step.condition m on l (good-joined_item step h.0 outer left.names)) h.1
 
   good-beside : (left right : FromMeant) → GoodFrom left → GoodFrom right → GoodFrom (beside_from left right)
   good-beside left right l r = record {

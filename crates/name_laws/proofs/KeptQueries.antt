@@ -9,7 +9,6 @@ use Rattle.bag_algebra.specs.PlaceNames.{place_names}
 use Rattle.bag_algebra.specs.declared.place.Place.{Place}
 use Rattle.bag_algebra.specs.declared.query.Query.{Query}
 use Rattle.sql_tree.specs.declared.query.OrderTree.{OrderTree}
-use Rattle.sql_tree.specs.declared.query.SetWord.TheVariants as word
 use Rattle.name_meaning.specs.Cores.{BodyPart, settle, settle_known}
 use Rattle.name_meaning.specs.Froms.{named_columns}
 use Rattle.name_meaning.specs.Meanings.{Around, OutColumn, QueryMeant}

@@ -18,7 +18,7 @@ use Rattle.sql_tree.specs.declared.name.Name.{Name}
 use Rattle.sql_tree.specs.declared.source.JoinWord.{JoinWord}
 use Rattle.sql_tree.specs.declared.source.ScopeMark.{ScopeMark}
 use Rattle.sql_tree.specs.declared.source.ScopeMark.TheVariants as mark
-use Rattle.name_meaning.specs.Froms.{names_of, names_at, all_places, table_columns, settled_columns, Read, external, read_table, read_view, read_nothing, read_named, read_query, place_of, texts_of, marked, SourcePart, named as named_source, inner as inner_source, ItemMeant, FromItemPart, read_of, read_names, item_meant, FromMeant, JoinPart, FromPart, join_kind, both_known, scope_items, on_meant, on_made, joined, join_item, join_all, beside_from, from_more, from_all, yes}
+use Rattle.name_meaning.specs.Froms.{names_of, names_at, all_places, table_columns, settled_columns, Read, external, read_table, read_view, read_nothing, read_named, read_query, place_of, texts_of, marked, SourcePart, named as named_source, inner as inner_source, ItemMeant, FromItemPart, read_of, read_names, item_meant, FromMeant, JoinPart, FromPart, join_kind, both_known, scope_items, on_meant, on_made, joined, join_item, joined_item, join_all, beside_from, from_more, from_all, yes}
 use Rattle.name_meaning.specs.Meanings.{Meant, Part, QueryMeant, nothing_inside}
 use Rattle.name_meaning.specs.declared.scope.Scope.{Scope}
 use Rattle.name_laws.proofs.Every.{Every}
@@ -121,7 +121,7 @@ module _ (P : List (List ℕ) → ℕ → List Kind → Type 0) (g : Grows P) wh
       → FromReads (join_all outer left steps)
   reads-join_all outer left [] l h = l
   reads-join_all outer left (step ∷ steps) l h =
-      let m : ItemMeant = step.item.means outer left.names in
+      let m : ItemMeant = joined_item outer left.names step in
       let on : Option Meant = on_meant outer (both_known left.items (scope_items m)) step.condition in
       reads-join_all outer (join_item outer left step m) steps (reads-joined left step.word step.condition m on l (h.0 outer left.names)) h.1
 

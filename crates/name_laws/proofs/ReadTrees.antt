@@ -8,9 +8,7 @@ use Rattle.perm_values.specs.declared.value.Value.TheVariants as v
 use Rattle.bag_algebra.specs.declared.expr.Expr.TheVariants.{Lit, Op, IsNull, IsTruth, Same}
 use Rattle.perm_catalog.specs.Contents.{Contents}
 use Rattle.sql_tree.specs.declared.expression.ExprBody.TheOpen.{ExprBody-F, SelectItem-F, SetTree-F, FromSource-F}
-use Rattle.sql_tree.specs.declared.query.Core.{Core}
 use Rattle.sql_tree.specs.declared.query.QueryTree.{QueryTree}
-use Rattle.sql_tree.specs.declared.query.SetTree.{SetTree}
 use Rattle.name_meaning.proofs.Equations.{ExprBodyFrame, SelectItemFrame, SetTreeFrame, FromSourceFrame, CoreFrame}
 use Rattle.name_meaning.specs.Cores.{core_step, has_some}
 use Rattle.name_meaning.specs.Expressions.{Body, body_step, first_of, second_of, negated_if, times, chain_made, step_operand, first_need, chain_gives, in_kind}

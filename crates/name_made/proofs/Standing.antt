@@ -10,7 +10,7 @@ use Rattle.perm_values.specs.declared.kind.Kind.{Kind}
 use Rattle.sql_tree.specs.declared.query.SelectItem.{SelectItem}
 use Rattle.sql_tree.specs.declared.source.FromTree.{FromTree, out-FromTree}
 use Rattle.sql_tree.specs.declared.source.JoinStep.{JoinStep, out-JoinStep}
-use Rattle.name_meaning.specs.Froms.{FromMeant, ItemMeant, JoinPart, first_item, join_all, join_item, join_kind, scope_items}
+use Rattle.name_meaning.specs.Froms.{FromMeant, ItemMeant, JoinPart, first_item, join_all, join_item, join_kind, scope_items, joined_item}
 use Rattle.name_meaning.specs.Items.{SelectMeant, SelectPart}
 use Rattle.name_meaning.specs.Meanings.{Surroundings}
 use Rattle.name_meaning.specs.Scopes.{ScopeItem, scope_of}
@@ -68,7 +68,7 @@ joins-count : (outer : List Scope) (left : FromMeant) (steps : List JoinPart) (n
     → (items : List ScopeItem) → (join_all outer left steps).items ≡ Some items → length items ≡ n + length steps
 joins-count outer left [] n counts items known = let same = counts items known in omega (arith, same)
 joins-count outer left (step ∷ steps) n counts items known =
-    let m = step.item.means outer left.names in
+    let m = joined_item outer left.names step in
     let all = joins-count outer (join_item outer left step m) steps (n + 1) (both-count left.items (scope_items m) n 1 counts (one-known m)) items known in
     omega (arith, all)
 

@@ -17,7 +17,7 @@ use Rattle.sql_tree.specs.declared.source.JoinWord.{JoinWord}
 use Rattle.sql_tree.specs.declared.expression.ExprTree.{ExprTree}
 use Rattle.sql_tree.specs.declared.expression.ExprBody.TheViews.{roll-out-JoinStep}
 use Rattle.sql_tree.specs.declared.source.ScopeMark.{ScopeMark}
-use Rattle.name_meaning.specs.Froms.{FromMeant, FromPart, ItemMeant, JoinPart, Read, SourcePart, beside_from, both_known, first_item, from_all, from_more, item_meant, join_all, join_item, join_kind, label_of, marked, no_from, named as named_source, inner as inner_source, on_breaks, on_made, on_meant, read_named, read_names, read_of, read_query, scope_items, scope_name, yes}
+use Rattle.name_meaning.specs.Froms.{FromMeant, FromPart, ItemMeant, JoinPart, Read, SourcePart, beside_from, both_known, first_item, from_all, from_more, item_meant, join_all, join_item, join_kind, label_of, marked, no_from, named as named_source, inner as inner_source, on_breaks, on_made, on_meant, read_named, read_names, read_of, read_query, scope_items, scope_name, yes, joined_item, unbuilt_breaks}
 use Rattle.name_meaning.specs.Meanings.{Part, query_means_at}
 use Rattle.name_meaning.specs.Scopes.{ScopeItem, scope_of}
 use Rattle.name_meaning.specs.Trees.{from_item_of, from_of, join_of, part_of, query_of, source_of}
@@ -89,17 +89,17 @@ own-whole outer items (Some condition) whole = none-first _ _ whole
 
 pub joins-append : (outer : List Scope) (left : FromMeant) (steps : List JoinPart) (step : JoinPart)
     → join_all outer left (steps ++ step ∷ [])
-    ≡ join_item outer (join_all outer left steps) step (step.item.means outer (join_all outer left steps).names)
+    ≡ join_item outer (join_all outer left steps) step (joined_item outer (join_all outer left steps).names step)
 joins-append outer left [] step = refl
 joins-append outer left (first ∷ steps) step =
-    joins-append outer (join_item outer left first (first.item.means outer left.names)) steps step
+    joins-append outer (join_item outer left first (joined_item outer left.names first)) steps step
 
 -- one more join
 pub join-more : (outer : List Scope) (left : FromMeant) (step : JoinPart) (first joins : ℕ) (scope : Scope) (before after : Query)
     → JoinsMade left first scope before joins → MakesJoin outer step first (joins + 2) scope before after
-    → JoinsMade (join_item outer left step (step.item.means outer left.names)) first scope after (suc joins)
+    → JoinsMade (join_item outer left step (joined_item outer left.names step)) first scope after (suc joins)
 join-more outer left step first joins scope before after so_far makes =
-    let m = step.item.means outer left.names in
+    let m = joined_item outer left.names step in
     let counts = λ (items : List ScopeItem) (known : both_known left.items (scope_items m) ≡ Some items).
     both-count left.items (scope_items m) (suc joins) 1 so_far.counts (one-item m) items known in
     let on = on_meant outer (both_known left.items (scope_items m)) step.condition in
@@ -121,14 +121,15 @@ pub join-made : (outer : List Scope) (step : JoinPart) (first count : ℕ) (scop
     → MakesOn outer step.condition first count scope condition → ((earlier : List (List ℕ)) → MakesSource (step.item.means outer earlier) right)
     → after ≡ Join (join_kind step.word) before right condition [] → MakesJoin outer step first count scope before after
 join-made outer step first count scope before right after condition on item is left counts same whole stands =
-    let m = step.item.means outer left.names in
+    let m = joined_item outer left.names step in
     let known = both_known left.items (scope_items m) in
     let sees = on_meant outer known step.condition in
     let own : known ≡ Some stands.own = stands.known in
     let breaks : on_breaks step.condition (on_meant outer (Some stands.own) step.condition) ≡ [] =
     subst (λ (items : Option (List ScopeItem)). on_breaks step.condition (on_meant outer items step.condition) ≡ []) own
     (none-second (left.breaks ++ m.breaks) (on_breaks step.condition sees) whole) in
-    let made = item left.names (none-second left.breaks m.breaks (none-first (left.breaks ++ m.breaks) (on_breaks step.condition sees) whole)) in
+    let made = item left.names (none-second (unbuilt_breaks step.word step.item.at) _
+    (none-second left.breaks m.breaks (none-first (left.breaks ++ m.breaks) (on_breaks step.condition sees) whole))) in
     let stands_own : StandsIn (Some stands.own) first scope =
     record { before = stands.before; own = stands.own; after = stands.after; known = refl; scope_is = stands.scope_is; at = stands.at } in
     let expr : condition ≡ on_made sees =

@@ -9,7 +9,7 @@ use Rattle.perm_catalog.specs.Changes.{view_named}
 use Rattle.perm_catalog.specs.Contents.{Contents}
 use Rattle.sql_tree.specs.declared.name.Name.{Name}
 use Rattle.sql_tree.specs.declared.source.FromTree.{FromTree, out-FromTree}
-use Rattle.name_meaning.specs.Froms.{FromMeant, FromPart, ItemMeant, JoinPart, from_all, join_item, on_made, on_meant, Read, read_names, read_nothing, read_query, read_view, yes}
+use Rattle.name_meaning.specs.Froms.{FromMeant, FromPart, ItemMeant, JoinPart, from_all, join_item, on_made, on_meant, Read, read_names, read_nothing, read_query, read_view, yes, joined_item}
 use Rattle.name_meaning.specs.Meanings.{Meant, Part, QueryMeant}
 use Rattle.name_meaning.specs.Scopes.{ScopeItem, scope_of}
 use Rattle.name_meaning.specs.declared.answer.Break.{Break}
@@ -81,8 +81,8 @@ MakesOn outer condition first count scope made = (items : List ScopeItem) → St
 -- one more join made, behind as many items less one
 abbrev pub MakesJoin : List Scope → JoinPart → ℕ → ℕ → Scope → Query → Query → Type 0
 MakesJoin outer step first count scope before made = (left : FromMeant) → ((items : List ScopeItem) →
-    (join_item outer left step (step.item.means outer left.names)).items ≡ Some items → length items ≡ count)
-    → before ≡ left.query → MakesFrom (join_item outer left step (step.item.means outer left.names)) first scope made
+    (join_item outer left step (joined_item outer left.names step)).items ≡ Some items → length items ≡ count)
+    → before ≡ left.query → MakesFrom (join_item outer left step (joined_item outer left.names step)) first scope made
 
 -- what is before a comma, if anything is
 abbrev pub left_of : List FromPart → FromMeant → Option Query

@@ -179,6 +179,8 @@ pub fn join_kind(word: JoinWord) -> JoinKind
         JoinWord::Right => JoinKind::Right,
         JoinWord::Full => JoinKind::Full,
         JoinWord::Cross => JoinKind::Inner,
+        JoinWord::CrossLateral => JoinKind::Inner,
+        JoinWord::LeftLateral => JoinKind::Left,
     }
 }
 

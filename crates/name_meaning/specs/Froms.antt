@@ -1,5 +1,5 @@
 -- What FROM means: its items with their marks, and its joins.
-use Rattle.std.specs.Prelude.{ℕ, Bool, true, false, cond, not, ◌&&◌, ◌||◌, List, [], ◌∷◌, ◌++◌, map, length, nat_eq, nat_lt, position, slice_index_or, Option, Some, None, option_map}
+use Rattle.std.specs.Prelude.{ℕ, Bool, true, false, not, List, [], ◌∷◌, ◌++◌, map, length, nat_eq, nat_lt, position, slice_index_or, Option, Some, None, option_map}
 use Rattle.std.specs.Cmp.Lexicographic.{pointwise}
 use Rattle.std.specs.List.{list_any, count_by, range_with_len}
 use Rattle.std.specs.Option.{option_map_or}
@@ -21,13 +21,14 @@ use Rattle.perm_catalog.specs.declared.entries.Mark.{Mark}
 use Rattle.perm_catalog.specs.declared.entries.TableEntry.{TableEntry}
 use Rattle.perm_catalog.specs.declared.entries.ViewEntry.{ViewEntry}
 use Rattle.bag_algebra.specs.Kinds.{kinds_of}
+use Rattle.sql_tree.specs.Regular.{is_lateral}
 use Rattle.sql_tree.specs.declared.expression.ExprBody.TheOpen.{FromSource-F, FromItem-F, FromTree-F, JoinStep-F}
 use Rattle.sql_tree.specs.declared.name.Name.{Name}
 use Rattle.sql_tree.specs.declared.source.JoinWord.{JoinWord}
 use Rattle.sql_tree.specs.declared.source.JoinWord.TheVariants as word
 use Rattle.sql_tree.specs.declared.source.ScopeMark.{ScopeMark}
 use Rattle.sql_tree.specs.declared.source.ScopeMark.TheVariants as mark
-use Rattle.name_meaning.specs.Meanings.{Inside, nothing_inside, both_inside, Surroundings, Meant, seen_kind, Part, OutColumn, QueryMeant, QueryPart, broken, broken_if, is_whole, settled, unites}
+use Rattle.name_meaning.specs.Meanings.{Inside, nothing_inside, both_inside, Surroundings, Meant, seen_kind, Part, OutColumn, QueryMeant, QueryPart, broken, broken_if, settled, unites}
 use Rattle.name_meaning.specs.Scopes.{KnownColumn, ScopeItem, scope_of}
 use Rattle.name_meaning.specs.Sublinks.{nothing_before}
 use Rattle.name_meaning.specs.declared.answer.Break.{Break}
@@ -169,6 +170,7 @@ pub record ItemMeant : Type 0 where
 
 -- seen from the scopes around the core, behind items of these names
 pub record FromItemPart : Type 0 where
+  pub at : ℕ
   pub means : List Scope → List (List ℕ) → ItemMeant
 
 abbrev pub read_of : Contents → List Scope → SourcePart → Read
@@ -238,6 +240,8 @@ join_kind word.Left = join.Left
 join_kind word.Right = join.Right
 join_kind word.Full = join.Full
 join_kind word.Cross = join.Inner
+join_kind word.CrossLateral = join.Inner
+join_kind word.LeftLateral = join.Left
 
 abbrev pub scope_items : ItemMeant → Option (List ScopeItem)
 scope_items m = option_map (λ columns. record { name = m.name; columns = columns } ∷ []) m.columns
@@ -283,10 +287,20 @@ abbrev pub join_item : List Scope → FromMeant → JoinPart → ItemMeant → F
 join_item outer left step m =
     joined left step.word step.condition m (on_meant outer (both_known left.items (scope_items m)) step.condition)
 
+-- a lateral join isn't carried out yet; at its item
+abbrev pub unbuilt_breaks : JoinWord → ℕ → List Break
+unbuilt_breaks word at = broken_if (is_lateral word) rule.UnbuiltForm at
+
+-- what a join reads, behind items of these names
+abbrev pub joined_item : List Scope → List (List ℕ) → JoinPart → ItemMeant
+joined_item outer earlier step =
+    let m = step.item.means outer earlier in
+    record m { breaks = unbuilt_breaks step.word step.item.at ++ m.breaks }
+
 abbrev pub join_all : List Scope → FromMeant → List JoinPart → FromMeant
 join_all outer left [] = left
 join_all outer left (step ∷ steps) =
-    join_all outer (join_item outer left step (step.item.means outer left.names)) steps
+    join_all outer (join_item outer left step (joined_item outer left.names step)) steps
 
 -- ---- the steps
 
@@ -296,6 +310,7 @@ source_step (FromSource-F.Inner query) = inner query
 
 abbrev pub from_item_step : {B I S A U P C Q W G J K : Type 0} → Contents → FromItem-F B I S SourcePart A U P C Q W G J K → FromItemPart
 from_item_step c tree = record {
+  at = tree.at;
   means = λ outer earlier. item_meant tree.at tree.mark earlier (scope_name tree.source tree.alias)
       (label_of tree.source tree.alias) (read_of c outer tree.source);
 }

@@ -139,6 +139,7 @@ name_breaks c (st.DropView view) = unknown_view c view ++ used c view
 name_breaks c (st.Select query) = (query_meant c query).breaks
 name_breaks c (st.Explain query) = (query_meant c query).breaks
 name_breaks c (st.ShowFresh table) = unknown_table c table
+name_breaks c (st.Impact table condition query) = (query_meant c query).breaks
 
 -- ---- limits
 
@@ -180,6 +181,7 @@ limit_breaks c (st.DropView view) = []
 limit_breaks c (st.Select query) = query_limits query.at (query_meant c query)
 limit_breaks c (st.Explain query) = query_limits query.at (query_meant c query)
 limit_breaks c (st.ShowFresh table) = []
+limit_breaks c (st.Impact table condition query) = query_limits query.at (query_meant c query)
 
 -- the limits are looked at where names and kinds break no rule
 abbrev pub breaks : Contents → Statement → List Break
@@ -232,6 +234,8 @@ resolved_body c (st.DropView view) = r.DropView view.text
 resolved_body c (st.Select query) = r.Select (answer_of (query_meant c query))
 resolved_body c (st.Explain query) = r.Explain (answer_of (query_meant c query))
 resolved_body c (st.ShowFresh table) = r.ShowFresh table.text
+-- IMPACT isn't carried out yet, so its query alone is looked up, as that of EXPLAIN
+resolved_body c (st.Impact table condition query) = r.Explain (answer_of (query_meant c query))
 
 abbrev pub resolved : Contents → Statement → Resolved
 resolved c statement = resolved_body c statement.body

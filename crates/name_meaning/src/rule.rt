@@ -48,7 +48,7 @@ pub enum Rule {
     TooManyColumns,
     /// Queries are as high and as large as a bound allows.
     TooLarge,
-    /// The form of the statement is run.
+    /// The form of the statement, and of each join in it, is run.
     UnbuiltForm,
 }
 

@@ -1,5 +1,5 @@
 -- What trees of FROM mean, of what their parts mean.
-use Rattle.std.specs.Prelude.{◌≡◌, ℕ, true, List, map, Option, Err}
+use Rattle.std.specs.Prelude.{◌≡◌, ℕ, true, List, map, Option, Err, [], Ok}
 use Rattle.std.proofs.Common.{ap, sym, ◌∙◌}
 use Rattle.perm_catalog.specs.Contents.{Contents}
 use Rattle.sql_tree.specs.declared.expression.ExprTree.{ExprTree}
@@ -12,7 +12,7 @@ use Rattle.sql_tree.specs.declared.source.FromTree.{FromTree, out-FromTree}
 use Rattle.sql_tree.specs.declared.expression.ExprBody.TheViews.{roll-out-FromTree}
 use Rattle.sql_tree.specs.declared.source.JoinStep.{JoinStep, out-JoinStep}
 use Rattle.sql_tree.specs.declared.source.ScopeMark.{ScopeMark}
-use Rattle.name_meaning.specs.Froms.{FromItemPart, FromPart, JoinPart, Read, SourcePart, first_item, item_meant, join_all, label_of, read_named, read_of, read_query, scope_name}
+use Rattle.name_meaning.specs.Froms.{FromItemPart, FromPart, JoinPart, Read, SourcePart, first_item, item_meant, join_all, label_of, read_named, read_of, read_query, scope_name, unbuilt_breaks}
 use Rattle.name_meaning.specs.Meanings.{QueryMeant, query_means_at}
 use Rattle.name_meaning.specs.Trees.{from_item_of, from_of, join_of, query_of, source_of}
 use Rattle.name_meaning.specs.declared.scope.Scope.{Scope}
@@ -23,8 +23,9 @@ use Rattle.name_seen_from.specs.Queried.{QuerySeen}
 use Rattle.name_seen_from.specs.declared.facts.Facts.{Facts as Gathered}
 use Rattle.name_seen_from.specs.Readings.{ItemSeen, ReadSeen}
 use Rattle.name_seen_cores.specs.Behind.{optional_part}
-use Rattle.name_seen_parts.proofs.Firsts.{first-stays_first}
-use Rattle.name_meaning.proofs.Opened.{join-is}
+use Rattle.name_seen_parts.proofs.Firsts.{first-stays_first, none-broken}
+use Rattle.name_meaning.proofs.Opened.{join-is, opened_from_item}
+use Rattle.name_seen_parts.specs.Seen.{first_or}
 
 pub from-means : (c : Contents) (tree : FromTree) (outer : List Scope) (earlier : List (List ℕ))
     → (from_of c tree).means outer earlier
@@ -62,6 +63,18 @@ pub joined-item : (c : Contents) (step : JoinStep) (outer : List Scope) (names h
 joined-item c step outer names held same =
     ap (λ (part : JoinPart). part.item.means outer names) (join-is c step)
     ∙ ap (λ (earlier : List (List ℕ)). (from_item_of c (out-JoinStep step).item).means outer earlier) same
+
+-- what stands against carrying it out
+pub joined-breaks : (c : Contents) (step : JoinStep) → unbuilt_breaks (join_of c step).word (join_of c step).item.at
+    ≡ unbuilt_breaks (out-JoinStep step).word (out-JoinStep step).item.at
+joined-breaks c step =
+    ap (λ (part : JoinPart). unbuilt_breaks part.word part.item.at) (join-is c step)
+    ∙ ap (λ (item : FromItemPart). unbuilt_breaks (out-JoinStep step).word item.at) (opened_from_item c (out-JoinStep step).item)
+
+pub joined-whole : (c : Contents) (step : JoinStep) → Ok tt ≡ first_or (unbuilt_breaks (out-JoinStep step).word (out-JoinStep step).item.at) (tt {0})
+    → unbuilt_breaks (join_of c step).word (join_of c step).item.at ≡ []
+joined-whole c step fine =
+    joined-breaks c step ∙ none-broken (unbuilt_breaks (out-JoinStep step).word (out-JoinStep step).item.at) (tt {0}) tt (sym fine)
 
 pub joined-condition : (c : Contents) (step : JoinStep) (condition : Option ExprTree) → (out-JoinStep step).condition ≡ condition
     → (join_of c step).condition ≡ optional_part c condition

@@ -2,7 +2,7 @@
 use Rattle.std.specs.Prelude.{◌≡◌, ℕ, List, [], ◌∷◌, ◌++◌, map, Option, Some, None, option_map, Result, Ok, Err}
 use Rattle.std.proofs.Common.{refl, ap, sym, subst, ◌∙◌, append_assoc, append-nil}
 use Rattle.perm_catalog.specs.declared.column.Column.{Column}
-use Rattle.name_meaning.specs.Froms.{FromMeant, FromPart, ItemMeant, JoinPart, first_item, from_all, in_on, scope_items, join_all, join_item, join_kind, joined, on_meant, on_breaks, on_made, both_known, table_columns}
+use Rattle.name_meaning.specs.Froms.{FromMeant, FromPart, ItemMeant, JoinPart, first_item, from_all, in_on, scope_items, join_all, join_item, join_kind, joined, on_meant, on_breaks, on_made, both_known, table_columns, joined_item, unbuilt_breaks}
 use Rattle.name_meaning.specs.Meanings.{Meant, Part, means_at}
 use Rattle.name_meaning.specs.Scopes.{KnownColumn, ScopeItem, scope_of}
 use Rattle.name_meaning.specs.declared.answer.Break.{Break}
@@ -19,7 +19,7 @@ use Rattle.name_seen_from.specs.Queried.{FromSeen, FromWhole}
 use Rattle.name_seen_parts.specs.Scopes.{item_scope, scope_beside}
 use Rattle.name_seen_from.specs.Readings.{ItemAdded, ItemSeen}
 use Rattle.name_seen_from.specs.declared.facts.Facts.{Facts as Gathered}
-use Rattle.name_seen_parts.proofs.Firsts.{all-none, first-behind_two, first-stays_first, first-stays_second, none-broken}
+use Rattle.name_seen_parts.proofs.Firsts.{all-none, first-behind, first-behind_two, first-stays, first-stays_first, first-stays_second, none-broken}
 use Rattle.name_seen_parts.proofs.Scoping.{scope-beside-is}
 use Rattle.name_seen.specs.Joining.{JoinSeen}
 use Rattle.name_seen_from.proofs.Sourced.{beside-known, both-add, source-breaks}
@@ -68,24 +68,49 @@ join-whole outer left step m earlier before old new scope wider first added none
 
 pub joins-behind : (outer : List Scope) (left : FromMeant) (steps : List JoinPart) (step : JoinPart)
     → join_all outer left (steps ++ step ∷ [])
-    ≡ join_item outer (join_all outer left steps) step (step.item.means outer (join_all outer left steps).names)
+    ≡ join_item outer (join_all outer left steps) step (joined_item outer (join_all outer left steps).names step)
 joins-behind outer left [] step = refl
-joins-behind outer left (s ∷ steps) step = joins-behind outer (join_item outer left s (s.item.means outer left.names)) steps step
+joins-behind outer left (s ∷ steps) step = joins-behind outer (join_item outer left s (joined_item outer left.names s)) steps step
 
 pub joins-so-far : (outer : List Scope) (left : FromMeant) (steps more : List JoinPart)
     → join_all outer left (steps ++ more) ≡ join_all outer (join_all outer left steps) more
 joins-so-far outer left [] more = refl
-joins-so-far outer left (s ∷ steps) more = joins-so-far outer (join_item outer left s (s.item.means outer left.names)) steps more
+joins-so-far outer left (s ∷ steps) more = joins-so-far outer (join_item outer left s (joined_item outer left.names s)) steps more
 
 pub joins-stay : (outer : List Scope) (left : FromMeant) (steps : List JoinPart) (b : Break) → first_or left.breaks (tt {0}) ≡ Err b
     → first_or (join_all outer left steps).breaks (tt {0}) ≡ Err b
 joins-stay outer left [] b e = e
 joins-stay outer left (s ∷ steps) b e =
-    joins-stay outer (join_item outer left s (s.item.means outer left.names)) steps b
-    (first-stays_first left.breaks (s.item.means outer left.names).breaks
-    (on_breaks s.condition (on_meant outer (both_known left.items (scope_items (s.item.means outer left.names))) s.condition)) (tt {0}) (tt {0}) b e)
+    joins-stay outer (join_item outer left s (joined_item outer left.names s)) steps b
+    (first-stays_first left.breaks (joined_item outer left.names s).breaks
+    (on_breaks s.condition (on_meant outer (both_known left.items (scope_items (joined_item outer left.names s))) s.condition)) (tt {0}) (tt {0}) b e)
 
 -- ---- one more join
+
+pub join-unbuilt : (outer : List Scope) (left : FromMeant) (step : JoinPart) (earlier : List (List ℕ)) (before old : Gathered) (scope : Scope) (b : Break)
+    → FromWhole left earlier before old scope → first_or (unbuilt_breaks step.word step.item.at) (tt {0}) ≡ Err b
+    → JoinSeen (join_item outer left step (joined_item outer left.names step)) earlier before old scope (Err (Broken b))
+join-unbuilt outer left step earlier before old scope b first broken =
+    let m = joined_item outer left.names step in
+    first-stays_second left.breaks m.breaks (on_breaks step.condition (on_meant outer (both_known left.items (scope_items m)) step.condition)) (tt {0}) (tt {0}) b first.whole
+    (first-stays (unbuilt_breaks step.word step.item.at) (step.item.means outer left.names).breaks (tt {0}) (tt {0}) b broken)
+
+module _ (outer : List Scope) (names : List (List ℕ)) (step : JoinPart) (none : unbuilt_breaks step.word step.item.at ≡ []) where
+  pub joined-refused : (scope wider : Scope) (old new : Gathered) (refusal : Refusal) → ItemSeen (step.item.means outer names) scope old new wider (Err refusal)
+      → ItemSeen (joined_item outer names step) scope old new wider (Err refusal)
+  joined-refused scope wider old new (Broken b) broken =
+      first-behind (unbuilt_breaks step.word step.item.at) (step.item.means outer names).breaks (tt {0}) none ∙ broken
+  joined-refused scope wider old new NoMemory broken = tt
+
+  pub joined-added : (scope wider : Scope) (old new : Gathered) → ItemAdded (step.item.means outer names) scope old new wider
+      → ItemAdded (joined_item outer names step) scope old new wider
+  joined-added scope wider old new added = record {
+    whole = λ i. none i ++ added.whole i;
+    columns = added.columns;
+    known = added.known;
+    scope_is = added.scope_is;
+    adds = added.adds;
+  }
 
 pub join-refused : (outer : List Scope) (left : FromMeant) (step : JoinPart) (m : ItemMeant) (earlier : List (List ℕ)) (before old new : Gathered) (scope wider : Scope)
     (refusal : Refusal) → FromWhole left earlier before old scope → ItemSeen m scope old new wider (Err refusal)
@@ -152,11 +177,11 @@ first-refused outer m steps earlier old new scope wider NoMemory broken = tt
 
 pub step-refused : (outer : List Scope) (left : FromMeant) (steps : List JoinPart) (step : JoinPart) (more : List JoinPart) (earlier : List (List ℕ))
     (old new : Gathered) (wider : Scope) (refusal : Refusal)
-    → JoinSeen (join_item outer (join_all outer left steps) step (step.item.means outer (join_all outer left steps).names)) earlier old new wider (Err refusal)
+    → JoinSeen (join_item outer (join_all outer left steps) step (joined_item outer (join_all outer left steps).names step)) earlier old new wider (Err refusal)
     → FromSeen (join_all outer left (steps ++ step ∷ more)) earlier old new (Err refusal)
 step-refused outer left steps step more earlier old new wider (Broken b) broken =
     ap (λ (m : FromMeant). first_or m.breaks tt) (joins-so-far outer left steps (step ∷ more))
-    ∙ joins-stay outer (join_item outer (join_all outer left steps) step (step.item.means outer (join_all outer left steps).names)) more b broken
+    ∙ joins-stay outer (join_item outer (join_all outer left steps) step (joined_item outer (join_all outer left steps).names step)) more b broken
 step-refused outer left steps step more earlier old new wider NoMemory broken = tt
 
 pub source-refused : (outer : List Scope) (parts : List FromPart) (part : FromPart) (more : List FromPart) (old middle new : Gathered) (l : Scope) (refusal : Refusal)

@@ -1,7 +1,7 @@
 //! What FROM reads.
 ghost use Rattle.std.specs.Prelude.{◌≡◌, ◌++◌, true, List as Items, Some, [], map};
 ghost use Rattle.perm_catalog.specs.Sound.{IsSound};
-ghost use Rattle.name_meaning.specs.Froms.{FromMeant, from_all, in_on, join_item, on_breaks, read_of, read_query};
+ghost use Rattle.name_meaning.specs.Froms.{FromMeant, from_all, in_on, join_item, joined_item, on_breaks, read_of, read_query};
 ghost use Rattle.name_meaning.specs.Meanings.{means_at, query_means_at};
 ghost use Rattle.name_meaning.specs.Scopes.{ScopeItem, scope_of};
 ghost use Rattle.name_meaning.specs.Trees.{from_item_of, from_of, join_of, part_of, query_of, source_of};
@@ -19,7 +19,7 @@ use crate::queries::query_seen;
 use name_meaning::Scope;
 use name_seen_cores::in_on;
 use name_seen_from::{Facts, Reading, put_item, read_named, read_shown};
-use name_seen_parts::{Around, Refusal, add_items, condition_over, inside, no_items};
+use name_seen_parts::{Around, Refusal, add_items, condition_over, inside, join_break, no_items};
 use perm_values::Chars;
 use sql_tree::{ExprTree, FromItem, FromSource, FromTree, JoinStep, QueryTree, ScopeMark};
 
@@ -75,9 +75,10 @@ fn join_seen(
     ensures { (left : FromMeant) (before : Gathered) → FromWhole left earlier.now before facts.old scope.old →
         JoinSeen (join_item (scopes_of around.now.outer.now) left
         (join_of around.now.catalog.now step.now)
-        ((join_of around.now.catalog.now step.now).item.means (scopes_of around.now.outer.now) left.names))
+        (joined_item (scopes_of around.now.outer.now) left.names (join_of around.now.catalog.now step.now)))
         earlier.now before facts.new scope.new result }
 {
+    join_break(step.word, step.item.at)?;
     from_item(&step.item, earlier, scope, around, facts)?;
     match &step.condition {
         None => Ok(()),

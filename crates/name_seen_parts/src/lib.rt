@@ -15,7 +15,7 @@ mod stars;
 
 pub use clauses::{
     ShownColumn, condition_over, count_break, group_places, grouped, groups_break, has_aggregate,
-    keys_break, operand_break, unite, word_break,
+    join_break, keys_break, operand_break, unite, word_break,
 };
 pub use forms::{aggregated_kind, column_kind, condition_kind, count_kind};
 pub use from_columns::{

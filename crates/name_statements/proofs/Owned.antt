@@ -48,6 +48,7 @@ own-first c (st.DropView view) first e = names-first (words.unknown_view c view 
 own-first c (st.Select query) first e = absurd (cc)
 own-first c (st.Explain query) first e = absurd (cc)
 own-first c (st.ShowFresh table) first e = names-first (words.unknown_table c table) [] first e
+own-first c (st.Impact table condition query) first e = absurd (cc)
 
 -- ---- the first of these breaks is told
 

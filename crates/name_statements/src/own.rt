@@ -27,7 +27,9 @@ pub fn own_break(catalog: &Catalog, body: &StatementBody) -> Result<(), Break>
         | StatementBody::ShowFresh { table } => unknown_table(catalog, table),
         StatementBody::DropTable { table } => drop_table_break(catalog, table),
         StatementBody::DropView { view } => drop_view_break(catalog, view),
-        StatementBody::Select { .. } | StatementBody::Explain { .. } => Ok(()),
+        StatementBody::Select { .. }
+        | StatementBody::Explain { .. }
+        | StatementBody::Impact { .. } => Ok(()),
     }
 }
 

@@ -196,6 +196,7 @@ module _ (c : Contents) (sound : IsSound c) where
   body-adds (st.Select query) regular whole = tt
   body-adds (st.Explain query) regular whole = tt
   body-adds (st.ShowFresh table) regular whole = tt
+  body-adds (st.Impact table condition query) regular whole = tt
 
 pub whole-adds : (c : Contents) (statement : Statement) → IsSound c → RegularStatement statement
     → breaks c statement ≡ [] → AddsSoundly c (resolved c statement)

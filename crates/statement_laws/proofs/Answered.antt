@@ -40,6 +40,7 @@ query-of c (st.DropView view) answer e = absurd (cc e)
 query-of c (st.Select query) answer e = (query, refl, same_answer (answer_of (query_meant c query)) answer e)
 query-of c (st.Explain query) answer e = absurd (cc e)
 query-of c (st.ShowFresh table) answer e = absurd (cc e)
+query-of c (st.Impact table condition query) answer e = absurd (cc e)
 
 module _ (c : Contents) (statement : Statement) (answer : Answer) (asked_for : AsksFor c statement answer) where
   run : is_unbuilt statement.body ≡ false

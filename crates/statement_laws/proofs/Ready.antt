@@ -114,6 +114,7 @@ module _ (c : Contents) where
   body-ready (st.Select query) sound regular whole = can_run query sound regular whole
   body-ready (st.Explain query) sound regular whole = tt
   body-ready (st.ShowFresh table) sound regular whole = known table whole
+  body-ready (st.Impact table condition query) sound regular whole = tt
 
 pub whole-ready : (c : Contents) (statement : Statement) → IsSound c → RegularStatement statement
     → breaks c statement ≡ [] → IsReady c (resolved c statement)

@@ -36,7 +36,7 @@ use Rattle.sql_tree.specs.declared.statement.ValuesRow.{ValuesRow}
 use Rattle.name_meaning.proofs.Equations.{ExprBodyFrame, SelectItemFrame, SetTreeFrame, FromSourceFrame, CoreFrame}
 use Rattle.name_meaning.specs.Cores.{BodyPart, core_step, core_over, core_seen, has_some, group_scope, group_break, group_found, in_clause, optional_breaks, optional_meant, word_breaks}
 use Rattle.name_meaning.specs.Expressions.{Body, ArmPart, StepPart, body_step, first_of, second_of, negated_if, times, chain_made, step_operand, first_need, chain_gives, in_kind, arm_operands, else_operand, case_made}
-use Rattle.name_meaning.specs.Froms.{Read, SourcePart, named, inner, FromItemPart, FromMeant, FromPart, JoinPart, attribute_breaks, column_breaks, condition_breaks, first_item, from_all, from_more, beside_from, in_on, item_meant, join_all, join_item, label_of, marked, mark_breaks, named_so, names_of, on_breaks, on_meant, both_known, scope_items, read_of, read_named, read_table, read_view, read_nothing, read_names, scope_name, source_step}
+use Rattle.name_meaning.specs.Froms.{Read, SourcePart, named, inner, FromItemPart, FromMeant, FromPart, JoinPart, attribute_breaks, column_breaks, condition_breaks, first_item, from_all, from_more, beside_from, in_on, item_meant, join_all, join_item, label_of, marked, mark_breaks, named_so, names_of, on_breaks, on_meant, both_known, scope_items, read_of, read_named, read_table, read_view, read_nothing, read_names, scope_name, source_step, joined_item, unbuilt_breaks}
 use Rattle.name_meaning.specs.Items.{SelectPart, columns_meant, item_step, no_columns, star_meant, table_star_meant, items_breaks, is_ungrouped}
 use Rattle.name_meaning.specs.Meanings.{Around, Meant, OutColumn, Part, QueryMeant, QueryPart, Surroundings, broken, broken_if, is_whole, means_at, query_means_at, seen_kind, unites}
 use Rattle.name_meaning.specs.Operands.{Operand, first_unfit, gives_of, need_of, node, operand, operated, parts_breaks, unfit_break}
@@ -57,6 +57,7 @@ use Rattle.name_laws.proofs.Induction.{BodyParts, ItemParts, SetParts, SourcePar
 use Rattle.name_meaning.specs.declared.rule.Rule.TheVariants as rule
 use Rattle.name_meaning.specs.declared.rule.Rule.{Rule}
 use Rattle.name_meaning.specs.Codes.{code_of}
+use Rattle.sql_tree.specs.Regular.{is_lateral}
 
 abbrev pub IsUnspent : Break → Type 0
 IsUnspent b = b.rule ≢ rule.NumbersSpent
@@ -332,9 +333,10 @@ unspent-on outer (Some items) (Some part) h = unspent-condition part.at (part.me
 unspent-joins : (outer : List Scope) (left : FromMeant) (steps : List JoinPart) → Unspent left.breaks → Every UnspentJoin steps → Unspent (join_all outer left steps).breaks
 unspent-joins outer left [] h k = h
 unspent-joins outer left (step ∷ steps) h k =
-    let m = step.item.means outer left.names in
+    let m = joined_item outer left.names step in
     unspent-joins outer (join_item outer left step m) steps
-    (three left.breaks m.breaks _ h (k.0.0 outer left.names) (unspent-on outer (both_known left.items (scope_items m)) step.condition k.0.1)) k.1
+    (three left.breaks m.breaks _ h
+    (both (unbuilt_breaks step.word step.item.at) _ (one_if (is_lateral step.word) rule.UnbuiltForm step.item.at refl) (k.0.0 outer left.names)) (unspent-on outer (both_known left.items (scope_items m)) step.condition k.0.1)) k.1
 
 unspent-more : (outer : List Scope) (left : FromMeant) (parts : List FromPart) → Unspent left.breaks → Every UnspentFrom parts → Unspent (from_more outer left parts).breaks
 unspent-more outer left [] h k = h
@@ -506,6 +508,7 @@ module _ (c : Contents) where
   unspent-names (st.Select query) = unspent-query_meant query
   unspent-names (st.Explain query) = unspent-query_meant query
   unspent-names (st.ShowFresh table) = unspent-unknown table
+  unspent-names (st.Impact table condition query) = unspent-query_meant query
 
   unspent-query_limits : (at : ℕ) (m : QueryMeant) → Unspent (query_limits at m)
   unspent-query_limits at m =
@@ -526,6 +529,7 @@ module _ (c : Contents) where
   unspent-limits (st.Select query) = unspent-query_limits query.at (query_meant c query)
   unspent-limits (st.Explain query) = unspent-query_limits query.at (query_meant c query)
   unspent-limits (st.ShowFresh table) = tt
+  unspent-limits (st.Impact table condition query) = unspent-query_limits query.at (query_meant c query)
 
   pub breaks-unspent : (statement : Statement) → Unspent (breaks c statement)
   breaks-unspent statement = chosen (is_whole (name_breaks c statement.body)) _ _ (unspent-limits statement.body) (unspent-names statement.body)

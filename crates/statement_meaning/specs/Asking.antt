@@ -39,7 +39,7 @@ asks c at (r.Select answer) = Settled (select c at answer)
 asks c at (r.Explain answer) = Settled (unbuilt_turn at)
 asks c at (r.ShowFresh name) = Settled (show_fresh c name)
 
--- EXPLAIN REWRITE alone
+-- EXPLAIN REWRITE and IMPACT
 abbrev pub is_unbuilt : StatementBody → Bool
 is_unbuilt (st.CreateTable table columns) = false
 is_unbuilt (st.CreateTableAs table query) = false
@@ -52,6 +52,7 @@ is_unbuilt (st.DropView view) = false
 is_unbuilt (st.Select query) = false
 is_unbuilt (st.Explain query) = true
 is_unbuilt (st.ShowFresh table) = false
+is_unbuilt (st.Impact table condition query) = true
 
 -- all breaks of a statement; that it isn't run yet hides every other
 abbrev pub all_breaks : Contents → Statement → List Break
