@@ -260,12 +260,12 @@ fn impact(cursor: &mut Cursor<'_>) -> Result<StatementBody, Unread>
     cursor.past(Sort::Impact)?;
     cursor.past_both(Sort::Delete, Sort::From)?;
     let table = cursor.name()?;
-    let condition = condition(cursor)?.map(Boxed::into_inner);
+    let doomed = condition(cursor)?.map(Boxed::into_inner);
     cursor.past(Sort::Of)?;
     let query = query(cursor)?.into_inner();
     Ok(StatementBody::Impact {
         table,
-        condition,
+        condition: doomed,
         query,
     })
 }
