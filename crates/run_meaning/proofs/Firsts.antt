@@ -104,6 +104,7 @@ module _ (c : Contents) where
       frugal-on_good at (meaning (answer_of (query_meant c query)).query (rows_in c.rows) []) (answered c (answer_of (query_meant c query))) (λ rows. omega arith)
   thrifty-asks at (st.Explain query) e = true_false e
   thrifty-asks at (st.ShowFresh table) e = omega arith
+  thrifty-asks at (st.Impact table condition query) e = true_false e
 
   -- a statement that breaks nothing is of such a form
   thrifty-whole : (statement : Statement) → all_breaks c statement ≡ [] → IsThrifty c (asks c statement.at (resolved c statement))

@@ -3,12 +3,12 @@ ghost use Rattle.statement_meaning.specs.Asking.{is_unbuilt};
 
 use sql_tree::{Statement, StatementBody};
 
-/// Whether the statement is of a form that isn't run yet: EXPLAIN REWRITE.
+/// Whether the statement is of a form that isn't run yet: EXPLAIN REWRITE or IMPACT.
 pub fn is_unbuilt(statement: &Statement) -> bool
     ensures { result ≡ is_unbuilt statement.now.body }
 {
     match &statement.body {
-        StatementBody::Explain { .. } => true,
+        StatementBody::Explain { .. } | StatementBody::Impact { .. } => true,
         StatementBody::CreateTable { .. }
         | StatementBody::CreateTableAs { .. }
         | StatementBody::CreateView { .. }

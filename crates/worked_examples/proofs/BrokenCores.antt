@@ -55,6 +55,12 @@ pub conditions_of_joins :
     ≡ broken rule.UnfitKind 30 ∷ broken rule.UnknownColumn 44 ∷ []
 conditions_of_joins = simp (tree_equations, name_breaks) (rw token-given refl)
 
+-- a lateral join isn't carried out yet: SELECT 1 FROM r CROSS JOIN LATERAL (SELECT 1) x
+pub lateral_unbuilt :
+    name_breaks contents (st.Select (query 0 (core (select 0 (item (number 7 1) ∷ []) (from (table 14 (codes "r")) (join join_word.CrossLateral (reads 35 (source.Inner (query 36 (core (select 36 (item (number 43 1) ∷ []) [])))) (Some (name 46 (codes "x"))) mark.Plain) None ∷ []) ∷ [])))))
+    ≡ broken rule.UnbuiltForm 35 ∷ []
+lateral_unbuilt = simp (tree_equations, name_breaks) (rw token-given refl)
+
 -- a subquery of FROM does not see its neighbours: SELECT 1 FROM r, (SELECT a) x
 pub neighbours_unseen :
     name_breaks contents (st.Select (query 0 (core (select 0 (item (number 7 1) ∷ []) (from (table 14 (codes "r")) [] ∷ from (reads 17 (source.Inner (query 18 (core (select 18 (item (column 25 (codes "a")) ∷ []) [])))) (Some (name 28 (codes "x"))) mark.Plain) [] ∷ [])))))
