@@ -88,7 +88,7 @@ module _ (choice : Choice) (place : ℕ) (z : Row) (env : List Row) (row : Row) 
       ∙ (λ i. and_then (both (λ v vs. v ∷ vs) (value-IsTruth row (z ∷ env) [] choice.truth (Col 1 place) i) (Good [])) (operate op.Not))
       ∙ not-operate (has (value_at z place))
 
-  compared-value : value (compared choice place) row (z ∷ env) [] ≡ Good (Boolean (has (value_of (compare_values choice.compare (value_at z place) (cell row)))))
+  pub compared-value : value (compared choice place) row (z ∷ env) [] ≡ Good (Boolean (has (value_of (compare_values choice.compare (value_at z place) (cell row)))))
   compared-value =
       let parts = Col 1 place ∷ Col 0 0 ∷ [] in
       value-IsTruth row (z ∷ env) [] choice.truth (Op (op.Compare choice.compare) parts)
@@ -129,7 +129,7 @@ module _ (scopes : List (List Kind)) (choice : Choice) where
     gives = refl;
   }
 
-  compared-formed : (place : ℕ) (shared : Kind) → HasKind scopes [] (Col 1 place) shared → HasKind scopes [] (Col 0 0) shared → HasKind scopes [] (compared choice place) kind.Boolean
+  pub compared-formed : (place : ℕ) (shared : Kind) → HasKind scopes [] (Col 1 place) shared → HasKind scopes [] (Col 0 0) shared → HasKind scopes [] (compared choice place) kind.Boolean
   compared-formed place shared h g =
       truth-formed (Op (op.Compare choice.compare) (Col 1 place ∷ Col 0 0 ∷ [])) (record {
         number = number_of_parts-built (Col 1 place ∷ Col 0 0 ∷ []);

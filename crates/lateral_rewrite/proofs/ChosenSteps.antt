@@ -1,6 +1,6 @@
 -- A sublink whose value may choose the rows that contribute: with this value and the left operand behind each row, the
 -- provenance of the chosen rows of a rewriting, and then without the two again, is a step.
-use Rattle.std.proofs.Common.{◌≡◌, ℕ, ◌+◌, Bool, true, not, ◌||◌, List, [], ◌∷◌, ◌++◌, map, filter, length, slice_get, Some, Contains, append_assoc, length-append, refl, sym, ap, ◌∙◌, subst, arith}
+use Rattle.std.proofs.Common.{◌≡◌, ℕ, ◌+◌, Bool, true, not, ◌||◌, List, [], ◌∷◌, ◌++◌, map, filter, length, slice_get, Some, Contains, append_assoc, refl, sym, ap, ◌∙◌, subst, arith}
 use Rattle.std.proofs.lemmas.Bool.{and_from}
 use Rattle.std.proofs.lemmas.List.Elements.{All-append}
 use Rattle.std.specs.List.{range_with_len}
@@ -10,9 +10,7 @@ use Rattle.perm_values.specs.Rows.{picked}
 use Rattle.perm_values.specs.declared.kind.Kind.{Kind}
 use Rattle.perm_values.specs.declared.kind.Kind.TheVariants as kind
 use Rattle.perm_values.specs.declared.value.Value.{Value}
-use Rattle.perm_values.specs.declared.value.Value.TheVariants.{Null}
-use Rattle.bag_algebra.proofs.Members.{IsIn, in-map, from-map, in-member}
-use Rattle.bag_algebra.proofs.Outcomes.{same_good}
+use Rattle.bag_algebra.proofs.Members.{IsIn}
 use Rattle.bag_algebra.proofs.TablesRead.{reads_among-each}
 use Rattle.bag_algebra.specs.Bags.{Row, Bag}
 use Rattle.bag_algebra.specs.built.Forms.{AllSubsForm, EachTable-Project, WellFormed-Project, subs_kinds}
@@ -21,11 +19,11 @@ use Rattle.bag_algebra.specs.built.Scopes.{all_plain, is_plain-Project}
 use Rattle.bag_algebra.specs.Children.{subs_denote}
 use Rattle.bag_algebra.specs.ColumnItems.{column_items}
 use Rattle.bag_algebra.specs.Expressions.{value, has_truth}
-use Rattle.bag_algebra.specs.Fits.{bag_fits, row_begins}
-use Rattle.bag_algebra.specs.Kinds.{kinds_of, kinds_in, kind_in, place_kinds, shape, width_of}
+use Rattle.bag_algebra.specs.Fits.{row_begins}
+use Rattle.bag_algebra.specs.Kinds.{kinds_of, kind_in, place_kinds, shape, width_of}
 use Rattle.bag_algebra.specs.Meaning.{Database, meaning, witnesses, items_on, optional_value, condition_on}
-use Rattle.bag_algebra.specs.Means.{Witness, flat, cell, good_rows, kept, no_subs, sub_value}
-use Rattle.bag_algebra.specs.Outcome.{Faults, Outcome, Good, Bad, and_then, mapped, both, both_then, each, gather}
+use Rattle.bag_algebra.specs.Means.{Witness, flat, cell, kept, no_subs, sub_value}
+use Rattle.bag_algebra.specs.Outcome.{Outcome, Good, and_then, mapped, both, both_then, each, gather}
 use Rattle.bag_algebra.specs.Rewriting.{IsRewrite, is_plain}
 use Rattle.bag_algebra.specs.TablesRead.{EachTable}
 use Rattle.bag_algebra.specs.WellFormed.{WellFormed, HasKind, TestedForm, sub_form, sub_kind}
@@ -34,35 +32,29 @@ use Rattle.bag_algebra.specs.declared.expr.Expr.TheVariants.{Sub}
 use Rattle.bag_algebra.specs.declared.expr.Item.{Item}
 use Rattle.bag_algebra.specs.declared.query.Query.{Query}
 use Rattle.bag_algebra.specs.declared.query.Sublink.{Sublink}
-use Rattle.contribution.proofs.ColumnQueries.{all-first, all-nothing, kinds_of-columns, meaning-columns, formed-columns}
-use Rattle.contribution.proofs.GoodRows.{from-each}
+use Rattle.contribution.proofs.ColumnQueries.{all-first, all-nothing, meaning-columns}
 use Rattle.contribution.proofs.LongerKinds.{well_formed-longer}
-use Rattle.contribution.proofs.NodeQueries.{meaning-chosen, formed-chosen, plain-chosen, plain-projected}
+use Rattle.contribution.proofs.NodeQueries.{meaning-chosen, formed-chosen, plain-chosen}
 use Rattle.contribution.proofs.AddedColumns.{columns-added}
-use Rattle.contribution.specs.Fitting.{Fitting}
 use Rattle.contribution.specs.SameColumns.{SameColumns}
-use Rattle.query_laws.proofs.Outcomes.{over-each, good-good}
 use Rattle.query_laws.proofs.SameExpressions.{tested-formed}
 use Rattle.query_laws.specs.Standing.{SubStands}
-use Rattle.query_laws.specs.SublinkLists.{Contributes}
-use Rattle.rewrite_base.proofs.Faults.{in-each}
-use Rattle.rewrite_base.proofs.KeptRows.{row-width, kept-kinds}
-use Rattle.rewrite_base.proofs.Places.{at-kept, kept-within, within-range}
+use Rattle.rewrite_base.proofs.Places.{within-range}
 use Rattle.rewrite_base.specs.KeptColumns.{columns_kept, kept_places}
-use Rattle.rewrite_sublink.proofs.Contributing.{padded_rows}
-use Rattle.rewrite_sublink.proofs.LongerRows.{by, names-begin, row-begun, subs-named}
+use Rattle.rewrite_sublink.proofs.LongerRows.{by, names-begin, subs-named}
 use Rattle.rewrite_sublink.proofs.MatchingRows.{gather-kept}
 use Rattle.rewrite_sublink.proofs.ProjectRows.{beside_row-kinds, beside_row-value, columns-formed}
-use Rattle.rewrite_sublink.proofs.Steps.{SubsFitting, Begun, HasValue, Reached, Step}
+use Rattle.rewrite_sublink.proofs.Steps.{SubsFitting, HasValue, Step}
 use Rattle.rewrite_sublink.proofs.SublinkRows as under
 use Rattle.rewrite_sublink.specs.Candidates.{beside_row}
-use Rattle.lateral_rewrite.proofs.BesideRows.{IsBeside, answer-beside, good-bag}
+use Rattle.lateral_rewrite.proofs.BehindSteps.{Behind, Made, step_behind}
+use Rattle.lateral_rewrite.proofs.BesideRows.{IsBeside}
 use Rattle.lateral_rewrite.proofs.Choosing.{Decides, tested_form, passing, contributes-value, value-there, operand-there, contributes-formed, truth-kind, operand-kind}
 use Rattle.lateral_rewrite.proofs.PlainSteps.{whole-width}
 use Rattle.lateral_rewrite.proofs.Provenance.{kinds-provenance, formed-provenance, plain-provenance, chosen-lists}
-use Rattle.lateral_rewrite.proofs.RightRows.{Contributions, contributions, contribution-width, decided, is_chosen}
+use Rattle.lateral_rewrite.proofs.RightRows.{contributions, decided, is_chosen}
 use Rattle.lateral_rewrite.proofs.WithoutSublinks.{value-without, has_kind-without}
-use Rattle.lateral_rewrite.specs.Dependent.{beside, chosen_provenance, chosen_rows, contributes, value_items, valued}
+use Rattle.lateral_rewrite.specs.Dependent.{chosen_provenance, chosen_rows, contributes, value_items, valued}
 use Rattle.lateral_rewrite.specs.declared.choices.Choice.{Choice}
 
 -- inner being what the dependent join of the rows with the two and the chosen provenance is
@@ -84,8 +76,8 @@ module _ {sub stand : Sublink} {r : Query} (choice : Choice) (operand : Expr) (s
   abbrev right : Query → Query
   right rows = chosen_provenance choice (width_of rows) stand r
 
-  abbrev next : Query → Query
-  next rows = columns_kept (inner rows) (width_of rows) 2
+  abbrev valued_on : Database → List Row → Query → Row → Outcome Row
+  valued_on db env rows = items_on (beside_row rows items) env (subs_denote (stand ∷ []) db env)
 
   -- ---- kinds
 
@@ -99,24 +91,15 @@ module _ {sub stand : Sublink} {r : Query} (choice : Choice) (operand : Expr) (s
   kinds-right rows scopes f =
       kinds-provenance (chosen_rows choice (width_of rows) r) own (kinds_of sub.query) (place_kinds (shape sub.query)) (rewritten.kinds scopes f.query) (own-is scopes f)
 
-  kinds-inner : (rows : Query) (scopes : List (List Kind)) → AllSubsForm scopes (sub ∷ []) → kinds_of (inner rows) ≡ (kinds_of rows ++ two) ++ place_kinds (shape sub.query)
-  kinds-inner rows scopes f = (is rows).kinds ∙ (λ i. kinds-valued rows i ++ kinds-right rows scopes f i)
-
-  kinds-next : (rows : Query) (scopes : List (List Kind)) → AllSubsForm scopes (sub ∷ []) → kinds_of (next rows) ≡ kinds_of rows ++ place_kinds (shape sub.query)
-  kinds-next rows scopes f =
-      kinds_of-columns (inner rows) (kept_places (width_of rows) 2 (width_of (inner rows)))
-      ∙ ap (λ ks. kinds_in ks (kept_places (width_of rows) 2 (length ks))) (kinds-inner rows scopes f)
-      ∙ kept-kinds (kinds_of rows) two (place_kinds (shape sub.query)) (width_of rows) 2 refl refl
-
   -- ---- plain, and which tables are read
 
-  plain-next : (rows : Query) → is_plain rows ≡ true → is_plain (next rows) ≡ true
-  plain-next rows plain =
-      plain-projected (inner rows) (column_items (kinds_of (inner rows)) (kept_places (width_of rows) 2 (width_of (inner rows))))
-      ∙ (is rows).plain
-      (is_plain-Project rows (beside_row rows items) (stand ∷ [])
-      ∙ and_from (is_plain rows) (all_plain (stand ∷ [])) plain (and_from (is_plain stand.query) true s.query.plain refl))
-      (plain-provenance (chosen_rows choice (width_of rows) r) own ∙ plain-chosen r (contributes choice (width_of rows)) ∙ rewritten.plain)
+  plain-valued : (rows : Query) → is_plain rows ≡ true → is_plain (valued rows stand operand) ≡ true
+  plain-valued rows plain =
+      is_plain-Project rows (beside_row rows items) (stand ∷ [])
+      ∙ and_from (is_plain rows) (all_plain (stand ∷ [])) plain (and_from (is_plain stand.query) true s.query.plain refl)
+
+  plain-right : (rows : Query) → is_plain (right rows) ≡ true
+  plain-right rows = plain-provenance (chosen_rows choice (width_of rows) r) own ∙ plain-chosen r (contributes choice (width_of rows)) ∙ rewritten.plain
 
   module _ (P : ℕ → List Kind → Type 0) (rows : Query) where
     tables-valued : EachTable P rows → EachTable P sub.query → EachTable P (valued rows stand operand)
@@ -125,9 +108,6 @@ module _ {sub stand : Sublink} {r : Query} (choice : Choice) (operand : Expr) (s
 
     tables-right : EachTable P sub.query → EachTable P (right rows)
     tables-right of_sub = ((reads_among-each P r sub.query rewritten.tables of_sub, tt), tt)
-
-    tables-next : EachTable P rows → EachTable P sub.query → EachTable P (next rows)
-    tables-next of_rows of_sub = ((is rows).tables P (tables-valued of_rows of_sub) (tables-right of_sub), tt)
 
   module _ (columns : List Kind) (outer : List (List Kind)) where
     -- ---- well formed
@@ -192,186 +172,96 @@ module _ {sub stand : Sublink} {r : Query} (choice : Choice) (operand : Expr) (s
           (ap (λ ks. slice_get ks (width_of rows + 1)) (kinds-valued rows) ∙ operand-kind (kinds_of rows) kind.Boolean operand_kind)
           (ap (λ ks. slice_get ks 0) (first ∙ ap (λ ks. ks ++ place_kinds (shape sub.query)) column) ∙ ap Some (sym (ap (λ ks. kind_in ks 0) column)))))
 
-      formed-next : WellFormed outer rows → WellFormed outer (next rows)
-      formed-next w =
-          formed-columns (inner rows) (kept_places (width_of rows) 2 (width_of (inner rows)))
-          (kept-within (width_of rows) 2 (width_of (inner rows))
-          (omega (arith, ap length (kinds-inner rows (columns ∷ outer) f), length-append (kinds_of rows ++ two) (place_kinds (shape sub.query)), length-append (kinds_of rows) two)))
-          outer ((is rows).formed outer (formed-valued w) formed-right)
-
     -- ---- rows
 
-    module _ (db : Database) (env : List Row) (f : SubsFitting columns outer (sub ∷ []) db env) (rows : Query) where
-      abbrev of_tables : ℕ → List Kind → Type 0
-      of_tables id kinds = bag_fits (db id) kinds ≡ true
+    module _ (db : Database) (env : List Row) (f : SubsFitting columns outer (sub ∷ []) db env) (rows : Query) (b : Row) (begins : row_begins b columns ≡ true)
+        (wide : length b ≡ width_of rows) (v : HasValue db env sub b) where
+      abbrev x : Value
+      x = under.x f b begins v
 
-      abbrev all_on : Row → Outcome Row
-      all_on = items_on (beside_row rows items) env (subs_denote (stand ∷ []) db env)
+      abbrev vs : Bag
+      vs = under.vs f b begins v
 
-      bad-next : (faults : Faults) → meaning rows db env ≡ Bad faults → meaning (next rows) db env ≡ Bad faults
-      bad-next faults e =
-          let places = kept_places (width_of rows) 2 (width_of (inner rows)) in
-          meaning-columns (inner rows) places db env
-          ∙ ap (mapped (map (picked places)))
-          ((is rows).bad db env faults (tables-right of_tables rows f.tables.0)
-          (meaning-Project db env rows (beside_row rows items) (stand ∷ []) ∙ ap (λ o. and_then o (each all_on)) e))
+      -- the sublink's value
+      told : (v : Value) × (sub_value sub.kind x vs ≡ Good v) × (has_truth choice.truth v ≡ decided sub.kind x vs)
+      told = d.told x vs
 
-      module _ (us : Bag) (g : Begun columns outer db env rows us) (values : (b : Row) → IsIn b us → HasValue db env sub b) where
-        wide : (b : Row) → IsIn b us → length b ≡ width_of rows
-        wide b h = row-width outer rows db env g.fitting us b g.good (in-member b us h)
+      abbrev pair : Row
+      pair = told.0 ∷ x ∷ []
 
-        module _ (b : Row) (h : IsIn b us) where
-          begins : row_begins b columns ≡ true
-          begins = row-begun g b h
+      abbrev z : Row
+      z = b ++ pair
 
-          abbrev x : Value
-          x = under.x f b begins (values b h)
+      itself : SameColumns (columns ∷ outer) (b ∷ env) (b ∷ env)
+      itself = record { same = λ level place k e. refl }
 
-          abbrev vs : Bag
-          vs = under.vs f b begins (values b h)
+      stand-answer : both_then (optional_value stand.tested env b) (meaning stand.query db (b ∷ env)) (sub_value stand.kind) ≡ Good told.0
+      stand-answer =
+          ap (λ k. both_then (optional_value stand.tested env b) (meaning stand.query db (b ∷ env)) (sub_value k)) (sym s.kind)
+          ∙ under.stand-value f b begins v stand.tested stand.query s.tested s.query b itself
+          ∙ told.1
 
-          -- the sublink's value
-          told : (v : Value) × (sub_value sub.kind x vs ≡ Good v) × (has_truth choice.truth v ≡ decided sub.kind x vs)
-          told = d.told x vs
+      operand-value : (answers : List Value) → value operand b env answers ≡ Good x
+      operand-value answers =
+          value-without (columns ∷ outer) b env answers operand operand_kind (operand-formed f.form (columns ∷ outer) f.form.fitting)
+          ∙ ap (λ tested. optional_value tested env b) (sym tested_is)
+          ∙ under.tested-there f b begins v stand.tested stand.query s.tested s.query b itself
 
-          abbrev pair : Row
-          pair = told.0 ∷ x ∷ []
+      valued-row : valued_on db env rows b ≡ Good z
+      valued-row =
+          beside_row-value rows items env (subs_denote (stand ∷ []) db env) b wide
+          ∙ ap (mapped (λ t. b ++ t))
+          ((λ i. and_then (both (λ v vs. v ∷ vs) (stand-answer i) (Good [])) (λ answers. each (λ (item : Item). value item.expr b env answers) items))
+          ∙ (λ i. both (λ v vs. v ∷ vs) (Good told.0) (both (λ v vs. v ∷ vs) (operand-value (told.0 ∷ []) i) (Good []))))
 
-          itself : SameColumns (columns ∷ outer) (b ∷ env) (b ∷ env)
-          itself = record { same = λ level place k e. refl }
+      abbrev passes : Row → Bool
+      passes = passing choice (width_of rows) z env
 
-          stand-answer : both_then (optional_value stand.tested env b) (meaning stand.query db (b ∷ env)) (sub_value stand.kind) ≡ Good told.0
-          stand-answer =
-              ap (λ k. both_then (optional_value stand.tested env b) (meaning stand.query db (b ∷ env)) (sub_value k)) (sym s.kind)
-              ∙ under.stand-value f b begins (values b h) stand.tested stand.query s.tested s.query b itself
-              ∙ told.1
+      agree : (row : Row) (w : Witness) → IsIn row vs → Contains (witnesses sub.query db (b ∷ env) row) w → passes (row ++ flat w) ≡ is_chosen sub.kind x vs row
+      agree row w i c = λ j.
+          not ((ap (has_truth choice.truth) (value-there b told.0 x (width_of rows) wide) ∙ told.2) j)
+          || (ap (λ y. has_truth choice.truth (value_of (compare_values choice.compare y (cell (row ++ flat w))))) (operand-there b told.0 x (width_of rows) wide)
+          ∙ d.passes x (cell (row ++ flat w)) ∙ under.first f b begins v row (flat w) i) j
 
-          operand-value : (answers : List Value) → value operand b env answers ≡ Good x
-          operand-value answers =
-              value-without (columns ∷ outer) b env answers operand operand_kind (operand-formed f.form (columns ∷ outer) f.form.fitting)
-              ∙ ap (λ tested. optional_value tested env b) (sym tested_is)
-              ∙ under.tested-there f b begins (values b h) stand.tested stand.query s.tested s.query b itself
-
-          valued-row : all_on b ≡ Good (b ++ pair)
-          valued-row =
-              beside_row-value rows items env (subs_denote (stand ∷ []) db env) b (wide b h)
-              ∙ ap (mapped (λ t. b ++ t))
-              ((λ i. and_then (both (λ v vs. v ∷ vs) (stand-answer i) (Good [])) (λ answers. each (λ (item : Item). value item.expr b env answers) items))
-              ∙ (λ i. both (λ v vs. v ∷ vs) (Good told.0) (both (λ v vs. v ∷ vs) (operand-value (told.0 ∷ []) i) (Good []))))
-
-          -- under the row with the two behind it the right side has the contributions
-          made : (ks : Bag) × (meaning (right rows) db ((b ++ pair) ∷ env) ≡ Good ks) × Contributions db env b sub (width_of (right rows)) ks
-          made =
-              let v = values b h in
-              let z = b ++ pair in
-              let rs = under.rewriting-rows f b begins v rewritten in
-              let places = kept_places 0 own (width_of r) in
-              let passes : Row → Bool = passing choice (width_of rows) z env in
-              let ks = map (picked places) (filter passes rs.0) in
-              let agree : (row : Row) (w : Witness) → IsIn row vs → Contains (witnesses sub.query db (b ∷ env) row) w → passes (row ++ flat w) ≡ is_chosen sub.kind x vs row =
-              λ row w i c. (λ j.
-              not ((ap (has_truth choice.truth) (value-there b told.0 x (width_of rows) (wide b h)) ∙ told.2) j)
-              || (ap (λ y. has_truth choice.truth (value_of (compare_values choice.compare y (cell (row ++ flat w))))) (operand-there b told.0 x (width_of rows) (wide b h))
-              ∙ d.passes x (cell (row ++ flat w)) ∙ under.first f b begins v row (flat w) i) j) in (
-                ks,
+      -- under the row with the two behind it the right side has the contributions
+      made : Made db env sub two (valued_on db env rows) (right rows) b
+      made =
+          let rs = under.rewriting-rows f b begins v rewritten in
+          let places = kept_places 0 own (width_of r) in
+          let ks = map (picked places) (filter passes rs.0) in
+          record {
+            behind = pair;
+            wide = refl;
+            row = valued-row;
+            rows = ks;
+            good =
                 meaning-columns (chosen_rows choice (width_of rows) r) places db (z ∷ env)
-                    ∙ ap (mapped (map (picked places)))
-                    (meaning-chosen r (contributes choice (width_of rows)) db (z ∷ env)
-                    ∙ ap (λ o. and_then o (gather (kept (condition_on (contributes choice (width_of rows)) (z ∷ env) no_subs))))
-                    (under.rewriting-there f b begins v rewritten z (columns-added columns outer b pair env begins))
-                    ∙ gather-kept (condition_on (contributes choice (width_of rows)) (z ∷ env) no_subs) passes rs.0 (λ row i. contributes-value choice (width_of rows) z env row)),
+                ∙ ap (mapped (map (picked places)))
+                (meaning-chosen r (contributes choice (width_of rows)) db (z ∷ env)
+                ∙ ap (λ o. and_then o (gather (kept (condition_on (contributes choice (width_of rows)) (z ∷ env) no_subs))))
+                (under.rewriting-there f b begins v rewritten z (columns-added columns outer b pair env begins))
+                ∙ gather-kept (condition_on (contributes choice (width_of rows)) (z ∷ env) no_subs) passes rs.0 (λ row i. contributes-value choice (width_of rows) z env row));
+            contributions =
                 contributions f b begins v (width_of (right rows)) (sym (ap length (kinds-right rows (columns ∷ outer) f.form))) ks
-                    (chosen-lists sub.kind x vs rs.0 (witnesses sub.query db (b ∷ env)) rs.2 own (width_of r)
-                    (λ row i. under.wide f b begins v row i ∙ own-is (columns ∷ outer) f.form) (λ row w i c. whole-width f b begins v rewritten row w i c) passes agree),
-              )
+                (chosen-lists sub.kind x vs rs.0 (witnesses sub.query db (b ∷ env)) rs.2 own (width_of r)
+                (λ row i. under.wide f b begins v row i ∙ own-is (columns ∷ outer) f.form) (λ row w i c. whole-width f b begins v rewritten row w i c) passes agree);
+          }
 
-          -- without the two
-          moved : (k : Row) → length k ≡ length (place_kinds (shape sub.query)) →
-              picked (kept_places (width_of rows) 2 (width_of (inner rows))) ((b ++ pair) ++ k) ≡ b ++ k
-          moved k e =
-              at-kept Null b pair k (width_of rows) 2 (width_of (inner rows)) (wide b h) refl
-              (omega (
-                arith,
-                length-append (b ++ pair) k,
-                length-append b pair,
-                wide b h,
-                e,
-                ap length (kinds-inner rows (columns ∷ outer) f.form),
-                length-append (kinds_of rows ++ two) (place_kinds (shape sub.query)),
-                length-append (kinds_of rows) two,
-              ))
-
-        -- ---- the rows with the two behind them
-
-        valued-rows : (zs : Bag) × (each all_on us ≡ Good zs)
-        valued-rows = good-bag (each all_on us) ((over-each all_on us).is_good (λ b h. good-good (all_on b) (b ++ pair b h) (valued-row b h)))
-
-        abbrev zs : Bag
-        zs = valued-rows.0
-
-        valued-good : meaning (valued rows stand operand) db env ≡ Good zs
-        valued-good = meaning-Project db env rows (beside_row rows items) (stand ∷ []) ∙ ap (λ o. and_then o (each all_on)) g.good ∙ valued-rows.1
-
-        valued-in : (b : Row) (h : IsIn b us) → IsIn (b ++ pair b h) zs
-        valued-in b h = in-each all_on (b ++ pair b h) b us zs valued-rows.1 h (valued-row b h)
-
-        origin : (z : Row) → IsIn z zs → (b : Row) × (h : IsIn b us) × (b ++ pair b h ≡ z)
-        origin z i =
-            let found = from-each all_on z us (subst (λ o. IsIn z (good_rows o)) (sym valued-rows.1) i) in
-            (found.0, found.1, same_good (found.0 ++ pair found.0 found.1) z (sym (valued-row found.0 found.1) ∙ found.2))
-
-        goods : (z : Row) → IsIn z zs → (ks : Bag) × (meaning (right rows) db (z ∷ env) ≡ Good ks)
-        goods z i =
-            let o = origin z i in
-            let m = made o.0 o.1 in
-            (m.0, subst (λ z. meaning (right rows) db (z ∷ env) ≡ Good m.0) o.2 m.1)
-
-        fits : Fitting outer (beside (valued rows stand operand) (right rows)) db env
-        fits = record {
-          formed = record { left = formed-valued f.form rows g.more g.begins g.fitting.formed; right = formed-right f.form rows g.more g.begins; dependent = refl };
-          tables = (tables-valued of_tables rows g.fitting.tables f.tables.0, tables-right of_tables rows f.tables.0);
-          outer_rows = f.outer_rows;
-        }
-
-        reached : Reached (next rows) db env (λ b c. Contributes db env b sub c) us
-        reached =
-            let answer = answer-beside (is rows) fits zs valued-good goods in
-            let places = kept_places (width_of rows) 2 (width_of (inner rows)) in
-            record {
-              bag = map (picked places) answer.0;
-              good = meaning-columns (inner rows) places db env ∙ ap (mapped (map (picked places))) answer.1;
-              extended = record {
-                there = λ b c h k.
-                    let m = made b h in
-                    let z = b ++ pair b h in
-                    subst (λ y. IsIn y (map (picked places) answer.0)) (moved b h (flat c) (contribution-width f b (begins b h) (values b h) c k))
-                    (in-map (picked places) (z ++ flat c) answer.0 (answer.2.there z (flat c) m.0 (valued-in b h) m.1 (m.2.there c k)));
-                back = λ y i.
-                    let from = from-map (picked places) y answer.0 i in
-                    let found = answer.2.back from.0 from.1 in
-                    let o = origin found.0 found.3 in
-                    let b = o.0 in
-                    let m = made b o.1 in
-                    let same : found.2 ≡ m.0 =
-                    same_good found.2 m.0 (sym found.4 ∙ subst (λ z. meaning (right rows) db (z ∷ env) ≡ Good m.0) o.2 m.1) in
-                    let c = m.2.back found.1 (subst (λ ks. IsIn found.1 (padded_rows (width_of (right rows)) ks)) same found.5) in (
-                      b,
-                      c.0,
-                      o.1,
-                      c.1,
-                      sym (moved b o.1 (flat c.0) (contribution-width f b (begins b o.1) (values b o.1) c.0 c.1))
-                          ∙ ap (picked places) ((λ j. o.2 j ++ c.2 j) ∙ found.6)
-                          ∙ from.2,
-                    );
-              };
-            }
-
-  pub chosen_step_over : Step sub next
-  chosen_step_over = record {
-    kinds = λ scopes rows f. kinds-next rows scopes f;
-    plain = plain-next;
-    tables = tables-next;
-    formed = λ columns outer rows more f begins formed. formed-next columns outer f rows more begins formed;
-    bad = λ columns outer db env f rows faults e. bad-next columns outer db env f rows faults e;
-    good = reached;
+  behind : Behind (λ db env b. HasValue db env sub b) sub two (λ rows. valued rows stand operand) right
+  behind = record {
+    has = λ db env b v. v;
+    kinds = kinds-valued;
+    plain = plain-valued;
+    tables = tables-valued;
+    formed = λ columns outer rows more f begins w. formed-valued columns outer f rows more begins w;
+    on = valued_on;
+    is_on = λ db env rows. meaning-Project db env rows (beside_row rows items) (stand ∷ []);
+    right_kinds = λ scopes rows f. kinds-right rows scopes f;
+    right_plain = plain-right;
+    right_tables = tables-right;
+    right_formed = λ columns outer rows more f begins. formed-right columns outer f rows more begins;
+    made = made;
   }
+
+  pub chosen_step_over : Step sub (λ rows. columns_kept (inner rows) (width_of rows) 2)
+  chosen_step_over = step_behind behind inner is

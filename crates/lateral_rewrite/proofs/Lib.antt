@@ -1,4 +1,5 @@
 pub mod ApplyRows
+pub mod BehindSteps
 pub mod BesideRows
 pub mod Choosing
 pub mod ChosenSteps

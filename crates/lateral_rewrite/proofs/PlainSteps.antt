@@ -27,7 +27,7 @@ use Rattle.query_laws.specs.SublinkLists.{Contributes}
 use Rattle.rewrite_base.specs.KeptColumns.{kept_places}
 use Rattle.rewrite_sublink.proofs.Contributing.{padded_rows}
 use Rattle.rewrite_sublink.proofs.LongerRows.{names-begin, row-begun}
-use Rattle.rewrite_sublink.proofs.Steps.{SubsFitting, Begun, HasValue, Extended, Reached, Step}
+use Rattle.rewrite_sublink.proofs.Steps.{SubsFitting, Begun, HasValue, Extended, OnRows, Reached, Step, StepGiven}
 use Rattle.rewrite_sublink.proofs.SublinkRows as under
 use Rattle.rewrite_sublink.proofs.TestValues.{none-any}
 use Rattle.rewrite_sublink.specs.Candidates.{deciding}
@@ -71,9 +71,12 @@ extended-besides width right db env sub us bag besides made = record {
 }
 
 -- over a query that has as many columns, next being what the dependent join is
-module _ (sub : Sublink) (r : Query) (own : ℕ) (rewritten : IsRewrite sub.query r)
+module _ {known : OnRows} (sub : Sublink) (r : Query) (own : ℕ) (rewritten : IsRewrite sub.query r)
     (own_is : (scopes : List (List Kind)) → AllSubsForm scopes (sub ∷ []) → width_of sub.query ≡ own)
-    (undecided : (scopes : List (List Kind)) → AllSubsForm scopes (sub ∷ []) → deciding sub.kind ≡ None)
+    (has : (db : Database) (env : List Row) (b : Row) → known db env b → HasValue db env sub b)
+    (all : (columns : List Kind) (outer : List (List Kind)) (db : Database) (env : List Row) (f : SubsFitting columns outer (sub ∷ []) db env) (b : Row)
+    (begins : row_begins b columns ≡ true) (k : known db env b) (row : Row) →
+    true ≡ is_chosen sub.kind (under.x f b begins (has db env b k)) (under.vs f b begins (has db env b k)) row)
     (next : Query → Query) (is : (rows : Query) → IsBeside rows (provenance_of r own) (next rows)) where
   abbrev right : Query
   right = provenance_of r own
@@ -91,11 +94,11 @@ module _ (sub : Sublink) (r : Query) (own : ℕ) (rewritten : IsRewrite sub.quer
         (well_formed-longer r (columns ∷ outer) (kinds_of rows ∷ outer) (names-begin columns more (kinds_of rows) outer begins) (rewritten.formed (columns ∷ outer) f.query))
 
     module _ (db : Database) (env : List Row) (f : SubsFitting columns outer (sub ∷ []) db env) (rows : Query) (us : Bag) (g : Begun columns outer db env rows us)
-        (values : (b : Row) → IsIn b us → HasValue db env sub b) where
+        (given : (b : Row) → IsIn b us → known db env b) where
       made : (b : Row) → IsIn b us → (ks : Bag) × (meaning right db (b ∷ env) ≡ Good ks) × Contributions db env b sub (width_of right) ks
       made b h =
           let begins = row-begun g b h in
-          let v = values b h in
+          let v = has db env b (given b h) in
           let rs = under.rewriting-rows f b begins v rewritten in
           let places = kept_places 0 own (width_of r) in
           let ks = map (picked places) (filter (λ (row : Row). true) rs.0) in (
@@ -104,7 +107,7 @@ module _ (sub : Sublink) (r : Query) (own : ℕ) (rewritten : IsRewrite sub.quer
             contributions f b begins v (width_of right) (sym (ap length (kinds-right (columns ∷ outer) f.form))) ks
                 (chosen-lists sub.kind (under.x f b begins v) (under.vs f b begins v) rs.0 (witnesses sub.query db (b ∷ env)) rs.2 own (width_of r)
                 (λ row i. under.wide f b begins v row i ∙ own_is (columns ∷ outer) f.form) (λ row w i c. whole-width f b begins v rewritten row w i c) (λ row. true)
-                (λ row w i c. all-chosen sub.kind (undecided (columns ∷ outer) f.form) (under.x f b begins v) (under.vs f b begins v) row)),
+                (λ row w i c. all columns outer db env f b begins (given b h) row)),
           )
 
       fits : Fitting outer (beside rows right) db env
@@ -123,8 +126,8 @@ module _ (sub : Sublink) (r : Query) (own : ℕ) (rewritten : IsRewrite sub.quer
             extended = extended-besides (width_of right) (λ u. meaning right db (u ∷ env)) db env sub us answer.0 answer.2 made;
           }
 
-  pub plain_step_over : Step sub next
-  plain_step_over = record {
+  pub plain_step_given : StepGiven known sub next
+  plain_step_given = record {
     kinds = λ scopes rows f. (is rows).kinds ∙ ap (λ ks. kinds_of rows ++ ks) (kinds-right scopes f);
     plain = λ rows plain. (is rows).plain plain (plain-provenance r own ∙ rewritten.plain);
     tables = λ P rows of_rows of_sub. (is rows).tables P of_rows (tables-right P of_sub);
@@ -132,6 +135,15 @@ module _ (sub : Sublink) (r : Query) (own : ℕ) (rewritten : IsRewrite sub.quer
     bad = λ columns outer db env f rows faults e. (is rows).bad db env faults (tables-right (λ id kinds. bag_fits (db id) kinds ≡ true) f.tables.0) e;
     good = reached;
   }
+
+-- of a sublink whose value doesn't choose
+pub plain_step_over : (sub : Sublink) (r : Query) (own : ℕ) → IsRewrite sub.query r →
+    ((scopes : List (List Kind)) → AllSubsForm scopes (sub ∷ []) → width_of sub.query ≡ own) →
+    ((scopes : List (List Kind)) → AllSubsForm scopes (sub ∷ []) → deciding sub.kind ≡ None) →
+    (next : Query → Query) → ((rows : Query) → IsBeside rows (provenance_of r own) (next rows)) → Step sub next
+plain_step_over sub r own rewritten own_is undecided next is =
+    plain_step_given sub r own rewritten own_is (λ db env b values. values)
+    (λ columns outer db env f b begins v row. all-chosen sub.kind (undecided (columns ∷ outer) f.form) (under.x f b begins v) (under.vs f b begins v) row) next is
 
 -- under each row the provenance of a rewriting, for EXISTS and for scalar sublinks
 pub plain_step : (sub : Sublink) (r : Query) → deciding sub.kind ≡ None → IsRewrite sub.query r → Step sub (λ rows. beside rows (provenance_of r (width_of sub.query)))

@@ -55,7 +55,9 @@ fn undecided(alloc: Global, choice: Choice, place: usize) -> Result<Expr, NoMemo
     Ok(Expr::Op { op, parts })
 }
 
-fn compared(alloc: Global, choice: Choice, place: usize) -> Result<Expr, NoMemory>
+/// The comparison of the left operand, which stands at the place of the nearest outer row, and the row's first column has the
+/// truth of the choice. It fails only for want of memory.
+pub fn compared(alloc: Global, choice: Choice, place: usize) -> Result<Expr, NoMemory>
     ensures { IfOk result (λ test. test ≡ compared choice place) }
 {
     let level = row_level();

@@ -11,6 +11,7 @@ mod rules;
 mod sides;
 
 pub use choices::{Choice, choice_of};
+pub use chosen::compared;
 pub use joins::apply;
 pub use laws::{
     dependent_joins_of_rewritings_rewrite, filters_over_dependent_joins_rewrite,

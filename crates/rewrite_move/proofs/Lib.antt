@@ -5,6 +5,11 @@ pub mod TracedSteps
 pub mod BuiltGroups
 pub mod BelowSizes
 pub mod LikeQueries
+pub mod Forcing
+pub mod ForcedParts
+pub mod KnownValues
+pub mod NullSteps
+pub mod MatchingSteps
 pub mod MovedSteps
 pub mod MovedRows
 pub mod WholeRules

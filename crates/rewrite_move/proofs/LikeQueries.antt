@@ -107,3 +107,12 @@ module _ (q p : Query) (l : Like q p) where
   like-beside_row items sub plain =
       subst (λ ks. Like (Project q (beside_row q items) (sub ∷ [])) (Project p (column_items ks (range_with_len 0 (length ks)) ++ items) (sub ∷ [])))
       (sym l.kinds) (items-like (beside_row q items) sub plain)
+
+  -- items without sublinks behind all columns
+  pub like-columns_and : (items : List Item) → Like (Project q (beside_row q items) []) (Project p (beside_row p items) [])
+  like-columns_and items =
+      subst (λ ks. Like (Project q (beside_row q items) []) (Project p (column_items ks (range_with_len 0 (length ks)) ++ items) []))
+      (sym l.kinds) (record {
+        kinds = kinds_of-Project p (beside_row q items) [] ∙ sym (kinds_of-Project q (beside_row q items) []);
+        stands = stands-Project q p l.stands (beside_row q items) (beside_row q items) (items-themselves (beside_row q items)) [] [] tt;
+      })

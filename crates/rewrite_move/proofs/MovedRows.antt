@@ -1,22 +1,27 @@
 -- What is made of rows for one sublink is like the dependent join of rows that they are like; and for one sublink after another.
-use Rattle.std.proofs.Common.{◌≡◌, ℕ, zero, suc, ◌+◌, ◌<◌, ◌≤◌, ◌&&◌, true, List, [], ◌∷◌, length, drop, get_or, Some, None, Result, Ok, Err, IfOk, refl, sym, ap, ◌∙◌, subst, arith}
+use Rattle.std.proofs.Common.{◌≡◌, ℕ, zero, suc, ◌+◌, ◌<◌, ◌≤◌, ◌&&◌, true, List, [], ◌∷◌, map, length, drop, get_or, Option, Some, None, Result, Ok, Err, IfOk, refl, sym, ap, ◌∙◌, subst, arith}
 use Rattle.std.proofs.Math.Seq.{drop-cons}
 use Rattle.std.proofs.lemmas.List.{drop_all}
+use Rattle.null_logic.specs.declared.truth.Truth.{Truth}
+use Rattle.perm_values.specs.declared.kind.Kind.{Kind}
 use Rattle.perm_values.specs.declared.no_memory.NoMemory.{NoMemory}
 use Rattle.bag_algebra.proofs.Truths.{and_true}
 use Rattle.bag_algebra.specs.Kinds.{width_of}
 use Rattle.bag_algebra.specs.Rewriting.{IsRewrite, is_plain}
 use Rattle.bag_algebra.specs.declared.expr.Expr.{Expr}
 use Rattle.bag_algebra.specs.declared.query.Query.{Query}
-use Rattle.bag_algebra.specs.declared.query.SubKind.{SubKind}
 use Rattle.bag_algebra.specs.declared.query.Sublink.{Sublink}
+use Rattle.contribution.specs.NullItems.{null_item}
 use Rattle.lateral_rewrite.specs.Dependent.{beside, choice_of, chosen_beside, chosen_provenance, contributed, contributed_by, provenance_of, valued, value_items}
 use Rattle.lateral_rewrite.specs.declared.choices.Choice.{Choice}
 use Rattle.query_laws.specs.Standing.{SubStands, SubsStand}
 use Rattle.rewrite_base.specs.KeptColumns.{columns_kept}
-use Rattle.rewrite_move.proofs.LikeQueries.{like-beside, like-beside_row, like-columns_kept}
-use Rattle.rewrite_move.specs.Moved.{Like, SubsTraced, all_moved, moved, moved_by}
-use Rattle.rewrite_move.specs.Traced.{below_by, below_groups, traced_of}
+use Rattle.rewrite_move.proofs.LikeQueries.{like-beside, like-beside_row, like-columns_and, like-columns_kept}
+use Rattle.rewrite_move.specs.ForcedTruths.{forces}
+use Rattle.rewrite_move.specs.Moved.{Like, SubsTraced, all_moved, beside_nulls, matched, matching_beside, matching_provenance, moved, moved_by, operand_item, with_operand}
+use Rattle.rewrite_move.specs.Shares.{share_of}
+use Rattle.rewrite_move.specs.declared.share.Share.{Share}
+use Rattle.rewrite_move.specs.Traced.{traced_of}
 use Rattle.spine_joins.specs.Spines.{IsBeside}
 
 -- ---- one sublink
@@ -26,6 +31,9 @@ plain-provenance r own plain = and_true (is_plain r) ∙ plain
 
 plain-chosen : (choice : Choice) (place : ℕ) (stand : Sublink) (r : Query) → is_plain r ≡ true → is_plain (chosen_provenance choice place stand r) ≡ true
 plain-chosen choice place stand r plain = and_true (is_plain r && true) ∙ and_true (is_plain r) ∙ plain
+
+plain-matching : (choice : Choice) (place : ℕ) (stand : Sublink) (r : Query) → is_plain r ≡ true → is_plain (matching_provenance choice place stand r) ≡ true
+plain-matching choice place stand r plain = and_true (is_plain r && true) ∙ and_true (is_plain r) ∙ plain
 
 module _ (whole rows : Query) (l : Like whole rows) (r : Query) (plain : is_plain r ≡ true) where
   -- the provenance of all rows
@@ -43,6 +51,17 @@ module _ (whole rows : Query) (l : Like whole rows) (r : Query) (plain : is_plai
       (like-beside (valued whole stand operand) (valued rows stand operand) (chosen_provenance choice place stand r) pairs
       (like-beside_row whole rows l (value_items stand operand) stand of_query) (plain-chosen choice place stand r plain) is) place 2)
 
+  -- that of the rows that match
+  pub matching-moved : (choice : Choice) (operand : Expr) (stand : Sublink) (pairs : Query) (place : ℕ) → place ≡ width_of rows →
+      IsBeside (with_operand rows stand operand) (matching_provenance choice place stand r) pairs →
+      Like (matching_beside choice operand whole stand r) (columns_kept pairs place 1)
+  matching-moved choice operand stand pairs place at is =
+      let there : place ≡ width_of whole = at ∙ ap length l.kinds in
+      subst (λ n. Like (columns_kept (beside (with_operand whole stand operand) (matching_provenance choice n stand r)) n 1) (columns_kept pairs place 1)) there
+      (like-columns_kept (beside (with_operand whole stand operand) (matching_provenance choice place stand r)) pairs
+      (like-beside (with_operand whole stand operand) (with_operand rows stand operand) (matching_provenance choice place stand r) pairs
+      (like-columns_and whole rows l (operand_item stand operand ∷ [])) (plain-matching choice place stand r plain) is) place 1)
+
 -- ---- one after another
 
 opened : {X : Type 0} (xs : List X) (at : ℕ) (x : X) → at < length xs → x ≡ get_or xs at x → drop at xs ≡ x ∷ drop (at + 1) xs
@@ -51,30 +70,38 @@ opened xs at x within e =
     drop-cons xs at x within ∙ (λ i. sym e i ∷ drop (next i) xs)
 
 -- what a loop has so far: rows like those of the sublinks before, of which the others make the whole
-pub record SoFar (rows whole : Query) (subs standing : List Sublink) (rewritings : List Query) (at : ℕ) : Type 0 where
+pub record SoFar (condition : Expr) (rows whole : Query) (subs standing : List Sublink) (rewritings : List Query) (at : ℕ) : Type 0 where
   pub reached : Query
   pub like : Like reached whole
-  pub same : all_moved reached (drop at subs) (drop at standing) (drop at rewritings) ≡ all_moved rows subs standing rewritings
+  pub same : all_moved condition at reached (drop at subs) (drop at standing) (drop at rewritings) ≡ all_moved condition 0 rows subs standing rewritings
 
-pub so_far-first : (rows : Query) (subs standing : List Sublink) (rewritings : List Query) → Like rows rows → SoFar rows rows subs standing rewritings 0
-so_far-first rows subs standing rewritings l = record { reached = rows; like = l; same = refl }
+pub so_far-first : (condition : Expr) (rows : Query) (subs standing : List Sublink) (rewritings : List Query) → Like rows rows →
+    SoFar condition rows rows subs standing rewritings 0
+so_far-first condition rows subs standing rewritings l = record { reached = rows; like = l; same = refl }
 
-pub so_far-next : (rows whole next : Query) (subs standing : List Sublink) (rewritings : List Query) (at : ℕ) (sub stand : Sublink) (rewriting : Query) →
+pub so_far-next : (condition : Expr) (rows whole next : Query) (subs standing : List Sublink) (rewritings : List Query) (at : ℕ) (sub stand : Sublink) (rewriting : Query) →
     at < length subs → at < length standing → at < length rewritings →
     sub ≡ get_or subs at sub → stand ≡ get_or standing at stand → rewriting ≡ get_or rewritings at rewriting →
-    SoFar rows whole subs standing rewritings at → ((before : Query) → Like before whole → Like (moved before sub stand rewriting) next) →
-    SoFar rows next subs standing rewritings (at + 1)
-so_far-next rows whole next subs standing rewritings at sub stand rewriting h g k e f d so step = record {
-  reached = moved so.reached sub stand rewriting;
-  like = step so.reached so.like;
-  same = sym (λ i. all_moved so.reached (opened subs at sub h e i) (opened standing at stand g f i) (opened rewritings at rewriting k d i)) ∙ so.same;
-}
+    SoFar condition rows whole subs standing rewritings at →
+    ((before : Query) → Like before whole → Like (moved (forces condition at) before sub stand rewriting) next) →
+    SoFar condition rows next subs standing rewritings (at + 1)
+so_far-next condition rows whole next subs standing rewritings at sub stand rewriting h g k e f d so step =
+    let following : suc at ≡ at + 1 = omega arith in
+    let reached = moved (forces condition at) so.reached sub stand rewriting in
+    record {
+      reached = reached;
+      like = step so.reached so.like;
+      same =
+          ap (λ n. all_moved condition n reached (drop (at + 1) subs) (drop (at + 1) standing) (drop (at + 1) rewritings)) (sym following)
+          ∙ sym (λ i. all_moved condition at so.reached (opened subs at sub h e i) (opened standing at stand g f i) (opened rewritings at rewriting k d i))
+          ∙ so.same;
+    }
 
-pub so_far-last : (rows whole : Query) (subs standing : List Sublink) (rewritings : List Query) (at : ℕ) → length subs ≤ at → SoFar rows whole subs standing rewritings at →
-    Like (all_moved rows subs standing rewritings) whole
-so_far-last rows whole subs standing rewritings at far so =
+pub so_far-last : (condition : Expr) (rows whole : Query) (subs standing : List Sublink) (rewritings : List Query) (at : ℕ) → length subs ≤ at →
+    SoFar condition rows whole subs standing rewritings at → Like (all_moved condition 0 rows subs standing rewritings) whole
+so_far-last condition rows whole subs standing rewritings at far so =
     subst (λ q. Like q whole)
-    (ap (λ rest. all_moved so.reached rest (drop at standing) (drop at rewritings)) (sym (drop_all at subs far)) ∙ so.same) so.like
+    (ap (λ rest. all_moved condition at so.reached rest (drop at standing) (drop at rewritings)) (sym (drop_all at subs far)) ∙ so.same) so.like
 
 -- ---- as many, and one of each
 
@@ -97,20 +124,22 @@ traced-at (first ∷ subs) [] at sub rewriting s h = absurd s
 traced-at (first ∷ subs) (p ∷ ps) zero sub rewriting s h = s.0
 traced-at (first ∷ subs) (p ∷ ps) (suc at) sub rewriting s h = traced-at subs ps at sub rewriting s.1 (omega (arith, h))
 
--- ---- by kinds
+-- ---- by what contributes
 
-pub existing-moved : (sub stand : Sublink) (r : Query) (whole p : Query) (kind : SubKind) → sub.kind ≡ kind → below_by kind sub.query ≡ below_groups sub.query →
-    moved_by kind whole sub stand r ≡ beside whole (provenance_of r (width_of (below_groups sub.query))) →
-    Like (beside whole (provenance_of r (width_of (traced_of sub)))) p → Like (moved whole sub stand r) p
-existing-moved sub stand r whole p kind e below made l =
-    let query : traced_of sub ≡ below_groups sub.query = ap (λ k. below_by k sub.query) e ∙ below in
-    let is : beside whole (provenance_of r (width_of (traced_of sub))) ≡ moved whole sub stand r =
-    ap (λ q. beside whole (provenance_of r (width_of q))) query ∙ sym made ∙ sym (ap (λ k. moved_by k whole sub stand r) e) in
-    subst (λ q. Like q p) is l
+pub moved-as : (sub stand : Sublink) (r : Query) (known : Option Truth) (whole p : Query) (share : Share) → share_of sub.kind known ≡ share →
+    Like (moved_by share (traced_of sub) whole stand r) p → Like (moved known whole sub stand r) p
+moved-as sub stand r known whole p share e l = subst (λ share. Like (moved_by share (traced_of sub) whole stand r) p) (sym e) l
 
-pub compared-moved : (sub stand : Sublink) (r : Query) (whole p : Query) (kind : SubKind) → sub.kind ≡ kind → moved_by kind whole sub stand r ≡ contributed whole stand r →
-    Like (contributed whole stand r) p → Like (moved whole sub stand r) p
-compared-moved sub stand r whole p kind e made l = subst (λ q. Like q p) (sym made ∙ sym (ap (λ k. moved_by k whole sub stand r) e)) l
+-- NULLs of the same kinds beside rows that stand for others
+pub nulls-like : (whole rows : Query) → Like whole rows → (kinds : List Kind) → Like (beside_nulls whole kinds) (beside_nulls rows kinds)
+nulls-like whole rows l kinds = like-columns_and whole rows l (map null_item kinds)
+
+module _ (whole : Query) (stand : Sublink) (r p : Query) (choice : Choice) where
+  pub matched-untested : stand.tested ≡ None → Like (beside whole (provenance_of r (width_of stand.query))) p → Like (matched choice stand.tested whole stand r) p
+  matched-untested e l = subst (λ tested. Like (matched choice tested whole stand r) p) (sym e) l
+
+  pub matched-tested : (operand : Expr) → stand.tested ≡ Some operand → Like (matching_beside choice operand whole stand r) p → Like (matched choice stand.tested whole stand r) p
+  matched-tested operand e l = subst (λ tested. Like (matched choice tested whole stand r) p) (sym e) l
 
 module _ (whole : Query) (stand : Sublink) (r p : Query) where
   pub contributed-none : choice_of stand.kind ≡ None → Like (beside whole (provenance_of r (width_of stand.query))) p → Like (contributed whole stand r) p

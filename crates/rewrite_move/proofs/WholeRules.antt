@@ -7,6 +7,7 @@ use Rattle.bag_algebra.specs.declared.expr.Item.{Item}
 use Rattle.bag_algebra.specs.declared.query.Query.{Query}
 use Rattle.bag_algebra.specs.declared.query.Query.TheVariants.{Filter, Project}
 use Rattle.bag_algebra.specs.declared.query.Sublink.{Sublink}
+use Rattle.contribution.specs.Conjunctions.{always}
 use Rattle.query_laws.proofs.SameExpressions.{same-itself, items-themselves}
 use Rattle.query_laws.proofs.StandingNodes.{stands-Filter, stands-Project}
 use Rattle.query_laws.specs.Standing.{SubsStand}
@@ -26,16 +27,16 @@ module _ (q r : Query) (given : IsRewrite q r) (subs standing : List Sublink) (r
       like-itself (Project r (beside_row r items) standing)
       (stands-Project r r (stands-itself r given.plain) (beside_row r items) (beside_row r items) (items-themselves (beside_row r items)) subs standing stand).plain
 
-  pub filter-rewrites : (condition : Expr) (p : Query) → Like (all_moved (Filter r condition standing) subs standing rewritings) p → IsRewrite (Filter q condition subs) p
+  pub filter-rewrites : (condition : Expr) (p : Query) → Like (all_moved condition 0 (Filter r condition standing) subs standing rewritings) p → IsRewrite (Filter q condition subs) p
   filter-rewrites condition p l =
-      rewrite-along (Filter q condition subs) (all_moved (Filter r condition standing) subs standing rewritings) p
+      rewrite-along (Filter q condition subs) (all_moved condition 0 (Filter r condition standing) subs standing rewritings) p
       (filter-moved q r condition subs standing rewritings given stand traced) l.stands
 
-  pub project-rewrites : (items : List Item) (p : Query) → Like (all_moved (Project r (beside_row r items) standing) subs standing rewritings) p →
+  pub project-rewrites : (items : List Item) (p : Query) → Like (all_moved always 0 (Project r (beside_row r items) standing) subs standing rewritings) p →
       IsRewrite (Project q items subs) (answer_columns p (width_of q) (width_of r) (length items))
   project-rewrites items p l =
       rewrite-along (Project q items subs)
-      (answer_columns (all_moved (Project r (beside_row r items) standing) subs standing rewritings) (width_of q) (width_of r) (length items))
+      (answer_columns (all_moved always 0 (Project r (beside_row r items) standing) subs standing rewritings) (width_of q) (width_of r) (length items))
       (answer_columns p (width_of q) (width_of r) (length items))
       (project-moved q r items subs standing rewritings given stand traced)
-      (like-answer_columns (all_moved (Project r (beside_row r items) standing) subs standing rewritings) p l (width_of q) (width_of r) (length items)).stands
+      (like-answer_columns (all_moved always 0 (Project r (beside_row r items) standing) subs standing rewritings) p l (width_of q) (width_of r) (length items)).stands

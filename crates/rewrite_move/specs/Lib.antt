@@ -1,2 +1,4 @@
+pub mod ForcedTruths
 pub mod Moved
+pub mod Shares
 pub mod Traced

@@ -3,22 +3,58 @@ ghost use Rattle.std.specs.Prelude.{◌≡◌, true, IfOk};
 ghost use Rattle.bag_algebra.specs.Kinds.{width_of};
 ghost use Rattle.bag_algebra.specs.Rewriting.{IsRewrite, is_plain};
 ghost use Rattle.bag_algebra.specs.declared.query.Query.{Query};
+ghost use Rattle.contribution.specs.Conjunctions.{always};
 ghost use Rattle.lateral_rewrite.specs.Dependent.{chosen_beside, contributed, provenance_of};
 ghost use Rattle.query_laws.specs.Standing.{SubStands, SubsStand};
-ghost use Rattle.rewrite_move.specs.Moved.{Like, SubsTraced, all_moved, moved};
+ghost use Rattle.rewrite_move.specs.Moved.{Like, SubsTraced, all_moved, matched, moved};
 ghost use Rattle.rewrite_move.specs.Traced.{traced_of};
 ghost use Rattle.spine_joins.specs.Spines.{IsBeside};
 
 use crate::below::traced;
-use bag_algebra::{Expr, Query, SubKind, Sublink};
+use crate::forced::forces;
+use crate::known::{beside_matching, beside_nothing};
+use crate::share::{Share, share_of};
+use bag_algebra::{Expr, Query, Sublink};
+use contribution::always;
 use lateral_rewrite::{Choice, choice_of, chosen_provenance, valued};
+use null_logic::Truth;
 use perm_values::{Copyable, NoMemory};
 use rewrite_base::{columns_kept, exact_width};
 use spine_joins::beside;
 use std::alloc::Global;
 
-/// The rows, and for each sublink in turn its contributions, from a rewriting of what is traced for it.
+/// The rows, and for each sublink in turn its contributions, from a rewriting of what is traced for it. The condition is true of each
+/// of the rows, and the sublinks' numbers are those that it has for them.
 pub(crate) fn with_contributions(
+    alloc: Global,
+    rows: Query,
+    condition: &Expr,
+    subs: &[Sublink],
+    standing: &[Sublink],
+    rewritings: &[Query],
+) -> Result<Query, NoMemory>
+    requires plain { Like rows rows }
+    requires standing { SubsStand subs.now standing.now }
+    requires traced { SubsTraced subs.now rewritings.now }
+    ensures { IfOk result (λ p. Like (all_moved condition.now 0 rows subs.now standing.now rewritings.now) p) }
+{
+    let mut whole = rows;
+    for at in 0..subs.len() {
+        let known = forces(condition, at);
+        whole = with_contribution(
+            alloc,
+            whole,
+            known,
+            &subs[at],
+            &standing[at],
+            &rewritings[at],
+        )?;
+    }
+    Ok(whole)
+}
+
+/// Likewise of rows of which no condition is known to be true.
+pub(crate) fn with_all_contributions(
     alloc: Global,
     rows: Query,
     subs: &[Sublink],
@@ -28,18 +64,17 @@ pub(crate) fn with_contributions(
     requires plain { Like rows rows }
     requires standing { SubsStand subs.now standing.now }
     requires traced { SubsTraced subs.now rewritings.now }
-    ensures { IfOk result (λ p. Like (all_moved rows subs.now standing.now rewritings.now) p) }
+    ensures { IfOk result (λ p. Like (all_moved always 0 rows subs.now standing.now rewritings.now) p) }
 {
-    let mut whole = rows;
-    for at in 0..subs.len() {
-        whole = with_contribution(alloc, whole, &subs[at], &standing[at], &rewritings[at])?;
-    }
-    Ok(whole)
+    let condition = always();
+    with_contributions(alloc, rows, &condition, subs, standing, rewritings)
 }
 
+/// The rows beside the contributions of a sublink that has this truth on each of them, if one is known.
 fn with_contribution(
     alloc: Global,
     rows: Query,
+    known: Option<Truth>,
     sub: &Sublink,
     standing: &Sublink,
     rewriting: &Query,
@@ -47,13 +82,31 @@ fn with_contribution(
     requires standing { SubStands sub.now standing.now }
     requires traced { IsRewrite (traced_of sub.now) rewriting.now }
     ensures { (whole : Query) → Like whole rows →
-        IfOk result (λ p. Like (moved whole sub.now standing.now rewriting.now) p) }
+        IfOk result (λ p. Like (moved known whole sub.now standing.now rewriting.now) p) }
 {
-    match sub.kind {
-        SubKind::Exists => beside_all(alloc, rows, traced(sub), rewriting),
-        SubKind::Any(_) => beside_compared(alloc, rows, standing, rewriting),
-        SubKind::All(_) => beside_compared(alloc, rows, standing, rewriting),
-        SubKind::Scalar => beside_all(alloc, rows, traced(sub), rewriting),
+    match share_of(sub.kind, known) {
+        Share::NoRow => beside_nothing(alloc, rows, traced(sub), rewriting),
+        Share::AllRows => beside_all(alloc, rows, traced(sub), rewriting),
+        Share::MatchingRows(choice) => beside_matched(alloc, rows, standing, choice, rewriting),
+        Share::ByValue => beside_compared(alloc, rows, standing, rewriting),
+    }
+}
+
+/// The rows beside the provenance of those rows that compare with the truth of the choice.
+fn beside_matched(
+    alloc: Global,
+    rows: Query,
+    standing: &Sublink,
+    choice: Choice,
+    rewriting: &Query,
+) -> Result<Query, NoMemory>
+    requires plain { is_plain rewriting.now ≡ true }
+    ensures { (whole : Query) → Like whole rows →
+        IfOk result (λ p. Like (matched choice standing.now.tested whole standing.now rewriting.now) p) }
+{
+    match &standing.tested {
+        None => beside_all(alloc, rows, &standing.query, rewriting),
+        Some(operand) => beside_matching(alloc, rows, standing, operand, choice, rewriting),
     }
 }
 

@@ -4,8 +4,11 @@
 
 mod below;
 mod contributions;
+mod forced;
+mod known;
 mod laws;
 mod rules;
+mod share;
 
 pub use below::traced;
 pub use laws::{traced_sublinks_contribute_the_same, what_stands_for_a_rewriting_is_one};

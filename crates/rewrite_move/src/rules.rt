@@ -5,7 +5,7 @@ ghost use Rattle.bag_algebra.specs.declared.query.Query.TheVariants.{Filter, Pro
 ghost use Rattle.query_laws.specs.Standing.{SubsStand};
 ghost use Rattle.rewrite_move.specs.Moved.{SubsTraced};
 
-use crate::contributions::with_contributions;
+use crate::contributions::{with_all_contributions, with_contributions};
 use bag_algebra::{Expr, Item, Query, Sublink};
 use perm_values::{List, NoMemory};
 use rewrite_base::exact_width;
@@ -14,8 +14,9 @@ use std::alloc::Global;
 
 /// A rewriting of the input's rows on which the condition is true, where sublinks of any kind, over any source, stand in it: the
 /// condition over the input's rewriting, and then for each sublink in turn the provenance of what contributes, by an ordinary join
-/// where that serves and else under each row. `standing` has for each sublink a plain one that stands for it, and `sub_rewritings` a
-/// rewriting of what is traced for each, in their order. It fails only for want of memory.
+/// where that serves and else under each row. Where the condition forces a truth on a sublink, that says what contributes: of a true
+/// ANY the rows that compare so, and of a false EXISTS none. `standing` has for each sublink a plain one that stands for it, and
+/// `sub_rewritings` a rewriting of what is traced for each, in their order. It fails only for want of memory.
 pub fn filter_moved(
     alloc: Global,
     input: &Query,
@@ -31,7 +32,14 @@ pub fn filter_moved(
     ensures { IfOk result (λ p. IsRewrite (Filter input.now condition.now subs.now) p) }
 {
     let rows = own_rows(alloc, rewriting, condition, standing)?;
-    with_contributions(alloc, rows, subs, standing, sub_rewritings.as_slice())
+    with_contributions(
+        alloc,
+        rows,
+        condition,
+        subs,
+        standing,
+        sub_rewritings.as_slice(),
+    )
 }
 
 /// A rewriting of what the items make of the input's rows, where sublinks of any kind, over any source, stand in them: the items over
@@ -60,6 +68,6 @@ pub fn project_moved(
         return Err(NoMemory);
     };
     let rows = own_items(alloc, rewriting, items, standing)?;
-    let whole = with_contributions(alloc, rows, subs, standing, sub_rewritings.as_slice())?;
+    let whole = with_all_contributions(alloc, rows, subs, standing, sub_rewritings.as_slice())?;
     answer_columns(alloc, whole, own, row, items.len())
 }

@@ -34,16 +34,17 @@ use Rattle.rewrite_base.proofs.BesideLists.{same-from_rewritten}
 use Rattle.rewrite_base.specs.Rewritten.{Beside}
 use Rattle.rewrite_base.proofs.Faults.{SameFaults, kept-alike, gather-bad_alike}
 use Rattle.rewrite_base.proofs.FlatRows.{Flattened, flattened, row-begins, stands_beside}
-use Rattle.rewrite_sublink.proofs.LongerRows.{by, flat-behind, names-rewriting, subs-named, values-longer, contributes-longer, contributes-shorter}
+use Rattle.rewrite_sublink.proofs.LongerRows.{by, flat-behind, names-rewriting, subs-named, contributes-longer, contributes-shorter}
 use Rattle.rewrite_sublink.proofs.NodeRows.{first-good, kinds-whole, tables-whole, formed-whole, good-whole, bad-whole, Reaching, reaching-over}
-use Rattle.rewrite_sublink.proofs.Steps.{SubsFitting, HasValues, Reached, Steps}
+use Rattle.rewrite_sublink.proofs.Steps.{SubsFitting, HasValues, OnRows, Reached, Steps, StepsGiven}
 use Rattle.query_laws.proofs.NodeLists.{filter-lists}
 use Rattle.query_laws.specs.ListsOfNodes.{Followed}
 use Rattle.query_laws.specs.SublinkLists.{InAnswer, EachContributes}
 
--- first stands for the selection over the rewriting of its input
-module _ (q r first : Query) (condition : Expr) (subs : List Sublink) (whole : Query → Query) (given : IsRewrite q r) (stands : Stands (Filter r condition subs) first)
-    (steps : Steps subs whole) where
+-- first stands for the selection over the rewriting of its input, and where the condition is true of a row, that is known of it
+module _ {known : OnRows} (q r first : Query) (condition : Expr) (subs : List Sublink) (whole : Query → Query) (given : IsRewrite q r) (stands : Stands (Filter r condition subs) first)
+    (met_known : (db : Database) (env : List Row) (b : Row) → is_met (condition_on condition env (subs_denote subs db env) b) ≡ true → known db env b)
+    (steps : StepsGiven known subs whole) where
   abbrev node : Query
   node = Filter q condition subs
 
@@ -149,14 +150,15 @@ module _ (q r first : Query) (condition : Expr) (subs : List Sublink) (whole : Q
           values : (t : Row) → IsIn t ts → HasValues db env subs t
           values t i = first-good ((subs_denote subs db env).answers t) (value condition t env) (chosen t i).1
 
-          values-over : (z : Row) → IsIn z zs → HasValues db env subs z
-          values-over z j =
-              let row = over-back z j in
-              subst (HasValues db env subs) row.4 (values-longer subs-fit row.0 (begins row.0 (chosen row.0 row.2).0) (values row.0 row.2) (flat row.1))
+          known-over : (z : Row) → IsIn z zs → known db env z
+          known-over z j =
+              let found = from-gather (kept on) z vs (subst (λ o. IsIn z (good_rows o)) (sym f) j) in
+              let origin = from-kept on found.0 z found.2 in
+              met_known db env z (subst (λ u. is_met (on u) ≡ true) origin.0 origin.1)
 
           reached : meaning over db env ≡ Good zs → Reached p db env (λ z w. EachContributes db env z subs w) zs
           reached is_over =
-              good-whole stands steps (kinds_of q) outer db env subs-fit zs (record { more = place_kinds (shape q); begins = begins-over; fitting = over-fits; good = is_over }) values-over
+              good-whole stands steps (kinds_of q) outer db env subs-fit zs (record { more = place_kinds (shape q); begins = begins-over; fitting = over-fits; good = is_over }) known-over
 
           lists_are : (t : Row) (w : Witness) → Contains (witnesses node db env t) w ↔ (InAnswer node db env t × Followed q subs db env t w)
           lists_are t w = filter-lists db env t w q condition subs
@@ -208,11 +210,18 @@ module _ (q r first : Query) (condition : Expr) (subs : List Sublink) (whole : Q
           (reaching-over node over p db env bad q r (gather (kept on)) (gather (kept on)) (meaning-Filter db env q condition subs) (meaning-Filter db env r condition subs)
           (λ us vs good is_rewriting b. reaching us vs good b is_rewriting) (rewriting-related outer q r db env input-fits given)))
 
-  pub rewrite-Filter_with : IsRewrite node p
-  rewrite-Filter_with = record {
+  pub rewrite-Filter_given : IsRewrite node p
+  rewrite-Filter_given = record {
     plain = steps.plain first stands.plain;
     kinds = kinds-made;
     formed = formed-made;
     tables = tables-made (λ id ks. Contains (tables_read node) (record { id = id; kinds = ks })) (reads_among-itself node);
     rows = λ outer db env formed tables fits. subst (λ n. SameSet (meaning n db env) (meaning p db env)) (Prov-is node) (same_rows outer formed db env tables fits);
   }
+
+-- where the condition is true of a row, the sublinks have values on it
+pub rewrite-Filter_with : (q r first : Query) (condition : Expr) (subs : List Sublink) (whole : Query → Query) → IsRewrite q r → Stands (Filter r condition subs) first → Steps subs whole →
+    IsRewrite (Filter q condition subs) (whole first)
+rewrite-Filter_with q r first condition subs whole given stands steps =
+    rewrite-Filter_given q r first condition subs whole given stands
+    (λ db env b met. first-good ((subs_denote subs db env).answers b) (value condition b env) met) steps

@@ -24,11 +24,11 @@ use Rattle.rewrite_base.proofs.JoinedOutcomes.{Related}
 use Rattle.rewrite_base.specs.Rewritten.{Beside}
 use Rattle.rewrite_base.proofs.Faults.{SameFaults}
 use Rattle.query_laws.specs.SublinkLists.{EachContributes}
-use Rattle.rewrite_sublink.proofs.Steps.{SubsFitting, Begun, HasValues, Reached, Steps}
+use Rattle.rewrite_sublink.proofs.Steps.{SubsFitting, Begun, OnRows, Reached, StepsGiven}
 
 -- ---- steps over what stands for a query: they make of it what they would make of the query
 
-module _ {over first : Query} {subs : List Sublink} {whole : Query → Query} (stands : Stands over first) (steps : Steps subs whole) where
+module _ {known : OnRows} {over first : Query} {subs : List Sublink} {whole : Query → Query} (stands : Stands over first) (steps : StepsGiven known subs whole) where
   pub kinds-whole : (outer scopes : List (List Kind)) → WellFormed outer over → AllSubsForm scopes subs → kinds_of (whole first) ≡ kinds_of over ++ place_kinds (subs_shape subs)
   kinds-whole outer scopes formed f = steps.kinds scopes first f ∙ ap (λ ks. ks ++ place_kinds (subs_shape subs)) (stands.kinds outer formed)
 
@@ -40,7 +40,7 @@ module _ {over first : Query} {subs : List Sublink} {whole : Query → Query} (s
   formed-whole columns outer more f begins formed = steps.formed columns outer first more f (stands.kinds outer formed ∙ begins) (stands.formed outer formed)
 
   module _ (columns : List Kind) (outer : List (List Kind)) (db : Database) (env : List Row) (f : SubsFitting columns outer subs db env) where
-    good-where : (us : Bag) → Begun columns outer db env over us → ((b : Row) → IsIn b us → HasValues db env subs b) → (o : Outcome Bag) → meaning first db env ≡ o → SameRows (Good us) o →
+    good-where : (us : Bag) → Begun columns outer db env over us → ((b : Row) → IsIn b us → known db env b) → (o : Outcome Bag) → meaning first db env ≡ o → SameRows (Good us) o →
         Reached (whole first) db env (λ b w. EachContributes db env b subs w) us
     good-where us g values (Good vs) e s =
         let there : (b : Row) → IsIn b us → IsIn b vs = λ b h. member-in b vs (sym (member-same_bag b us vs s) ∙ in-member b us h) in
@@ -66,7 +66,7 @@ module _ {over first : Query} {subs : List Sublink} {whole : Query → Query} (s
         }
     good-where us g values (Bad faults) e s = absurd s
 
-    pub good-whole : (us : Bag) → Begun columns outer db env over us → ((b : Row) → IsIn b us → HasValues db env subs b) → Reached (whole first) db env (λ b w. EachContributes db env b subs w) us
+    pub good-whole : (us : Bag) → Begun columns outer db env over us → ((b : Row) → IsIn b us → known db env b) → Reached (whole first) db env (λ b w. EachContributes db env b subs w) us
     good-whole us g values =
         good-where us g values (meaning first db env) refl
         (subst (λ o. SameRows o (meaning first db env)) g.good (stands.rows outer db env g.fitting.formed g.fitting.tables g.fitting.outer_rows))

@@ -56,9 +56,13 @@ pub record Reached (p : Query) (db : Database) (env : List Row) (contributes : R
 
 -- ---- steps
 
+-- what is known of a row of the node, under a database and outer rows
+abbrev pub OnRows : Type 1
+OnRows = Database → List Row → Row → Type 0
+
 -- of one sublink: the columns of its places stand behind the rows', where the rows are bad so is what is made of them, and
--- where they are good and the sublink has a value on each, they stand there beside their contributions
-pub record Step (sub : Sublink) (next : Query → Query) : Type 1 where
+-- where they are good and this is known of each, they stand there beside their contributions
+pub record StepGiven (known : OnRows) (sub : Sublink) (next : Query → Query) : Type 1 where
   pub kinds : (scopes : List (List Kind)) (rows : Query) → AllSubsForm scopes (sub ∷ []) → kinds_of (next rows) ≡ kinds_of rows ++ place_kinds (shape sub.query)
   pub plain : (rows : Query) → is_plain rows ≡ true → is_plain (next rows) ≡ true
   pub tables : (P : ℕ → List Kind → Type 0) (rows : Query) → EachTable P rows → EachTable P sub.query → EachTable P (next rows)
@@ -67,10 +71,14 @@ pub record Step (sub : Sublink) (next : Query → Query) : Type 1 where
   pub bad : (columns : List Kind) (outer : List (List Kind)) (db : Database) (env : List Row) → SubsFitting columns outer (sub ∷ []) db env → (rows : Query) (faults : Faults) →
       meaning rows db env ≡ Bad faults → meaning (next rows) db env ≡ Bad faults
   pub good : (columns : List Kind) (outer : List (List Kind)) (db : Database) (env : List Row) → SubsFitting columns outer (sub ∷ []) db env → (rows : Query) (us : Bag) →
-      Begun columns outer db env rows us → ((b : Row) → IsIn b us → HasValue db env sub b) → Reached (next rows) db env (λ b c. Contributes db env b sub c) us
+      Begun columns outer db env rows us → ((b : Row) → IsIn b us → known db env b) → Reached (next rows) db env (λ b c. Contributes db env b sub c) us
+
+-- where the sublink has a value on each row
+abbrev pub Step : Sublink → (Query → Query) → Type 1
+Step sub next = StepGiven (λ db env b. HasValue db env sub b) sub next
 
 -- of all sublinks of a node
-pub record Steps (subs : List Sublink) (whole : Query → Query) : Type 1 where
+pub record StepsGiven (known : OnRows) (subs : List Sublink) (whole : Query → Query) : Type 1 where
   pub kinds : (scopes : List (List Kind)) (rows : Query) → AllSubsForm scopes subs → kinds_of (whole rows) ≡ kinds_of rows ++ place_kinds (subs_shape subs)
   pub plain : (rows : Query) → is_plain rows ≡ true → is_plain (whole rows) ≡ true
   pub tables : (P : ℕ → List Kind → Type 0) (rows : Query) → EachTable P rows → EachTableOfSubs P subs → EachTable P (whole rows)
@@ -79,4 +87,8 @@ pub record Steps (subs : List Sublink) (whole : Query → Query) : Type 1 where
   pub bad : (columns : List Kind) (outer : List (List Kind)) (db : Database) (env : List Row) → SubsFitting columns outer subs db env → (rows : Query) (faults : Faults) →
       meaning rows db env ≡ Bad faults → meaning (whole rows) db env ≡ Bad faults
   pub good : (columns : List Kind) (outer : List (List Kind)) (db : Database) (env : List Row) → SubsFitting columns outer subs db env → (rows : Query) (us : Bag) →
-      Begun columns outer db env rows us → ((b : Row) → IsIn b us → HasValues db env subs b) → Reached (whole rows) db env (λ b w. EachContributes db env b subs w) us
+      Begun columns outer db env rows us → ((b : Row) → IsIn b us → known db env b) → Reached (whole rows) db env (λ b w. EachContributes db env b subs w) us
+
+-- where they have values on each row
+abbrev pub Steps : List Sublink → (Query → Query) → Type 1
+Steps subs whole = StepsGiven (λ db env b. HasValues db env subs b) subs whole

@@ -16,9 +16,9 @@ with_contributions-requires c = record {
 
 pub returns : goal.returns
 returns c =
-    kept_ok (Like (all_moved (Filter c.args.rewriting c.args.condition.now c.args.standing.now) c.args.subs.now c.args.standing.now c.args.sub_rewritings))
+    kept_ok (Like (all_moved c.args.condition.now 0 (Filter c.args.rewriting c.args.condition.now c.args.standing.now) c.args.subs.now c.args.standing.now c.args.sub_rewritings))
     (IsRewrite (Filter c.args.input.now c.args.condition.now c.args.subs.now)) c.with_contributions.result
     (λ p l. filter-rewrites c.args.input.now c.args.rewriting c.requires.input c.args.subs.now c.args.standing.now c.args.sub_rewritings c.requires.standing c.requires.traced
     c.args.condition.now p l)
-    (subst₂ (λ rows rewritings. IfOk c.with_contributions.result (λ p. Like (all_moved rows c.args.subs.now c.args.standing.now rewritings) p))
+    (subst₂ (λ rows rewritings. IfOk c.with_contributions.result (λ p. Like (all_moved c.args.condition.now 0 rows c.args.subs.now c.args.standing.now rewritings) p))
     c.in_ok-rows.ensures c.as_slice.ensures c.with_contributions.ensures)

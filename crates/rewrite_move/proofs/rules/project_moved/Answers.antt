@@ -3,13 +3,14 @@ use Rattle.bag_algebra.specs.Kinds.{width_of}
 use Rattle.bag_algebra.specs.Rewriting.{IsRewrite}
 use Rattle.bag_algebra.specs.declared.query.Query.TheVariants.{Project}
 use Rattle.contribution.proofs.NodeQueries.{of_made}
+use Rattle.contribution.specs.Conjunctions.{always}
 use Rattle.rewrite_move.proofs.WholeRules.{project-rewrites, own-items-like}
 use Rattle.rewrite_move.proofs.rules.project_moved.Goals as goal
 use Rattle.rewrite_move.specs.Moved.{Like, SubsTraced, all_moved}
 use Rattle.rewrite_sublink.specs.Candidates.{answer_columns}
 
-pub with_contributions-requires : goal.with_contributions-requires
-with_contributions-requires c = record {
+pub with_all_contributions-requires : goal.with_all_contributions-requires
+with_all_contributions-requires c = record {
   plain = subst (λ rows. Like rows rows) (sym c.in_ok-rows.ensures)
       (own-items-like c.args.input.now c.args.rewriting c.requires.input c.args.subs.now c.args.standing.now c.args.sub_rewritings c.requires.standing c.requires.traced c.args.items.now);
   standing = c.requires.standing;
@@ -24,4 +25,4 @@ returns c =
     c.in-Ok.ensures.columns c.in-Ok-exact_width.ensures.columns c.answer_columns.ensures)
     (project-rewrites c.args.input.now c.args.rewriting c.requires.input c.args.subs.now c.args.standing.now c.args.sub_rewritings c.requires.standing c.requires.traced
     c.args.items.now c.in_ok-whole.whole
-    (subst₂ (λ rows rewritings. Like (all_moved rows c.args.subs.now c.args.standing.now rewritings) c.in_ok-whole.whole) c.in_ok-rows.ensures c.as_slice.ensures c.in_ok-whole.ensures))
+    (subst₂ (λ rows rewritings. Like (all_moved always 0 rows c.args.subs.now c.args.standing.now rewritings) c.in_ok-whole.whole) c.in_ok-rows.ensures c.as_slice.ensures c.in_ok-whole.ensures))

@@ -1,0 +1,6 @@
+use Rattle.std.proofs.Common.{sym}
+use Rattle.rewrite_move.proofs.ForcedParts.{other-parts}
+use Rattle.rewrite_move.proofs.forced.of_others.Goals as goal
+
+pub returns-in_default : goal.returns-in_default
+returns-in_default c = sym (other-parts c.args.op c.args.known c.in_default.not-And c.in_default.not-Or)
