@@ -7,6 +7,7 @@ use Rattle.name_meaning.specs.declared.answer.Break.{Break}
 use Rattle.perm_catalog.specs.Changes.{nothing_held}
 use Rattle.perm_catalog.specs.Contents.{Contents}
 use Rattle.perm_catalog.specs.Sound.{IsSound}
+use Rattle.perm_io.specs.Counts.{HasRisen}
 use Rattle.perm_io.specs.Found.{Found, CanBe, Read}
 use Rattle.perm_io.specs.declared.named_file.NamedFile.{NamedFile}
 use Rattle.sql_lexer.specs.Lexes.{Lexes}
@@ -19,18 +20,22 @@ use Rattle.sql_tree.specs.declared.statement.Statement.{Statement}
 use Rattle.sql_tree.specs.declared.statement.StatementBody.TheVariants as st
 use Rattle.catalog_laws.proofs.Soundness.{sound-empty}
 use Rattle.statement_laws.specs.Asks.{HasWord}
-use Rattle.statement_meaning.specs.Answers.{Files, TakesTurn, file_limit}
+use Rattle.statement_meaning.specs.Answers.{Files, TakesTurn, can_be, file_limit}
 use Rattle.statement_meaning.specs.Asking.{asked}
 use Rattle.statement_meaning.specs.declared.refusal.StepRefusal.{StepRefusal}
-use Rattle.run_meaning.specs.Ends.{EndsOne, Written}
+use Rattle.run_meaning.proofs.Reasons.{caused}
+use Rattle.run_meaning.proofs.Turns.{after_none}
+use Rattle.run_meaning.proofs.Widening.{script-counted}
+use Rattle.run_meaning.specs.Ends.{EndsOne, RunsOver, Written}
 use Rattle.command_words.specs.Requests.{request_of}
 use Rattle.command_words.specs.declared.wanted.Wanted.{Wanted}
 use Rattle.command_words.specs.declared.wanted.Wanted.TheVariants.{Script as Named, Generated, Misworded}
 use Rattle.generated_scripts.specs.Generated.{generated}
-use Rattle.run_meaning.specs.Run.{Ran, Runs, RunsFile, RunsFrom, RunsNamed, RunsScript, RunsWanted, after_files, ended}
+use Rattle.run_meaning.specs.Run.{Ran, IsRefusedWhole, Runs, RunsFile, RunsFrom, RunsNamed, RunsScript, RunsWanted, after_files, ended}
 use Rattle.run_meaning.specs.Scripts.{IsScriptOf, IsMisspelled}
 use Rattle.run_meaning.specs.Stops.{Stop, ToTheEnd, Misused, NoFile, LongFile, FailedFile, NoScript, At, IsFirst, script_limit}
 use Rattle.run_meaning.specs.declared.status.Status.{Status}
+use Rattle.run_meaning.specs.declared.status.Status.TheVariants as status
 use Rattle.headline_laws.proofs.Besides.{answers-beside}
 use Rattle.headline_laws.proofs.Counting.{first-cause, statements-few, tokens-few}
 use Rattle.headline_laws.proofs.Courses.{course-files, course-of}
@@ -40,7 +45,7 @@ use Rattle.headline_laws.proofs.Steps.{Keeps, contains-at, done-accepted, sound-
 use Rattle.headline_laws.proofs.Storing.{Freshens, stores-answer}
 use Rattle.headline_laws.specs.Answers.{AnswersBeside, AnswersRows}
 use Rattle.headline_laws.specs.Course.{Course, EndsBehind, EndsIn}
-use Rattle.headline_laws.specs.Headline.{Accepts, Headline, HeadlineOfFile, HeadlineOfScript, HeadlineOfStatements, IsRefusedWhole, RefusesFirst}
+use Rattle.headline_laws.specs.Headline.{Accepts, Headline, HeadlineOfFile, HeadlineOfScript, HeadlineOfStatements, HeadlineOver, IsTold, RefusesFirst}
 use Rattle.headline_laws.specs.Words.{LacksWord}
 
 -- ---- a statement that is accepted
@@ -220,9 +225,6 @@ module _ (keeps : Keeps) (freshens : Freshens)
             omega (arith, read.1, tokens, statements);
       }
 
-  no-files : (ran : Ran) → ran ≡ after_files 0 ran
-  no-files ran = let none : ran.begun ≡ ran.begun + 0 = omega (arith) in ap (λ (begun : ℕ). record ran { begun = begun }) none
-
   by-wanted : (words : List (List ℕ)) (wanted : Wanted) (held : Option (List NamedFile)) (fault : Type 0) (ran : Ran) → request_of words ≡ wanted
       → RunsWanted wanted held fault ran → Headline words held fault ran
   by-wanted words (Named name) held fault ran is h = record {
@@ -234,7 +236,7 @@ module _ (keeps : Keeps) (freshens : Freshens)
     misused = λ e. absurd (generated≢misworded rows (sym is ∙ e));
     script = λ name e. absurd (generated≢named rows name (sym is ∙ e));
     generated = λ other e. subst (λ (n : ℕ). HeadlineOfScript (CanBe file_limit held fault) (generated n) ran) (same_rows rows other (sym is ∙ e))
-        (script-told (CanBe file_limit held fault) (generated rows) 0 ran ran (no-files ran) h);
+        (script-told (CanBe file_limit held fault) (generated rows) 0 ran ran (sym (after_none ran (script-counted (CanBe file_limit held fault) (generated rows) ran h))) h);
   }
   by-wanted words Misworded held fault ran is h = record {
     misused = λ e. refused-at-once Misused ran h;
@@ -245,9 +247,17 @@ module _ (keeps : Keeps) (freshens : Freshens)
   pub headline-of : (words : List (List ℕ)) (held : Option (List NamedFile)) (fault : Type 0) (ran : Ran) → Runs words held fault ran → Headline words held fault ran
   headline-of words held fault ran h = by-wanted words (request_of words) held fault ran refl h
 
--- ---- how a run ends, told so
+-- ---- how a run ends, told so, with its cause
 
-module _ (begun : ℕ) (Can : List ℕ → Found → Type 0) (IsRun IsTold : Ran → Type 0) (tells : (ran : Ran) → IsRun ran → IsTold ran) (w : Written) (files : Files) (s : Status) where
-  pub ends-told : EndsOne begun Can IsRun w files s → EndsOne begun Can IsTold w files s
-  ends-told (inl e) = inl (record { ran = e.ran; is = tells e.ran e.is; ends = e.ends; opens = e.opens; backed = e.backed })
+module _ (begun : ℕ) (words : List (List ℕ)) (w : Written) (files : Files) (s : Status) (tells : (ran : Ran) → RunsOver words files ran → HeadlineOver words files ran)
+    (failed : s ≡ status.ReadFault → HasRisen files.faults files.faults_after) where
+  pub ends-told : EndsOne begun (can_be files) (RunsOver words files) w files s → EndsOne begun (can_be files) (IsTold words files s) w files s
+  ends-told (inl e) = inl (record {
+    ran = e.ran;
+    is = record { run = e.is; told = tells e.ran e.is; cause = caused (request_of words) files e.ran e.is s e.texts w e.ends e.opens e.backed failed };
+    texts = e.texts;
+    ends = e.ends;
+    opens = e.opens;
+    backed = e.backed;
+  })
   ends-told (inr silent) = inr silent

@@ -21,16 +21,18 @@ use Rattle.sql_tree.specs.declared.statement.Script.{Script}
 use Rattle.sql_tree.specs.declared.statement.Statement.{Statement}
 use Rattle.sql_tree.specs.declared.statement.StatementBody.TheVariants as st
 use Rattle.statement_laws.specs.Asks.{AsksFor, HasWord}
-use Rattle.statement_meaning.specs.Answers.{Files, TakesTurn}
+use Rattle.statement_meaning.specs.Answers.{Files, TakesTurn, can_be}
 use Rattle.statement_meaning.specs.Asking.{all_breaks, asked, asks}
 use Rattle.statement_meaning.specs.declared.refusal.StepRefusal.{StepRefusal}
 use Rattle.statement_meaning.specs.declared.refusal.StepRefusal.TheVariants as refusal
 use Rattle.command_words.specs.Requests.{request_of}
 use Rattle.command_words.specs.declared.wanted.Wanted.TheVariants.{Script as Named, Generated, Misworded}
 use Rattle.generated_scripts.specs.Generated.{generated as generated_text}
-use Rattle.run_meaning.specs.Run.{Ran, text_of}
+use Rattle.run_meaning.specs.Ends.{Caused, RunsOver}
+use Rattle.run_meaning.specs.Run.{Ran, IsRefusedWhole}
 use Rattle.run_meaning.specs.Scripts.{IsScriptOf, IsMisspelled}
-use Rattle.run_meaning.specs.Stops.{Stop, Misused, NoFile, LongFile, FailedFile, NoScript, At, IsFirst, IsRefused, line_of}
+use Rattle.run_meaning.specs.Stops.{Misused, NoFile, LongFile, FailedFile, NoScript, At, IsFirst, IsRefused}
+use Rattle.run_meaning.specs.declared.status.Status.{Status}
 use Rattle.headline_laws.specs.Answers.{AnswersBeside, AnswersRows, StoresAnswer}
 use Rattle.headline_laws.specs.Course.{Course}
 use Rattle.headline_laws.specs.Words.{LacksWord}
@@ -90,11 +92,6 @@ most_script_bytes = 1048576
 abbrev pub most_file_bytes : ℕ
 most_file_bytes = 67108864
 
--- nothing is run: this is why, and its line is the whole text
-pub record IsRefusedWhole (why : Stop) (ran : Ran) : Type 0 where
-  pub stop : ran.stop ≡ why
-  pub line : text_of ran ≡ line_of why
-
 -- the run of the script that these bytes are
 pub record HeadlineOfScript (Can : List ℕ → Found → Type 0) (bytes : List ℕ) (ran : Ran) : Type 0 where
   -- bytes are a script, or misspelled
@@ -130,3 +127,9 @@ pub record Headline (words : List (List ℕ)) (held : Option (List NamedFile)) (
 -- the same over files that are told, and may fail where their count of faults rose
 abbrev pub HeadlineOver : List (List ℕ) → Files → Ran → Type 0
 HeadlineOver words files = Headline words files.held (HasRisen files.faults files.faults_after)
+
+-- a run that these words stand for over these files: the headline tells it, and this is why it ends with this status
+pub record IsTold (words : List (List ℕ)) (files : Files) (s : Status) (ran : Ran) : Type 0 where
+  pub run : RunsOver words files ran
+  pub told : HeadlineOver words files ran
+  pub cause : Caused (request_of words) (can_be files) ran files s

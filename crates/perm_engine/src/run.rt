@@ -18,14 +18,14 @@ ghost use Rattle.std.specs.Prelude.{◌≡◌, ◌⊎◌, true, false};
 ghost use Rattle.command_words.specs.Requests.{request_of};
 ghost use Rattle.command_words.specs.declared.wanted.Wanted.TheVariants.{Misworded};
 ghost use Rattle.generated_scripts.specs.Generated.{generated};
-ghost use Rattle.headline_laws.specs.Headline.{HeadlineOver};
+ghost use Rattle.headline_laws.specs.Headline.{IsTold};
 ghost use Rattle.perm_catalog.specs.Changes.{nothing_held};
 ghost use Rattle.perm_io.specs.Counts.{HasRisen};
 ghost use Rattle.perm_io.specs.Found.{CanBe};
 ghost use Rattle.sql_tree.specs.Regular.{RegularStatement, Each};
 ghost use Rattle.statement_meaning.specs.Answers.{can_be, file_limit};
 ghost use Rattle.statement_meaning.specs.Answers.{over as seen};
-ghost use Rattle.run_meaning.specs.Ends.{Completes, EndsBroken, EndsFaulty, EndsOne, EndsSome, IsBadFile, IsBadScript, RunsOver, over};
+ghost use Rattle.run_meaning.specs.Ends.{Completes, EndsOne, EndsSome, over};
 ghost use Rattle.run_meaning.specs.Run.{Runs, RunsFrom, RunsNamed, RunsScript, script_files, IsWhole, IsSteady, IsOfScript};
 
 use crate::session::Session;
@@ -140,9 +140,10 @@ fn run_generated<F: Files, K: Sink>(alloc: Global, rows: u64, files: &mut F, out
 /// Runs a command line: `perm SCRIPT` the script in that file, `perm --generate N` the one that is made from the number; writes
 /// what its statements answer.
 pub fn perm<F: Files, K: Sink>(alloc: Global, words: &[Chars], files: &mut F, out: &mut K) -> Status
-    // The run that the words and files stand for is what is written, and its status is answered.
+    // One run that the words and files stand for is what is written, and its status is answered. The headline tells it, it ends for its
+    // cause, and where the output or memory cut it short nothing behind that was begun.
     ensures run { let met = seen (F.told files.old) (F.told files.new) in
-        EndsOne (script_files (request_of words.now)) (can_be met) (RunsOver words.now met)
+        EndsOne (script_files (request_of words.now)) (can_be met) (IsTold words.now met result)
         (over (K.told out.old) (K.told out.new)) met result }
 
     // Where no file and no write failed, it is a whole run in which none failed, unless memory was wanting.
@@ -151,23 +152,10 @@ pub fn perm<F: Files, K: Sink>(alloc: Global, words: &[Chars], files: &mut F, ou
         → Completes (Runs words.now (F.told files.old).held ⊥) (over (K.told out.old) (K.told out.new))
         (seen (F.told files.old) (F.told files.new)) result }
 
-    // The headline tells that run.
-    ensures headline { let met = seen (F.told files.old) (F.told files.new) in
-        EndsOne (script_files (request_of words.now)) (can_be met) (HeadlineOver words.now met)
-        (over (K.told out.old) (K.told out.new)) met result }
-
     // When each status comes.
     ensures usage { result ≡ Status.Usage → request_of words.now ≡ Misworded }
     ensures misused { request_of words.now ≡ Misworded
         → (result ≡ Status.Usage) ⊎ ((result ≡ Status.WriteFault) ⊎ (result ≡ Status.NoMemory)) }
-    ensures refused { result ≡ Status.Refused → let met = seen (F.told files.old) (F.told files.new) in
-        EndsBroken (can_be met) (RunsOver words.now met) (over (K.told out.old) (K.told out.new)) met }
-    ensures run_fault { result ≡ Status.RunFault → let met = seen (F.told files.old) (F.told files.new) in
-        EndsFaulty (can_be met) (RunsOver words.now met) (over (K.told out.old) (K.told out.new)) met }
-    ensures bad_data { result ≡ Status.BadData → let met = seen (F.told files.old) (F.told files.new) in
-        IsBadScript met
-        ⊎ IsBadFile (script_files (request_of words.now)) (can_be met) (RunsOver words.now met)
-        (over (K.told out.old) (K.told out.new)) met }
     ensures read_fault { result ≡ Status.ReadFault
         → HasRisen (F.told files.old).faults (F.told files.new).faults }
     ensures write_fault { result ≡ Status.WriteFault

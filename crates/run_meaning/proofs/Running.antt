@@ -1,5 +1,5 @@
 -- Which run a command line and its script's file stand for.
-use Rattle.std.proofs.Common.{◌≡◌, ◌∙◌, ◌⊎◌, ℕ, ◌+◌, List, Option, Err, refl, sym, ap, inl, inr, subst, arith}
+use Rattle.std.proofs.Common.{◌≡◌, ◌∙◌, ◌⊎◌, ℕ, List, Option, Err, refl, sym, ap, inl, inr, subst, arith}
 use Rattle.command_words.specs.Requests.{request_of}
 use Rattle.command_words.specs.declared.wanted.Wanted.{Wanted}
 use Rattle.command_words.specs.declared.wanted.Wanted.TheVariants.{Misworded}
@@ -14,10 +14,11 @@ use Rattle.statement_meaning.specs.Answers.{Files, can_be, file_limit}
 use Rattle.run_meaning.specs.Ends.{Written, Ends, EndsOne, EndsSome, EndsRefused, IsSilent, Opens, RunsOver, opened}
 use Rattle.run_meaning.specs.Run.{Ran, Runs, RunsFrom, RunsNamed, RunsScript, RunsFile, RunsWanted, ended, script_files, IsOfScript, IsWhole, after_files}
 use Rattle.run_meaning.specs.Scripts.{IsReading, IsScriptOf}
-use Rattle.run_meaning.specs.Stops.{Stop, Misused, NoScript, Backs, script_limit}
+use Rattle.run_meaning.specs.Stops.{Misused, NoScript, Backs, script_limit}
 use Rattle.run_meaning.specs.declared.status.Status.{Status}
 use Rattle.run_meaning.specs.declared.status.Status.TheVariants as status
-use Rattle.run_meaning.proofs.Ending.{Ends-files, opened-more}
+use Rattle.run_meaning.proofs.Begun.{Opens-file, Opens-none}
+use Rattle.run_meaning.proofs.Ending.{Ends-files}
 use Rattle.run_meaning.proofs.Widening.{CanBe-moved, script-wider, backs-wider, script-of_script}
 
 -- a status that stands for a script, or a failed output
@@ -41,25 +42,17 @@ pub EndsOne-silent : (most : ℕ) (Can : List ℕ → Found → Type 0) (IsRun :
     EndsOne most Can IsRun w files s
 EndsOne-silent most Can IsRun w files s silent none = inr (silent, (0, omega arith, none))
 
--- a run that begins no file
-pub Opens-none : (stop : Stop) (count : ℕ) (s : Status) → Opens (ended stop) count count s
-Opens-none stop count s = record { files = 0; within = omega arith; whole = λ _. refl; counted = refl }
-
 -- what the script's file was found to be decides the run
-pub Runs-found : (name : List ℕ) (files : Files) (found : Found) (ran : Ran) (w : Written) (mid : ℕ) (s : Status) →
+pub Runs-found : (name : List ℕ) (files : Files) (found : Found) (ran : Ran) (texts : ℕ) (w : Written) (mid : ℕ) (s : Status) →
     mid ≡ next_count files.begun → CanBe script_limit files.held (HasRisen files.faults files.faults_after) name found → RunsFile (can_be files) found ran →
-    Ends ran w s → Opens ran mid files.begun_after s → (IsWhole s → Backs (can_be files) ran.stop files) →
+    Ends ran texts w s → Opens ran texts mid files.begun_after s → (IsWhole s → Backs (can_be files) ran.stop files) →
     EndsSome (can_be files) (RunsNamed files.held (HasRisen files.faults files.faults_after) name) w files s
-Runs-found name files found ran w mid s begun can runs e o backed = record {
+Runs-found name files found ran texts w mid s begun can runs e o backed = record {
   ran = after_files 1 ran;
   is = (found, ran, can, runs, refl);
-  ends = Ends-files 1 ran w s e;
-  opens = record {
-    files = o.files + 1;
-    within = omega (arith, o.within);
-    whole = λ i. ap (λ n. n + 1) (o.whole i);
-    counted = o.counted ∙ ap (opened o.files) begun ∙ sym (opened-more 1 o.files files.begun);
-  };
+  texts = texts;
+  ends = Ends-files 1 ran texts w s e;
+  opens = Opens-file ran texts files.begun files.begun_after s (subst (λ n. Opens ran texts n files.begun_after s) begun o);
   backed = backed;
 }
 
@@ -75,7 +68,7 @@ Runs-read name files bytes bytes' held faults mid w s begun can same_held same_f
     let widen = CanBe-moved file_limit held files.held faults files.faults files.faults_after files.faults_after same_held same_faults refl in
     let runs = script-wider (can_be f) (can_be files) widen bytes' e.ran e.is in
     inl (
-    Runs-found name files (Read bytes) e.ran w mid s begun can (subst (λ b. RunsScript (can_be files) b e.ran) same runs) e.ends e.opens
+    Runs-found name files (Read bytes) e.ran e.texts w mid s begun can (subst (λ b. RunsScript (can_be files) b e.ran) same runs) e.ends e.opens
     (λ i. backs-wider (can_be f) (can_be files) widen e.ran.stop f files (script-of_script (can_be f) bytes' e.ran e.is) refl refl (e.backed i))
     )
 Runs-read name files bytes bytes' held faults mid w s begun can same_held same_faults same (inr (silent, (count, none, counted))) =
@@ -86,7 +79,7 @@ Runs-read name files bytes bytes' held faults mid w s begun can same_held same_f
 pub EndsOne-script : (Can : List ℕ → Found → Type 0) (bytes : List ℕ) (script : Script) (w : Written) (files : Files) (s : Status) → IsScriptOf bytes script →
     EndsSome Can (RunsFrom Can (nothing_held 1) script.statements) w files s → EndsOne 0 Can (RunsScript Can bytes) w files s
 EndsOne-script Can bytes script w files s h e =
-    inl (record { ran = e.ran; is = inl (script, h, e.is); ends = e.ends; opens = e.opens; backed = e.backed })
+    inl (record { ran = e.ran; is = inl (script, h, e.is); texts = e.texts; ends = e.ends; opens = e.opens; backed = e.backed })
 
 -- bytes that are no script, and the line that says so
 pub EndsOne-refused : (Can : List ℕ → Found → Type 0) (bytes : List ℕ) (refusal : Refusal) (w : Written) (files : Files) (s : Status) → files.begun_after ≡ files.begun →
@@ -95,8 +88,9 @@ EndsOne-refused Can bytes (Break b) w files s none misspelled e =
     inl (record {
       ran = ended (NoScript b);
       is = inr (b, misspelled, refl);
+      texts = 0;
       ends = e;
-      opens = record { files = 0; within = omega arith; whole = λ _. refl; counted = none };
+      opens = subst (λ n. Opens (ended (NoScript b)) 0 files.begun n s) (sym none) (Opens-none (NoScript b) files.begun s);
       backed = λ _. tt;
     })
 EndsOne-refused Can bytes NoMemory w files s none misspelled e = EndsOne-silent 0 Can (RunsScript Can bytes) w files s e none

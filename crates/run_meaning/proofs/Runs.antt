@@ -22,7 +22,7 @@ use Rattle.statement_meaning.specs.declared.refusal.StepRefusal.{StepRefusal}
 use Rattle.statement_meaning.specs.declared.refusal.StepRefusal.TheVariants as refusal
 use Rattle.statement_changes.proofs.SomeFound.{some_found}
 use Rattle.run_meaning.proofs.Turns.{some_run}
-use Rattle.run_meaning.specs.Run.{Ran, Runs, RunsNamed, RunsFile, RunsScript, RunsFrom, RunsWanted, Asks, GoesOn, ended, after_text, after_files}
+use Rattle.run_meaning.specs.Run.{Ran, Runs, RunsNamed, RunsFile, RunsScript, RunsFrom, RunsWanted, Asks, GoesOn, ended, after_text, after_files, with_more}
 use Rattle.run_meaning.specs.Scripts.{IsScriptOf, IsMisspelled}
 use Rattle.run_meaning.specs.Stops.{Stop, ToTheEnd, Misused, NoFile, LongFile, NoScript, At, script_limit}
 use Rattle.run_meaning.specs.Same.{MeetsFaults, SameStop, alike, by_faults, SameRun}
@@ -113,10 +113,10 @@ abbrev same_ended : (s t : Stop) → SameStop s t → SameRun (ended s) (ended t
 same_ended s t h = record { texts = refl; stop = h; begun = refl }
 
 same_text : (text : List ℕ) (a b : Ran) → SameRun a b → SameRun (after_text text a) (after_text text b)
-same_text text a b h = record { texts = ap (λ (ts : List (List ℕ)). text ∷ ts) h.texts; stop = h.stop; begun = h.begun }
+same_text text a b h = record { texts = ap (λ (ts : List (List ℕ)). text ∷ ts) h.texts; stop = h.stop; begun = ap (λ (ns : List ℕ). 0 ∷ ns) h.begun }
 
 same_files : (n : ℕ) (a b : Ran) → SameRun a b → SameRun (after_files n a) (after_files n b)
-same_files n a b h = record { texts = h.texts; stop = h.stop; begun = ap (λ (m : ℕ). m + n) h.begun }
+same_files n a b h = record { texts = h.texts; stop = h.stop; begun = ap (with_more n) h.begun }
 
 moved : (a b a' b' : Ran) → a ≡ a' → b ≡ b' → SameRun a' b' → SameRun a b
 moved a b a' b' p q h = subst (λ (r : Ran). SameRun r b) (sym p) (subst (λ (r : Ran). SameRun a' r) (sym q) h)

@@ -1,5 +1,5 @@
 -- What a statement that ran makes of the runs behind it, and that every start has some run.
-use Rattle.std.proofs.Common.{◌≡◌, ◌≢◌, ◌⊎◌, ℕ, ◌+◌, ◌≤◌, Bool, true, false, List, [], ◌∷◌, Option, Ok, Err, refl, sym, subst, inl, inr, arith, IsTrue}
+use Rattle.std.proofs.Common.{◌≡◌, ◌≢◌, ◌⊎◌, ℕ, ◌+◌, ◌≤◌, Bool, true, false, List, [], ◌∷◌, length, Option, Ok, Err, refl, sym, ap, subst, inl, inr, arith, IsTrue}
 use Rattle.perm_catalog.specs.Contents.{Contents}
 use Rattle.perm_io.specs.Counts.{HasRisen, CountsFault, next_count}
 use Rattle.perm_io.specs.Found.{Found, CanBe}
@@ -12,8 +12,9 @@ use Rattle.statement_meaning.specs.Turns.{Turn, Accepted, Refused}
 use Rattle.statement_meaning.specs.declared.refusal.StepRefusal.{StepRefusal}
 use Rattle.statement_meaning.specs.declared.refusal.StepRefusal.TheVariants as r
 use Rattle.run_meaning.specs.Ends.{opened}
-use Rattle.run_meaning.specs.Run.{Ran, ended, after_text, after_files, GoesOn, Asks, RunsFrom}
+use Rattle.run_meaning.specs.Run.{Ran, ended, after_text, after_files, files_until, with_more, GoesOn, Asks, RunsFrom}
 use Rattle.run_meaning.specs.Stops.{ToTheEnd, At}
+use Rattle.run_meaning.proofs.Begun.{first-begun}
 use Rattle.run_meaning.proofs.Causes.{HasName, AsksNamed, asked-named}
 
 -- how many files it begins
@@ -21,8 +22,13 @@ abbrev pub files_of : Asked → ℕ
 files_of (Settled turn) = 0
 files_of (Begins name after) = 1
 
-after_none : (ran : Ran) → after_files 0 ran ≡ ran
-after_none ran = let e : ran.begun + 0 ≡ ran.begun = omega arith in (λ i. record ran { begun = e i })
+-- the same list, where it has an item
+more_none : (counts : List ℕ) → 1 ≤ length counts → with_more 0 counts ≡ counts
+more_none [] some = absurd (omega (arith, some))
+more_none (count ∷ counts) some = let e : count + 0 ≡ count = omega arith in ap (λ n. n ∷ counts) e
+
+pub after_none : (ran : Ran) → 1 ≤ length ran.begun → after_files 0 ran ≡ ran
+after_none ran some = let e = more_none ran.begun some in (λ i. record ran { begun = e i })
 
 pub stands-unnamed : (text : List ℕ) (c : Contents) (refused : StepRefusal) → refused ≢ r.NoMemory → Names (Accepted text c) refused → ⊥
 stands-unnamed text c (r.Break b) told h = cc
@@ -43,7 +49,7 @@ module _ (Can : List ℕ → Found → Type 0) (CanStep : List ℕ → Found →
   pub asks-stands : (a : Asked) (now : Contents) (statement : Statement) (next : Contents) (text : List ℕ) (Next : Contents → Ran → Type 0) (rest : Ran) →
       TakesTurn CanStep a now next (Ok text) → Next next rest → Asks Can now statement a Next (after_files (files_of a) (after_text text rest))
   asks-stands (Settled turn) now statement next text Next rest e n =
-      subst (λ t. GoesOn now statement t Next (after_files 0 (after_text text rest))) (sym e) (rest, n, after_none (after_text text rest))
+      subst (λ t. GoesOn now statement t Next (after_files 0 (after_text text rest))) (sym e) (rest, n, after_none (after_text text rest) (omega arith))
   asks-stands (Begins name after) now statement next text Next rest (found, can, e) n =
       (found, after_text text rest, widen name found can, subst (λ t. GoesOn now statement t Next (after_text text rest)) (sym e) (rest, n, refl), refl)
 
@@ -51,7 +57,7 @@ module _ (Can : List ℕ → Found → Type 0) (CanStep : List ℕ → Found →
   pub asks-ends : (a : Asked) (now : Contents) (statement : Statement) (next : Contents) (refused : StepRefusal) (Next : Contents → Ran → Type 0) → refused ≢ r.NoMemory →
       TakesTurn CanStep a now next (Err refused) → Asks Can now statement a Next (after_files (files_of a) (ended (At now statement refused)))
   asks-ends (Settled turn) now statement next refused Next told h =
-      subst (GoesOn now statement turn Next) (sym (after_none (ended (At now statement refused)))) (goes-stops now statement turn refused Next told h.0)
+      subst (GoesOn now statement turn Next) (sym (after_none (ended (At now statement refused)) (omega arith))) (goes-stops now statement turn refused Next told h.0)
   asks-ends (Begins name after) now statement next refused Next told (found, can, h) =
       (found, ended (At now statement refused), widen name found can, goes-stops now statement (after found) refused Next told h.0, refl)
 
@@ -64,12 +70,12 @@ module _ (held : Option (List NamedFile)) (fault : Type 0) where
   some_goes c statement (Accepted text next) Next named later = let rest = later next in (after_text text rest.0, (rest.0, rest.1, refl))
 
   some_asks : (c : Contents) (statement : Statement) (a : Asked) (Next : Contents → Ran → Type 0) → AsksNamed a → ((after : Contents) → (ran : Ran) × Next after ran) →
-      (ran : Ran) × Asks (CanBe file_limit held fault) c statement a Next ran × (files_of a ≤ ran.begun)
+      (ran : Ran) × Asks (CanBe file_limit held fault) c statement a Next ran × (files_of a ≤ files_until ran 1)
   some_asks c statement (Settled turn) Next named later = let g = some_goes c statement turn Next named later in (g.0, g.1, omega arith)
   some_asks c statement (Begins name after) Next named later =
       let f = some_found file_limit held fault name in
       let g = some_goes c statement (after f.0) Next (named f.0) later in
-      (after_files 1 g.0, (f.0, g.0, f.1, g.1, refl), omega arith)
+      (after_files 1 g.0, (f.0, g.0, f.1, g.1, refl), first-begun g.0)
 
   pub some_run : (c : Contents) (statements : List Statement) → (ran : Ran) × RunsFrom (CanBe file_limit held fault) c statements ran
   some_run c [] = (ended ToTheEnd, refl)
@@ -79,7 +85,7 @@ module _ (held : Option (List NamedFile)) (fault : Type 0) where
 
   -- a run that begins the file that its first statement asks for
   pub some_run-asking : (c : Contents) (statement : Statement) (statements : List Statement) →
-      (ran : Ran) × RunsFrom (CanBe file_limit held fault) c (statement ∷ statements) ran × (files_of (asked c statement) ≤ ran.begun)
+      (ran : Ran) × RunsFrom (CanBe file_limit held fault) c (statement ∷ statements) ran × (files_of (asked c statement) ≤ files_until ran 1)
   some_run-asking c statement statements =
       some_asks c statement (asked c statement) (λ after rest. RunsFrom (CanBe file_limit held fault) after statements rest) (asked-named c statement) (λ after. some_run after statements)
 

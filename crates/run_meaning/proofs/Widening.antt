@@ -1,5 +1,5 @@
 -- What can have become of files decides which runs there are: where it can be more, there are more.
-use Rattle.std.proofs.Common.{◌≡◌, ℕ, List, [], ◌∷◌, Option, Result, inl, inr, subst, sym}
+use Rattle.std.proofs.Common.{◌≡◌, ◌≤◌, ℕ, List, [], ◌∷◌, length, Option, Result, inl, inr, subst, sym, arith}
 use Rattle.perm_catalog.specs.Changes.{nothing_held}
 use Rattle.perm_catalog.specs.Contents.{Contents}
 use Rattle.perm_io.specs.Counts.{HasRisen}
@@ -12,7 +12,7 @@ use Rattle.statement_meaning.specs.Asking.{Asked, Settled, Begins, asked}
 use Rattle.statement_meaning.specs.Turns.{Turn, Accepted, Refused}
 use Rattle.statement_meaning.specs.declared.refusal.StepRefusal.{StepRefusal}
 use Rattle.statement_meaning.specs.declared.refusal.StepRefusal.TheVariants as refusal
-use Rattle.run_meaning.specs.Run.{Ran, GoesOn, Asks, RunsFrom, RunsScript, RunsFile}
+use Rattle.run_meaning.specs.Run.{Ran, GoesOn, Asks, RunsFrom, RunsScript, RunsFile, after_files, after_text, ended, with_more}
 use Rattle.run_meaning.specs.Stops.{Stop, ToTheEnd, Misused, NoFile, LongFile, FailedFile, NoScript, At, Backs, IsRefused}
 
 -- the same files under other names
@@ -96,25 +96,57 @@ module _ (Can Could : List ℕ → Found → Type 0) (widen : (name : List ℕ) 
   backs-wider (At c statement refused) f g of a t h =
       record { turn = refused-wider (asked c statement) refused h.turn; first = h.first; rests = rests-moved refused f g a t h.rests }
 
--- ---- why runs of scripts end
+-- ---- runs of statements and of scripts, step by step
 
-module _ (Can : List ℕ → Found → Type 0) where
-  goes-of_script : (c : Contents) (statement : Statement) (turn : Turn) (Next : Contents → Ran → Type 0) → ((after : Contents) (ran : Ran) → Next after ran → OfScript ran.stop) → (ran : Ran) →
-      GoesOn c statement turn Next ran → OfScript ran.stop
-  goes-of_script c statement (Refused cause) Next on ran (refused, names, told, is) = subst (λ (r : Ran). OfScript r.stop) (sym is) tt
-  goes-of_script c statement (Accepted text after) Next on ran (rest, next, is) = subst (λ (r : Ran). OfScript r.stop) (sym is) (on after rest next)
+-- what the end of the statements has, and the refusal of one, and what a text and a file before it leave, a run of statements has
+module _ (Holds : Ran → Type 0) (at_end : Holds (ended ToTheEnd)) (at_refusal : (c : Contents) (statement : Statement) (refused : StepRefusal) → Holds (ended (At c statement refused)))
+    (behind_text : (text : List ℕ) (rest : Ran) → Holds rest → Holds (after_text text rest)) (behind_file : (rest : Ran) → Holds rest → Holds (after_files 1 rest))
+    (Can : List ℕ → Found → Type 0) where
+  goes-holds : (c : Contents) (statement : Statement) (turn : Turn) (Next : Contents → Ran → Type 0) → ((after : Contents) (ran : Ran) → Next after ran → Holds ran) → (ran : Ran) →
+      GoesOn c statement turn Next ran → Holds ran
+  goes-holds c statement (Refused cause) Next on ran (refused, names, told, is) = subst Holds (sym is) (at_refusal c statement refused)
+  goes-holds c statement (Accepted text after) Next on ran (rest, next, is) = subst Holds (sym is) (behind_text text rest (on after rest next))
 
-  asks-of_script : (c : Contents) (statement : Statement) (a : Asked) (Next : Contents → Ran → Type 0) → ((after : Contents) (ran : Ran) → Next after ran → OfScript ran.stop) → (ran : Ran) →
-      Asks Can c statement a Next ran → OfScript ran.stop
-  asks-of_script c statement (Settled turn) Next on ran h = goes-of_script c statement turn Next on ran h
-  asks-of_script c statement (Begins name after) Next on ran (found, rest, can, next, is) =
-      subst (λ (r : Ran). OfScript r.stop) (sym is) (goes-of_script c statement (after found) Next on rest next)
+  asks-holds : (c : Contents) (statement : Statement) (a : Asked) (Next : Contents → Ran → Type 0) → ((after : Contents) (ran : Ran) → Next after ran → Holds ran) → (ran : Ran) →
+      Asks Can c statement a Next ran → Holds ran
+  asks-holds c statement (Settled turn) Next on ran h = goes-holds c statement turn Next on ran h
+  asks-holds c statement (Begins name after) Next on ran (found, rest, can, next, is) =
+      subst Holds (sym is) (behind_file rest (goes-holds c statement (after found) Next on rest next))
 
-  runs-of_script : (c : Contents) (statements : List Statement) (ran : Ran) → RunsFrom Can c statements ran → OfScript ran.stop
-  runs-of_script c [] ran is = subst (λ (r : Ran). OfScript r.stop) (sym is) tt
-  runs-of_script c (statement ∷ statements) ran h =
-      asks-of_script c statement (asked c statement) (λ after rest. RunsFrom Can after statements rest) (λ after rest next. runs-of_script after statements rest next) ran h
+  pub runs-holds : (c : Contents) (statements : List Statement) (ran : Ran) → RunsFrom Can c statements ran → Holds ran
+  runs-holds c [] ran is = subst Holds (sym is) at_end
+  runs-holds c (statement ∷ statements) ran h =
+      asks-holds c statement (asked c statement) (λ after rest. RunsFrom Can after statements rest) (λ after rest next. runs-holds after statements rest next) ran h
 
-  pub script-of_script : (bytes : List ℕ) (ran : Ran) → RunsScript Can bytes ran → OfScript ran.stop
-  script-of_script bytes ran (inl (script, is, runs)) = runs-of_script (nothing_held 1) script.statements ran runs
-  script-of_script bytes ran (inr (b, misspelled, is)) = subst (λ (r : Ran). OfScript r.stop) (sym is) tt
+-- why such a run ends
+module _ (Holds : Stop → Type 0) (at_end : Holds ToTheEnd) (at_refusal : (c : Contents) (statement : Statement) (refused : StepRefusal) → Holds (At c statement refused)) where
+  pub stops-hold : (Can : List ℕ → Found → Type 0) (c : Contents) (statements : List Statement) (ran : Ran) → RunsFrom Can c statements ran → Holds ran.stop
+  stops-hold = runs-holds (λ (ran : Ran). Holds ran.stop) at_end at_refusal (λ text rest h. h) (λ rest h. h)
+
+pub script-of_script : (Can : List ℕ → Found → Type 0) (bytes : List ℕ) (ran : Ran) → RunsScript Can bytes ran → OfScript ran.stop
+script-of_script Can bytes ran (inl (script, is, runs)) = stops-hold OfScript tt (λ c statement refused. tt) Can (nothing_held 1) script.statements ran runs
+script-of_script Can bytes ran (inr (b, misspelled, is)) = subst (λ (r : Ran). OfScript r.stop) (sym is) tt
+
+-- how many files are begun is told at its end at least
+abbrev pub IsCounted : Ran → Type 0
+IsCounted ran = 1 ≤ length ran.begun
+
+at_least : (count : ℕ) (counts : List ℕ) → 1 ≤ length (count ∷ counts)
+at_least count counts = omega arith
+
+counted-end : (stop : Stop) → IsCounted (ended stop)
+counted-end stop = at_least 0 []
+
+counted-text : (text : List ℕ) (rest : Ran) → IsCounted rest → IsCounted (after_text text rest)
+counted-text text rest h = at_least 0 rest.begun
+
+counted-file : (rest : Ran) → IsCounted rest → IsCounted (after_files 1 rest)
+counted-file rest h = counted rest.begun where
+  counted : (counts : List ℕ) → 1 ≤ length (with_more 1 counts)
+  counted [] = omega arith
+  counted (count ∷ counts) = omega arith
+
+pub script-counted : (Can : List ℕ → Found → Type 0) (bytes : List ℕ) (ran : Ran) → RunsScript Can bytes ran → IsCounted ran
+script-counted Can bytes ran (inl (script, is, runs)) =
+    runs-holds IsCounted (counted-end ToTheEnd) (λ c statement refused. counted-end (At c statement refused)) counted-text counted-file Can (nothing_held 1) script.statements ran runs
+script-counted Can bytes ran (inr (b, misspelled, is)) = subst IsCounted (sym is) (counted-end (NoScript b))

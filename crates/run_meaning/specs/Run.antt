@@ -1,6 +1,6 @@
 -- What a run over a command line and files writes, and why it ends.
-use Rattle.std.specs.Prelude.{◌≡◌, ◌≢◌, ◌⊎◌, ℕ, ◌+◌, List, [], ◌∷◌, ◌++◌, Option}
-use Rattle.std.specs.List.{flat_map}
+use Rattle.std.specs.Prelude.{◌≡◌, ◌≢◌, ◌⊎◌, ℕ, ◌+◌, List, [], ◌∷◌, ◌++◌, take, Option}
+use Rattle.std.specs.List.{flat_map, sum}
 use Rattle.command_words.specs.Requests.{request_of}
 use Rattle.command_words.specs.declared.wanted.Wanted.{Wanted}
 use Rattle.command_words.specs.declared.wanted.Wanted.TheVariants.{Script as Named, Generated, Misworded}
@@ -22,26 +22,44 @@ use Rattle.run_meaning.specs.Stops.{Stop, ToTheEnd, Misused, NoFile, LongFile, F
 use Rattle.run_meaning.specs.declared.status.Status.{Status}
 use Rattle.run_meaning.specs.declared.status.Status.TheVariants as status
 
--- a run: the texts of the statements, why it ends, and how many files are begun
+-- a run: the texts of the statements, why it ends, and how many files are begun before each text, and behind the last one
 pub record Ran : Type 0 where
   pub texts : List (List ℕ)
   pub stop : Stop
-  pub begun : ℕ
+  pub begun : List ℕ
 
 -- what the run writes
 abbrev pub text_of : Ran → List ℕ
 text_of ran = flat_map (λ text. text) ran.texts ++ line_of ran.stop
 
+-- how many files it begins
+abbrev pub all_files : Ran → ℕ
+all_files ran = sum ran.begun
+
+-- how many it has begun where it has come to the text of the statement of this number, counted from 1
+abbrev pub files_until : Ran → ℕ → ℕ
+files_until ran number = sum (take number ran.begun)
+
 -- a run that ends at once
 abbrev pub ended : Stop → Ran
-ended stop = record { texts = []; stop = stop; begun = 0 }
+ended stop = record { texts = []; stop = stop; begun = 0 ∷ [] }
 
 abbrev pub after_text : List ℕ → Ran → Ran
-after_text text ran = record ran { texts = text ∷ ran.texts }
+after_text text ran = record ran { texts = text ∷ ran.texts; begun = 0 ∷ ran.begun }
 
--- some files are begun besides
+-- so many more in front
+abbrev pub with_more : ℕ → List ℕ → List ℕ
+with_more files [] = files ∷ []
+with_more files (count ∷ counts) = (count + files) ∷ counts
+
+-- some files are begun first
 abbrev pub after_files : ℕ → Ran → Ran
-after_files files ran = record ran { begun = ran.begun + files }
+after_files files ran = record ran { begun = with_more files ran.begun }
+
+-- nothing is run: this is why, and its line is the whole text
+pub record IsRefusedWhole (why : Stop) (ran : Ran) : Type 0 where
+  pub stop : ran.stop ≡ why
+  pub line : text_of ran ≡ line_of why
 
 -- a refusal that the turn has ends the run; a text comes before what the statements behind it make
 abbrev pub GoesOn : Contents → Statement → Turn → (Contents → Ran → Type 0) → Ran → Type 0

@@ -18,7 +18,7 @@ use statement_meaning::StepRefusal;
 pub fn finish<K: Sink>(out: &mut K, line: &[u8], status: Status) -> Status
     requires { IsWhole status }
     ensures ends { (stop : Stop) → line_of stop ≡ line.now → status_of stop ≡ status
-        → Ends (ended stop) (over (K.told out.old) (K.told out.new)) result }
+        → Ends (ended stop) 0 (over (K.told out.old) (K.told out.new)) result }
     ensures status { (result ≡ status) ⊎ (result ≡ Status.WriteFault) }
 {
     match write_all(out, line) {
@@ -71,7 +71,7 @@ pub fn stop<K: Sink>(refusal: StepRefusal, out: &mut K) -> Status
 fn end<K: Sink>(status: Status, line: Line, out: &mut K) -> Status
     requires { IsWhole status }
     ensures ends { (stop : Stop) → line_of stop ≡ line → status_of stop ≡ status
-        → Ends (ended stop) (over (K.told out.old) (K.told out.new)) result }
+        → Ends (ended stop) 0 (over (K.told out.old) (K.told out.new)) result }
     ensures status { (result ≡ status) ⊎ (result ≡ Status.WriteFault) }
 {
     finish(out, line.as_slice(), status)

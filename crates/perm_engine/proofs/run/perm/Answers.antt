@@ -10,11 +10,10 @@ use Rattle.run_meaning.specs.Stops.{Misused}
 use Rattle.run_meaning.specs.declared.status.Status.{Status}
 use Rattle.run_meaning.specs.declared.status.Status.TheVariants as status
 use Rattle.headline_laws.proofs.Headlines.{ends-told}
-use Rattle.headline_laws.specs.Headline.{HeadlineOver}
 use Rattle.run_meaning.proofs.Completing.{completes, steadied, whole-flushed, write_fault}
 use Rattle.run_meaning.proofs.Looping.{other_end, used-of_script}
-use Rattle.run_meaning.proofs.Reasons.{ends-broken, ends-faulty, ends-bad}
-use Rattle.run_meaning.proofs.Running.{EndsOne-silent, EndsOne-wanted, Opens-none, Runs-misused}
+use Rattle.run_meaning.proofs.Begun.{Opens-none}
+use Rattle.run_meaning.proofs.Running.{EndsOne-silent, EndsOne-wanted, Runs-misused}
 use Rattle.perm_engine.proofs.run.perm.Goals as goal
 
 abbrev Used : Status → Type 0
@@ -44,21 +43,17 @@ returns-in-Ok-Script g c =
     let fault = HasRisen files.faults files.faults_after in
     let most = script_files (request_of words) in
     let wanted : Script name ≡ request_of words = sym c.in-Ok-Script.field-0-is ∙ c.in-Ok-Script.ensures in
-    let run : EndsOne most (can_be files) (RunsOver words files) w files s =
+    let some : EndsOne most (can_be files) (RunsOver words files) w files s =
     EndsOne-wanted words (Script name) (can_be files) w files s wanted c.run_named.ensures.ends in
     record {
-      run = run;
-      complete = completes words files.held fault w files (can_be files) s run;
-      headline = ends-told most (can_be files) (RunsOver words files) (HeadlineOver words files) (c.every_run_is_told_by_the_headline.ensures.over words files) w files s run;
+      run = ends-told most words w files s (c.every_run_is_told_by_the_headline.ensures.over words files) (c.run_named.ensures.read_fault) some;
+      complete = completes words files.held fault w files (can_be files) s some;
       usage = λ e. absurd (used-of_script s e c.run_named.ensures.status);
       misused = λ none. absurd (named≢misworded name words wanted none);
-      refused = ends-broken most (can_be files) (RunsOver words files) w files s run;
-      run_fault = ends-faulty most (can_be files) (RunsOver words files) w files s run;
-      bad_data = ends-bad words files.held fault (can_be files) w files s run;
       read_fault = c.run_named.ensures.read_fault;
-      write_fault = write_fault most (can_be files) (RunsOver words files) w files s run;
-      steady = λ h. (c.run_named.ensures.steady h, steadied most (can_be files) (RunsOver words files) w files s run h);
-      flushed = whole-flushed most (can_be files) (RunsOver words files) w files s run;
+      write_fault = write_fault most (can_be files) (RunsOver words files) w files s some;
+      steady = λ h. (c.run_named.ensures.steady h, steadied most (can_be files) (RunsOver words files) w files s some h);
+      flushed = whole-flushed most (can_be files) (RunsOver words files) w files s some;
       begun = λ none. absurd (named≢misworded name words wanted none);
       held = c.run_named.ensures.held;
     }
@@ -73,21 +68,17 @@ returns-in-Ok-Generated g c =
     let fault = HasRisen files.faults files.faults_after in
     let most = script_files (request_of words) in
     let wanted : Generated rows ≡ request_of words = sym c.in-Ok-Generated.field-0-is ∙ c.in-Ok-Generated.ensures in
-    let run : EndsOne most (can_be files) (RunsOver words files) w files s =
+    let some : EndsOne most (can_be files) (RunsOver words files) w files s =
     EndsOne-wanted words (Generated rows) (can_be files) w files s wanted c.run_generated.ensures.ends in
     record {
-      run = run;
-      complete = completes words files.held fault w files (can_be files) s run;
-      headline = ends-told most (can_be files) (RunsOver words files) (HeadlineOver words files) (c.every_run_is_told_by_the_headline.ensures.over words files) w files s run;
+      run = ends-told most words w files s (c.every_run_is_told_by_the_headline.ensures.over words files) (c.run_generated.ensures.read_fault) some;
+      complete = completes words files.held fault w files (can_be files) s some;
       usage = λ e. absurd (used-of_script s e c.run_generated.ensures.status);
       misused = λ none. absurd (generated≢misworded rows words wanted none);
-      refused = ends-broken most (can_be files) (RunsOver words files) w files s run;
-      run_fault = ends-faulty most (can_be files) (RunsOver words files) w files s run;
-      bad_data = ends-bad words files.held fault (can_be files) w files s run;
       read_fault = c.run_generated.ensures.read_fault;
-      write_fault = write_fault most (can_be files) (RunsOver words files) w files s run;
-      steady = λ h. (c.run_generated.ensures.steady h, steadied most (can_be files) (RunsOver words files) w files s run h);
-      flushed = whole-flushed most (can_be files) (RunsOver words files) w files s run;
+      write_fault = write_fault most (can_be files) (RunsOver words files) w files s some;
+      steady = λ h. (c.run_generated.ensures.steady h, steadied most (can_be files) (RunsOver words files) w files s some h);
+      flushed = whole-flushed most (can_be files) (RunsOver words files) w files s some;
       begun = λ none. absurd (generated≢misworded rows words wanted none);
       held = c.run_generated.ensures.held;
     }
@@ -101,27 +92,24 @@ returns-in-Ok-Misworded g c =
     let fault = HasRisen files.faults files.faults_after in
     let most = script_files (request_of words) in
     let none : Misworded ≡ request_of words = sym c.in-Ok-Misworded.field-0-is ∙ c.in-Ok-Misworded.ensures in
-    let run : EndsOne most (can_be files) (RunsOver words files) w files s =
+    let some : EndsOne most (can_be files) (RunsOver words files) w files s =
     inl (record {
       ran = ended Misused;
       is = Runs-misused words files.held fault none;
+      texts = 0;
       ends = c.finish.ensures.ends Misused refl refl;
       opens = Opens-none Misused files.begun s;
       backed = λ _. tt;
     }) in
     record {
-      run = run;
-      complete = completes words files.held fault w files (can_be files) s run;
-      headline = ends-told most (can_be files) (RunsOver words files) (HeadlineOver words files) (c.every_run_is_told_by_the_headline.ensures.over words files) w files s run;
+      run = ends-told most words w files s (c.every_run_is_told_by_the_headline.ensures.over words files) (λ e. absurd (other_end s status.Usage status.ReadFault (λ same. absurd cc) (λ same. absurd cc) c.finish.ensures.status e)) some;
+      complete = completes words files.held fault w files (can_be files) s some;
       usage = λ e. sym none;
       misused = λ m. misused s c.finish.ensures.status;
-      refused = ends-broken most (can_be files) (RunsOver words files) w files s run;
-      run_fault = ends-faulty most (can_be files) (RunsOver words files) w files s run;
-      bad_data = ends-bad words files.held fault (can_be files) w files s run;
       read_fault = λ e. absurd (other_end s status.Usage status.ReadFault (λ same. absurd cc) (λ same. absurd cc) c.finish.ensures.status e);
-      write_fault = write_fault most (can_be files) (RunsOver words files) w files s run;
-      steady = λ h. (refl, steadied most (can_be files) (RunsOver words files) w files s run h);
-      flushed = whole-flushed most (can_be files) (RunsOver words files) w files s run;
+      write_fault = write_fault most (can_be files) (RunsOver words files) w files s some;
+      steady = λ h. (refl, steadied most (can_be files) (RunsOver words files) w files s some h);
+      flushed = whole-flushed most (can_be files) (RunsOver words files) w files s some;
       begun = λ m. refl;
       held = refl;
     }
@@ -133,19 +121,15 @@ returns-in-Err g c =
     let w = output (g.K.Sink.told c.args.out.now) (g.K.Sink.told c.args.out.now) in
     let fault = HasRisen files.faults files.faults_after in
     let most = script_files (request_of words) in
-    let run : EndsOne most (can_be files) (RunsOver words files) w files status.NoMemory =
+    let some : EndsOne most (can_be files) (RunsOver words files) w files status.NoMemory =
     EndsOne-silent most (can_be files) (RunsOver words files) w files status.NoMemory (record { said = refl; text = refl; steady = refl }) refl in
     record {
-      run = run;
-      complete = completes words files.held fault w files (can_be files) status.NoMemory run;
-      headline = ends-told most (can_be files) (RunsOver words files) (HeadlineOver words files) (c.every_run_is_told_by_the_headline.ensures.over words files) w files status.NoMemory run;
+      run = ends-told most words w files status.NoMemory (c.every_run_is_told_by_the_headline.ensures.over words files) (λ e. absurd cc) some;
+      complete = completes words files.held fault w files (can_be files) status.NoMemory some;
       usage = λ e. absurd cc;
       misused = λ m. inr (inr refl);
-      refused = ends-broken most (can_be files) (RunsOver words files) w files status.NoMemory run;
-      run_fault = ends-faulty most (can_be files) (RunsOver words files) w files status.NoMemory run;
-      bad_data = ends-bad words files.held fault (can_be files) w files status.NoMemory run;
       read_fault = λ e. absurd cc;
-      write_fault = write_fault most (can_be files) (RunsOver words files) w files status.NoMemory run;
+      write_fault = write_fault most (can_be files) (RunsOver words files) w files status.NoMemory some;
       steady = λ h. (refl, refl);
       flushed = λ h. absurd h;
       begun = λ m. refl;

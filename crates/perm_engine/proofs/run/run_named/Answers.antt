@@ -8,7 +8,8 @@ use Rattle.run_meaning.specs.Run.{ended}
 use Rattle.run_meaning.specs.Stops.{NoFile, LongFile, FailedFile}
 use Rattle.run_meaning.specs.declared.status.Status.TheVariants as status
 use Rattle.run_meaning.proofs.Looping.{other_end, failed-unsteady}
-use Rattle.run_meaning.proofs.Running.{Runs-found, Runs-read, Opens-none, of_script}
+use Rattle.run_meaning.proofs.Begun.{Opens-none}
+use Rattle.run_meaning.proofs.Running.{Runs-found, Runs-read, of_script}
 use Rattle.perm_engine.proofs.run.run_named.Goals as goal
 
 pub returns-in-Ok : goal.returns-in-Ok
@@ -36,7 +37,7 @@ returns-in-Err-Missing g c =
     let s = c.finish.result in
     let calm = subst (λ e. CountsFault files.faults files.faults_after (is_fault {T = List ℕ} (Err e))) c.in-Err-Missing.field-0-is c.in-Err-Missing.ensures.faults in
     record {
-      ends = inl (Runs-found name files Missing (ended NoFile) w files.begun_after s c.in-Err-Missing.ensures.begun (c.in-Err-Missing.ensures.lacking (ap Err c.in-Err-Missing.field-0-is)) refl
+      ends = inl (Runs-found name files Missing (ended NoFile) 0 w files.begun_after s c.in-Err-Missing.ensures.begun (c.in-Err-Missing.ensures.lacking (ap Err c.in-Err-Missing.field-0-is)) refl
           (c.finish.ensures.ends NoFile refl refl) (Opens-none NoFile files.begun_after s) (λ _. (c.in-Err-Missing.ensures.missing.0 (ap Err c.in-Err-Missing.field-0-is), c.in-Err-Missing.ensures.begun)));
       status = of_script s status.BadData tt c.finish.ensures.status;
       read_fault = λ e. absurd (other_end s status.BadData status.ReadFault (λ same. absurd cc) (λ same. absurd cc) c.finish.ensures.status e);
@@ -52,7 +53,7 @@ returns-in-Err-TooLarge g c =
     let s = c.finish-in-Err-TooLarge.result in
     let calm = subst (λ e. CountsFault files.faults files.faults_after (is_fault {T = List ℕ} (Err e))) c.in-Err-TooLarge.field-0-is c.in-Err-TooLarge.ensures.faults in
     record {
-      ends = inl (Runs-found name files TooLong (ended LongFile) w files.begun_after s c.in-Err-TooLarge.ensures.begun (c.in-Err-TooLarge.ensures.longer (ap Err c.in-Err-TooLarge.field-0-is)) refl
+      ends = inl (Runs-found name files TooLong (ended LongFile) 0 w files.begun_after s c.in-Err-TooLarge.ensures.begun (c.in-Err-TooLarge.ensures.longer (ap Err c.in-Err-TooLarge.field-0-is)) refl
           (c.finish-in-Err-TooLarge.ensures.ends LongFile refl refl) (Opens-none LongFile files.begun_after s) (λ _. (c.in-Err-TooLarge.ensures.too_large.0 (ap Err c.in-Err-TooLarge.field-0-is), c.in-Err-TooLarge.ensures.begun)));
       status = of_script s status.BadData tt c.finish-in-Err-TooLarge.ensures.status;
       read_fault = λ e. absurd (other_end s status.BadData status.ReadFault (λ same. absurd cc) (λ same. absurd cc) c.finish-in-Err-TooLarge.ensures.status e);
@@ -68,7 +69,7 @@ returns-in-Err-Fault g c =
     let s = c.finish-in-Err-Fault.result in
     let calm = subst (λ e. CountsFault files.faults files.faults_after (is_fault {T = List ℕ} (Err e))) c.in-Err-Fault.field-0-is c.in-Err-Fault.ensures.faults in
     record {
-      ends = inl (Runs-found name files Failed (ended FailedFile) w files.begun_after s c.in-Err-Fault.ensures.begun calm refl
+      ends = inl (Runs-found name files Failed (ended FailedFile) 0 w files.begun_after s c.in-Err-Fault.ensures.begun calm refl
           (c.finish-in-Err-Fault.ensures.ends FailedFile refl refl) (Opens-none FailedFile files.begun_after s) (λ _. calm));
       status = of_script s status.ReadFault tt c.finish-in-Err-Fault.ensures.status;
       read_fault = λ e. calm;
