@@ -54,8 +54,13 @@ fn begins_with(whole: &[u8], part: &[u8]) -> bool {
     part.len() <= whole.len() && &whole[..part.len()] == part
 }
 
-fn ends_with(whole: &[u8], part: &[u8]) -> bool {
-    part.len() <= whole.len() && &whole[whole.len() - part.len()..] == part
+/// Whether what is written is a first part of the whole, and then the last bytes.
+fn begins_then(whole: &[u8], written: &[u8], last: &[u8]) -> bool {
+    if written.len() < last.len() {
+        return false;
+    }
+    let front = written.len() - last.len();
+    &written[front..] == last && begins_with(whole, &written[..front])
 }
 
 /// Whether a run whose call failed says so behind a first part of what the whole run writes.
@@ -64,9 +69,7 @@ fn is_cut(ended: &Ended, whole: &[u8], side: Side) -> bool {
     match side {
         Side::Output => ended.status == Status::WriteFault && begins_with(whole, written),
         Side::Files => {
-            ended.status == Status::ReadFault
-                && ends_with(written, READ_FAULT)
-                && begins_with(whole, &written[..written.len() - READ_FAULT.len()])
+            ended.status == Status::ReadFault && begins_then(whole, written, READ_FAULT)
         }
     }
 }
