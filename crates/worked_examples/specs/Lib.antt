@@ -4,6 +4,7 @@ pub mod DataLines
 pub mod Deletions
 pub mod DependentRows
 pub mod FileRows
+pub mod ForcedTruths
 pub mod Forms
 pub mod GroupRows
 pub mod HeldRows
