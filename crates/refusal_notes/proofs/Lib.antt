@@ -1,0 +1,4 @@
+pub mod Fronts
+pub mod Guesses
+pub mod Pieces
+pub mod Spelt

@@ -1,0 +1,4 @@
+pub mod Causes
+pub mod Excerpts
+pub mod Notes
+pub mod Sentences

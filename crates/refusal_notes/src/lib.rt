@@ -1,0 +1,14 @@
+//! What a person is told of a refusal: the line that names it is read back, and told in a sentence, with its place and, in a script,
+//! with a piece of the script's line and a mark under the place.
+#![tactic(auto)]
+
+mod cause;
+mod excerpt;
+mod line;
+mod notes;
+mod read;
+mod sentence;
+
+pub use cause::Cause;
+pub use notes::note;
+pub use read::cause_of;

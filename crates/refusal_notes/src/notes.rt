@@ -1,0 +1,135 @@
+//! The note that tells a person of a cause.
+ghost use Rattle.std.specs.Prelude.{◌≡◌, ◌++◌, IfOk, OnOk};
+ghost use Rattle.std.specs.Fmt.{decimal};
+ghost use Rattle.csv_tables.specs.Lines.{two_digits};
+ghost use Rattle.refusal_notes.specs.Excerpts.{excerpt};
+ghost use Rattle.refusal_notes.specs.Notes.{data_note, field_in, note_of, place_in, record_in, told_at};
+ghost use Rattle.refusal_notes.specs.Sentences.{sentence};
+
+use crate::cause::Cause;
+use crate::excerpt::{add_excerpt, shown_text};
+use crate::sentence::sentence;
+use csv_tables::DataError;
+use itoa::Buffer;
+use perm_values::{Bytes, NoMemory};
+use script_places::place_of;
+use std::alloc::Global;
+
+/// The note on a cause, with the name of the file that it speaks of, and of one at an offset the script. A number that no cause has
+/// gives none. It fails only for want of memory.
+pub fn note(alloc: Global, cause: Cause, name: &[u8], script: &[u8]) -> Result<Bytes, NoMemory>
+    ensures { IfOk result (λ note. note ≡ note_of cause name.now script.now) }
+{
+    match cause {
+        Cause::At { code, at } => script_note(alloc, name, script, code, at),
+        Cause::NoScript => told_at(alloc, name, 40),
+        Cause::LongScript => told_at(alloc, name, 41),
+        Cause::Data(error) => data_note(alloc, name, error),
+        Cause::Unread => told_at(alloc, name, 50),
+    }
+}
+
+/// The note on what is wrong with a file's records; want of memory has none.
+fn data_note(alloc: Global, name: &[u8], error: DataError) -> Result<Bytes, NoMemory>
+    ensures { IfOk result (λ note. note ≡ data_note name.now error) }
+{
+    match error {
+        DataError::Width { row } => told_at(alloc, record_in(alloc, name, row)?.as_slice(), 42),
+        DataError::NotInteger { row, field } => {
+            told_at(alloc, field_in(alloc, name, row, field)?.as_slice(), 43)
+        }
+        DataError::NotText { row, field } => {
+            told_at(alloc, field_in(alloc, name, row, field)?.as_slice(), 44)
+        }
+        DataError::NoMemory => Ok(Bytes::new(alloc)),
+    }
+}
+
+/// The note on what stands at an offset of a script.
+fn script_note(
+    alloc: Global,
+    name: &[u8],
+    script: &[u8],
+    code: u8,
+    at: usize,
+) -> Result<Bytes, NoMemory>
+    ensures { IfOk result (λ note. note ≡ note_of (Cause.At code at) name.now script.now) }
+{
+    if sentence(code).is_empty() {
+        return Ok(Bytes::new(alloc));
+    }
+    let place = place_in(alloc, name, script, at)?;
+    let mut note = told_at(alloc, place.as_slice(), code)?;
+    add_excerpt(alloc, &mut note, script, at)?;
+    Ok(note)
+}
+
+/// A sentence on a place, and the number of its code.
+fn told_at(alloc: Global, place: &[u8], code: u8) -> Result<Bytes, NoMemory>
+    ensures { IfOk result (λ note. note ≡ told_at place.now code) }
+{
+    let mut note = Bytes::new(alloc);
+    note.add(shown_text(alloc, place)?.as_slice())?;
+    note.add(b": ")?;
+    note.add(sentence(code))?;
+    note.add(b" (E")?;
+    add_two_digits(&mut note, code)?;
+    note.add(b")\n")?;
+    Ok(note)
+}
+
+/// A file, a line of it and a column.
+fn place_in(alloc: Global, name: &[u8], script: &[u8], at: usize) -> Result<Bytes, NoMemory>
+    ensures { IfOk result (λ place. place ≡ place_in name.now script.now at) }
+{
+    let found = place_of(script, at);
+    let mut place = Bytes::new(alloc);
+    place.add(name)?;
+    place.add(b":")?;
+    add_number(&mut place, found.line as u64)?;
+    place.add(b":")?;
+    add_number(&mut place, found.column as u64)?;
+    Ok(place)
+}
+
+/// A record of a file.
+fn record_in(alloc: Global, name: &[u8], row: u64) -> Result<Bytes, NoMemory>
+    ensures { IfOk result (λ place. place ≡ record_in name.now row) }
+{
+    let mut place = Bytes::new(alloc);
+    place.add(name)?;
+    place.add(b": record ")?;
+    add_number(&mut place, row)?;
+    Ok(place)
+}
+
+/// A field of a record of a file.
+fn field_in(alloc: Global, name: &[u8], row: u64, field: u64) -> Result<Bytes, NoMemory>
+    ensures { IfOk result (λ place. place ≡ field_in name.now row field) }
+{
+    let mut place = record_in(alloc, name, row)?;
+    place.add(b", field ")?;
+    add_number(&mut place, field)?;
+    Ok(place)
+}
+
+/// Adds a number of at least two digits.
+fn add_two_digits(text: &mut Bytes, number: u8) -> Result<(), NoMemory>
+    ensures { OnOk result (text.new ≡ text.old ++ two_digits number) }
+{
+    if number < 10 {
+        text.add(b"0")?;
+        add_number(text, u64::from(number))
+    } else {
+        add_number(text, u64::from(number))
+    }
+}
+
+/// Adds a number.
+fn add_number(text: &mut Bytes, number: u64) -> Result<(), NoMemory>
+    ensures { OnOk result (text.new ≡ text.old ++ decimal number) }
+{
+    let mut buffer = Buffer::new();
+    let digits = buffer.format(number);
+    text.add(digits.as_bytes())
+}
