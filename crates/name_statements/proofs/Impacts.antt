@@ -1,6 +1,6 @@
 -- IMPACT: its condition, then its query, then whether that is monotone, then the limits.
-use Rattle.std.specs.Prelude.{◌≡◌, ℕ, true, Bool, false, not, List, [], ◌∷◌, ◌++◌, Option, IfErr, IfOk, IsErrAnd, IsOkAnd, Result, Ok, Err}
-use Rattle.std.proofs.Common.{refl, ap, sym, subst, ◌∙◌}
+use Rattle.std.specs.Prelude.{◌≡◌, ℕ, true, Bool, not, List, [], ◌++◌, Option, IfErr, IfOk, IsErrAnd, Result, Ok, Err}
+use Rattle.std.proofs.Common.{ap, sym, subst, ◌∙◌}
 use Rattle.bag_algebra.specs.declared.expr.Expr.{Expr}
 use Rattle.bag_algebra.specs.declared.query.Query.{Query}
 use Rattle.monotone_queries.specs.Monotone.{is_monotone}
@@ -14,19 +14,19 @@ use Rattle.name_meaning.specs.Queries.{may_not_ask}
 use Rattle.name_meaning.specs.Statements as words
 use Rattle.name_meaning.specs.Trees.{query_of}
 use Rattle.name_meaning.specs.declared.answer.Break.{Break}
-use Rattle.name_meaning.specs.declared.answer.Resolved.{Resolved}
 use Rattle.name_meaning.specs.declared.answer.Resolved.TheVariants as r
 use Rattle.name_meaning.specs.declared.rule.Rule.TheVariants as rule
+use Rattle.name_laws.proofs.Every.{unbroken}
 use Rattle.name_made_nodes.specs.Makes.{MakesQuery}
 use Rattle.name_seen_parts.proofs.Firsts.{none-broken}
 use Rattle.name_seen_parts.specs.Seen.{first_or}
 use Rattle.name_seen_parts.specs.declared.refusal.Refusal.{Refusal}
 use Rattle.name_seen_parts.specs.declared.refusal.Refusal.TheVariants.{Break as Broken, NoMemory}
 use Rattle.name_seen_from.specs.Queried.{QuerySeen}
-use Rattle.name_statements.specs.Resolves.{AskedSeen, InsideSeen, IsAsked, IsMonotoneMade, IsWhole, MonotoneSeen, ResolvesBody, ResolvesBy, WholeSeen, asked_breaks, body_breaks}
+use Rattle.name_statements.specs.Resolves.{AskedSeen, InsideSeen, IsAsked, IsMonotoneMade, MonotoneSeen, ResolvesBody, ResolvesBy, WholeSeen, asked_breaks, body_breaks}
 use Rattle.name_statements.specs.declared.queries.Whole.{Whole}
 use Rattle.name_statements.proofs.Bodies.{limited_by, limits-behind}
-use Rattle.name_statements.proofs.Refused.{Refuses, by-limit, by-whole, made-so, by-query, of-limits, of-names, resolves-not, stays}
+use Rattle.name_statements.proofs.Refused.{Refuses, by-limit, by-whole, by-query, of-limits, of-names, resolves-not, stays}
 use Rattle.name_statements.proofs.Tabled.{without-limit}
 
 -- ---- the query by itself
@@ -77,11 +77,9 @@ module _ (at : ℕ) (m : QueryMeant) where
   monotone-so made told (Ok same) none makes is kept broken =
       subst (IsMonotoneMade m) (sym kept.0) (record {
         makes = makes;
-        monotone = whole (is_monotone made) (none-broken (broken_if (not (is_monotone made)) rule.NotMonotone at) (tt {0}) (tt {0}) (sym is ∙ kept.1));
-      }) where
-        whole : (b : Bool) → broken_if (not b) rule.NotMonotone at ≡ [] → b ≡ true
-        whole true e = refl
-        whole false e = absurd (cc e)
+        monotone = unbroken (is_monotone made) rule.NotMonotone at
+            (none-broken (broken_if (not (is_monotone made)) rule.NotMonotone at) (tt {0}) (tt {0}) (sym is ∙ kept.1));
+      })
   monotone-so made told (Err refusal) none makes is kept broken =
       refuses-monotone refusal (not-monotone refusal none (by-limit (words.not_monotone at m) told refusal broken
       (ap (λ (q : Query). first_or (broken_if (not (is_monotone q)) rule.NotMonotone at) (tt {0})) (sym (makes.makes none)) ∙ sym is)))

@@ -51,6 +51,7 @@ sublink_in_condition = simp (tree_equations, name_breaks) (rw token-given refl)
 pub counted :
     name_breaks contents (st.Impact (name 19 (codes "r")) None (query 24 (core (select 24 (item (expr 31 (e.Aggregate word.CountRows None)) ∷ []) (from (table 45 (codes "r")) [] ∷ [])))))
     ≡ broken rule.NotMonotone 24 ∷ []
+unfolding shape-the_row-Query-0 hidden-the_row-Query-0 shape-the_row-Sublink-1 hidden-the_row-Sublink-1 package.denote.Hole.Carrier.hidden
 counted = simp (tree_equations, name_breaks) (rw token-given refl)
 
 -- not listed where the condition breaks: IMPACT DELETE FROM r WHERE a OF SELECT COUNT(*) FROM r
@@ -63,6 +64,7 @@ monotone_alone = simp (tree_equations, name_breaks) (rw token-given refl)
 pub stored_table :
     name_breaks contents (st.Impact (name 19 (codes "r")) None (query 24 (core (select 24 (item (column 31 (codes "z")) ∷ []) (from (table 38 (codes "t")) [] ∷ [])))))
     ≡ broken rule.NotMonotone 24 ∷ []
+unfolding shape-the_row-Query-0 hidden-the_row-Query-0 shape-the_row-Sublink-1 hidden-the_row-Sublink-1 package.denote.Hole.Carrier.hidden
 stored_table = simp (tree_equations, name_breaks) (rw token-given refl)
 
 -- the word PROVENANCE at the front of the query: IMPACT DELETE FROM r OF SELECT PROVENANCE a FROM r
@@ -75,6 +77,7 @@ provenance_of_query = simp (tree_equations, name_breaks) (rw token-given refl)
 pub asked_about :
     name_breaks contents (st.Impact (name 19 (codes "r")) (Some (expr 27 (e.Compared Equal (column_of 27 (codes "r") (codes "a")) (number 33 1)))) (ordered 38 (core (select 38 (item (column 45 (codes "a")) ∷ []) (from (table 52 (codes "r")) [] ∷ []))) (key 63 (Position (pos 1)) true ∷ []) None))
     ≡ []
+unfolding shape-the_row-Query-0 hidden-the_row-Query-0 shape-the_row-Sublink-1 hidden-the_row-Sublink-1 package.denote.Hole.Carrier.hidden
 asked_about = simp (tree_equations, name_breaks) (rw token-given refl)
 
 -- of the same
@@ -87,6 +90,7 @@ resolved_impact = simp (tree_equations, resolved_body) (rw token-given refl)
 pub resolved_view :
     resolved_body contents (st.Impact (name 19 (codes "s")) None (query 24 (core (select 24 (item (column 31 (codes "a")) ∷ []) (from (table 38 (codes "v")) [] ∷ [])))))
     ≡ r.Impact (codes "s") None (record { query = Project a_of_r (column_item 0 kind.Integer ∷ []) []; names = codes "a" ∷ []; keys = [] })
+unfolding shape-the_row-Query-0 hidden-the_row-Query-0 shape-the_row-Sublink-1 hidden-the_row-Sublink-1 package.denote.Hole.Carrier.hidden
 resolved_view = simp (tree_equations, resolved_body) (rw token-given refl)
 
 -- ---- the limits come last
