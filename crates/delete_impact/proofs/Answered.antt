@@ -39,7 +39,8 @@ use Rattle.impact_laws.proofs.VanishingRows.{kept-of}
 use Rattle.delete_impact.specs.Answering.{condition_or_true, never, no_row_of, looked_through, vanishing}
 use Rattle.reduced_queries.specs.Reads.{Unread, IsRead, first_kinds}
 use Rattle.reduced_queries.specs.Reduced.{reduced}
-use Rattle.delete_impact.specs.Impact.{ConditionFits, IsImpact}
+use Rattle.delete_impact.specs.Impact.{IsImpact}
+use Rattle.monotone_queries.specs.Conditions.{ConditionFits}
 use Rattle.delete_impact.proofs.Conditions.{each-item, emptied}
 use Rattle.delete_impact.proofs.LookedThrough.{meaning-no_row, meaning-looked_through, kinds-looked_through, formed-looked_through, good-both, bad-both}
 use Rattle.reduced_queries.proofs.MissingRows.{missing-rows, missing-faults, kinds-missing, plain-missing, tables-missing, formed-missing}

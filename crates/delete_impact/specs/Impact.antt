@@ -1,6 +1,5 @@
 -- What answers which rows of a query vanish where rows of a table are deleted.
-use Rattle.std.specs.Prelude.{◌≡◌, ℕ, true, [], ◌∷◌, Option, Some, None}
-use Rattle.perm_values.specs.declared.kind.Kind.TheVariants.{Boolean}
+use Rattle.std.specs.Prelude.{◌≡◌, ℕ, true, [], Option}
 use Rattle.bag_algebra.specs.Bags.{Bag}
 use Rattle.bag_algebra.specs.Closed.{is_closed}
 use Rattle.bag_algebra.specs.Fits.{TablesFit}
@@ -8,19 +7,14 @@ use Rattle.bag_algebra.specs.Kinds.{kinds_of}
 use Rattle.bag_algebra.specs.Meaning.{Database, meaning}
 use Rattle.bag_algebra.specs.Outcome.{Outcome, Faults, Good, Bad, both, each}
 use Rattle.bag_algebra.specs.Rewriting.{is_plain}
-use Rattle.bag_algebra.specs.TablesRead.{EachTable, ReadsAmong}
-use Rattle.bag_algebra.specs.WellFormed.{WellFormed, HasKind}
+use Rattle.bag_algebra.specs.TablesRead.{ReadsAmong}
+use Rattle.bag_algebra.specs.WellFormed.{WellFormed}
 use Rattle.bag_algebra.specs.declared.expr.Expr.{Expr}
 use Rattle.bag_algebra.specs.declared.query.Query.{Query}
 use Rattle.impact_laws.specs.Doomed.{doomed_on}
 use Rattle.impact_laws.specs.Vanishing.{Vanishes}
 use Rattle.query_laws.specs.Holding.{HoldsOnce}
 use Rattle.reduced_queries.specs.Reads.{Unread, IsRead}
-
--- on the kinds of each table of this identity the condition is a truth, without sublinks and without columns of outer rows
-abbrev pub ConditionFits : ℕ → Option Expr → Query → Type 0
-ConditionFits id None q = Unit {0}
-ConditionFits id (Some condition) q = EachTable (λ other kinds. other ≡ id → HasKind (kinds ∷ []) [] condition Boolean) q
 
 -- the rows of the query and what the condition says on each row of the table: both are looked at
 abbrev pub looked_at : Query → ℕ → Option Expr → Database → Outcome Bag

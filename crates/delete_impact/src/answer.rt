@@ -3,7 +3,8 @@ ghost use Rattle.std.specs.Prelude.{◌≡◌, [], true, IfOk, IsTrue, option_co
 ghost use Rattle.bag_algebra.specs.WellFormed.{WellFormed};
 ghost use Rattle.bag_algebra.specs.declared.query.Query.TheVariants.{Union};
 ghost use Rattle.delete_impact.specs.Answering.{condition_or_true, looked_through, never, no_row_of, vanishing};
-ghost use Rattle.delete_impact.specs.Impact.{ConditionFits, IsImpact};
+ghost use Rattle.delete_impact.specs.Impact.{IsImpact};
+ghost use Rattle.monotone_queries.specs.Conditions.{ConditionFits};
 ghost use Rattle.monotone_queries.specs.Monotone.{is_monotone};
 
 use bag_algebra::{Expr, Query};

@@ -2,15 +2,10 @@
 use Rattle.std.specs.Prelude.{◌≡◌, suc, cond, List, [], ◌∷◌, ◌++◌, length, map, Option, Some}
 use Rattle.std.specs.Option.{option_map_or}
 use Rattle.std.proofs.Common.{refl, ap, sym, ◌∙◌}
-use Rattle.std.proofs.lemmas.List.Elements.{All-contains}
-use Rattle.bag_algebra.proofs.TablesRead.{each_table-from_told}
 use Rattle.perm_values.specs.declared.kind.Kind.{Kind}
 use Rattle.perm_values.specs.declared.kind.Kind.TheVariants as kind
-use Rattle.bag_algebra.specs.TablesRead.{EachTable, TableRead, tables_read}
-use Rattle.bag_algebra.specs.declared.query.Query.{Query}
 use Rattle.perm_catalog.specs.Contents.{Contents}
-use Rattle.perm_catalog.specs.Sound.{IsHeldRead, IsSound}
-use Rattle.perm_catalog.specs.declared.entries.ViewEntry.{ViewEntry}
+use Rattle.perm_catalog.specs.Sound.{IsSound}
 use Rattle.sql_tree.specs.Regular.{RegularQuery, RegularStatement, RegularStatementBody}
 use Rattle.sql_tree.specs.declared.query.QueryTree.{QueryTree}
 use Rattle.sql_tree.specs.declared.statement.Statement.{Statement}
@@ -18,16 +13,18 @@ use Rattle.sql_tree.specs.declared.statement.StatementBody.{StatementBody}
 use Rattle.sql_tree.specs.declared.statement.StatementBody.TheVariants as st
 use Rattle.name_meaning.specs.Cores.{settle}
 use Rattle.name_meaning.specs.Froms.{names_of, settled_columns}
-use Rattle.name_meaning.specs.Meanings.{OutColumn, QueryMeant, broken_if, is_whole, settled}
+use Rattle.name_meaning.specs.Meanings.{Around, OutColumn, QueryMeant, broken_if, is_whole, query_means_at, settled}
+use Rattle.name_meaning.specs.Queries.{may_not_ask}
 use Rattle.name_meaning.specs.Scopes.{KnownColumn}
 use Rattle.name_meaning.specs.Statements as words
+use Rattle.name_meaning.specs.Trees.{query_of}
 use Rattle.name_meaning.specs.declared.answer.Break.{Break}
 use Rattle.name_laws.proofs.Every.{back-none, front-none}
+use Rattle.name_laws.proofs.Impacts.{impact-query_whole, impact-stands, tables-held}
 use Rattle.name_laws.proofs.Trees.{query-known}
 use Rattle.name_laws.specs.Formed.{IsAnswer}
 use Rattle.name_laws.proofs.TreeLaws.{query-answer, query-closed}
-use Rattle.name_laws.proofs.Named.{view-reads}
-use Rattle.name_analysis.specs.Stands.{AnswerStands, BodyStands, IsHeldTable, shown_kinds}
+use Rattle.name_analysis.specs.Stands.{AnswerStands, BodyStands, shown_kinds}
 use Rattle.name_meaning.specs.declared.rule.Rule.TheVariants as rule
 
 abbrev known_kinds : List KnownColumn → List Kind
@@ -51,27 +48,15 @@ names-whole [] limits e = refl
 names-whole (first ∷ more) limits e = e
 
 module _ (c : Contents) (sound : IsSound c) where
-  -- ---- the tables
-
-  view-held : (view : ViewEntry) (read : TableRead) → IsHeldRead c view read → IsHeldTable c read.id read.kinds
-  view-held view read held = record { name = held.name; table = held.table; named = held.named; id_is = held.id; kinds_are = held.kinds }
-
-  tables-held : (tree : QueryTree) → EachTable (IsHeldTable c) ((words.query_meant c tree).make [])
-  tables-held tree =
-      let view : ViewEntry = words.view_entry (words.query_meant c tree) in
-      let query : Query = (words.query_meant c tree).make [] in
-      each_table-from_told (IsHeldTable c) query
-      (λ read among. view-held view read (All-contains (IsHeldRead c view) (tables_read query) read (view-reads c sound tree) among))
-
   -- ---- queries
 
-  answer-stands : (tree : QueryTree) → RegularQuery tree → (words.query_meant c tree).breaks ≡ []
-      → AnswerStands c (shown_kinds c tree) (words.answer_of (words.query_meant c tree))
-  answer-stands tree regular whole =
-      let m : QueryMeant = words.query_meant c tree in
-      let closed = query-closed c tree words.alone sound regular whole refl [] in
-      let known = query-known c tree words.alone sound whole in
-      let answer : IsAnswer m = query-answer c tree words.alone sound regular whole in
+  answer-stands : (tree : QueryTree) (around : Around) → around.outer ≡ [] → RegularQuery tree → (query_means_at (query_of c tree) around).breaks ≡ []
+      → AnswerStands c (shown_kinds (query_means_at (query_of c tree) around)) (words.answer_of (query_means_at (query_of c tree) around))
+  answer-stands tree around outermost regular whole =
+      let m : QueryMeant = query_means_at (query_of c tree) around in
+      let closed = query-closed c tree around sound regular whole outermost [] in
+      let known = query-known c tree around sound whole in
+      let answer : IsAnswer m = query-answer c tree around sound regular whole in
       record {
         formed = closed.0;
         closed = closed.1;
@@ -79,7 +64,7 @@ module _ (c : Contents) (sound : IsSound c) where
         named = ap (λ (columns : List KnownColumn). length (names_of columns)) (shown m answer.columns answer.known)
             ∙ names-many answer.columns ∙ answer.named [];
         keys = answer.keys [];
-        tables = tables-held tree;
+        tables = tables-held c sound tree around [];
       }
 
   -- ---- statements
@@ -95,19 +80,22 @@ module _ (c : Contents) (sound : IsSound c) where
   body-stands : (body : StatementBody) → RegularStatementBody body → words.name_breaks c body ≡ [] → BodyStands c body (words.resolved_body c body)
   body-stands (st.CreateTable table columns) regular whole = tt
   body-stands (st.CreateTableAs table query) regular whole =
-      answer-stands query regular (query-whole query (words.taken c table)
+      answer-stands query words.alone refl regular (query-whole query (words.taken c table)
       (front-none (words.taken c table ++ words.named_query_breaks query.at (words.query_meant c query))
       (broken_if (words.has_boolean (words.columns_of (words.query_meant c query))) rule.UnfitKind query.at) whole))
-  body-stands (st.CreateView view query) regular whole = answer-stands query regular (query-whole query (words.taken c view) whole)
+  body-stands (st.CreateView view query) regular whole = answer-stands query words.alone refl regular (query-whole query (words.taken c view) whole)
   body-stands (st.Copy table file header null_field) regular whole = tt
   body-stands (st.Insert table rows) regular whole = tt
   body-stands (st.Delete table condition) regular whole = tt
   body-stands (st.DropTable table) regular whole = tt
   body-stands (st.DropView view) regular whole = tt
-  body-stands (st.Select query) regular whole = answer-stands query regular whole
-  body-stands (st.Explain query) regular whole = answer-stands query regular whole
+  body-stands (st.Select query) regular whole = answer-stands query words.alone refl regular whole
+  body-stands (st.Explain query) regular whole = answer-stands query words.alone refl regular whole
   body-stands (st.ShowFresh table) regular whole = tt
-  body-stands (st.Impact table condition query) regular whole = answer-stands query regular.1 whole
+  body-stands (st.Impact table condition query) regular whole = (
+    answer-stands query (may_not_ask words.alone) refl regular.1 (impact-query_whole c table condition query whole),
+    impact-stands c sound table condition query regular whole,
+  )
 
 pub statement-stands : (c : Contents) (statement : Statement) → IsSound c → RegularStatement statement → words.breaks c statement ≡ []
     → BodyStands c statement.body (words.resolved c statement)

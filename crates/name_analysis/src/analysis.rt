@@ -6,7 +6,8 @@ ghost use Rattle.name_statements.specs.Own.{TellsFirst, own_breaks};
 ghost use Rattle.name_statements.specs.Resolves.{Resolves};
 
 use crate::conditions::delete;
-use crate::queries::{create_table_as, create_view, explain, impact, select};
+use crate::impacts::impact;
+use crate::queries::{create_table_as, create_view, explain, select};
 use crate::rows::insert;
 use name_meaning::Resolved;
 use name_seen_parts::Refusal;

@@ -1,4 +1,4 @@
-//! DELETE.
+//! DELETE, and the condition of IMPACT.
 ghost use Rattle.std.specs.Prelude.{◌≡◌, [], IfOk, Some};
 ghost use Rattle.name_meaning.specs.Statements as words;
 ghost use Rattle.perm_catalog.specs.Changes.{table_named};
@@ -36,7 +36,7 @@ pub(crate) fn delete(
 }
 
 /// The condition that the deleted rows meet, or its first break.
-fn deleted(
+pub(crate) fn deleted(
     alloc: Global,
     catalog: &Catalog,
     table: &Name,

@@ -3,6 +3,7 @@
 
 mod analysis;
 mod conditions;
+mod impacts;
 mod laws;
 mod queries;
 mod rows;

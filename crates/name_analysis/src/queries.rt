@@ -18,11 +18,11 @@ use name_seen::query_seen;
 use name_seen_from::QueryShown;
 use name_seen_parts::{Around, Refusal, Scopes};
 use name_statements::{
-    Whole, answer_of, around_alone, entry_of, gathered_within, let_condition_go, let_query_go,
-    repeats_break, stored_break, table_of, view_of, whole_with, within,
+    Whole, answer_of, around_alone, entry_of, gathered_within, let_query_go, repeats_break,
+    stored_break, table_of, view_of, whole_with, within,
 };
 use perm_catalog::{Catalog, ViewEntry};
-use sql_tree::{ExprTree, Name, QueryTree};
+use sql_tree::{Name, QueryTree};
 use std::alloc::Global;
 
 /// SELECT.
@@ -77,22 +77,6 @@ fn explained(alloc: Global, catalog: &Catalog, query: &QueryTree) -> Result<Reso
     Ok(Resolved::Explain {
         answer: answer_of(whole),
     })
-}
-
-/// The query of IMPACT, which isn't carried out yet.
-pub(crate) fn impact(
-    alloc: Global,
-    catalog: &Catalog,
-    table: Name,
-    condition: Option<ExprTree>,
-    query: QueryTree,
-) -> Result<Resolved, Refusal>
-    requires { IsSound catalog.now }
-    ensures { ResolvesBody catalog.now (asked.Impact table condition query) result }
-{
-    drop(table);
-    let_condition_go(condition);
-    explain(alloc, catalog, query)
 }
 
 /// CREATE VIEW.

@@ -23,7 +23,7 @@ abbrev Fit : Contents → ℕ → List Kind → Type 0
 Fit c id kinds = bag_fits (rows_in c.rows id) kinds ≡ true
 
 -- what doesn't hang on names
-always-grows : (P : ℕ → List Kind → Type 0) → Grows (λ (names : List (List ℕ)). P)
+pub always-grows : (P : ℕ → List Kind → Type 0) → Grows (λ (names : List (List ℕ)). P)
 always-grows P = record { left = λ a b id kinds h. h; right = λ a b id kinds h. h }
 
 module _ (c : Contents) (sound : IsSound c) where

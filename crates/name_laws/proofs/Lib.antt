@@ -35,6 +35,7 @@ mod Sublinks
 pub mod Every
 pub mod FactsOf
 pub mod FittingTables
+pub mod Impacts
 pub mod Induction
 pub mod KindsOf
 pub mod Named

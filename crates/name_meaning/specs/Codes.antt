@@ -26,4 +26,5 @@ code_of rule.MisplacedSublink = 24
 code_of rule.MisplacedProvenance = 25
 code_of rule.TooManyColumns = 26
 code_of rule.TooLarge = 27
+code_of rule.NotMonotone = 28
 code_of rule.UnbuiltForm = 29

@@ -11,6 +11,7 @@ use Rattle.bag_algebra.specs.Measures.{height_of, size_of}
 use Rattle.bag_algebra.specs.declared.expr.Expr.{Expr}
 use Rattle.bag_algebra.specs.declared.query.Answer.{Answer}
 use Rattle.bag_algebra.specs.declared.query.Query.{Query}
+use Rattle.monotone_queries.specs.Monotone.{is_monotone}
 use Rattle.perm_catalog.specs.Changes.{table_named, view_named, is_free}
 use Rattle.perm_catalog.specs.Columns.{column_kinds}
 use Rattle.perm_catalog.specs.Contents.{Contents}
@@ -28,6 +29,7 @@ use Rattle.sql_tree.specs.declared.statement.StatementBody.TheVariants as st
 use Rattle.sql_tree.specs.declared.statement.ValuesRow.{ValuesRow}
 use Rattle.name_meaning.specs.Froms.{condition_breaks, names_of, named_so, settled_columns, table_columns}
 use Rattle.name_meaning.specs.Meanings.{Surroundings, Meant, means_at, Around, QueryMeant, query_means_at, broken, broken_if, is_whole, seen_kind, unites}
+use Rattle.name_meaning.specs.Queries.{may_not_ask}
 use Rattle.name_meaning.specs.Scopes.{KnownColumn, scope_of}
 use Rattle.name_meaning.specs.Sublinks.{nothing_before}
 use Rattle.name_meaning.specs.Trees.{part_of, query_of}
@@ -45,6 +47,10 @@ alone = record { outer = []; may_ask = true }
 
 abbrev pub query_meant : Contents → QueryTree → QueryMeant
 query_meant c tree = query_means_at (query_of c tree) alone
+
+-- that of IMPACT sees no scope either, and the word PROVENANCE may not stand at its front
+abbrev pub impact_query : Contents → QueryTree → QueryMeant
+impact_query c tree = query_means_at (query_of c tree) (may_not_ask alone)
 
 abbrev pub columns_of : QueryMeant → List KnownColumn
 columns_of m = option_map_or settled_columns m.columns []
@@ -69,7 +75,7 @@ stored_columns columns = map (λ (column : KnownColumn). record { name = column.
 abbrev pub bare : List Scope → Surroundings
 bare scopes = record { scopes = scopes; aggregates = false; sublinks = false; argument = false }
 
--- the condition of DELETE sees one item, named as the table, with all its columns
+-- the condition of DELETE and of IMPACT sees one item, named as the table, with all its columns
 abbrev pub table_scope : Name → TableEntry → Scope
 table_scope name table = scope_of (record { name = name.text; columns = table_columns table.columns } ∷ [])
 
@@ -125,6 +131,17 @@ delete_breaks c name condition table = option_map_or
 abbrev pub named_query_breaks : ℕ → QueryMeant → List Break
 named_query_breaks at m = m.breaks ++ broken_if (repeats (names_of (columns_of m))) rule.RepeatedColumn at
 
+-- the condition of IMPACT as that of DELETE, then its query
+abbrev pub impact_parts : Contents → Name → Option ExprTree → QueryTree → List Break
+impact_parts c table condition query = on_table c table (delete_breaks c table condition) ++ (impact_query c query).breaks
+
+abbrev pub not_monotone : ℕ → QueryMeant → List Break
+not_monotone at m = broken_if (not (is_monotone (m.make []))) rule.NotMonotone at
+
+-- whether the query is monotone is looked at where all else breaks no rule
+abbrev pub impact_breaks : List Break → ℕ → QueryMeant → List Break
+impact_breaks parts at m = cond (is_whole parts) (not_monotone at m) parts
+
 abbrev pub name_breaks : Contents → StatementBody → List Break
 name_breaks c (st.CreateTable table columns) = taken c table ++ repeated_columns [] columns
 name_breaks c (st.CreateTableAs table query) = taken c table ++ named_query_breaks query.at (query_meant c query)
@@ -139,7 +156,8 @@ name_breaks c (st.DropView view) = unknown_view c view ++ used c view
 name_breaks c (st.Select query) = (query_meant c query).breaks
 name_breaks c (st.Explain query) = (query_meant c query).breaks
 name_breaks c (st.ShowFresh table) = unknown_table c table
-name_breaks c (st.Impact table condition query) = (query_meant c query).breaks
+name_breaks c (st.Impact table condition query) =
+    impact_breaks (impact_parts c table condition query) query.at (impact_query c query)
 
 -- ---- limits
 
@@ -181,7 +199,7 @@ limit_breaks c (st.DropView view) = []
 limit_breaks c (st.Select query) = query_limits query.at (query_meant c query)
 limit_breaks c (st.Explain query) = query_limits query.at (query_meant c query)
 limit_breaks c (st.ShowFresh table) = []
-limit_breaks c (st.Impact table condition query) = query_limits query.at (query_meant c query)
+limit_breaks c (st.Impact table condition query) = query_limits query.at (impact_query c query)
 
 -- the limits are looked at where names and kinds break no rule
 abbrev pub breaks : Contents → Statement → List Break
@@ -234,8 +252,7 @@ resolved_body c (st.DropView view) = r.DropView view.text
 resolved_body c (st.Select query) = r.Select (answer_of (query_meant c query))
 resolved_body c (st.Explain query) = r.Explain (answer_of (query_meant c query))
 resolved_body c (st.ShowFresh table) = r.ShowFresh table.text
--- IMPACT isn't carried out yet, so its query alone is looked up, as that of EXPLAIN
-resolved_body c (st.Impact table condition query) = r.Explain (answer_of (query_meant c query))
+resolved_body c (st.Impact table condition query) = r.Impact table.text (delete_made c table condition) (answer_of (impact_query c query))
 
 abbrev pub resolved : Contents → Statement → Resolved
 resolved c statement = resolved_body c statement.body

@@ -59,4 +59,11 @@ pub enum Resolved {
     ShowFresh {
         name: Chars,
     },
+    /// `condition`: which rows of the table would be deleted, all of them where there is none; `answer`: the query of which rows
+    /// may vanish.
+    Impact {
+        name: Chars,
+        condition: Option<Expr>,
+        answer: Answer,
+    },
 }

@@ -48,6 +48,8 @@ pub enum Rule {
     TooManyColumns,
     /// Queries are as high and as large as a bound allows.
     TooLarge,
+    /// The query of IMPACT is monotone.
+    NotMonotone,
     /// The form of the statement, and of each join in it, is run.
     UnbuiltForm,
 }
@@ -80,6 +82,7 @@ impl Rule {
             Rule::MisplacedProvenance => 25,
             Rule::TooManyColumns => 26,
             Rule::TooLarge => 27,
+            Rule::NotMonotone => 28,
             Rule::UnbuiltForm => 29,
         }
     }

@@ -1,5 +1,6 @@
 pub mod Bodies
 pub mod Broken
+pub mod Impacts
 pub mod Keys
 pub mod Owned
 pub mod Queried

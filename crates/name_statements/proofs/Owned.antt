@@ -48,7 +48,12 @@ own-first c (st.DropView view) first e = names-first (words.unknown_view c view 
 own-first c (st.Select query) first e = absurd (cc)
 own-first c (st.Explain query) first e = absurd (cc)
 own-first c (st.ShowFresh table) first e = names-first (words.unknown_table c table) [] first e
-own-first c (st.Impact table condition query) first e = absurd (cc)
+own-first c (st.Impact table condition query) first e =
+    let parts : List Break = words.impact_parts c table condition query in
+    names-first (words.name_breaks c (st.Impact table condition query)) (words.limit_breaks c (st.Impact table condition query)) first
+    (names-first parts (words.not_monotone query.at (words.impact_query c query)) first
+    (first-stays (words.on_table c table (words.delete_breaks c table condition)) (words.impact_query c query).breaks (tt {0}) (tt {0}) first
+    (on-first (words.delete_breaks c table condition) table.at (table_named c table.text) first e)))
 
 -- ---- the first of these breaks is told
 

@@ -42,7 +42,7 @@ pub by-limit : (breaks : List Break) (told : Result Unit Break) (refusal : Refus
 by-limit breaks (Ok x) refusal broken is = absurd broken
 by-limit breaks (Err first) refusal broken is = subst (Refuses breaks) (sym broken) is
 
-by-query : (m : QueryMeant) (refusal : Refusal) → QuerySeen m (Err refusal) → Refuses m.breaks refusal
+pub by-query : (m : QueryMeant) (refusal : Refusal) → QuerySeen m (Err refusal) → Refuses m.breaks refusal
 by-query m (Broken first) e = e
 by-query m NoMemory e = tt
 

@@ -58,7 +58,7 @@ module _ (front back : List Break) where
 
 -- ---- statements without a limit
 
-without-limit : (names : List Break) → limited_by names [] ≡ names
+pub without-limit : (names : List Break) → limited_by names [] ≡ names
 without-limit [] = refl
 without-limit (first ∷ more) = refl
 

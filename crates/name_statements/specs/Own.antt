@@ -24,7 +24,7 @@ own_breaks c (st.DropView view) = unknown_view c view ++ used c view
 own_breaks c (st.Select query) = []
 own_breaks c (st.Explain query) = []
 own_breaks c (st.ShowFresh table) = unknown_table c table
-own_breaks c (st.Impact table condition query) = []
+own_breaks c (st.Impact table condition query) = unknown_table c table
 
 -- where there are such breaks, the first of them is the answer
 abbrev pub TellsFirst : List Break → Result Resolved Refusal → Type 0

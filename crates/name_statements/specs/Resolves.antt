@@ -1,11 +1,12 @@
 -- What the code answers of a statement: what it resolves to where it breaks nothing, and otherwise the first break.
-use Rattle.std.specs.Prelude.{◌≡◌, ℕ, cond, List, [], ◌++◌, length, Option, option_map, Result, Ok, Err}
+use Rattle.std.specs.Prelude.{◌≡◌, ℕ, true, cond, List, [], ◌++◌, length, Option, option_map, Result, Ok, Err}
 use Rattle.perm_catalog.specs.Contents.{Contents}
 use Rattle.bag_algebra.specs.declared.expr.Expr.{Expr}
 use Rattle.bag_algebra.specs.declared.query.Query.{Query}
 use Rattle.name_made_nodes.specs.Makes.{MakesQuery}
 use Rattle.name_inside.specs.Held.{inside_in}
 use Rattle.name_inside.specs.declared.gathered.Gathered.{Gathered}
+use Rattle.monotone_queries.specs.Monotone.{is_monotone}
 use Rattle.perm_catalog.specs.declared.entries.TableEntry.{TableEntry}
 use Rattle.sql_tree.specs.declared.expression.ExprTree.{ExprTree}
 use Rattle.sql_tree.specs.declared.name.Name.{Name}
@@ -13,7 +14,7 @@ use Rattle.sql_tree.specs.declared.statement.StatementBody.{StatementBody}
 use Rattle.name_meaning.specs.Froms.{names_of}
 use Rattle.name_meaning.specs.Meanings.{QueryMeant, broken_if, is_whole}
 use Rattle.name_meaning.specs.Scopes.{KnownColumn}
-use Rattle.name_meaning.specs.Statements.{answer_of, columns_of, condition_made, delete_breaks, has_boolean, limit_breaks, name_breaks, query_limits, repeats, resolved_body, size_limit, stored_columns, table_limit, width_limit}
+use Rattle.name_meaning.specs.Statements.{answer_of, columns_of, condition_made, delete_breaks, has_boolean, impact_breaks, limit_breaks, name_breaks, query_limits, repeats, resolved_body, size_limit, stored_columns, table_limit, width_limit}
 use Rattle.name_meaning.specs.declared.answer.Break.{Break}
 use Rattle.name_meaning.specs.declared.answer.Resolved.{Resolved}
 use Rattle.name_seen_parts.specs.Seen.{first_or}
@@ -86,7 +87,32 @@ WithinSeen at m (Ok both) = IsWithin at m both.0 both.1
 WithinSeen at m (Err (Broken first)) = first_or (query_limits at m) (tt {0}) ≡ Err first
 WithinSeen at m (Err NoMemory) = Unit {0}
 
--- ---- the condition of DELETE
+-- ---- the query of IMPACT
+
+-- its own breaks, then whether it is monotone, then the limits
+abbrev pub asked_breaks : ℕ → QueryMeant → List Break
+asked_breaks at m = cond (is_whole (impact_breaks m.breaks at m)) (query_limits at m) (impact_breaks m.breaks at m)
+
+pub record IsMonotoneMade (m : QueryMeant) (made : Query) : Type 0 where
+  pub makes : MakesQuery m [] made
+  pub monotone : is_monotone made ≡ true
+
+abbrev pub MonotoneSeen : ℕ → QueryMeant → Result Query Refusal → Type 0
+MonotoneSeen at m (Ok made) = IsMonotoneMade m made
+MonotoneSeen at m (Err (Broken first)) = first_or (asked_breaks at m) (tt {0}) ≡ Err first
+MonotoneSeen at m (Err NoMemory) = Unit {0}
+
+pub record IsAsked (at : ℕ) (m : QueryMeant) (whole : Whole) : Type 0 where
+  pub none : m.breaks ≡ []
+  pub monotone : is_monotone (m.make []) ≡ true
+  pub is : IsWhole at m whole
+
+abbrev pub AskedSeen : ℕ → QueryMeant → Result Whole Refusal → Type 0
+AskedSeen at m (Ok whole) = IsAsked at m whole
+AskedSeen at m (Err (Broken first)) = first_or (asked_breaks at m) (tt {0}) ≡ Err first
+AskedSeen at m (Err NoMemory) = Unit {0}
+
+-- ---- the condition of DELETE and of IMPACT
 
 pub record IsCondition (c : Contents) (name : Name) (condition : Option ExprTree) (table : TableEntry) (made : Option Expr) : Type 0 where
   pub whole : delete_breaks c name condition table ≡ []

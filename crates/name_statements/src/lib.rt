@@ -5,6 +5,7 @@
 mod letting_go;
 mod limits;
 mod made;
+mod monotone;
 mod own;
 mod queries;
 mod seen;
@@ -16,7 +17,8 @@ pub use letting_go::{
     let_statement_go, let_statements_go,
 };
 pub use limits::within;
-pub use made::{delete_of, insert_of, table_of, view_of, with_row, with_value};
+pub use made::{delete_of, impact_of, insert_of, table_of, view_of, with_row, with_value};
+pub use monotone::{monotone_made, monotone_with};
 pub use own::own_break;
 pub use queries::{Whole, answer_of, around_alone, entry_of, stored_break};
 pub use seen::{

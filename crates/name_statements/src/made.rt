@@ -2,7 +2,7 @@
 ghost use Rattle.std.specs.Prelude.{◌≡◌, ◌∷◌, [], ◌++◌, IfErr, IfOk, IsErrAnd, IsOkAnd};
 ghost use Rattle.name_meaning.specs.declared.answer.Resolved.TheVariants as made;
 
-use crate::queries::Whole;
+use crate::queries::{Whole, answer_of};
 use crate::tables::text_of;
 use bag_algebra::Expr;
 use name_made_nodes::with_more;
@@ -79,6 +79,26 @@ pub fn insert_of(table: Name, rows: Result<List<List<Expr>>, Refusal>) -> Result
         Ok(rows) => Ok(Resolved::Insert {
             name: text_of(table),
             rows,
+        }),
+        Err(refusal) => Err(refusal),
+    }
+}
+
+/// IMPACT of the rows that meet the condition on a whole query.
+pub fn impact_of(
+    table: Name,
+    condition: Option<Expr>,
+    whole: Result<Whole, Refusal>,
+) -> Result<Resolved, Refusal>
+    ensures made { IfOk result (λ statement. IsOkAnd whole (λ whole.
+        statement ≡ made.Impact table.text condition whole.answer)) }
+    ensures refused { IfErr result (λ refusal. IsErrAnd whole (λ first. refusal ≡ first)) }
+{
+    match whole {
+        Ok(whole) => Ok(Resolved::Impact {
+            name: text_of(table),
+            condition,
+            answer: answer_of(whole),
         }),
         Err(refusal) => Err(refusal),
     }

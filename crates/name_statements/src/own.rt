@@ -24,12 +24,11 @@ pub fn own_break(catalog: &Catalog, body: &StatementBody) -> Result<(), Break>
         StatementBody::Copy { table, .. }
         | StatementBody::Insert { table, .. }
         | StatementBody::Delete { table, .. }
-        | StatementBody::ShowFresh { table } => unknown_table(catalog, table),
+        | StatementBody::ShowFresh { table }
+        | StatementBody::Impact { table, .. } => unknown_table(catalog, table),
         StatementBody::DropTable { table } => drop_table_break(catalog, table),
         StatementBody::DropView { view } => drop_view_break(catalog, view),
-        StatementBody::Select { .. }
-        | StatementBody::Explain { .. }
-        | StatementBody::Impact { .. } => Ok(()),
+        StatementBody::Select { .. } | StatementBody::Explain { .. } => Ok(()),
     }
 }
 

@@ -3,6 +3,7 @@ pub mod BrokenCores
 pub mod BrokenLimits
 pub mod BrokenMarks
 pub mod BrokenStatements
+pub mod ImpactStatements
 pub mod KeptInputs
 pub mod Provenance
 pub mod Refused

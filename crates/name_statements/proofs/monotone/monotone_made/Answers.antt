@@ -1,0 +1,7 @@
+use Rattle.name_statements.proofs.Impacts.{monotone-so}
+use Rattle.name_statements.proofs.monotone.monotone_made.Goals as goal
+
+pub returns : goal.returns
+returns c = λ m none makes.
+    monotone-so c.args.at m c.in_ok-query.query c.monotone_break-monotone.result c.within.result none makes
+    c.monotone_break-monotone.ensures c.within.ensures.kept c.within.ensures.broken
