@@ -6,7 +6,7 @@ that says `status N` tells the exit status; it is 0 otherwise. A block ```csv NA
 document may copy. A block ```sql PATH has lines of that script, in their order, which is run whole from the top of the
 repository: the answer is the end of what it answers. A block ```refusals has statements that are answered, an empty line, and
 then a refused statement on each line, with its refusal behind it: `-- E10 at 14`, an offset in that line. Each is run behind
-the first ones.
+the first ones. A block ```said behind an answer is what the error stream says in the end, where the script is named example.sql.
 """
 import os
 import pathlib
@@ -22,7 +22,7 @@ REFUSAL = re.compile(r"-- E(\d\d) (?:at (\d+)|(.*))$")
 
 def run(program, script, folder):
     done = subprocess.run([program, script], cwd=folder, stdin=subprocess.DEVNULL, capture_output=True)
-    return done.returncode, done.stdout.decode()
+    return done.returncode, done.stdout.decode(), done.stderr.decode()
 
 
 def run_text(program, text, folder):
@@ -30,19 +30,21 @@ def run_text(program, text, folder):
     return run(program, "example.sql", folder)
 
 
-def mistake(program, words, script, answer, status, folder):
+def mistake(program, words, script, answer, said, status, folder):
     """Why the example is wrong; None where it is right."""
     if len(words) > 1:
         lines = iter((TOP / words[1]).read_text().splitlines())
         if not all(line in lines for line in script.splitlines()):
             return f"it isn't of lines of {words[1]}"
-        ended, written = run(program, words[1], TOP)
+        ended, written, told = run(program, words[1], TOP)
         if not written.endswith(answer):
             return f"{words[1]} answers\n{written}"
     else:
-        ended, written = run_text(program, script, folder)
+        ended, written, told = run_text(program, script, folder)
         if written != answer:
             return f"it answers\n{written}"
+    if said and not told.endswith(said):
+        return f"the error stream says\n{told}"
     return None if ended == status else f"it ends with status {ended}, not {status}"
 
 
@@ -51,7 +53,7 @@ def mistaken_refusals(program, block, folder):
     first, _, refused = block.partition("\n\n")
     first += "\n"
     reasons, lines = [], refused.splitlines()
-    ended, answered = run_text(program, first, folder)
+    ended, answered, _ = run_text(program, first, folder)
     if ended != 0:
         reasons.append(f"the first statements answer\n{answered}")
     for line in lines:
@@ -64,8 +66,9 @@ def mistaken_refusals(program, block, folder):
         # A script that isn't spelled, or isn't read, answers its refusal alone.
         wanted = f"error E{told[1]} {place}\n" if code < 10 else f"{answered}error E{told[1]} {place}\n"
         status = 3 if code < 10 else 4 if code < 30 else 5 if code < 40 else 6
-        if run_text(program, first + line + "\n", folder) != (status, wanted):
-            reasons.append(f"{line}\nis answered\n{run_text(program, first + line, folder)}")
+        found = run_text(program, first + line + "\n", folder)
+        if found[:2] != (status, wanted) or not f"(E{told[1]})\n" in found[2]:
+            reasons.append(f"{line}\nis answered\n{found}")
     return len(lines), reasons
 
 
@@ -74,7 +77,7 @@ def check(program, document, folder):
     text = (TOP / document).read_text()
     blocks = list(BLOCK.finditer(text))
     count = wrong = 0
-    for block, behind in zip(blocks, blocks[1:] + [None]):
+    for block, behind, further in zip(blocks, blocks[1:] + [None], blocks[2:] + [None, None]):
         words = block[1].split()
         if words[:1] == ["csv"]:
             pathlib.Path(folder, words[1]).write_text(block[2])
@@ -84,7 +87,8 @@ def check(program, document, folder):
             status = re.search(r"status (\d)", text[block.end():behind.start()]) if behind else None
             found, reasons = 1, ["no answer stands behind it"]
             if behind and not behind[1]:
-                reason = mistake(program, words, block[2], behind[2], int(status[1]) if status else 0, folder)
+                said = further[2] if further and further[1] == "said" else ""
+                reason = mistake(program, words, block[2], behind[2], said, int(status[1]) if status else 0, folder)
                 reasons = [reason] if reason else []
         else:
             continue

@@ -1,6 +1,8 @@
 """What the manual says of each refusal."""
 import re
 
+# What the program says of a refusal at the end of the error stream: a sentence, and in a script a line and a mark under it.
+NOTE = re.compile(rb"^.*: .* \(E\d\d\)\n(?:.*\n[ \t]*\^\n)?\Z", re.M)
 ROW = re.compile(r"^\| `error (E\d\d)( [^`]*)?` \| \d \| (.*) \|$", re.M)
 
 
@@ -16,3 +18,8 @@ def sentence(line, known):
     """The sentence for the line of a refusal, without its mark-up."""
     form = re.sub(r"record \d+ field \d+", "record K field J", re.sub(r"record \d+$", "record K", re.sub(r"at \d+", "at N", line)))
     return known.get(form.removeprefix("error "), "").replace("`", "")
+
+
+def without_note(said):
+    """What the error stream says beside the program's note on a refusal."""
+    return NOTE.sub(b"", said)

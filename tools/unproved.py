@@ -1,8 +1,8 @@
 #!/usr/bin/env python3
 """Runs the program's sources, unproved, with the words of a command line: unproved.py [WORD ..].
 
-`rt try` runs them, in a folder of its own: so the script is handed on by its whole path, and each file that a COPY of it
-names by a path from the caller's folder is handed on as a copy under that path. What the program writes is written when it has
+`rt try` runs them, in a folder of its own: so the script is handed on by its whole path, which the note on a refusal then doesn't
+show, and each file that a COPY of it names by a path from the caller's folder is handed on as a copy under that path. What the program writes is written when it has
 ended, and its status is the status. It is 1, which the program never has, where there is no answer: where `rt try` fails, where
 the answer is longer than 2^20 bytes, where the run takes longer than ten minutes, and where a file can't be handed on.
 """
@@ -60,10 +60,16 @@ def flags(words):
     return found
 
 
+def by_its_word(said, path, word):
+    """What was said of the script, under the name that the caller gave it."""
+    return re.sub(b"^" + re.escape(os.fsencode(path)) + b":", lambda _: os.fsencode(word) + b":", said, flags=re.M)
+
+
 def main(words):
     say(TOLD)
     call = ["rt", "try", "--seconds", str(SECONDS), *flags(words), "--"]
-    call += [os.path.join(os.getcwd(), word) if word and len(words) == 1 else word for word in words]
+    paths = [os.path.join(os.getcwd(), word) if word and len(words) == 1 else word for word in words]
+    call += paths
     try:
         done = subprocess.run(call, cwd=TOP / "crates/perm_cli", stdin=subprocess.DEVNULL, capture_output=True)
     except OSError as error:
@@ -72,7 +78,10 @@ def main(words):
     if not ended:
         sys.stderr.buffer.write(done.stderr)
         give_up("the unproved sources gave no answer; ./build first")
-    sys.stderr.buffer.write(OWN.sub(b"", done.stderr))
+    said = OWN.sub(b"", done.stderr)
+    for path, word in zip(paths, words):
+        said = by_its_word(said, path, word)
+    sys.stderr.buffer.write(said)
     try:
         sys.stdout.buffer.write(done.stdout)
         sys.stdout.buffer.flush()

@@ -67,8 +67,8 @@ def main():
                 proved = subprocess.run([program, *words], cwd=folder, capture_output=True)
                 told = subprocess.run([sys.executable, HERE / "unproved.py", *words], cwd=folder, env=given, capture_output=True)
                 answer = (1, b"") if words and words[0] in NO_ANSWER else (proved.returncode, proved.stdout)
-                said = told.stderr.decode().splitlines()
-                if (told.returncode, told.stdout) != answer or "unproved" not in said[0] or len(said) > 1 and answer[0] != 1:
+                first, said = told.stderr.split(b"\n", 1)
+                if (told.returncode, told.stdout) != answer or b"unproved" not in first or said != proved.stderr and answer[0] != 1:
                     print(f"unproved: perm {' '.join(words)}: status {told.returncode}, {told.stdout[:500]}, {said}", file=sys.stderr)
                     failed = True
     return failed

@@ -1,4 +1,5 @@
-//! The program `perm`: the words of its command line, the system's files and the standard output, handed to the engine.
+//! The program `perm`: the words of its command line, the system's files and the standard output, handed to the engine; and of a
+//! refusal a note to the standard error.
 #![tactic(auto)]
 
 ghost use Rattle.std.specs.Prelude.{◌≡◌};
@@ -6,14 +7,18 @@ ghost use Rattle.std.specs.Process.{exit_status};
 ghost use Rattle.run_meaning.specs.Statuses.{number_of};
 ghost use Rattle.perm_cli.specs.declared.WordsError.TheVariants.{NoMemory as OutOfMemory};
 
+mod telling;
+
+use crate::telling::told;
 use perm_engine::{Status, perm};
-use perm_io::{DiskFiles, StdSink};
+use perm_io::{DiskFiles, StdSink, write_all};
 use perm_values::{Chars, List, NoMemory};
 use std::alloc::Global;
 use std::io::ErrorKind;
 use std::process::ExitCode;
 use std::rt::Env;
 use std::{env, io};
+use watched_io::{WatchedFiles, WatchedSink};
 
 /// Why the words can't be handed on: one isn't UTF-8 or can't be asked for, or memory is wanting.
 #[derive(Clone, Copy, PartialEq, Eq)]
@@ -52,17 +57,24 @@ impl WordsError {
 }
 
 fn main(rt: HostRuntime) -> ExitCode {
-    let alloc = rt.alloc();
-    let status = match words(alloc, &rt) {
-        Ok(words) => perm(
-            alloc,
-            words.as_slice(),
-            &mut DiskFiles::new(&rt),
-            &mut StdSink::new(rt.stdout()),
-        ),
+    let status = match words(rt.alloc(), &rt) {
+        Ok(words) => run(&rt, words.as_slice()),
         Err(error) => error.status(),
     };
     exit_code(status)
+}
+
+/// Runs the words over the system's files and the standard output, and tells of a refusal on the standard error. Whether that can
+/// be written counts for nothing.
+fn run(rt: &HostRuntime, words: &[Chars]) -> Status {
+    let alloc = rt.alloc();
+    let mut files = WatchedFiles::new(DiskFiles::new(rt));
+    let mut out = WatchedSink::new(StdSink::new(rt.stdout()));
+    let status = perm(alloc, words, &mut files, &mut out);
+    if let Some(note) = told(alloc, rt, words, status, &mut files, out.kept()) {
+        let _written = write_all(&mut StdSink::new(rt.stderr()), note.as_slice());
+    }
+    status
 }
 
 /// The exit status of the program.

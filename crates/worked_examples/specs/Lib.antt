@@ -27,6 +27,7 @@ pub mod ReadColumns
 pub mod ReplacedQueries
 pub mod RewrittenRows
 pub mod Rows
+pub mod RefusalNotes
 pub mod ScriptPlaces
 pub mod SetRows
 pub mod SmallGrammar
