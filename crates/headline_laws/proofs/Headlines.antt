@@ -39,6 +39,7 @@ use Rattle.run_meaning.specs.declared.status.Status.TheVariants as status
 use Rattle.headline_laws.proofs.Besides.{answers-beside}
 use Rattle.headline_laws.proofs.Counting.{first-cause, statements-few, tokens-few}
 use Rattle.headline_laws.proofs.Courses.{course-files, course-of}
+use Rattle.headline_laws.proofs.Losing.{answers-lost, lost-kept}
 use Rattle.headline_laws.proofs.Queries.{answers-rows, asks-resolved, selects}
 use Rattle.headline_laws.proofs.Refusing.{refuses-first}
 use Rattle.headline_laws.proofs.Steps.{Keeps, contains-at, done-accepted, sound-at}
@@ -76,6 +77,8 @@ module _ (freshens : Freshens) (Can : List ℕ → Found → Type 0) (c after : 
         provenance = rows-beside done.whole;
         untouched = λ tree is. (selects Can c after statement (answer_of (query_meant c tree)) text (asks-resolved c statement tree is done.whole) turn).kept;
         stored = λ table tree is. stores-answer freshens Can c after statement table tree text sound regular is done;
+        lost = λ table condition tree is. answers-lost Can c after statement table condition tree text sound regular is done;
+        undeleted = λ table condition tree is. lost-kept Can c after statement table condition tree text is done;
       }
 
 -- ---- the statements of a script

@@ -4,6 +4,7 @@ pub mod Courses
 pub mod Fronts
 pub mod Headlines
 pub mod Lacking
+pub mod Losing
 pub mod Queries
 pub mod Refusing
 pub mod Sources

@@ -1,9 +1,10 @@
 -- A statement that is refused names its first cause.
-use Rattle.std.proofs.Common.{◌≡◌, ◌≢◌, ℕ, true, List, [], Err, refl, sym, ap, subst}
+use Rattle.std.proofs.Common.{◌≡◌, ◌≢◌, ℕ, true, List, [], Option, Err, refl, sym, ap, subst}
 use Rattle.bag_algebra.specs.Bags.{Bag}
 use Rattle.bag_algebra.specs.Meaning.{meaning}
 use Rattle.bag_algebra.specs.Outcome.{Outcome, Faults, Good, Bad, has}
 use Rattle.bag_algebra.specs.TableRows.{rows_in}
+use Rattle.bag_algebra.specs.declared.expr.Expr.{Expr}
 use Rattle.bag_algebra.specs.declared.query.Answer.{Answer}
 use Rattle.name_meaning.specs.Statements.{resolved}
 use Rattle.name_meaning.specs.declared.answer.Break.{Break}
@@ -12,9 +13,11 @@ use Rattle.perm_catalog.specs.Contents.{Contents}
 use Rattle.perm_io.specs.Found.{Found}
 use Rattle.sql_tree.specs.declared.statement.Statement.{Statement}
 use Rattle.statement_laws.proofs.Answered.{asked-select}
+use Rattle.statement_laws.proofs.Lost.{asked-impact, before-meets}
+use Rattle.statement_laws.specs.Lost.{AsksImpact, MeetsLost}
 use Rattle.statement_meaning.specs.Answers.{Names, TakesTurn}
 use Rattle.statement_meaning.specs.Asking.{Asked, Settled, Begins, asked, asks, unless_broken}
-use Rattle.statement_meaning.specs.Turns.{Refused, Broken, Meets, answered, answer_text, on_good}
+use Rattle.statement_meaning.specs.Turns.{Refused, Broken, Meets, answered, answer_text, identity_of, on_good, rows_before, rows_lost}
 use Rattle.statement_meaning.specs.declared.refusal.StepRefusal.{StepRefusal}
 use Rattle.statement_meaning.specs.declared.refusal.StepRefusal.TheVariants as refusal
 use Rattle.run_meaning.proofs.Turns.{stands-unnamed}
@@ -68,6 +71,37 @@ meets-fault : (c : Contents) (answer : Answer) (at : ℕ) (refused : StepRefusal
 meets-fault c answer at refused (Good bag) told means h = absurd (stands-unnamed (answer_text answer bag) c refused told h)
 meets-fault c answer at refused (Bad faults) told means h = names-fault c answer at faults refused told means h
 
+-- ---- the faults that an IMPACT meets
+
+abbrev pub MeetsImpact : Contents → List ℕ → Option Expr → Answer → ℕ → StepRefusal → Type 0
+MeetsImpact c name condition answer at refused =
+    (fault : RunFault) × MeetsLost answer.query (identity_of c name) condition (rows_in c.rows) fault × (refused ≡ refusal.Run fault at)
+
+module _ (c : Contents) (name : List ℕ) (condition : Option Expr) (answer : Answer) (at : ℕ) (refused : StepRefusal) (told : refused ≢ refusal.NoMemory) where
+  lost-named : (faults : Faults) → rows_before (identity_of c name) condition answer.query (rows_in c.rows) ≡ Bad faults → Names (Refused (Meets faults at)) refused
+      → MeetsImpact c name condition answer at refused
+  lost-named faults bad h = of_one refused told h where
+    of_one : (refused : StepRefusal) → refused ≢ refusal.NoMemory → Names (Refused (Meets faults at)) refused → MeetsImpact c name condition answer at refused
+    of_one (refusal.Break b) told h = absurd (cc h)
+    of_one (refusal.Run fault place) told h = (
+      fault,
+      before-meets answer.query (identity_of c name) condition (rows_in c.rows) fault faults bad
+          (subst (λ (f : Faults). has f fault ≡ true) (sym (same-faults faults h.0 at place h.1)) h.2),
+      ap (refusal.Run fault) (sym (same-offset faults h.0 at place h.1)),
+    )
+    of_one (refusal.Missing place) told h = absurd (cc h)
+    of_one (refusal.TooLarge place) told h = absurd (cc h)
+    of_one (refusal.Unfit rule) told h = absurd (cc h)
+    of_one refusal.ReadFault told h = absurd (cc h)
+    of_one refusal.NoMemory told h = absurd (told refl)
+
+  meets-impact : (o : Outcome Bag) → rows_before (identity_of c name) condition answer.query (rows_in c.rows) ≡ o
+      → Names (on_good at o (λ rows. answered c answer (rows_lost (identity_of c name) condition answer.query (rows_in c.rows) rows))) refused
+      → MeetsImpact c name condition answer at refused
+  meets-impact (Good bag) before h =
+      absurd (stands-unnamed (answer_text answer (rows_lost (identity_of c name) condition answer.query (rows_in c.rows) bag)) c refused told h)
+  meets-impact (Bad faults) before h = lost-named faults before h
+
 -- ---- what is left
 
 unchanged : (Can : List ℕ → Found → Type 0) (a : Asked) (old new : Contents) (refused : StepRefusal) → TakesTurn Can a old new (Err refused) → new ≡ old
@@ -82,5 +116,8 @@ refuses-first Can c statement refused told turn = record {
   met = λ e. subst (λ (bs : List Break). IsRefused Can (unless_broken bs (asks c statement.at (resolved c statement))) refused) e turn;
   fault = λ answer asked_for. meets-fault c answer statement.at refused (meaning answer.query (rows_in c.rows) []) told refl
       (subst (λ (a : Asked). IsRefused Can a refused) (asked-select c statement answer asked_for) turn);
+  lost_fault = λ name condition answer asked_for. meets-impact c name condition answer statement.at refused told
+      (rows_before (identity_of c name) condition answer.query (rows_in c.rows)) refl
+      (subst (λ (a : Asked). IsRefused Can a refused) (asked-impact c statement name condition answer asked_for) turn);
   unchanged = λ new h. unchanged Can (asked c statement) c new refused h;
 }

@@ -1,17 +1,19 @@
--- What a query that is met answers, without the word PROVENANCE and with it, and what CREATE TABLE AS stores.
-use Rattle.std.specs.Prelude.{◌≡◌, ◌≢◌, ◌↔◌, ℕ, List, [], ◌++◌, length, take, codes}
-use Rattle.bag_algebra.specs.Bags.{Row, Bag}
+-- What a query that is met answers, without the word PROVENANCE and with it, what CREATE TABLE AS stores, and what IMPACT answers.
+use Rattle.std.specs.Prelude.{◌≡◌, ◌≢◌, ◌↔◌, ℕ, Bool, true, List, [], ◌++◌, length, take, codes, Option, Some, IsTrue}
+use Rattle.bag_algebra.specs.Bags.{Row, Bag, member}
 use Rattle.bag_algebra.specs.Kinds.{width_of}
 use Rattle.bag_algebra.specs.Meaning.{meaning}
 use Rattle.bag_algebra.specs.Outcome.{Good}
 use Rattle.bag_algebra.specs.TableRows.{rows_in}
+use Rattle.bag_algebra.specs.declared.expr.Expr.{Expr}
 use Rattle.bag_algebra.specs.declared.query.Answer.{Answer}
 use Rattle.bag_algebra.specs.declared.query.Query.{Query}
 use Rattle.bag_algebra.specs.declared.query.Query.TheVariants.{Prov}
 use Rattle.name_meaning.specs.Queries.{provenance_columns}
 use Rattle.name_meaning.specs.Statements.{columns_of, query_meant, stored_columns}
-use Rattle.perm_catalog.specs.Changes.{with_table}
+use Rattle.perm_catalog.specs.Changes.{rows_at, table_named, with_table}
 use Rattle.perm_catalog.specs.Contents.{Contents}
+use Rattle.perm_catalog.specs.declared.entries.TableEntry.{TableEntry}
 use Rattle.query_laws.specs.Holding.{InBag}
 use Rattle.sql_tree.specs.declared.name.Name.{Name}
 use Rattle.sql_tree.specs.declared.query.QueryTree.{QueryTree}
@@ -19,8 +21,9 @@ use Rattle.sql_tree.specs.declared.query.SetTree.{SetTree}
 use Rattle.sql_tree.specs.declared.statement.Statement.{Statement}
 use Rattle.statement_laws.specs.Asks.{AsksFor, HasWord, WithoutWord, shown_names, with_body}
 use Rattle.statement_laws.specs.Freshened.{StoresFresh}
+use Rattle.statement_laws.specs.Lost.{AsksImpact, ListsLost}
 use Rattle.statement_laws.specs.Printed.{ListsBag, ListsBeside}
-use Rattle.statement_meaning.specs.Turns.{counting, remembered}
+use Rattle.statement_meaning.specs.Turns.{counting, goes, reads, remembered}
 use Rattle.headline_laws.specs.Words.{LacksWord, asking}
 
 -- over these contents the query of the statement answers its rows by this text
@@ -85,3 +88,26 @@ pub record StoresAnswer (c after : Contents) (statement : Statement) (table : Na
   pub beside : (at : ℕ) → HasWord at tree.body
       → (shown : List ℕ) × (a : AnswersBeside c (asking statement tree) tree shown) × (rows ≡ a.lists.rows)
   pub fresh : (at : ℕ) → HasWord at tree.body → StoresFresh table.text answer.query after
+
+-- over these contents an IMPACT answers, once each, the rows of its query that would vanish if the rows of its table that meet its
+-- condition were deleted
+pub record AnswersLost (c : Contents) (statement : Statement) (table : Name) (tree : QueryTree) (text : List ℕ) : Type 0 where
+  -- the table is one of the catalog's; the statement breaks no rule, and this is what its condition and its query are resolved to
+  pub entry : TableEntry
+  pub named : table_named c table.text ≡ Some entry
+  pub condition : Option Expr
+  pub answer : Answer
+  pub asks : AsksImpact c statement table.text condition answer
+  -- its query breaks no rule as a statement of its own, and asks for the same answer
+  pub alone : AsksFor c (asking statement tree) answer
+  -- on the catalog's tables the query means this bag, and no fault
+  pub bag : Bag
+  pub means : meaning answer.query (rows_in c.rows) [] ≡ Good bag
+  -- where the query reads the table, the condition meets no fault on any of its rows
+  pub met : reads entry.id answer.query ≡ true → (row : Row) → IsTrue (member row (rows_at c entry.id)) → (doomed : Bool) × (goes condition row ≡ Good doomed)
+  -- the text lists, once each, the rows of the bag that vanish, and nothing else, in the order asked for
+  pub lists : ListsLost answer entry.id condition (rows_in c.rows) text
+  -- and no other text does
+  pub only : (other : List ℕ) → ListsLost answer entry.id condition (rows_in c.rows) other → other ≡ text
+  -- each row has as many values as the header has names
+  pub wide : (t : Row) → InBag t lists.rows → length t ≡ length answer.names

@@ -4,6 +4,7 @@ use Rattle.std.specs.List.{slice_get}
 use Rattle.bag_algebra.specs.Meaning.{meaning}
 use Rattle.bag_algebra.specs.Outcome.{Faults, Bad, has}
 use Rattle.bag_algebra.specs.TableRows.{rows_in}
+use Rattle.bag_algebra.specs.declared.expr.Expr.{Expr}
 use Rattle.bag_algebra.specs.declared.query.Answer.{Answer}
 use Rattle.name_meaning.specs.Statements.{breaks, resolved}
 use Rattle.name_meaning.specs.declared.answer.Break.{Break}
@@ -15,14 +16,17 @@ use Rattle.perm_io.specs.Counts.{HasRisen}
 use Rattle.perm_io.specs.Found.{Found, Read, Missing, TooLong, Failed, CanBe}
 use Rattle.perm_io.specs.declared.named_file.NamedFile.{NamedFile}
 use Rattle.sql_tree.specs.Regular.{RegularStatement}
+use Rattle.sql_tree.specs.declared.expression.ExprTree.{ExprTree}
 use Rattle.sql_tree.specs.declared.name.Name.{Name}
 use Rattle.sql_tree.specs.declared.query.QueryTree.{QueryTree}
 use Rattle.sql_tree.specs.declared.statement.Script.{Script}
 use Rattle.sql_tree.specs.declared.statement.Statement.{Statement}
 use Rattle.sql_tree.specs.declared.statement.StatementBody.TheVariants as st
 use Rattle.statement_laws.specs.Asks.{AsksFor, HasWord}
+use Rattle.statement_laws.specs.Lost.{AsksImpact, MeetsLost}
 use Rattle.statement_meaning.specs.Answers.{Files, TakesTurn, can_be}
 use Rattle.statement_meaning.specs.Asking.{all_breaks, asked, asks}
+use Rattle.statement_meaning.specs.Turns.{identity_of}
 use Rattle.statement_meaning.specs.declared.refusal.StepRefusal.{StepRefusal}
 use Rattle.statement_meaning.specs.declared.refusal.StepRefusal.TheVariants as refusal
 use Rattle.command_words.specs.Requests.{request_of}
@@ -33,7 +37,7 @@ use Rattle.run_meaning.specs.Run.{Ran, IsRefusedWhole}
 use Rattle.run_meaning.specs.Scripts.{IsScriptOf, IsMisspelled}
 use Rattle.run_meaning.specs.Stops.{Misused, NoFile, LongFile, FailedFile, NoScript, At, IsFirst, IsRefused}
 use Rattle.run_meaning.specs.declared.status.Status.{Status}
-use Rattle.headline_laws.specs.Answers.{AnswersBeside, AnswersRows, StoresAnswer}
+use Rattle.headline_laws.specs.Answers.{AnswersBeside, AnswersLost, AnswersRows, StoresAnswer}
 use Rattle.headline_laws.specs.Course.{Course}
 use Rattle.headline_laws.specs.Words.{LacksWord}
 
@@ -52,6 +56,11 @@ pub record Accepts (Can : List ℕ → Found → Type 0) (c after : Contents) (s
   pub untouched : (tree : QueryTree) → statement.body ≡ st.Select tree → after ≡ c
   -- CREATE TABLE AS stores just what its query answers
   pub stored : (table : Name) (tree : QueryTree) → statement.body ≡ st.CreateTableAs table tree → StoresAnswer c after statement table tree text
+  -- an IMPACT answers, once each, the rows of its query that would vanish if the rows of its table that meet its condition were
+  -- deleted, in the order asked for
+  pub lost : (table : Name) (condition : Option ExprTree) (tree : QueryTree) → statement.body ≡ st.Impact table condition tree → AnswersLost c statement table tree text
+  -- and deletes nothing
+  pub undeleted : (table : Name) (condition : Option ExprTree) (tree : QueryTree) → statement.body ≡ st.Impact table condition tree → after ≡ c
 
 -- a statement that is refused like this over the contents c
 pub record RefusesFirst (Can : List ℕ → Found → Type 0) (c : Contents) (statement : Statement) (refused : StepRefusal) : Type 0 where
@@ -63,6 +72,10 @@ pub record RefusesFirst (Can : List ℕ → Found → Type 0) (c : Contents) (st
   pub fault : (answer : Answer) → AsksFor c statement answer
       → (faults : Faults) × (fault : RunFault) × (meaning answer.query (rows_in c.rows) [] ≡ Bad faults) × (has faults fault ≡ true)
       × (refused ≡ refusal.Run fault statement.at)
+  -- an IMPACT that breaks no rule is refused with a fault that its query meets or, where the query reads the table, its condition on
+  -- a row of the table
+  pub lost_fault : (name : List ℕ) (condition : Option Expr) (answer : Answer) → AsksImpact c statement name condition answer
+      → (fault : RunFault) × MeetsLost answer.query (identity_of c name) condition (rows_in c.rows) fault × (refused ≡ refusal.Run fault statement.at)
   -- the catalog holds what it held
   pub unchanged : (new : Contents) → TakesTurn Can (asked c statement) c new (Err refused) → new ≡ c
 

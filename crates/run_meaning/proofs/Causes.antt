@@ -6,11 +6,12 @@ use Rattle.perm_values.specs.declared.kind.Kind.{Kind}
 use Rattle.perm_values.specs.Rows.{printed_cmp}
 use Rattle.bag_algebra.specs.Bags.{Row, Bag, sorted}
 use Rattle.bag_algebra.specs.Expressions.{value}
-use Rattle.bag_algebra.specs.Meaning.{meaning}
+use Rattle.bag_algebra.specs.Meaning.{Database, meaning}
 use Rattle.bag_algebra.specs.Means.{holds_of}
 use Rattle.bag_algebra.specs.Outcome.{Outcome, Good, Bad, each, both, mapped}
 use Rattle.bag_algebra.specs.TableRows.{rows_in}
 use Rattle.bag_algebra.specs.declared.expr.Expr.{Expr}
+use Rattle.bag_algebra.specs.declared.query.Query.{Query}
 use Rattle.csv_tables.specs.Loading.{broken_rules, spelled_rows}
 use Rattle.csv_tables.specs.declared.data_error.DataError.{DataError}
 use Rattle.perm_catalog.specs.Changes.{rows_at, with_table, with_fewer_rows}
@@ -25,7 +26,7 @@ use Rattle.name_meaning.specs.declared.answer.Resolved.{Resolved}
 use Rattle.name_meaning.specs.declared.answer.Resolved.TheVariants as r
 use Rattle.statement_meaning.specs.Answers.{Names}
 use Rattle.statement_meaning.specs.Asking.{Asked, Settled, Begins, all_breaks, asked, asks, unbuilt, unless_broken}
-use Rattle.statement_meaning.specs.Turns.{Turn, Accepted, Refused, Broken, on_good, drawing, counting, identity_of, add_rows, add_unbroken, answered, copy, goes, row_value, rows_deleted, store_answer, with_added, with_answer}
+use Rattle.statement_meaning.specs.Turns.{Turn, Accepted, Refused, Broken, on_good, drawing, counting, identity_of, add_rows, add_unbroken, answered, copy, goes, reads, row_value, rows_before, rows_deleted, rows_going, rows_lost, store_answer, with_added, with_answer}
 use Rattle.statement_meaning.specs.declared.refusal.StepRefusal.{StepRefusal}
 use Rattle.statement_meaning.specs.declared.refusal.StepRefusal.TheVariants as refusal
 use Rattle.bag_algebra.proofs.Outcomes.{union-first}
@@ -72,15 +73,15 @@ drawing-named c at text new = chosen (nat_eq c.next last_number) where
   chosen true = broken-named (broken rule.NumbersSpent at)
   chosen false = tt
 
-caused-both : {X : Type 0} (a : Outcome X) (b : Outcome (List X)) → Caused a → Caused b → Caused (both (λ y ys. y ∷ ys) a b)
-caused-both (Good x) (Good y) c d = tt
-caused-both (Good x) (Bad h) c d = d
-caused-both (Bad g) (Good y) c d = c
-caused-both (Bad g) (Bad h) c d = (c.0, union-first g h c.0 c.1)
+caused-both : {X Y Z : Type 0} (f : X → Y → Z) (a : Outcome X) (b : Outcome Y) → Caused a → Caused b → Caused (both f a b)
+caused-both f (Good x) (Good y) c d = tt
+caused-both f (Good x) (Bad h) c d = d
+caused-both f (Bad g) (Good y) c d = c
+caused-both f (Bad g) (Bad h) c d = (c.0, union-first g h c.0 c.1)
 
 caused-each : {X Y : Type 0} (f : X → Outcome Y) (xs : List X) → ((x : X) → Caused (f x)) → Caused (each f xs)
 caused-each f [] h = tt
-caused-each f (x ∷ xs) h = caused-both (f x) (each f xs) (h x) (caused-each f xs h)
+caused-each f (x ∷ xs) h = caused-both (λ y ys. y ∷ ys) (f x) (each f xs) (h x) (caused-each f xs h)
 
 goes-caused : (condition : Option Expr) (row : Row) → Caused (goes condition row)
 goes-caused None row = tt
@@ -88,6 +89,13 @@ goes-caused (Some condition) row = by_value (value condition row [] []) (caused-
   by_value : (o : Outcome _) → Caused o → Caused (mapped holds_of o)
   by_value (Good v) c = tt
   by_value (Bad faults) c = c
+
+before-caused : (id : ℕ) (condition : Option Expr) (query : Query) (db : Database) → Caused (rows_before id condition query db)
+before-caused id condition query db =
+    caused-both (λ rows doomed. rows) (meaning query db []) (rows_going id condition query db) (caused-denote query db []) (where_read (reads id query)) where
+      where_read : (b : Bool) → Caused (cond b (each (goes condition) (db id)) (Good []))
+      where_read true = caused-each (goes condition) (db id) (goes-caused condition)
+      where_read false = tt
 
 unbroken-named : (c : Contents) (at : ℕ) (name : List ℕ) (rules : List DataError) (rows : Bag) → HasName (add_unbroken c at name rules rows)
 unbroken-named c at name [] rows = drawing-named c at (counting (codes "COPY ") (length rows)) (with_added c name rows)
@@ -128,6 +136,10 @@ asks-named c at (r.Select answer) =
     on_good-named at (meaning answer.query (rows_in c.rows) []) (answered c answer) (caused-denote answer.query (rows_in c.rows) []) (λ rows. tt)
 asks-named c at (r.Explain answer) = broken-named (unbuilt at)
 asks-named c at (r.ShowFresh name) = tt
+asks-named c at (r.Impact name condition answer) =
+    let id : ℕ = identity_of c name in
+    on_good-named at (rows_before id condition answer.query (rows_in c.rows))
+    (λ rows. answered c answer (rows_lost id condition answer.query (rows_in c.rows) rows)) (before-caused id condition answer.query (rows_in c.rows)) (λ rows. tt)
 
 unless-named : (breaks : List Break) (a : Asked) → AsksNamed a → AsksNamed (unless_broken breaks a)
 unless-named [] a h = h

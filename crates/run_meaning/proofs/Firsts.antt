@@ -28,7 +28,7 @@ use Rattle.name_meaning.specs.Statements.{answer_of, breaks, columns_of, defined
 use Rattle.name_meaning.specs.declared.answer.Break.{Break}
 use Rattle.statement_meaning.specs.Answers.{TakesTurn}
 use Rattle.statement_meaning.specs.Asking.{Asked, Settled, Begins, all_breaks, asked, asks, is_unbuilt, unbuilt, unless_broken}
-use Rattle.statement_meaning.specs.Turns.{Turn, Accepted, Refused, Broken, Meets, Missing, TooLarge, Unfit, Failed, on_good, drawing, counting, identity_of, add_rows, add_unbroken, answered, copy, goes, row_value, rows_deleted, store_answer, with_added, with_answer}
+use Rattle.statement_meaning.specs.Turns.{Turn, Accepted, Refused, Broken, Meets, Missing, TooLarge, Unfit, Failed, on_good, drawing, counting, identity_of, add_rows, add_unbroken, answered, copy, goes, row_value, rows_before, rows_deleted, rows_lost, store_answer, with_added, with_answer}
 use Rattle.statement_meaning.specs.declared.refusal.StepRefusal.{StepRefusal}
 use Rattle.statement_meaning.specs.declared.refusal.StepRefusal.TheVariants as refusal
 use Rattle.run_meaning.specs.Run.{StopsBy, StopsAsked, StopsAt}
@@ -104,7 +104,11 @@ module _ (c : Contents) where
       frugal-on_good at (meaning (answer_of (query_meant c query)).query (rows_in c.rows) []) (answered c (answer_of (query_meant c query))) (λ rows. omega arith)
   thrifty-asks at (st.Explain query) e = true_false e
   thrifty-asks at (st.ShowFresh table) e = omega arith
-  thrifty-asks at (st.Impact table condition query) e = true_false e
+  thrifty-asks at (st.Impact table condition query) e =
+      let id : ℕ = identity_of c table.text in
+      let answer : Answer = answer_of (query_meant c query) in
+      frugal-on_good at (rows_before id (delete_made c table condition) answer.query (rows_in c.rows))
+      (λ rows. answered c answer (rows_lost id (delete_made c table condition) answer.query (rows_in c.rows) rows)) (λ rows. omega arith)
 
   -- a statement that breaks nothing is of such a form
   thrifty-whole : (statement : Statement) → all_breaks c statement ≡ [] → IsThrifty c (asks c statement.at (resolved c statement))

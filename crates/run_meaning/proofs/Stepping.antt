@@ -161,6 +161,7 @@ refused-ran c (r.DropView name) refused last = refl
 refused-ran c (r.Select answer) refused last = tt
 refused-ran c (r.Explain answer) refused last = refl
 refused-ran c (r.ShowFresh name) refused last = refl
+refused-ran c (r.Impact name condition answer) refused last = tt
 
 pub made-ran : (c : Contents) (statement : Statement) (made : Resolved) (result : Result (List ℕ) StepRefusal) (before after : Option Ran) →
     IsMade (all_breaks c statement) c statement made → KeepsRun c made result before after → KeepsRun c (resolved c statement) result before after

@@ -111,6 +111,7 @@ module _ (c : Contents) (sound : IsSound c) (stored : Mark) (drawn : All (IsDraw
   keeps-cases (r.Select answer) ready = λ after. keeps-same c refl
   keeps-cases (r.Explain answer) ready = λ after. keeps-same c refl
   keeps-cases (r.ShowFresh name) ready = λ after. keeps-same c refl
+  keeps-cases (r.Impact name condition answer) ready = λ after. keeps-same c refl
 
 -- ---- what a table of the catalog stores
 

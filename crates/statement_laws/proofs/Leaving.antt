@@ -19,7 +19,7 @@ use Rattle.name_meaning.specs.declared.answer.Resolved.{Resolved}
 use Rattle.name_meaning.specs.declared.answer.Resolved.TheVariants as r
 use Rattle.name_meaning.specs.declared.rule.Rule.TheVariants as rule
 use Rattle.statement_meaning.specs.Asking.{Asked, Settled, Begins, asks}
-use Rattle.statement_meaning.specs.Turns.{Turn, Accepted, Refused, Broken, add_rows, add_unbroken, answered, copy, counting, drawing, goes, identity_of, on_good, row_value, rows_deleted, store_answer, with_added, with_answer}
+use Rattle.statement_meaning.specs.Turns.{Turn, Accepted, Refused, Broken, add_rows, add_unbroken, answered, copy, counting, drawing, goes, identity_of, on_good, row_value, rows_before, rows_deleted, rows_lost, store_answer, with_added, with_answer}
 use Rattle.contribution.proofs.WhereGood.{WhereGood}
 use Rattle.statement_laws.specs.Leaving.{Leaves, TurnLeaves}
 use Rattle.statement_laws.specs.Sounder.{KeepsSound, StandsSound}
@@ -61,6 +61,7 @@ module _ (P : Contents → Type 0) where
   Cases c (r.Select answer) = P c
   Cases c (r.Explain answer) = P c
   Cases c (r.ShowFresh name) = P c
+  Cases c (r.Impact name condition answer) = P c
 
   pub leaves : (c : Contents) (at : ℕ) (statement : Resolved) → Cases c statement → Leaves P (asks c at statement)
   leaves c at (r.CreateTable name columns) h = leaves-drawing c at (codes "CREATE TABLE\n") (with_table c name columns [] None) h
@@ -82,6 +83,10 @@ module _ (P : Contents → Type 0) where
   leaves c at (r.Select answer) h = leaves-on_good at (meaning answer.query (rows_in c.rows) []) (answered c answer) (λ rows. h)
   leaves c at (r.Explain answer) h = tt
   leaves c at (r.ShowFresh name) h = h
+  leaves c at (r.Impact name condition answer) h =
+      let id : ℕ = identity_of c name in
+      leaves-on_good at (rows_before id condition answer.query (rows_in c.rows))
+      (λ rows. answered c answer (rows_lost id condition answer.query (rows_in c.rows) rows)) (λ rows. h)
 
   -- where what the statement leaves is sound
   sound-turn : (turn : Turn) → StandsSound turn → TurnLeaves (λ d. IsSound d → P d) turn → TurnLeaves P turn

@@ -6,6 +6,7 @@ pub mod Headline
 pub mod Kept
 pub mod Leaving
 pub mod Left
+pub mod Lost
 pub mod Nested
 pub mod Provenance
 pub mod Ready

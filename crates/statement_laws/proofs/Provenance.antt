@@ -35,7 +35,7 @@ use Rattle.statement_laws.specs.Beside.{IsBeside}
 use Rattle.statement_laws.specs.Printed.{ListsBeside}
 
 -- what a bag holds once, the same bag does
-same_bag-holds : (P : Row → Type 0) (us vs : Bag) → SameBag us vs → HoldsOnce P us → HoldsOnce P vs
+pub same_bag-holds : (P : Row → Type 0) (us vs : Bag) → SameBag us vs → HoldsOnce P us → HoldsOnce P vs
 same_bag-holds P us vs s h = record {
   once = λ t. subst (λ (n : ℕ). n ≤ 1) (s.counts t) (h.once t);
   rows = λ t. subst (λ (n : ℕ). 0 < n ↔ P t) (s.counts t) (h.rows t);

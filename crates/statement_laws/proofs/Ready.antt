@@ -1,13 +1,15 @@
 -- A statement that breaks no rule names what is there, and its query can run.
-use Rattle.std.proofs.Common.{◌≡◌, ℕ, Bool, true, false, cond, not, ◌||◌, List, [], ◌∷◌, ◌++◌, Option, Some, None, IsSome, refl}
+use Rattle.std.proofs.Common.{◌≡◌, ℕ, Bool, true, false, cond, not, ◌||◌, List, [], ◌∷◌, ◌++◌, Option, Some, None, IsSome, refl, sym, ap, subst}
 use Rattle.std.specs.Option.{option_map_or}
 use Rattle.std.specs.Prelude.{is_none, is_some}
+use Rattle.monotone_queries.specs.Conditions.{ConditionFits}
 use Rattle.perm_catalog.specs.Changes.{table_named, view_named, is_free}
 use Rattle.perm_catalog.specs.Contents.{Contents}
 use Rattle.perm_catalog.specs.Lookups.{first_user}
 use Rattle.perm_catalog.specs.Sound.{IsSound}
 use Rattle.perm_catalog.specs.declared.entries.TableEntry.{TableEntry}
 use Rattle.sql_tree.specs.Regular.{RegularStatement, RegularStatementBody, RegularQuery}
+use Rattle.sql_tree.specs.declared.expression.ExprTree.{ExprTree}
 use Rattle.sql_tree.specs.declared.name.Name.{Name}
 use Rattle.sql_tree.specs.declared.query.QueryTree.{QueryTree}
 use Rattle.sql_tree.specs.declared.statement.Statement.{Statement}
@@ -15,12 +17,13 @@ use Rattle.sql_tree.specs.declared.statement.StatementBody.{StatementBody}
 use Rattle.sql_tree.specs.declared.statement.StatementBody.TheVariants as st
 use Rattle.name_meaning.specs.Meanings.{broken, broken_if, is_whole}
 use Rattle.name_meaning.specs.Froms.{names_of}
-use Rattle.name_meaning.specs.Statements.{alone, answer_of, columns_of, has_boolean, query_meant, breaks, name_breaks, limit_breaks, named_query_breaks, on_table, repeated_columns, repeats, resolved, resolved_body, taken, unknown_table, unknown_view, used}
+use Rattle.name_meaning.specs.Statements.{alone, answer_of, columns_of, delete_made, has_boolean, query_meant, breaks, name_breaks, limit_breaks, named_query_breaks, on_table, repeated_columns, repeats, resolved, resolved_body, taken, unknown_table, unknown_view, used}
 use Rattle.name_meaning.specs.declared.answer.Break.{Break}
 use Rattle.name_laws.proofs.Every.{front-none, back-none}
+use Rattle.name_laws.proofs.Impacts.{impact-stands}
 use Rattle.name_laws.proofs.TreeLaws.{query-closed}
 use Rattle.name_laws.proofs.FittingTables.{tables-fit}
-use Rattle.statement_meaning.specs.Ready.{CanRun, IsReady}
+use Rattle.statement_meaning.specs.Ready.{CanLose, CanRun, IsReady}
 use Rattle.name_meaning.specs.declared.rule.Rule.TheVariants as rule
 use Rattle.name_meaning.specs.declared.rule.Rule.{Rule}
 
@@ -93,6 +96,18 @@ module _ (c : Contents) where
   query-whole tree whole =
       front-none (query_meant c tree).breaks (broken_if (repeats (names_of (columns_of (query_meant c tree)))) rule.RepeatedColumn tree.at) whole
 
+  can_lose : (table : Name) (condition : Option ExprTree) (tree : QueryTree) → IsSound c → RegularStatementBody (st.Impact table condition tree)
+      → name_breaks c (st.Impact table condition tree) ≡ [] → CanLose c table.text (delete_made c table condition) (answer_of (query_meant c tree))
+  can_lose table condition tree sound regular whole =
+      let stands = impact-stands c sound table condition tree regular whole in
+      record {
+        known = ap is_some stands.named;
+        can = record { formed = stands.formed; fitting = tables-fit c tree alone sound [] };
+        monotone = stands.monotone;
+        fits = subst (λ (id : ℕ). ConditionFits id (delete_made c table condition) ((query_meant c tree).make []))
+            (sym (ap (λ (o : Option TableEntry). option_map_or (λ (entry : TableEntry). entry.id) o 0) stands.named)) stands.fits;
+      }
+
   body-ready : (body : StatementBody) → IsSound c → RegularStatementBody body → name_breaks c body ≡ []
       → IsReady c (resolved_body c body)
   body-ready (st.CreateTable table columns) sound regular whole = free table (front-none (taken c table) (repeated_columns [] columns) whole)
@@ -114,7 +129,7 @@ module _ (c : Contents) where
   body-ready (st.Select query) sound regular whole = can_run query sound regular whole
   body-ready (st.Explain query) sound regular whole = tt
   body-ready (st.ShowFresh table) sound regular whole = known table whole
-  body-ready (st.Impact table condition query) sound regular whole = tt
+  body-ready (st.Impact table condition query) sound regular whole = can_lose table condition query sound regular whole
 
 pub whole-ready : (c : Contents) (statement : Statement) → IsSound c → RegularStatement statement
     → breaks c statement ≡ [] → IsReady c (resolved c statement)

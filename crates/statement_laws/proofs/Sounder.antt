@@ -42,7 +42,7 @@ use Rattle.name_meaning.specs.declared.answer.Resolved.TheVariants as r
 use Rattle.statement_meaning.specs.Asking.{asks}
 use Rattle.stored_provenance.specs.Held.{IsHeldTable}
 use Rattle.statement_meaning.specs.Ready.{CanRun, IsReady}
-use Rattle.statement_meaning.specs.Turns.{drawing, counting, identity_of, with_added, add_rows, add_unbroken, answered, copy, goes, row_value, rows_deleted, remembered, store_answer, with_answer}
+use Rattle.statement_meaning.specs.Turns.{drawing, counting, identity_of, with_added, add_rows, add_unbroken, answered, copy, goes, row_value, rows_before, rows_deleted, rows_lost, remembered, store_answer, with_answer}
 use Rattle.statement_laws.proofs.Leaving.{leaves-drawing, leaves-good}
 use Rattle.statement_laws.specs.Sounder.{AddsAnswer, AsksAt, HaveKinds, RowsHaveKinds, AddsSoundly, StandsSound, KeepsSound}
 
@@ -201,3 +201,8 @@ module _ (new_mark : NewMark) (c : Contents) (sound : IsSound c) where
       (any_value (meaning answer.query (rows_in c.rows) [])) (λ rows h. sound)
   keeps-sound at (r.Explain answer) ready adds = tt
   keeps-sound at (r.ShowFresh name) ready adds = sound
+  keeps-sound at (r.Impact name condition answer) ready adds =
+      let id : ℕ = identity_of c name in
+      leaves-good IsSound (λ (rows : Bag). Unit {0}) at (rows_before id condition answer.query (rows_in c.rows))
+      (λ rows. answered c answer (rows_lost id condition answer.query (rows_in c.rows) rows))
+      (any_value (rows_before id condition answer.query (rows_in c.rows))) (λ rows h. sound)

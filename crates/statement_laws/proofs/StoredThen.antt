@@ -108,6 +108,7 @@ forgets-cases c name (r.DropView other) ready is = none_is_some is
 forgets-cases c name (r.Select answer) ready is = none_is_some is
 forgets-cases c name (r.Explain answer) ready is = none_is_some is
 forgets-cases c name (r.ShowFresh other) ready is = none_is_some is
+forgets-cases c name (r.Impact other condition answer) ready is = none_is_some is
 
 pub leaves-nothing : (c : Contents) (at : ℕ) (statement : Resolved) (name : List ℕ) → IsReady c statement → filled statement ≡ Some name
     → Leaves (StoresNothing name) (asks c at statement)
@@ -148,6 +149,7 @@ module _ (c : Contents) (sound : IsSound c) (name : List ℕ) (table : TableEntr
   still-cases (r.Select answer) ready apart = is
   still-cases (r.Explain answer) ready apart = is
   still-cases (r.ShowFresh other) ready apart = is
+  still-cases (r.Impact other condition answer) ready apart = is
 
 pub leaves-others : (c : Contents) (at : ℕ) (statement : Resolved) (name : List ℕ) (table : TableEntry) → IsSound c → IsReady c statement
     → table_named c name ≡ Some table → IfSome (written statement) (λ (changed : List ℕ). changed ≢ name) → Leaves (IsStill name table) (asks c at statement)

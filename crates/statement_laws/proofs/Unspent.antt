@@ -11,6 +11,7 @@ use Rattle.bag_algebra.proofs.MembersByIndex.{in-from_contains}
 use Rattle.bag_algebra.specs.declared.expr.Expr.{Expr}
 use Rattle.bag_algebra.specs.declared.expr.Expr.TheVariants.{Op, IsNull, IsTruth, Same}
 use Rattle.bag_algebra.specs.declared.query.SubKind.{SubKind}
+use Rattle.monotone_queries.specs.Monotone.{is_monotone}
 use Rattle.perm_catalog.specs.Changes.{table_named, view_named, is_free}
 use Rattle.perm_catalog.specs.Columns.{column_kinds}
 use Rattle.perm_catalog.specs.Contents.{Contents}
@@ -42,7 +43,7 @@ use Rattle.name_meaning.specs.Meanings.{Around, Meant, OutColumn, Part, QueryMea
 use Rattle.name_meaning.specs.Operands.{Operand, first_unfit, gives_of, need_of, node, operand, operated, parts_breaks, unfit_break}
 use Rattle.name_meaning.specs.Queries.{SetStepPart, do_unite, is_named, is_position, asks_provenance, key_break, keys_breaks, operand_breaks, query_seen, set_chain, set_joined, set_step, may_not_ask}
 use Rattle.name_meaning.specs.Scopes.{ScopeItem, item_columns, look_up, placed, scope_of}
-use Rattle.name_meaning.specs.Statements.{alone, bare, breaks, columns_of, delete_breaks, has_boolean, limit_breaks, most_query_columns, most_table_columns, name_breaks, named_query_breaks, query_limits, query_meant, repeated_columns, repeats, row_breaks, size_limit, table_scope, taken, unknown_table, used, value_breaks, values_breaks, width_limit}
+use Rattle.name_meaning.specs.Statements.{alone, bare, breaks, columns_of, delete_breaks, has_boolean, impact_parts, limit_breaks, most_query_columns, most_table_columns, name_breaks, named_query_breaks, on_table, query_limits, query_meant, repeated_columns, repeats, row_breaks, size_limit, table_scope, taken, unknown_table, used, value_breaks, values_breaks, width_limit}
 use Rattle.name_meaning.specs.Sublinks.{aggregate_meant, around_of, breaking, column_meant, exists_meant, first_kind, if_standing, in_argument, in_tested, is_one_column, scalar_meant, takes_kind, tested_break, tested_looked, tested_meant, tested_unlooked}
 use Rattle.name_meaning.specs.Trees.{part_of, query_of}
 use Rattle.name_meaning.specs.declared.answer.Break.{Break}
@@ -489,6 +490,13 @@ module _ (c : Contents) where
   unspent-used : (name : Name) → Unspent (used c name)
   unspent-used name = one_if (is_some (first_user c name.text)) rule.UsedByView name.at refl
 
+  unspent-delete : (table : Name) (condition : Option ExprTree) → Unspent (on_table c table (delete_breaks c table condition))
+  unspent-delete table condition =
+      if_there (delete_breaks c table condition) (table_named c table.text) (broken rule.UnknownRelation table.at ∷ [])
+      (λ entry. if_there (λ tree. condition_breaks (part_of c tree).at (means_at (part_of c tree) (bare (table_scope table entry ∷ [])))) condition []
+      (λ tree. unspent-condition (part_of c tree).at (means_at (part_of c tree) (bare (table_scope table entry ∷ []))) (unspent-meant tree (bare (table_scope table entry ∷ [])))) tt)
+      (one rule.UnknownRelation table.at refl)
+
   unspent-names : (body : StatementBody) → Unspent (name_breaks c body)
   unspent-names (st.CreateTable table columns) = both _ _ (unspent-taken table) (unspent-repeated [] columns)
   unspent-names (st.CreateTableAs table query) =
@@ -498,17 +506,16 @@ module _ (c : Contents) where
   unspent-names (st.Insert table rows) =
       if_there (λ (entry : TableEntry). flat_map (row_breaks c (column_kinds entry.columns)) rows) (table_named c table.text) (broken rule.UnknownRelation table.at ∷ [])
       (λ entry. all (row_breaks c (column_kinds entry.columns)) rows (unspent-row (column_kinds entry.columns))) (one rule.UnknownRelation table.at refl)
-  unspent-names (st.Delete table condition) =
-      if_there (delete_breaks c table condition) (table_named c table.text) (broken rule.UnknownRelation table.at ∷ [])
-      (λ entry. if_there (λ tree. condition_breaks (part_of c tree).at (means_at (part_of c tree) (bare (table_scope table entry ∷ [])))) condition []
-      (λ tree. unspent-condition (part_of c tree).at (means_at (part_of c tree) (bare (table_scope table entry ∷ []))) (unspent-meant tree (bare (table_scope table entry ∷ [])))) tt)
-      (one rule.UnknownRelation table.at refl)
+  unspent-names (st.Delete table condition) = unspent-delete table condition
   unspent-names (st.DropTable table) = both _ _ (unspent-unknown table) (unspent-used table)
   unspent-names (st.DropView view) = both _ _ (one_if (is_none (view_named c view.text)) rule.UnknownRelation view.at refl) (unspent-used view)
   unspent-names (st.Select query) = unspent-query_meant query
   unspent-names (st.Explain query) = unspent-query_meant query
   unspent-names (st.ShowFresh table) = unspent-unknown table
-  unspent-names (st.Impact table condition query) = unspent-query_meant query
+  unspent-names (st.Impact table condition query) =
+      chosen (is_whole (impact_parts c table condition query)) _ _
+      (one_if (not (is_monotone ((query_meant c query).make []))) rule.NotMonotone query.at refl)
+      (both _ _ (unspent-delete table condition) (unspent-query_meant query))
 
   unspent-query_limits : (at : ℕ) (m : QueryMeant) → Unspent (query_limits at m)
   unspent-query_limits at m =

@@ -26,6 +26,7 @@ written (r.DropView name) = None
 written (r.Select answer) = None
 written (r.Explain answer) = None
 written (r.ShowFresh name) = None
+written (r.Impact name condition answer) = None
 
 -- it is none of the tables that the stored query read
 abbrev pub IsUnread : Contents → Mark → List ℕ → Type 0
@@ -82,3 +83,4 @@ filled (r.DropView name) = None
 filled (r.Select answer) = None
 filled (r.Explain answer) = None
 filled (r.ShowFresh name) = None
+filled (r.Impact name condition answer) = None

@@ -3,5 +3,6 @@ pub mod Beside
 pub mod Freshened
 pub mod Kept
 pub mod Leaving
+pub mod Lost
 pub mod Printed
 pub mod Sounder

@@ -59,6 +59,7 @@ AddsSoundly c (r.DropView name) = ⊤
 AddsSoundly c (r.Select answer) = ⊤
 AddsSoundly c (r.Explain answer) = ⊤
 AddsSoundly c (r.ShowFresh name) = ⊤
+AddsSoundly c (r.Impact name condition answer) = ⊤
 
 -- where the statement stands, the catalog is sound then
 abbrev pub StandsSound : Turn → Type 0

@@ -10,7 +10,7 @@ use Rattle.name_meaning.specs.Statements.{breaks, resolved}
 use Rattle.name_meaning.specs.declared.answer.Break.{Break}
 use Rattle.name_meaning.specs.declared.answer.Resolved.{Resolved}
 use Rattle.name_meaning.specs.declared.answer.Resolved.TheVariants as r
-use Rattle.statement_meaning.specs.Turns.{Turn, Refused, Broken, create_table, view_created, table_dropped, view_dropped, insert, copy, delete, select, create_table_as, show_fresh}
+use Rattle.statement_meaning.specs.Turns.{Turn, Refused, Broken, create_table, view_created, table_dropped, view_dropped, insert, copy, delete, select, impact, create_table_as, show_fresh}
 use Rattle.name_meaning.specs.declared.rule.Rule.TheVariants as rule
 
 -- it is settled, or it begins the file of this name and goes on by what became of that
@@ -38,8 +38,9 @@ asks c at (r.DropView name) = Settled (view_dropped c name)
 asks c at (r.Select answer) = Settled (select c at answer)
 asks c at (r.Explain answer) = Settled (unbuilt_turn at)
 asks c at (r.ShowFresh name) = Settled (show_fresh c name)
+asks c at (r.Impact name condition answer) = Settled (impact c at name condition answer)
 
--- EXPLAIN REWRITE and IMPACT
+-- EXPLAIN REWRITE
 abbrev pub is_unbuilt : StatementBody → Bool
 is_unbuilt (st.CreateTable table columns) = false
 is_unbuilt (st.CreateTableAs table query) = false
@@ -52,7 +53,7 @@ is_unbuilt (st.DropView view) = false
 is_unbuilt (st.Select query) = false
 is_unbuilt (st.Explain query) = true
 is_unbuilt (st.ShowFresh table) = false
-is_unbuilt (st.Impact table condition query) = true
+is_unbuilt (st.Impact table condition query) = false
 
 -- all breaks of a statement; that it isn't run yet hides every other
 abbrev pub all_breaks : Contents → Statement → List Break

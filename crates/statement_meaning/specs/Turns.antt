@@ -1,20 +1,22 @@
 -- What becomes of a statement whose names are looked up: what it answers and what the catalog holds then, or why it is
 -- refused. What a statement does is one word each, which the code's contracts name too.
-use Rattle.std.specs.Prelude.{ℕ, Bool, true, cond, nat_eq, List, [], ◌∷◌, ◌++◌, length, Option, Some, None, codes}
+use Rattle.std.specs.Prelude.{ℕ, Bool, true, false, cond, not, nat_eq, ◌==◌, List, [], ◌∷◌, ◌++◌, length, filter, Option, Some, None, codes}
 use Rattle.std.specs.Fmt.{decimal}
-use Rattle.std.specs.List.{count_by}
+use Rattle.std.specs.List.{count_by, list_any}
 use Rattle.std.specs.Option.{option_map, option_map_or, option_and_then}
 use Rattle.perm_values.specs.Numbers.{last_number}
 use Rattle.perm_values.specs.Rows.{printed_cmp}
 use Rattle.perm_values.specs.declared.kind.Kind.{Kind}
-use Rattle.bag_algebra.specs.Bags.{Row, Bag, sorted}
+use Rattle.bag_algebra.specs.Bags.{Row, Bag, member, once, sorted}
 use Rattle.bag_algebra.specs.Expressions.{value}
-use Rattle.bag_algebra.specs.Meaning.{meaning}
+use Rattle.bag_algebra.specs.Meaning.{Database, meaning}
 use Rattle.bag_algebra.specs.Means.{holds_of}
-use Rattle.bag_algebra.specs.Outcome.{Faults, Outcome, Good, Bad, mapped, each}
+use Rattle.bag_algebra.specs.Outcome.{Faults, Outcome, Good, Bad, both, mapped, each}
 use Rattle.bag_algebra.specs.TableRows.{rows_in}
+use Rattle.bag_algebra.specs.TablesRead.{TableRead, tables_read}
 use Rattle.bag_algebra.specs.declared.expr.Expr.{Expr}
 use Rattle.bag_algebra.specs.declared.query.Answer.{Answer}
+use Rattle.bag_algebra.specs.declared.query.Query.{Query}
 use Rattle.csv_tables.specs.AnswerText.{answer_bytes}
 use Rattle.csv_tables.specs.Loading.{broken_rules, spelled_rows}
 use Rattle.csv_tables.specs.declared.data_error.DataError.{DataError}
@@ -26,6 +28,7 @@ use Rattle.perm_catalog.specs.declared.entries.Kept.{Kept}
 use Rattle.perm_catalog.specs.declared.entries.Mark.{Mark}
 use Rattle.perm_catalog.specs.declared.entries.TableEntry.{TableEntry}
 use Rattle.perm_catalog.specs.declared.entries.ViewEntry.{ViewEntry}
+use Rattle.impact_laws.specs.Doomed.{after_deletion}
 use Rattle.perm_io.specs.Found.{Found}
 use Rattle.perm_io.specs.Found as found
 use Rattle.name_meaning.specs.Meanings.{broken}
@@ -139,6 +142,33 @@ answered c answer rows = Accepted (answer_text answer rows) c
 
 abbrev pub select : Contents → ℕ → Answer → Turn
 select c at answer = on_good at (meaning answer.query (rows_in c.rows) []) (answered c answer)
+
+-- ---- IMPACT: the rows of a query that would vanish if the rows of a table were deleted of which the condition is true, or all.
+-- Nothing is deleted
+
+-- whether the query reads the table of this identity
+abbrev pub reads : ℕ → Query → Bool
+reads id query = list_any (λ (read : TableRead). read.id == id) (tables_read query)
+
+-- whether each row of the table goes; no row is looked at where the query doesn't read the table
+abbrev pub rows_going : ℕ → Option Expr → Query → Database → Outcome (List Bool)
+rows_going id condition query db = cond (reads id query) (each (goes condition) (db id)) (Good [])
+
+-- the rows of the query; both the query and the condition are looked at
+abbrev pub rows_before : ℕ → Option Expr → Query → Database → Outcome Bag
+rows_before id condition query db = both (λ rows doomed. rows) (meaning query db []) (rows_going id condition query db)
+
+abbrev pub is_answered : Outcome Bag → Row → Bool
+is_answered (Good rows) row = member row rows
+is_answered (Bad faults) row = false
+
+-- of these rows of the query those that it wouldn't have, each once
+abbrev pub rows_lost : ℕ → Option Expr → Query → Database → Bag → Bag
+rows_lost id condition query db rows = once (filter (λ row. not (is_answered (meaning query (after_deletion id condition db) []) row)) rows)
+
+abbrev pub impact : Contents → ℕ → List ℕ → Option Expr → Answer → Turn
+impact c at name condition answer = on_good at (rows_before (identity_of c name) condition answer.query (rows_in c.rows))
+    (λ rows. answered c answer (rows_lost (identity_of c name) condition answer.query (rows_in c.rows) rows))
 
 -- ---- CREATE TABLE AS: the table holds the rows of its query, in the order of the query's keys, then of all columns
 

@@ -1,2 +1,3 @@
+mod Lost
 pub mod Selected
 pub mod Unfiled

@@ -20,7 +20,7 @@ use Rattle.name_meaning.specs.declared.answer.Resolved.TheVariants as r
 use Rattle.statement_meaning.specs.Answers.{Files, Names, IsTurn, IsText, IsBacked, RestsOn, TakesTurn, can_be, failed, has_failed, over}
 use Rattle.statement_meaning.specs.Asking.{Asked, Settled, Begins, asks}
 use Rattle.statement_meaning.specs.Carrying.{IsCarriedOut}
-use Rattle.statement_meaning.specs.Turns.{Turn, Accepted, Refused, Broken, Meets, Missing, TooLarge, Unfit, Failed, on_good, drawing, counting, identity_of, add_rows, answered, goes, row_value, rows_deleted, store_answer, with_added, with_answer}
+use Rattle.statement_meaning.specs.Turns.{Turn, Accepted, Refused, Broken, Meets, Missing, TooLarge, Unfit, Failed, on_good, drawing, counting, identity_of, add_rows, answered, goes, row_value, rows_before, rows_deleted, rows_lost, store_answer, with_added, with_answer}
 use Rattle.statement_meaning.specs.declared.refusal.StepRefusal.{StepRefusal}
 use Rattle.statement_meaning.specs.declared.refusal.StepRefusal.TheVariants as refusal
 use Rattle.statement_steps.specs.Settling.{IsSettled}
@@ -68,6 +68,10 @@ asks-unfiled c at (r.DropView name) = refl
 asks-unfiled c at (r.Select answer) = waited at (meaning answer.query (rows_in c.rows) []) (answered c answer) (λ rows. refl)
 asks-unfiled c at (r.Explain answer) = refl
 asks-unfiled c at (r.ShowFresh name) = refl
+asks-unfiled c at (r.Impact name condition answer) =
+    let id : ℕ = identity_of c name in
+    waited at (rows_before id condition answer.query (rows_in c.rows))
+    (λ rows. answered c answer (rows_lost id condition answer.query (rows_in c.rows) rows)) (λ rows. refl)
 
 no_file : {turn other : Turn} → turn ≡ other → of_file turn ≡ false → of_file other ≡ true → ⊥
 no_file {turn} {other} same none some = true≢false (sym some ∙ ap of_file (sym same) ∙ none)

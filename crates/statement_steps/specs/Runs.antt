@@ -12,12 +12,15 @@ use Rattle.bag_algebra.specs.Rewriting.{is_plain, SameRows}
 use Rattle.bag_algebra.specs.TableRows.{rows_in}
 use Rattle.bag_algebra.specs.TablesRead.{ReadsAmong}
 use Rattle.bag_algebra.specs.WellFormed.{WellFormed}
+use Rattle.bag_algebra.specs.declared.expr.Expr.{Expr}
 use Rattle.bag_algebra.specs.declared.query.Answer.{Answer}
 use Rattle.bag_algebra.specs.declared.query.Query.{Query}
 use Rattle.csv_tables.specs.AnswerText.{answer_bytes}
+use Rattle.delete_impact.specs.Impact.{IsImpact}
 use Rattle.row_values.specs.Answers.{Refuses}
 use Rattle.row_values.specs.declared.error.ExecError.{ExecError}
 use Rattle.perm_catalog.specs.Contents.{Contents}
+use Rattle.statement_meaning.specs.Turns.{identity_of}
 use Rattle.statement_steps.specs.declared.ran.Ran.{Ran}
 
 -- the run of a query on a database under no outer rows: its rows in the order of the keys, then of all columns
@@ -57,6 +60,24 @@ IsAnswered c answer text None = ⊥
 abbrev pub IsRun : Contents → Answer → Option Ran → Type 0
 IsRun c answer (Some ran) = RunsFor c answer ran
 IsRun c answer None = ⊥
+
+-- the query of the second answers which rows of the first vanish where the rows of the table that meet the condition are deleted, on
+-- every database that fits that, under the same names and by the same keys
+pub record IsLostBy (c : Contents) (name : List ℕ) (condition : Option Expr) (answer lost : Answer) : Type 0 where
+  pub query : IsImpact answer.query (identity_of c name) condition lost.query
+  pub names : lost.names ≡ answer.names
+  pub keys : lost.keys ≡ answer.keys
+
+-- the text answers an IMPACT by a run for such a query
+pub record LosesBy (c : Contents) (name : List ℕ) (condition : Option Expr) (answer : Answer) (text : List ℕ) (ran : Ran) : Type 0 where
+  pub lost : Answer
+  pub is : IsLostBy c name condition answer lost
+  pub answers : AnswersBy c lost text ran
+
+-- the last run is one by which the text answers an IMPACT
+abbrev pub IsLost : Contents → List ℕ → Option Expr → Answer → List ℕ → Option Ran → Type 0
+IsLost c name condition answer text (Some ran) = LosesBy c name condition answer text ran
+IsLost c name condition answer text None = ⊥
 
 -- the rows of a query over the catalog, in the order of its keys, then of all columns
 abbrev pub ordered_rows : Contents → Answer → Outcome Bag

@@ -3,12 +3,12 @@ ghost use Rattle.statement_meaning.specs.Asking.{is_unbuilt};
 
 use sql_tree::{Statement, StatementBody};
 
-/// Whether the statement is of a form that isn't run yet: EXPLAIN REWRITE or IMPACT.
+/// Whether the statement is of a form that isn't run yet: EXPLAIN REWRITE.
 pub fn is_unbuilt(statement: &Statement) -> bool
     ensures { result ≡ is_unbuilt statement.now.body }
 {
     match &statement.body {
-        StatementBody::Explain { .. } | StatementBody::Impact { .. } => true,
+        StatementBody::Explain { .. } => true,
         StatementBody::CreateTable { .. }
         | StatementBody::CreateTableAs { .. }
         | StatementBody::CreateView { .. }
@@ -18,6 +18,7 @@ pub fn is_unbuilt(statement: &Statement) -> bool
         | StatementBody::DropTable { .. }
         | StatementBody::DropView { .. }
         | StatementBody::Select { .. }
-        | StatementBody::ShowFresh { .. } => false,
+        | StatementBody::ShowFresh { .. }
+        | StatementBody::Impact { .. } => false,
     }
 }

@@ -4,6 +4,7 @@
 mod answering;
 mod forms;
 mod fresh;
+mod losing;
 mod order;
 mod ran;
 mod runner;
@@ -12,6 +13,7 @@ mod stepping;
 pub use answering::{create_table_as, select};
 pub use forms::is_unbuilt;
 pub use fresh::show_fresh;
+pub use losing::impact;
 pub use ran::Ran;
 pub use runner::Runner;
 pub use stepping::step;

@@ -10,6 +10,7 @@ ghost use Rattle.statement_steps.specs.Settling.{IsSettled};
 
 use crate::answering::{create_table_as, select};
 use crate::fresh::show_fresh;
+use crate::losing::impact;
 use crate::runner::Runner;
 use name_meaning::{Break, Resolved, Rule};
 use perm_catalog::Catalog;
@@ -23,7 +24,7 @@ use std::alloc::Global;
 
 /// Carries out a resolved statement at an offset, which can be, and gives its text. COPY begins its file, and
 /// no other statement begins any. After a refusal the catalog is as before. A query is run by the runner,
-/// that of CREATE TABLE AS too, and no other statement changes that.
+/// that of CREATE TABLE AS and what answers an IMPACT too, and no other statement changes that.
 pub fn step<F: Files>(
     alloc: Global,
     catalog: &mut Catalog,
@@ -65,7 +66,8 @@ pub fn step<F: Files>(
         | Resolved::DropView { .. }
         | Resolved::Select { .. }
         | Resolved::Explain { .. }
-        | Resolved::ShowFresh { .. } => settle(alloc, catalog, at, statement, runner),
+        | Resolved::ShowFresh { .. }
+        | Resolved::Impact { .. } => settle(alloc, catalog, at, statement, runner),
     }
 }
 
@@ -127,6 +129,11 @@ fn settled(
             at,
         })),
         Resolved::ShowFresh { name } => Ok(show_fresh(alloc, catalog, name)?),
+        Resolved::Impact {
+            name,
+            condition,
+            answer,
+        } => impact(alloc, catalog, at, name, condition, answer, runner),
         Resolved::Copy { .. } => unreachable!(),
     }
 }

@@ -1,15 +1,17 @@
 //! Each law is the contract of a function that does nothing.
-ghost use Rattle.std.specs.Prelude.{◌≡◌, ◌↔◌, ℕ, List, [], ◌∷◌, ◌++◌, length, take, Result, Err};
+ghost use Rattle.std.specs.Prelude.{◌≡◌, ◌↔◌, ℕ, true, List, [], ◌∷◌, ◌++◌, length, take, Option, Result, Err};
 ghost use Rattle.bag_algebra.specs.Bags.{Row, Bag};
 ghost use Rattle.bag_algebra.specs.Kinds.{width_of};
 ghost use Rattle.bag_algebra.specs.Meaning.{Database, meaning, witnesses};
-ghost use Rattle.bag_algebra.specs.Outcome.{Good, Bad, Faults};
+ghost use Rattle.bag_algebra.specs.Outcome.{Good, Bad, Faults, has};
 ghost use Rattle.bag_algebra.specs.TableRows.{rows_in};
+ghost use Rattle.bag_algebra.specs.declared.expr.Expr.{Expr};
 ghost use Rattle.bag_algebra.specs.declared.query.Answer.{Answer};
 ghost use Rattle.bag_algebra.specs.declared.query.Query.TheVariants.{Prov};
 ghost use Rattle.bag_algebra.specs.declared.query.Query.{Query};
 ghost use Rattle.query_laws.specs.Holding.{InBag, HoldsOnce};
 ghost use Rattle.name_meaning.specs.Queries.{provenance_columns};
+ghost use Rattle.null_logic.specs.declared.run_fault.RunFault.{RunFault};
 ghost use Rattle.perm_catalog.specs.Contents.{Contents};
 ghost use Rattle.perm_catalog.specs.Sound.{IsSound};
 ghost use Rattle.sql_tree.specs.Regular.{RegularStatement};
@@ -19,10 +21,11 @@ ghost use Rattle.sql_tree.specs.declared.statement.Statement.{Statement};
 ghost use Rattle.sql_tree.specs.declared.statement.StatementBody.TheVariants as st;
 ghost use Rattle.statement_meaning.specs.Answers.{Files, IsTurn, TakesTurn, can_be};
 ghost use Rattle.statement_meaning.specs.Asking.{Asked, Settled, asked};
-ghost use Rattle.statement_meaning.specs.Turns.{Turn, Cause, Accepted, Refused, Meets};
+ghost use Rattle.statement_meaning.specs.Turns.{Turn, Cause, Accepted, Refused, Meets, identity_of, rows_before};
 ghost use Rattle.statement_meaning.specs.declared.refusal.StepRefusal.{StepRefusal};
 ghost use Rattle.statement_laws.specs.Asks.{AsksFor, HasWord, IsResolved, WithoutWord, shown_names, with_body};
 ghost use Rattle.statement_laws.specs.Beside.{IsBeside};
+ghost use Rattle.statement_laws.specs.Lost.{AsksImpact, ListsLost, MeetsLost};
 ghost use Rattle.statement_laws.specs.Printed.{ListsBag, ListsBeside};
 
 /// A query that breaks no rule, with PROVENANCE or without: where it means a bag on the catalog's tables, it stands with the one
@@ -133,4 +136,29 @@ pub fn a_query_changes_nothing()
     ensures { (files : Files) (c new : Contents) (statement : Statement) (answer : Answer)
         (text : Result (List ℕ) StepRefusal)
         → AsksFor c statement answer → TakesTurn (can_be files) (asked c statement) c new text → new ≡ c }
+{}
+
+/// An IMPACT that breaks no rule. Where its query meets no fault, nor its condition on a row of the table, if the query reads that,
+/// it stands with the one text that lists, once each, the rows of the query that vanish where the rows of the table that meet the
+/// condition are deleted, in the printed order, and nothing else; and the catalog is as before. Else it is refused with faults of
+/// which each is one that the query meets or, where the query reads the table, the condition on one of its rows.
+pub fn an_impact_answers_the_rows_that_vanish()
+    ensures good { (c : Contents) (statement : Statement)
+        (name : List ℕ) (condition : Option Expr) (answer : Answer) (bag : Bag)
+        → AsksImpact c statement name condition answer
+        → rows_before (identity_of c name) condition answer.query (rows_in c.rows) ≡ Good bag
+        → (text : List ℕ) × ListsLost answer (identity_of c name) condition (rows_in c.rows) text
+        × (asked c statement ≡ Settled (Accepted text c)) }
+    ensures bad { (c : Contents) (statement : Statement)
+        (name : List ℕ) (condition : Option Expr) (answer : Answer) (faults : Faults)
+        → AsksImpact c statement name condition answer
+        → rows_before (identity_of c name) condition answer.query (rows_in c.rows) ≡ Bad faults
+        → asked c statement ≡ Settled (Refused (Meets faults statement.at)) }
+    ensures met { (query : Query) (id : ℕ) (condition : Option Expr) (db : Database)
+        (fault : RunFault) (faults : Faults)
+        → rows_before id condition query db ≡ Bad faults → has faults fault ≡ true
+        → MeetsLost query id condition db fault }
+    ensures one_text { (answer : Answer) (id : ℕ) (condition : Option Expr) (db : Database)
+        (text other : List ℕ)
+        → ListsLost answer id condition db text → ListsLost answer id condition db other → text ≡ other }
 {}
