@@ -17,8 +17,6 @@ import scripts  # noqa: E402
 # Forms that the program refuses by name.
 UNBUILT = {
     "statement: EXPLAIN REWRITE query",
-    "statement: IMPACT DELETE FROM name [WHERE expression] OF query",
-    "statement: WHERE expression (in IMPACT DELETE FROM name [WHERE expression] OF query)",
     "join: CROSS JOIN LATERAL ( query ) [AS] name",
     "join: AS (in CROSS JOIN LATERAL ( query ) [AS] name)",
     "join: LEFT [OUTER] JOIN LATERAL ( query ) [AS] name ON TRUE",

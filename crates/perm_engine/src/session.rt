@@ -108,7 +108,8 @@ impl Session {
     /// rule begins its file, and no other statement begins any. After a refusal the catalog is as before.
     ///
     /// The rows that a query answers, and those that CREATE TABLE AS stores, are those of the last run, of a query without
-    /// PROVENANCE that stands for it. What the last run is after a refusal of either is left open.
+    /// PROVENANCE that stands for it; those that an IMPACT answers are of a query that tells which rows vanish. What the last run is
+    /// after a refusal of these is left open.
     pub fn step<F: Files>(
         &mut self,
         statement: Statement,
@@ -129,7 +130,7 @@ impl Session {
             ⊎ ((result ≡ Err OutOfMemory) × ((F.told files.new).begun ≡ (F.told files.old).begun)) }
         ensures unbegun { begins (asked self.old.contents statement) ≡ false → files.new ≡ files.old }
 
-        // The run that gave a query's rows, or those of CREATE TABLE AS.
+        // The run that gave a query's rows, those of CREATE TABLE AS, or those of an IMPACT.
         ensures ran { KeepsRun self.old.contents (resolved self.old.contents statement) result
             self.old.last self.new.last }
     {
