@@ -9,6 +9,8 @@ mod disk;
 #[cfg(test)]
 mod failing;
 #[cfg(test)]
+mod impacts;
+#[cfg(test)]
 mod runs;
 #[cfg(test)]
 mod scripts;

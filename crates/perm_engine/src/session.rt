@@ -108,8 +108,8 @@ impl Session {
     /// rule begins its file, and no other statement begins any. After a refusal the catalog is as before.
     ///
     /// The rows that a query answers, and those that CREATE TABLE AS stores, are those of the last run, of a query without
-    /// PROVENANCE that stands for it; those that an IMPACT answers are of a query that tells which rows vanish. What the last run is
-    /// after a refusal of these is left open.
+    /// PROVENANCE that stands for it; those that an IMPACT answers are of a query that tells which rows vanish.
+    /// What the last run is after a refusal of these is left open.
     pub fn step<F: Files>(
         &mut self,
         statement: Statement,

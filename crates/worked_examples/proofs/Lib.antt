@@ -4,6 +4,7 @@ pub mod BrokenLimits
 pub mod BrokenMarks
 pub mod BrokenStatements
 pub mod ImpactStatements
+pub mod Impacts
 pub mod KeptInputs
 pub mod Provenance
 pub mod Refused

@@ -31,7 +31,7 @@ use Rattle.perm_catalog.specs.declared.column.Column.{Column}
 use Rattle.perm_catalog.specs.declared.entries.ViewEntry.{ViewEntry}
 use Rattle.name_meaning.specs.declared.answer.Resolved.TheVariants as r
 use Rattle.statement_meaning.specs.Asking.{Settled, asks}
-use Rattle.statement_meaning.specs.Turns.{answered, on_good, store_answer}
+use Rattle.statement_meaning.specs.Turns.{answered, identity_of, on_good, rows_before, rows_lost, store_answer}
 use Rattle.worked_examples.specs.NamedCatalog.{table_r, table_s, a_of_r, view_of}
 
 abbrev pub whole : ℕ → Value
@@ -94,6 +94,14 @@ rows-of rs ss id =
 pub selected : (rs ss : Bag) (at : ℕ) (answer : Answer) → asks (holding rs ss) at (r.Select answer)
     ≡ Settled (on_good at (meaning answer.query (read_of rs ss) []) (answered (holding rs ss) answer))
 selected rs ss at answer i = Settled (on_good at (meaning answer.query (λ (id : ℕ). rows-of rs ss id i) []) (answered (holding rs ss) answer))
+
+-- so does what becomes of an IMPACT
+pub impacted : (rs ss : Bag) (at : ℕ) (name : List ℕ) (condition : Option Expr) (answer : Answer) → asks (holding rs ss) at (r.Impact name condition answer)
+    ≡ Settled (on_good at (rows_before (identity_of (holding rs ss) name) condition answer.query (read_of rs ss))
+    (λ (rows : Bag). answered (holding rs ss) answer (rows_lost (identity_of (holding rs ss) name) condition answer.query (read_of rs ss) rows)))
+impacted rs ss at name condition answer i =
+    Settled (on_good at (rows_before (identity_of (holding rs ss) name) condition answer.query (λ (id : ℕ). rows-of rs ss id i))
+    (λ (rows : Bag). answered (holding rs ss) answer (rows_lost (identity_of (holding rs ss) name) condition answer.query (λ (id : ℕ). rows-of rs ss id i) rows)))
 
 -- so does what becomes of CREATE TABLE AS
 pub stored-as : (rs ss : Bag) (at : ℕ) (name : List ℕ) (columns : List Column) (answer : Answer) (places : Option (List ℕ))
