@@ -5,15 +5,18 @@ use Rattle.bag_algebra.proofs.BagLaws.{member_decides}
 use Rattle.bag_algebra.proofs.Members.{IsIn, member-in}
 use Rattle.bag_algebra.proofs.Outcomes.{same_good}
 use Rattle.bag_algebra.specs.Bags.{Row, Bag, member}
+use Rattle.bag_algebra.specs.Fits.{TablesFit}
 use Rattle.bag_algebra.specs.Meaning.{Database, meaning}
 use Rattle.bag_algebra.specs.Outcome.{Outcome, Good, Bad, each}
 use Rattle.bag_algebra.specs.TableRows.{rows_in}
 use Rattle.bag_algebra.specs.declared.expr.Expr.{Expr}
 use Rattle.bag_algebra.specs.declared.query.Answer.{Answer}
 use Rattle.bag_algebra.specs.declared.query.Query.{Query}
+use Rattle.name_laws.proofs.FittingTables.{tables-fit}
 use Rattle.name_laws.proofs.Impacts.{impact-query_whole, impact-stands}
 use Rattle.name_laws.specs.Impacts.{ImpactStands}
-use Rattle.name_meaning.specs.Statements.{answer_of, delete_made, limit_breaks, name_breaks, query_limits, query_meant, resolved, resolved_body}
+use Rattle.name_meaning.specs.Queries.{may_not_ask}
+use Rattle.name_meaning.specs.Statements.{alone, answer_of, delete_made, impact_query, name_breaks, resolved, resolved_body}
 use Rattle.name_meaning.specs.declared.answer.Resolved.{Resolved}
 use Rattle.name_meaning.specs.declared.answer.Resolved.TheVariants as r
 use Rattle.perm_catalog.specs.Contents.{Contents}
@@ -30,16 +33,13 @@ use Rattle.sql_tree.specs.declared.statement.StatementBody.{StatementBody}
 use Rattle.sql_tree.specs.declared.statement.StatementBody.TheVariants as st
 use Rattle.statement_laws.proofs.Lost.{before-good, each-good, lost-listed, one_lost_text}
 use Rattle.statement_laws.proofs.Ready.{names-whole}
-use Rattle.statement_laws.proofs.Wide.{as-wide}
-use Rattle.statement_laws.specs.Asks.{AsksFor}
+use Rattle.statement_laws.proofs.Wide.{rows-wide, tree-named}
 use Rattle.statement_laws.specs.Lost.{ListsLost}
 use Rattle.statement_meaning.specs.Answers.{TakesTurn}
 use Rattle.statement_meaning.specs.Asking.{asks}
 use Rattle.statement_meaning.specs.Turns.{Accepted, answer_text, answered, goes, identity_of, impact, on_good, reads, rows_before, rows_going, rows_lost}
 use Rattle.headline_laws.proofs.Steps.{IsDone}
-use Rattle.headline_laws.proofs.Twins.{limits-of, no-breaks}
 use Rattle.headline_laws.specs.Answers.{AnswersLost}
-use Rattle.headline_laws.specs.Words.{asking}
 
 -- ---- what it answers, and leaves
 
@@ -63,16 +63,16 @@ loses-of c after at name condition answer text (Bad faults) before e = absurd (c
 
 module _ (Can : List ℕ → Found → Type 0) (c after : Contents) (statement : Statement) (table : Name) (condition : Option ExprTree) (tree : QueryTree) (text : List ℕ)
     (is : statement.body ≡ st.Impact table condition tree) (done : IsDone Can c after statement text) where
-  made-is : resolved c statement ≡ r.Impact table.text (delete_made c table condition) (answer_of (query_meant c tree))
+  made-is : resolved c statement ≡ r.Impact table.text (delete_made c table condition) (answer_of (impact_query c tree))
   made-is = ap (resolved_body c) is
 
-  taken : impact c statement.at table.text (delete_made c table condition) (answer_of (query_meant c tree)) ≡ Accepted text after
+  taken : impact c statement.at table.text (delete_made c table condition) (answer_of (impact_query c tree)) ≡ Accepted text after
   taken = subst (λ (made : Resolved). TakesTurn Can (asks c statement.at made) c after (Ok text)) made-is done.turn
 
-  loses : Loses c after table.text (delete_made c table condition) (answer_of (query_meant c tree)) text
+  loses : Loses c after table.text (delete_made c table condition) (answer_of (impact_query c tree)) text
   loses =
-      loses-of c after statement.at table.text (delete_made c table condition) (answer_of (query_meant c tree)) text
-      (rows_before (identity_of c table.text) (delete_made c table condition) (answer_of (query_meant c tree)).query (rows_in c.rows)) refl taken
+      loses-of c after statement.at table.text (delete_made c table condition) (answer_of (impact_query c tree)) text
+      (rows_before (identity_of c table.text) (delete_made c table condition) (answer_of (impact_query c tree)).query (rows_in c.rows)) refl taken
 
   pub lost-kept : after ≡ c
   lost-kept = loses.kept
@@ -82,7 +82,7 @@ module _ (Can : List ℕ → Found → Type 0) (c after : Contents) (statement :
 module _ (Can : List ℕ → Found → Type 0) (c after : Contents) (statement : Statement) (table : Name) (condition : Option ExprTree) (tree : QueryTree) (text : List ℕ)
     (sound : IsSound c) (regular : RegularStatement statement) (is : statement.body ≡ st.Impact table condition tree) (done : IsDone Can c after statement text) where
   abbrev answer : Answer
-  answer = answer_of (query_meant c tree)
+  answer = answer_of (impact_query c tree)
 
   abbrev given : Option Expr
   given = delete_made c table condition
@@ -96,14 +96,11 @@ module _ (Can : List ℕ → Found → Type 0) (c after : Contents) (statement :
   names : name_breaks c (st.Impact table condition tree) ≡ []
   names = subst (λ (b : StatementBody). name_breaks c b ≡ []) is (names-whole c statement done.whole)
 
-  limits : query_limits tree.at (query_meant c tree) ≡ []
-  limits = subst (λ (b : StatementBody). limit_breaks c b ≡ []) is (limits-of c statement done.whole)
-
   stands : ImpactStands c table.text given answer.query
   stands = impact-stands c sound table condition tree parts names
 
-  alone : AsksFor c (asking statement tree) answer
-  alone = record { whole = no-breaks c (st.Select tree) (impact-query_whole c table condition tree names) limits; is = refl }
+  fits : TablesFit db answer.query
+  fits = tables-fit c tree (may_not_ask alone) sound []
 
   id-is : identity_of c table.text ≡ stands.table.id
   id-is = ap (λ (o : Option TableEntry). option_map_or (λ (entry : TableEntry). entry.id) o 0) stands.named
@@ -133,7 +130,8 @@ module _ (Can : List ℕ → Found → Type 0) (c after : Contents) (statement :
   wide : (t : Row) → InBag t lists.rows → length t ≡ length answer.names
   wide t there =
       let vanishes = (lists.vanish.rows t).0 there in
-      as-wide c (asking statement tree) answer found.bag t sound parts.1 alone both-good.0
+      rows-wide answer db found.bag t (record { formed = stands.formed; tables = fits; outer_rows = refl })
+      (tree-named c tree (may_not_ask alone) sound parts.1 (impact-query_whole c table condition tree names)) both-good.0
       ((member_decides t found.bag).0 (subst (λ (bag : Bag). IsTrue (member t bag)) (same_good _ _ (sym vanishes.before.good ∙ both-good.0)) vanishes.before.row))
 
   pub answers-lost : AnswersLost c statement table tree text
@@ -143,7 +141,7 @@ module _ (Can : List ℕ → Found → Type 0) (c after : Contents) (statement :
     condition = given;
     answer = answer;
     asks = record { whole = done.whole; is = ap (resolved_body c) is };
-    alone = alone;
+    query = refl;
     bag = found.bag;
     means = both-good.0;
     met = met;

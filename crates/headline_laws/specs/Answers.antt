@@ -10,7 +10,7 @@ use Rattle.bag_algebra.specs.declared.query.Answer.{Answer}
 use Rattle.bag_algebra.specs.declared.query.Query.{Query}
 use Rattle.bag_algebra.specs.declared.query.Query.TheVariants.{Prov}
 use Rattle.name_meaning.specs.Queries.{provenance_columns}
-use Rattle.name_meaning.specs.Statements.{columns_of, query_meant, stored_columns}
+use Rattle.name_meaning.specs.Statements.{answer_of, columns_of, impact_query, query_meant, stored_columns}
 use Rattle.perm_catalog.specs.Changes.{rows_at, table_named, with_table}
 use Rattle.perm_catalog.specs.Contents.{Contents}
 use Rattle.perm_catalog.specs.declared.entries.TableEntry.{TableEntry}
@@ -98,8 +98,8 @@ pub record AnswersLost (c : Contents) (statement : Statement) (table : Name) (tr
   pub condition : Option Expr
   pub answer : Answer
   pub asks : AsksImpact c statement table.text condition answer
-  -- its query breaks no rule as a statement of its own, and asks for the same answer
-  pub alone : AsksFor c (asking statement tree) answer
+  -- the query is the one of the statement, at whose front PROVENANCE can't stand
+  pub query : answer ≡ answer_of (impact_query c tree)
   -- on the catalog's tables the query means this bag, and no fault
   pub bag : Bag
   pub means : meaning answer.query (rows_in c.rows) [] ≡ Good bag

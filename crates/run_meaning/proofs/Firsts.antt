@@ -24,7 +24,7 @@ use Rattle.sql_tree.specs.declared.statement.StatementBody.TheVariants as st
 use Rattle.name_laws.proofs.Every.{Every}
 use Rattle.name_seen_parts.specs.Seen.{first_or}
 use Rattle.name_meaning.specs.Meanings.{QueryMeant, broken}
-use Rattle.name_meaning.specs.Statements.{answer_of, breaks, columns_of, defined_columns, delete_made, kinds_of_table, query_meant, resolved, resolved_body, rows_made, stored_columns}
+use Rattle.name_meaning.specs.Statements.{answer_of, breaks, columns_of, defined_columns, delete_made, impact_query, kinds_of_table, query_meant, resolved, resolved_body, rows_made, stored_columns}
 use Rattle.name_meaning.specs.declared.answer.Break.{Break}
 use Rattle.statement_meaning.specs.Answers.{TakesTurn}
 use Rattle.statement_meaning.specs.Asking.{Asked, Settled, Begins, all_breaks, asked, asks, is_unbuilt, unbuilt, unless_broken}
@@ -106,7 +106,7 @@ module _ (c : Contents) where
   thrifty-asks at (st.ShowFresh table) e = omega arith
   thrifty-asks at (st.Impact table condition query) e =
       let id : ℕ = identity_of c table.text in
-      let answer : Answer = answer_of (query_meant c query) in
+      let answer : Answer = answer_of (impact_query c query) in
       frugal-on_good at (rows_before id (delete_made c table condition) answer.query (rows_in c.rows))
       (λ rows. answered c answer (rows_lost id (delete_made c table condition) answer.query (rows_in c.rows) rows)) (λ rows. omega arith)
 

@@ -17,7 +17,8 @@ use Rattle.sql_tree.specs.declared.statement.StatementBody.{StatementBody}
 use Rattle.sql_tree.specs.declared.statement.StatementBody.TheVariants as st
 use Rattle.name_meaning.specs.Meanings.{broken, broken_if, is_whole}
 use Rattle.name_meaning.specs.Froms.{names_of}
-use Rattle.name_meaning.specs.Statements.{alone, answer_of, columns_of, delete_made, has_boolean, query_meant, breaks, name_breaks, limit_breaks, named_query_breaks, on_table, repeated_columns, repeats, resolved, resolved_body, taken, unknown_table, unknown_view, used}
+use Rattle.name_meaning.specs.Queries.{may_not_ask}
+use Rattle.name_meaning.specs.Statements.{alone, answer_of, columns_of, delete_made, has_boolean, impact_query, query_meant, breaks, name_breaks, limit_breaks, named_query_breaks, on_table, repeated_columns, repeats, resolved, resolved_body, taken, unknown_table, unknown_view, used}
 use Rattle.name_meaning.specs.declared.answer.Break.{Break}
 use Rattle.name_laws.proofs.Every.{front-none, back-none}
 use Rattle.name_laws.proofs.Impacts.{impact-stands}
@@ -97,14 +98,14 @@ module _ (c : Contents) where
       front-none (query_meant c tree).breaks (broken_if (repeats (names_of (columns_of (query_meant c tree)))) rule.RepeatedColumn tree.at) whole
 
   can_lose : (table : Name) (condition : Option ExprTree) (tree : QueryTree) → IsSound c → RegularStatementBody (st.Impact table condition tree)
-      → name_breaks c (st.Impact table condition tree) ≡ [] → CanLose c table.text (delete_made c table condition) (answer_of (query_meant c tree))
+      → name_breaks c (st.Impact table condition tree) ≡ [] → CanLose c table.text (delete_made c table condition) (answer_of (impact_query c tree))
   can_lose table condition tree sound regular whole =
       let stands = impact-stands c sound table condition tree regular whole in
       record {
         known = ap is_some stands.named;
-        can = record { formed = stands.formed; fitting = tables-fit c tree alone sound [] };
+        can = record { formed = stands.formed; fitting = tables-fit c tree (may_not_ask alone) sound [] };
         monotone = stands.monotone;
-        fits = subst (λ (id : ℕ). ConditionFits id (delete_made c table condition) ((query_meant c tree).make []))
+        fits = subst (λ (id : ℕ). ConditionFits id (delete_made c table condition) ((impact_query c tree).make []))
             (sym (ap (λ (o : Option TableEntry). option_map_or (λ (entry : TableEntry). entry.id) o 0) stands.named)) stands.fits;
       }
 

@@ -43,7 +43,7 @@ use Rattle.name_meaning.specs.Meanings.{Around, Meant, OutColumn, Part, QueryMea
 use Rattle.name_meaning.specs.Operands.{Operand, first_unfit, gives_of, need_of, node, operand, operated, parts_breaks, unfit_break}
 use Rattle.name_meaning.specs.Queries.{SetStepPart, do_unite, is_named, is_position, asks_provenance, key_break, keys_breaks, operand_breaks, query_seen, set_chain, set_joined, set_step, may_not_ask}
 use Rattle.name_meaning.specs.Scopes.{ScopeItem, item_columns, look_up, placed, scope_of}
-use Rattle.name_meaning.specs.Statements.{alone, bare, breaks, columns_of, delete_breaks, has_boolean, impact_parts, limit_breaks, most_query_columns, most_table_columns, name_breaks, named_query_breaks, on_table, query_limits, query_meant, repeated_columns, repeats, row_breaks, size_limit, table_scope, taken, unknown_table, used, value_breaks, values_breaks, width_limit}
+use Rattle.name_meaning.specs.Statements.{alone, bare, breaks, columns_of, delete_breaks, has_boolean, impact_parts, impact_query, limit_breaks, most_query_columns, most_table_columns, name_breaks, named_query_breaks, on_table, query_limits, query_meant, repeated_columns, repeats, row_breaks, size_limit, table_scope, taken, unknown_table, used, value_breaks, values_breaks, width_limit}
 use Rattle.name_meaning.specs.Sublinks.{aggregate_meant, around_of, breaking, column_meant, exists_meant, first_kind, if_standing, in_argument, in_tested, is_one_column, scalar_meant, takes_kind, tested_break, tested_looked, tested_meant, tested_unlooked}
 use Rattle.name_meaning.specs.Trees.{part_of, query_of}
 use Rattle.name_meaning.specs.declared.answer.Break.{Break}
@@ -460,6 +460,10 @@ module _ (c : Contents) where
   unfolding query_means_at
   unspent-query_meant tree = unspent-query_tree tree alone
 
+  unspent-impact_query : (tree : QueryTree) → Unspent (impact_query c tree).breaks
+  unfolding query_means_at
+  unspent-impact_query tree = unspent-query_tree tree (may_not_ask alone)
+
   -- ---- statements
 
   unspent-values : (kinds : List Kind) (values : List ExprTree) → Unspent (values_breaks c kinds values)
@@ -514,8 +518,8 @@ module _ (c : Contents) where
   unspent-names (st.ShowFresh table) = unspent-unknown table
   unspent-names (st.Impact table condition query) =
       chosen (is_whole (impact_parts c table condition query)) _ _
-      (one_if (not (is_monotone ((query_meant c query).make []))) rule.NotMonotone query.at refl)
-      (both _ _ (unspent-delete table condition) (unspent-query_meant query))
+      (one_if (not (is_monotone ((impact_query c query).make []))) rule.NotMonotone query.at refl)
+      (both _ _ (unspent-delete table condition) (unspent-impact_query query))
 
   unspent-query_limits : (at : ℕ) (m : QueryMeant) → Unspent (query_limits at m)
   unspent-query_limits at m =
@@ -536,7 +540,7 @@ module _ (c : Contents) where
   unspent-limits (st.Select query) = unspent-query_limits query.at (query_meant c query)
   unspent-limits (st.Explain query) = unspent-query_limits query.at (query_meant c query)
   unspent-limits (st.ShowFresh table) = tt
-  unspent-limits (st.Impact table condition query) = unspent-query_limits query.at (query_meant c query)
+  unspent-limits (st.Impact table condition query) = unspent-query_limits query.at (impact_query c query)
 
   pub breaks-unspent : (statement : Statement) → Unspent (breaks c statement)
   breaks-unspent statement = chosen (is_whole (name_breaks c statement.body)) _ _ (unspent-limits statement.body) (unspent-names statement.body)
