@@ -124,8 +124,8 @@ module _ {X Y : Type 0} (f : X → Outcome Y) where
   each-good [] ys e x there = absurd there
   each-good (w ∷ xs) ys e x there = first-good w x xs ys (f w) (each f xs) refl e (λ others rest i. each-good xs others rest x i) there
 
-same_faults : (g h : Faults) → Bad {X = Bag} g ≡ Bad h → g ≡ h
-same_faults g h e = cc
+same_set : {Z : Type 0} (o : Outcome Z) (g h : Faults) → o ≡ Bad g → o ≡ Bad h → g ≡ h
+same_set o g h e k = cc
 
 module _ {X Y : Type 0} (f : X → Outcome Y) (fault : RunFault) where
   abbrev MeetsOn : List X → Type 0
@@ -138,18 +138,15 @@ module _ {X Y : Type 0} (f : X → Outcome Y) (fault : RunFault) where
   of_parts x xs g h here rest (inl k) = (x, inl refl, g, here, k)
   of_parts x xs g h here rest (inr k) = later x xs (rest k)
 
-  same_set : (g h : Faults) → Bad {X = List Y} g ≡ Bad h → g ≡ h
-  same_set g h e = cc
-
   first-meets : (x : X) (xs : List X) (faults : Faults) (o : Outcome Y) (p : Outcome (List Y)) → f x ≡ o → both (λ y ys. y ∷ ys) o p ≡ Bad faults → has faults fault ≡ true
       → ((h : Faults) → p ≡ Bad h → has h fault ≡ true → MeetsOn xs) → MeetsOn (x ∷ xs)
   first-meets x xs faults (Good y) (Good ys) here whole some rest = absurd (cc whole)
   first-meets x xs faults (Good y) (Bad h) here whole some rest = later x xs (rest faults whole some)
   first-meets x xs faults (Bad g) (Good ys) here whole some rest =
-      (x, inl refl, g, here, subst (λ (k : Faults). has k fault ≡ true) (sym (same_set g faults whole)) some)
+      (x, inl refl, g, here, subst (λ (k : Faults). has k fault ≡ true) (sym (same_set (Bad g) g faults refl whole)) some)
   first-meets x xs faults (Bad g) (Bad h) here whole some rest =
       of_parts x xs g h here (λ k. rest h refl k)
-      (from-union g h fault (subst (λ (k : Faults). has k fault ≡ true) (sym (same_set (union g h) faults whole)) some))
+      (from-union g h fault (subst (λ (k : Faults). has k fault ≡ true) (sym (same_set (Bad (union g h)) (union g h) faults refl whole)) some))
 
   -- a fault that is met on some of them is met on one of them
   each-meets : (xs : List X) (faults : Faults) → each f xs ≡ Bad faults → has faults fault ≡ true → MeetsOn xs
@@ -173,10 +170,11 @@ module _ (query : Query) (id : ℕ) (condition : Option Expr) (db : Database) (f
   before-parts : (faults : Faults) (o : Outcome Bag) (p : Outcome (List Bool)) → meaning query db [] ≡ o → rows_going id condition query db ≡ p
       → both (λ rows doomed. rows) o p ≡ Bad faults → has faults fault ≡ true → MeetsLost query id condition db fault
   before-parts faults (Good rows) (Good doomed) one other whole some = absurd (cc whole)
-  before-parts faults (Good rows) (Bad g) one other whole some = going-meets (reads id query) faults refl (other ∙ whole) some
+  before-parts faults (Good rows) (Bad g) one other whole some =
+      going-meets (reads id query) g refl other (subst (λ (k : Faults). has k fault ≡ true) (sym (same_set (Bad g) g faults refl whole)) some)
   before-parts faults (Bad f) (Good doomed) one other whole some = of_query faults (one ∙ whole) some
   before-parts faults (Bad f) (Bad g) one other whole some =
-      of_two f g one other (from-union f g fault (subst (λ (k : Faults). has k fault ≡ true) (sym (same_faults (union f g) faults whole)) some))
+      of_two f g one other (from-union f g fault (subst (λ (k : Faults). has k fault ≡ true) (sym (same_set (Bad (union f g)) (union f g) faults refl whole)) some))
 
   pub before-meets : (faults : Faults) → rows_before id condition query db ≡ Bad faults → has faults fault ≡ true → MeetsLost query id condition db fault
   before-meets faults = before-parts faults (meaning query db []) (rows_going id condition query db) refl refl
