@@ -123,9 +123,9 @@ module _ (Can : List ℕ → Found → Type 0) (c after : Contents) (statement :
 
   met : reads stands.table.id answer.query ≡ true → (row : Row) → IsTrue (member row (db stands.table.id)) → (doomed : Bool) × (goes given row ≡ Good doomed)
   met read row there =
-      each-good (goes given) (db stands.table.id) both-good.1
-      (going-good (reads stands.table.id answer.query) both-good.1 read
-      (subst (λ (id : ℕ). rows_going id given answer.query db ≡ Good both-good.1) id-is both-good.2)) row (member-in row (db stands.table.id) there)
+      each-good (goes given) (db stands.table.id) both-good.1.0
+      (going-good (reads stands.table.id answer.query) both-good.1.0 read
+      (subst (λ (id : ℕ). rows_going id given answer.query db ≡ Good both-good.1.0) id-is both-good.1.1)) row (member-in row (db stands.table.id) there)
 
   wide : (t : Row) → InBag t lists.rows → length t ≡ length answer.names
   wide t there =
