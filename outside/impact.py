@@ -76,8 +76,8 @@ class Maker:
     def truth(self, columns, depth):
         if depth > 0 and self.likely(.4):
             a, b = self.truth(columns, depth - 1), self.truth(columns, depth - 1)
-            return self.one((f"({a} AND {b})", f"({a} OR {b})", f"(NOT {a})", f"({a} IS NOT TRUE)"))
-        a, b = self.number(columns, 1), self.number(columns, 1)
+            return self.one((f"({a} AND {b})", f"({a} OR {b})", f"(NOT {a})", f"(({a}) IS NOT TRUE)"))
+        a, b = self.number(columns, min(depth, 1)), self.number(columns, min(depth, 1))
         return self.one((f"{a} = {b}", f"{a} <> {b}", f"{a} < {b}", f"({a}) IS NULL", f"({a}) IN ({b}, 1)", f"({a}) BETWEEN 1 AND {b}",
                          f"({a}) IS DISTINCT FROM ({b})"))
 
