@@ -97,7 +97,8 @@ def kinds_in(node, depth=0):
         kinds |= kinds_in(child, depth)
     for sublink in sublinks_of(node):
         further = reach(sublink.query)
-        kinds |= {f"sublink, {sublink.kind}", "sublink in " + ("items" if isinstance(node, Project) else node.clause.lower()),
+        clause = "items" if isinstance(node, Project) else "on" if isinstance(node, Join) else node.clause.lower()
+        kinds |= {f"sublink, {sublink.kind}", "sublink in " + clause,
                   "sublink, closed" if further < 1 else "sublink, correlated"} | kinds_in(sublink.query, depth + 1)
         kinds |= {"sublink in a sublink"} if depth else set()
         kinds |= {"sublink that reads two rows out"} if further > 1 else set()

@@ -315,7 +315,8 @@ class Queries:
             word, condition = self.choice(["INNER", "INNER", "LEFT", "RIGHT", "FULL", "CROSS"]), None
             if word != "CROSS":
                 scope = resolve_sources(self.catalog, [(first, joins + [("CROSS", source, None)])], outer)[1]
-                condition = self.expression(TRUTH, Place([scope] + outer), self.choice([0, 0, 0, 1, 2]))
+                place = Place([scope] + outer, depth if inside else max(depth, 1), [self.choice([0, 0, 1])], traced=traced)
+                condition = self.expression(TRUTH, place, self.choice([0, 0, 0, 1, 2]))
             joins.append((word, source, condition))
         return sources
 

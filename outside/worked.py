@@ -1,5 +1,5 @@
 #!/usr/bin/env python3
-"""Rows of nodes that no statement makes, by the reference: dependent joins, and joins whose condition has sublinks. Each query
+"""Rows of dependent joins, which no statement makes, and of joins whose condition has sublinks, by the reference. Each query
 is built here as a node, and what it answers was worked out by hand; the same rows are proved of the definitions in
 `crates/worked_examples/specs/DependentRows.antt`. It prints `all as worked out`, or ends with status 1 at the first that isn't."""
 

@@ -270,12 +270,12 @@ def resolve_sources(catalog, sources, outer):
         for word, source, written in joins:
             right, name, columns = add(source)
             items.append(placed(name, columns, joined.width))
-            condition = ("value", True)
+            condition, sublinks = ("value", True), []
             if word != "CROSS":
-                expressions = Expressions(catalog, Context([Scope(items[:])] + outer))
+                expressions = Expressions(catalog, Context([Scope(items[:])] + outer, sublinks))
                 condition = expressions.of_kind(TRUTH, [written])[0][0]
             kind = "INNER" if word == "CROSS" else word
-            joined = Join(kind, joined, right, condition, [], joined.width + right.width)
+            joined = Join(kind, joined, right, condition, sublinks, joined.width + right.width)
         seen += [(name, [(column, kind, start + place) for column, kind, place in columns]) for name, columns in items]
         node = Join("INNER", node, joined, ("value", True), [], node.width + joined.width) if node else joined
     return node or Single(0), Scope(seen)

@@ -19,8 +19,8 @@ use Rattle.sql_tree.specs.declared.query.SetWord.{SetWord}
 use Rattle.sql_tree.specs.declared.query.SetWord.TheVariants as word
 use Rattle.name_laws.proofs.Induction.{AreKept, CoreParts, SetParts, kept-set}
 use Rattle.name_meaning.proofs.Equations.{CoreFrame, QueryTreeFrame, SetTreeFrame}
-use Rattle.name_meaning.specs.Cores.{BodyPart, Clauses, aggregated_input, before_list, clauses_query, core_clauses, core_over, core_step, core_unlooked, distinct_if, filtered, group_scope, has_some, in_clause, list_columns, optional_built, settle_known, word_breaks}
-use Rattle.name_meaning.specs.Froms.{FromMeant, from_all}
+use Rattle.name_meaning.specs.Cores.{BodyPart, Clauses, aggregated_input, before_list, clauses_query, core_clauses, core_over, core_step, core_unlooked, distinct_if, filtered, group_scope, has_some, list_columns, optional_built, settle_known, word_breaks}
+use Rattle.name_meaning.specs.Froms.{FromMeant, from_all, in_clause}
 use Rattle.name_meaning.specs.Items.{Made, SelectPart, made_items}
 use Rattle.name_meaning.specs.Meanings.{Around, Part, QueryMeant, QueryPart, is_whole}
 use Rattle.name_meaning.specs.Queries.{SetStepPart, asks_provenance, keys_of, limited, may_not_ask, query_seen, query_step, set_chain, set_joined, set_of, set_step}

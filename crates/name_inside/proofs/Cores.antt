@@ -1,6 +1,6 @@
 -- Over which parts queries, set operations, cores and FROM are.
-use Rattle.std.specs.Prelude.{◌≡◌, ⊤, ℕ, ℤ, Bool, true, false, cond, List, [], ◌∷◌, ◌++◌, map, flat_map, Option, Some, None, option_map}
-use Rattle.std.proofs.Common.{refl, ap, sym, subst, ◌∙◌, true≢false}
+use Rattle.std.specs.Prelude.{◌≡◌, ℕ, ℤ, Bool, true, false, cond, List, [], ◌∷◌, ◌++◌, map, flat_map, Option, Some, None, option_map, suc, length, ◌+◌, ◌<◌}
+use Rattle.std.proofs.Common.{refl, ap, sym, subst, ◌∙◌, true≢false, arith, take, get_or}
 use Rattle.std.specs.Option.{option_map_or}
 use Rattle.bag_algebra.specs.declared.query.Query.{Query}
 use Rattle.perm_catalog.specs.Contents.{Contents}
@@ -17,28 +17,30 @@ use Rattle.sql_tree.specs.declared.query.SetTree.TheVariants as set
 use Rattle.sql_tree.specs.declared.expression.ExprTree.{ExprTree}
 use Rattle.sql_tree.specs.declared.source.FromItem.{FromItem}
 use Rattle.sql_tree.specs.declared.source.FromSource.TheVariants as source
-use Rattle.sql_tree.specs.declared.source.FromTree.{FromTree, out-FromTree}
+use Rattle.sql_tree.specs.declared.source.FromTree.{FromTree}
 use Rattle.sql_tree.specs.declared.source.JoinStep.{JoinStep, out-JoinStep}
 use Rattle.sql_tree.specs.declared.source.ScopeMark.{ScopeMark}
 use Rattle.name_meaning.proofs.Equations.{token, selectitem-star, selectitem-tablestar, selectitem-value, fromsource-named, fromsource-inner}
-use Rattle.name_meaning.specs.Cores.{BodyPart, Clauses, clause_breaks, core_clauses, core_over, core_seen, core_unlooked, group_break, group_scope, has_some, in_clause, optional_breaks, optional_inside, optional_meant, word_breaks}
-use Rattle.name_meaning.specs.Froms.{FromMeant, FromPart, ItemMeant, JoinPart, Read, SourcePart, beside_from, both_known, first_item, from_all, from_more, in_on, item_meant, join_all, join_item, label_of, on_breaks, on_meant, read_named, read_of, scope_items, scope_name, joined_item, unbuilt_breaks}
+use Rattle.name_meaning.specs.Cores.{BodyPart, Clauses, clause_breaks, core_clauses, core_over, core_seen, core_unlooked, group_break, group_scope, has_some, word_breaks}
+use Rattle.name_meaning.specs.Froms.{FromMeant, FromPart, ItemMeant, JoinPart, Read, SourcePart, beside_from, both_known, first_item, from_all, from_more, in_on, item_meant, join_all, join_item, label_of, optional_breaks, on_meant, read_named, read_of, scope_items, scope_name, joined_item, unbuilt_breaks, in_clause, optional_inside, optional_meant, no_from}
 use Rattle.name_meaning.specs.Items.{SelectPart, columns_meant, items_breaks, items_inside, no_columns, star_meant, table_star_meant}
-use Rattle.name_meaning.specs.Meanings.{Around, Inside, Meant, Part, QueryMeant, Surroundings, both_inside, is_whole, means_at, nothing_inside, query_means_at}
+use Rattle.name_meaning.specs.Meanings.{Around, Inside, Meant, Part, QueryMeant, Surroundings, both_inside, is_whole, means_at, query_means_at}
 use Rattle.name_meaning.specs.Queries.{SetStepPart, count_columns, asks_provenance, keys_breaks, keys_of, limited, operand_breaks, plain_query, query_with_provenance, query_seen, set_chain, set_joined, may_not_ask}
 use Rattle.name_meaning.specs.Scopes.{Placed, ScopeItem, item_columns, scope_of}
 use Rattle.name_meaning.specs.Trees.{core_of, from_item_of, from_of, item_of, join_of, part_of, query_of, set_of_tree, set_step_of, source_of}
 use Rattle.name_meaning.specs.declared.answer.Break.{Break}
 use Rattle.name_meaning.specs.declared.scope.Scope.{Scope}
-use Rattle.name_laws.proofs.Every.{Every, front-none, back-none, whole-none, none-whole}
-use Rattle.name_meaning.proofs.Opened.{core-is, join-is, opened_from, opened_from_item}
-use Rattle.name_inside.specs.Held.{Adds, Held, all_breaks, all_inside, clauses_of, condition_of, having_of, held_at, held_clauses, held_from, held_froms, held_item, held_items, held_joins, held_operand, held_optional, held_query, held_read, held_select, inside_in, items_of, query_alone, sources_of}
+use Rattle.name_laws.proofs.Every.{front-none, back-none, whole-none, none-whole}
+use Rattle.name_meaning.proofs.Opened.{core-is, opened_from_item}
+use Rattle.name_inside.specs.Held.{Adds, Held, all_breaks, all_inside, clauses_of, condition_of, having_of, held_at, held_clauses, held_from, held_item, held_items, held_operand, held_optional, held_query, held_read, held_select, inside_in, items_of, query_alone, sources_of, AddsFrom, AddsJoin, JoinsAdded, SourcesAdded, StandsThere}
 use Rattle.name_inside.specs.Passed.{HasScope, HasWidth}
 use Rattle.name_inside.specs.declared.gathered.Gathered.{Gathered}
-use Rattle.name_inside.proofs.Bare.{bare-tree}
-use Rattle.name_inside.proofs.Forms.{BarePart}
-use Rattle.name_inside.proofs.Over.{IsOver, adds-both, adds-broken, adds-nothing, adds-over, adds-this, breaks-append, breaks-one, both-nothing, inside-append, inside-one, over-alike, over-front, over-pair, over-self}
+use Rattle.name_inside.proofs.Over.{IsOver, adds-alike, adds-both, adds-broken, adds-nothing, adds-over, adds-this, breaks-append, breaks-one, inside-append, inside-one, over-alike, over-front, over-pair, over-self}
 use Rattle.name_seen_cores.proofs.Opened.{set-is, paren-means, chain-means, step-operand, query-means}
+use Rattle.name_made_parts.specs.Sources.{IsScope, StandsIn}
+use Rattle.name_made_parts.proofs.Sourcing.{both-count, join-fields, joins-append, one-item, own-stands, stands-left, stands-right}
+use Rattle.name_seen_parts.proofs.Scoping.{more-behind}
+use Rattle.name_made_parts.proofs.AskedListing.{mapped}
 
 -- ---- set operations
 
@@ -121,99 +123,144 @@ query-adds c around tree width old middle new wide first body = adds-over
 
 -- ---- FROM
 
+optional-none : (here : Surroundings) (part : Option Part) → optional_breaks part (optional_meant here part) ≡ [] → all_breaks (held_optional here part) ≡ []
+unfolding means_at
+optional-none here None none = refl
+optional-none here (Some part) none = breaks-one (held_at here part) ∙ front-none (part.means here).breaks _ none
+
+optional-inside : (here : Surroundings) (part : Option Part) → optional_inside (optional_meant here part) ≡ all_inside (held_optional here part)
+unfolding means_at
+optional-inside here None = refl
+optional-inside here (Some part) = sym (inside-one (held_at here part))
+
 beside-over : (left right : FromMeant) → IsOver (held_from (beside_from left right)) (held_from left ∷ held_from right ∷ [])
 beside-over left right = over-pair (held_from (beside_from left right)) (held_from left) (held_from right) (λ none. none) (λ none. refl)
 
-more-over : (outer : List Scope) (left : FromMeant) (parts : List FromPart)
-    → IsOver (held_from (from_more outer left parts)) (held_from left ∷ held_froms outer left.names parts)
-more-over outer left [] = over-self (held_from left)
-more-over outer left (part ∷ parts) =
-    let right = part.means outer left.names in
-    over-front (held_from left ∷ held_from right ∷ []) (held_froms outer right.names parts)
-    (more-over outer (beside_from left right) parts) (beside-over left right)
-
-all-over : (outer : List Scope) (parts : List FromPart) → IsOver (held_from (from_all outer parts)) (held_froms outer [] parts)
-all-over outer [] = record { breaks = λ none. refl; inside = λ none. refl }
-all-over outer (part ∷ parts) = more-over outer (part.means outer []) parts
-
-abbrev BareOn : Option Part → Type 0
-BareOn None = ⊤
-BareOn (Some condition) = BarePart condition
-
-abbrev BareJoin : JoinPart → Type 0
-BareJoin step = BareOn step.condition
-
-on-nothing : (outer : List Scope) (items : Option (List ScopeItem)) (condition : Option Part) → BareOn condition
-    → on_breaks condition (on_meant outer items condition) ≡ []
-    → option_map_or (λ (m : Meant). m.inside) (on_meant outer items condition) nothing_inside ≡ nothing_inside
-on-nothing outer None condition bare none = refl
-on-nothing outer (Some items) None bare none = refl
-on-nothing outer (Some items) (Some condition) bare none =
-    bare (in_on items outer) refl (front-none (condition.means (in_on items outer)).breaks _ none)
-
-join-over : (outer : List Scope) (left : FromMeant) (step : JoinPart) → BareJoin step
+join-over : (outer : List Scope) (left : FromMeant) (step : JoinPart) (items : List ScopeItem)
+    → both_known left.items (scope_items (step.item.means outer left.names)) ≡ Some items
     → IsOver (held_from (join_item outer left step (joined_item outer left.names step)))
-    (held_from left ∷ held_item (step.item.means outer left.names) ∷ [])
-join-over outer left step bare =
+    (held_from left ∷ (held_item (step.item.means outer left.names) ∷ held_optional (in_on items outer) step.condition))
+join-over outer left step items known =
     let m = step.item.means outer left.names in
     let built = joined_item outer left.names step in
-    let items = both_known left.items (scope_items m) in
-    let on = on_breaks step.condition (on_meant outer items step.condition) in
-    over-pair (held_from (join_item outer left step built)) (held_from left) (held_item m)
-    (λ none.
-    let operands = front-none (left.breaks ++ built.breaks) on none in
-    λ i. front-none left.breaks built.breaks operands i ++ back-none (unbuilt_breaks step.word step.item.at) m.breaks (back-none left.breaks built.breaks operands) i)
-    (λ none. ap (both_inside left.inside)
-    (ap (both_inside m.inside) (on-nothing outer items step.condition bare (back-none (left.breaks ++ built.breaks) on none)) ∙ both-nothing m.inside))
+    let here = in_on items outer in
+    let on = on_meant outer (both_known left.items (scope_items m)) step.condition in
+    let same : on ≡ optional_meant here step.condition = ap (λ (known : Option (List ScopeItem)). on_meant outer known step.condition) known in
+    record {
+      breaks = λ none.
+          let operands = front-none (left.breaks ++ built.breaks) (optional_breaks step.condition on) none in
+          let own = back-none (unbuilt_breaks step.word step.item.at) m.breaks (back-none left.breaks built.breaks operands) in
+          let conditions = optional-none here step.condition
+          (subst (λ (m : Option Meant). optional_breaks step.condition m ≡ []) same (back-none (left.breaks ++ built.breaks) (optional_breaks step.condition on) none)) in
+          λ i. front-none left.breaks built.breaks operands i ++ (own i ++ conditions i);
+      inside = λ none. ap (both_inside left.inside) (ap (both_inside m.inside) (ap optional_inside same ∙ optional-inside here step.condition));
+    }
 
-joins-over : (outer : List Scope) (left : FromMeant) (steps : List JoinPart) → Every BareJoin steps
-    → IsOver (held_from (join_all outer left steps)) (held_from left ∷ held_joins outer left.names steps)
-joins-over outer left [] bare = over-self (held_from left)
-joins-over outer left (step ∷ steps) bare =
+-- one more join, whose condition sees the items up to its own
+pub join-added : (outer : List Scope) (step : JoinPart) (first count : ℕ) (scope own : Scope) (here : Surroundings) (middle items_in new : Gathered)
+    → ((names : List (List ℕ)) → Adds (held_item (step.item.means outer names) ∷ []) middle items_in)
+    → ((items : List ScopeItem) → StandsIn (Some items) first scope → length items ≡ count → own ≡ scope_of items)
+    → here ≡ in_clause own outer false → Adds (held_optional here step.condition) items_in new → AddsJoin outer step first count scope middle new
+join-added outer step first count scope own here middle items_in new item own_is here_is condition left old counts so_far stands =
     let m = step.item.means outer left.names in
-    over-front (held_from left ∷ held_item m ∷ []) (held_joins outer (left.names ++ m.name ∷ []) steps)
-    (joins-over outer (join_item outer left step (joined_item outer left.names step)) steps bare.1) (join-over outer left step bare.0)
+    let stands_own : StandsIn (Some stands.own) first scope =
+    record { before = stands.before; own = stands.own; after = stands.after; known = refl; scope_is = stands.scope_is; at = stands.at } in
+    let same : here ≡ in_on stands.own outer =
+    here_is ∙ ap (λ (s : Scope). in_clause s outer false) (own_is stands.own stands_own (counts stands.own stands.known)) in
+    adds-over (join-over outer left step stands.own stands.known)
+    (adds-both (so_far (stands-left left.items (scope_items m) first scope stands))
+    (adds-both (item left.names) (subst (λ (here : Surroundings). Adds (held_optional here step.condition) items_in new) same condition)))
+
+pub first-added : (earlier : List (List ℕ)) (m : ItemMeant) (first : ℕ) (scope : Scope) (old new : Gathered) → Adds (held_item m ∷ []) old new
+    → JoinsAdded (first_item earlier m) first scope old new 0
+first-added earlier m first scope old new added = record { adds = λ stands. added; counts = one-item m }
+
+pub join-more : (outer : List Scope) (left : FromMeant) (step : JoinPart) (first joins : ℕ) (scope : Scope) (old middle new : Gathered)
+    → JoinsAdded left first scope old middle joins → AddsJoin outer step first (joins + 2) scope middle new
+    → JoinsAdded (join_item outer left step (joined_item outer left.names step)) first scope old new (suc joins)
+join-more outer left step first joins scope old middle new so_far adds =
+    let m = joined_item outer left.names step in
+    let counts = λ (items : List ScopeItem) (known : both_known left.items (scope_items m) ≡ Some items).
+    both-count left.items (scope_items m) (suc joins) 1 so_far.counts (one-item m) items known in
+    record {
+      adds = adds left old (λ items known. let n = counts items known in omega (arith, n)) so_far.adds;
+      counts = λ items known. let n = counts items known in omega (arith, n);
+    }
+
+module _ (c : Contents) (outer : List Scope) (left : FromMeant) (joins : List JoinStep) (i : ℕ) (step : JoinStep) (first : ℕ) (scope : Scope)
+    {old middle new : Gathered} where
+  pub step-added : i < length joins → step ≡ get_or joins i step → JoinsAdded (join_all outer left (map (join_of c) (take i joins))) first scope old middle i
+      → AddsJoin outer (join_of c step) first (i + 2) scope middle new
+      → JoinsAdded (join_all outer left (map (join_of c) (take (i + 1) joins))) first scope old new (i + 1)
+  step-added within is so_far adds =
+      let next : suc i ≡ i + 1 = omega arith in
+      subst (λ (n : ℕ). JoinsAdded (join_all outer left (map (join_of c) (take (i + 1) joins))) first scope old new n) next
+      (subst (λ (m : FromMeant). JoinsAdded m first scope old new (suc i))
+      (sym (ap (join_all outer left) (mapped (join_of c) joins i step within is) ∙ joins-append outer left (map (join_of c) (take i joins)) (join_of c step)))
+      (join-more outer (join_all outer left (map (join_of c) (take i joins))) (join_of c step) first i scope old middle new so_far adds))
+
+-- ---- parts before and behind commas
+
+pub no-sources : (outer : List Scope) (scope : Scope) (old : Gathered) → SourcesAdded outer [] scope old old 0
+no-sources outer scope old = record {
+  adds = λ stands. adds-nothing old (record { breaks = λ none. refl; inside = λ none. refl });
+  counts = λ items known. let none : items ≡ [] = cc known in ap length none;
+}
+
+alone-over : (m : FromMeant) → IsOver (held_from m) (held_from no_from ∷ held_from m ∷ [])
+alone-over m = over-pair (held_from m) (held_from no_from) (held_from m) (λ none. none) (λ none. refl)
+
+pub source-more : (outer : List Scope) (parts : List FromPart) (part : FromPart) (scope : Scope) (old middle new : Gathered) (count joins : ℕ)
+    → SourcesAdded outer parts scope old middle count → ((names : List (List ℕ)) → JoinsAdded (part.means outer names) count scope middle new joins)
+    → SourcesAdded outer (parts ++ part ∷ []) scope old new (count + suc joins)
+source-more outer [] part scope old middle new count joins so_far added =
+    let m = part.means outer [] in
+    let none : count ≡ 0 = sym (so_far.counts [] refl) in
+    let counts = (added []).counts in
+    record {
+      adds = λ stands.
+          let nothing : StandsIn (Some []) 0 scope = record {
+            before = stands.before;
+            own = [];
+            after = stands.own ++ stands.after;
+            known = refl;
+            scope_is = stands.scope_is;
+            at = stands.at;
+          } in
+          adds-over (alone-over m) (adds-both (so_far.adds nothing)
+          ((added []).adds (subst (λ (n : ℕ). StandsIn m.items n scope) (sym none) stands)));
+      counts = λ items known. let n = counts items known in omega (arith, n, none);
+    }
+source-more outer (first ∷ parts) part scope old middle new count joins so_far added =
+    let left = from_more outer (first.means outer []) parts in
+    let right = part.means outer left.names in
+    let start : 0 + count ≡ count = omega arith in
+    let is_beside : from_more outer (first.means outer []) (parts ++ part ∷ []) ≡ beside_from left right =
+    more-behind outer (first.means outer []) parts part in
+    record {
+      adds = λ stands.
+          let both : StandsIn (both_known left.items right.items) 0 scope = subst (λ (m : FromMeant). StandsIn m.items 0 scope) is_beside stands in
+          adds-alike (ap held_from is_beside)
+          (adds-over (beside-over left right) (adds-both (so_far.adds (stands-left left.items right.items 0 scope both))
+          ((added left.names).adds (subst (λ (n : ℕ). StandsIn right.items n scope) start (stands-right left.items right.items 0 count scope so_far.counts both)))));
+      counts = λ items known.
+          both-count left.items right.items count (suc joins) so_far.counts (added left.names).counts items
+          (ap (λ (m : FromMeant). m.items) (sym is_beside) ∙ known);
+    }
 
 module _ (c : Contents) where
-  on-bare : (condition : Option ExprTree) → BareOn (option_map (part_of c) condition)
-  on-bare None = tt
-  on-bare (Some condition) = bare-tree c condition
-
-  join-bare : (step : JoinStep) → BareJoin (join_of c step)
-  join-bare step = subst BareJoin (sym (join-is c step)) (on-bare (out-JoinStep step).condition)
-
-  joins-bare : (steps : List JoinStep) → Every BareJoin (map (join_of c) steps)
-  joins-bare [] = tt
-  joins-bare (step ∷ steps) = (join-bare step, joins-bare steps)
-
-  -- a `from` is over its first item and those that are joined with it
-  pub from-stands : (outer : List Scope) (names : List (List ℕ)) (tree : FromTree)
-      → IsOver (held_from ((from_of c tree).means outer names))
-      (held_item ((from_item_of c (out-FromTree tree).first).means outer names)
-      ∷ held_joins outer (names ++ ((from_item_of c (out-FromTree tree).first).means outer names).name ∷ []) (map (join_of c) (out-FromTree tree).joins))
-  from-stands outer names tree =
-      let m = (from_item_of c (out-FromTree tree).first).means outer names in
-      over-alike (ap (λ (part : FromPart). held_from (part.means outer names)) (opened_from c tree))
-      (joins-over outer (first_item names m) (map (join_of c) (out-FromTree tree).joins) (joins-bare (out-FromTree tree).joins))
-
-  join-stands : (outer : List Scope) (names : List (List ℕ)) (step : JoinStep)
-      → held_item ((join_of c step).item.means outer names) ≡ held_item ((from_item_of c (out-JoinStep step).item).means outer names)
-  join-stands outer names step = ap (λ (part : JoinPart). held_item (part.item.means outer names)) (join-is c step)
-
-  pub from-adds : (outer : List Scope) (tree : FromTree) (read : List JoinStep) (old middle new : Gathered) → read ≡ (out-FromTree tree).joins
-      → ((names : List (List ℕ)) → Adds (held_item ((from_item_of c (out-FromTree tree).first).means outer names) ∷ []) old middle)
-      → ((names : List (List ℕ)) → Adds (held_joins outer names (map (join_of c) read)) middle new)
-      → (names : List (List ℕ)) → Adds (held_from ((from_of c tree).means outer names) ∷ []) old new
-  from-adds outer tree read old middle new same first joins names =
-      adds-over (from-stands outer names tree) (adds-both (first names)
-      (subst (λ (steps : List JoinStep). Adds (held_joins outer (names ++ ((from_item_of c (out-FromTree tree).first).means outer names).name ∷ []) (map (join_of c) steps)) middle new)
-      same (joins (names ++ ((from_item_of c (out-FromTree tree).first).means outer names).name ∷ []))))
-
-  pub join-adds : (outer : List Scope) (step : JoinStep) {old new : Gathered}
-      → ((names : List (List ℕ)) → Adds (held_item ((from_item_of c (out-JoinStep step).item).means outer names) ∷ []) old new)
-      → (names : List (List ℕ)) → Adds (held_item ((join_of c step).item.means outer names) ∷ []) old new
-  join-adds outer step {old = old} {new = new} added names =
-      subst (λ (h : Held). Adds (h ∷ []) old new) (sym (join-stands outer names step)) (added names)
+  pub join-tree : (outer : List Scope) (step : JoinStep) (first count : ℕ) (scope own : Scope) (here : Surroundings) (middle items_in new : Gathered)
+      → ((names : List (List ℕ)) → Adds (held_item ((from_item_of c (out-JoinStep step).item).means outer names) ∷ []) middle items_in)
+      → ((items : List ScopeItem) → StandsIn (Some items) first scope → length items ≡ count → own ≡ scope_of items)
+      → here ≡ in_clause own outer false → Adds (held_optional here (option_map (part_of c) (out-JoinStep step).condition)) items_in new
+      → AddsJoin outer (join_of c step) first count scope middle new
+  join-tree outer step first count scope own here middle items_in new item own_is here_is condition =
+      subst (λ (part : JoinPart). AddsJoin outer part first count scope middle new) (sym (join-fields c step))
+      (join-added outer (record {
+        word = (out-JoinStep step).word;
+        item = from_item_of c (out-JoinStep step).item;
+        condition = option_map (part_of c) (out-JoinStep step).condition;
+      }) first count scope own here middle items_in new item own_is here_is condition)
 
   item-over : (at : ℕ) (mark : ScopeMark) (earlier : List (List ℕ)) (name label : List ℕ) (read : Read)
       → IsOver (held_item (item_meant at mark earlier name label read)) (held_read read ∷ [])
@@ -291,16 +338,6 @@ list-inside : (has_from : Bool) (scope : Scope) (here : Surroundings) (items : L
 list-inside has_from scope here [] = refl
 list-inside has_from scope here (item ∷ items) = ap (both_inside (item.means has_from scope here).inside) (list-inside has_from scope here items)
 
-optional-none : (here : Surroundings) (part : Option Part) → optional_breaks part (optional_meant here part) ≡ [] → all_breaks (held_optional here part) ≡ []
-unfolding means_at
-optional-none here None none = refl
-optional-none here (Some part) none = breaks-one (held_at here part) ∙ front-none (part.means here).breaks _ none
-
-optional-inside : (here : Surroundings) (part : Option Part) → optional_inside (optional_meant here part) ≡ all_inside (held_optional here part)
-unfolding means_at
-optional-inside here None = refl
-optional-inside here (Some part) = sym (inside-one (held_at here part))
-
 appended-none : (hs ks : List Held) → all_breaks hs ≡ [] → all_breaks ks ≡ [] → all_breaks (hs ++ ks) ≡ []
 appended-none hs ks e f = breaks-append hs ks ∙ (λ i. e i ++ f i)
 
@@ -345,15 +382,15 @@ module _ (around : Around) (word : Option ℕ) (has_from is_distinct : Bool) (it
         let before : (optional_breaks condition seen_clauses.where_meant ++ flat_map (group_break plain_scope) groups) ++ optional_breaks having seen_clauses.having_meant ≡ [] =
         front-none _ (items_breaks seen_clauses.list) clauses in
         appended-none (held_items has_from wide_scope list_here items) _ (list-breaks has_from wide_scope list_here items ∙ listed)
-        (appended-none (held_froms around.outer [] sources) _ ((all-over around.outer sources).breaks from_none)
-        (appended-none (held_optional where_here condition) _
+        (appended-none (held_from input ∷ []) (held_optional where_here condition ++ held_optional list_here having) (breaks-one (held_from input) ∙ from_none)
+        (appended-none (held_optional where_here condition) (held_optional list_here having)
         (optional-none where_here condition (front-none _ (flat_map (group_break plain_scope) groups) (front-none _ (optional_breaks having seen_clauses.having_meant) before)))
         (optional-none list_here having (back-none _ (optional_breaks having seen_clauses.having_meant) before))));
     inside = λ none.
-        four-inside (held_items has_from wide_scope list_here items) (held_froms around.outer [] sources)
+        four-inside (held_items has_from wide_scope list_here items) (held_from input ∷ [])
         (held_optional where_here condition) (held_optional list_here having)
         (items_inside seen_clauses.list) input.inside (optional_inside seen_clauses.where_meant) (optional_inside seen_clauses.having_meant)
-        (list-inside has_from wide_scope list_here items) ((all-over around.outer sources).inside from_none)
+        (list-inside has_from wide_scope list_here items) (sym (inside-one (held_from input)))
         (optional-inside where_here condition) (optional-inside list_here having);
   }
 
@@ -369,7 +406,7 @@ module _ (around : Around) (word : Option ℕ) (has_from is_distinct : Bool) (it
     chosen true e =
         let from_none : input.breaks ≡ [] = whole-none input.breaks e in
         subst (λ (s : Scope). IsOver (held_query (core_over around.outer (word_breaks around word) input has_from is_distinct items condition groups having known_items))
-        (held_clauses around s has_from items sources condition having)) (sym (is from_none)) (looked-over from_none)
+        (held_clauses around s has_from items sources condition having)) (sym (is from_none).is) (looked-over from_none)
     chosen false e = record {
       breaks = λ none. absurd (true≢false (sym (none-whole input.breaks (back-none (word_breaks around word) input.breaks none)) ∙ e));
       inside = λ none. absurd (true≢false (sym (none-whole input.breaks (back-none (word_breaks around word) input.breaks none)) ∙ e));
@@ -396,18 +433,33 @@ module _ (c : Contents) (around : Around) (core : Core) where
   abbrev Found : Option Scope → Type 0
   Found found = HasScope (from_all around.outer (sources_of c core)) (out-Core core).groups (having_of c core) (items_of c core) found
 
-  pub core-adds : (found : Option Scope) (scope : Scope) (old new : Gathered) → Found found → found ≡ Some scope → Adds (clauses_of c around scope core) old new
+  pub core-adds : (found : Option Scope) (scope : Scope) (old new : Gathered) → Found found → found ≡ Some scope
+      → (StandsThere (from_all around.outer (sources_of c core)) scope → Adds (clauses_of c around scope core) old new)
       → Adds (held_query ((core_of c core).means around) ∷ []) old new
   core-adds found scope old new is some added = adds-over
       (over-alike (ap held_query core-stands-so)
       (core_seen-over around (out-Core core).provenance (has_some (sources_of c core)) (out-Core core).distinct (items_of c core) (sources_of c core)
       (condition_of c core) (out-Core core).groups (having_of c core) scope (subst Found some is)))
-      added
+      (added (λ whole. (subst Found some is whole).stands))
 
   pub core-broken : (found : Option Scope) (old : Gathered) → Found found → found ≡ None → Adds (held_query ((core_of c core).means around) ∷ []) old old
   core-broken found old is none = adds-broken old
       (λ whole. core_seen-broken around (out-Core core).provenance (has_some (sources_of c core)) (out-Core core).distinct (items_of c core) (sources_of c core)
       (condition_of c core) (out-Core core).groups (having_of c core) (subst Found none is) (ap (λ (m : QueryMeant). m.breaks) (sym core-stands-so) ∙ whole))
+
+-- what the scope of FROM is behind GROUP BY
+pub scope-found : (input : FromMeant) (groups : List ColRef) (having : Option Part) (items : List SelectPart) (own scope : Scope) → IsScope input own
+    → scope ≡ group_scope own groups having items → HasScope input groups having items (Some scope)
+scope-found input groups having items own scope found is whole = record {
+  is = is ∙ ap (λ (own : Scope). group_scope own groups having items)
+      (found.scope_is ∙ ap (λ (known : Option (List ScopeItem)). scope_of (option_map_or (λ known. known) known [])) (sym found.known));
+  stands = own-stands input own scope (group_scope own groups having items).groups found is;
+}
+
+there-adds : (m : FromMeant) (scope : Scope) (old new : Gathered) → StandsThere m scope → AddsFrom m 0 scope old new → Adds (held_from m ∷ []) old new
+there-adds m scope old new there added = record {
+  adds = λ none. (added (there (sym (breaks-one (held_from m)) ∙ none))).adds none;
+}
 
 -- the clauses of a core one after the other
 pub clauses-adds : (c : Contents) (around : Around) (scope : Scope) (core : Core) (in_list in_where : Surroundings) (items : List SelectItem) (sources : List FromTree)
@@ -415,14 +467,15 @@ pub clauses-adds : (c : Contents) (around : Around) (scope : Scope) (core : Core
     → in_where ≡ in_clause (record scope { groups = None }) around.outer false
     → items ≡ (out-Core core).items → sources ≡ (out-Core core).sources
     → ((has_from : Bool) (sight : Scope) → Adds (held_items has_from sight in_list (map (item_of c) items)) old first)
-    → ((names : List (List ℕ)) → Adds (held_froms around.outer names (map (from_of c) sources)) first second)
+    → AddsFrom (from_all around.outer (map (from_of c) sources)) 0 scope first second → StandsThere (from_all around.outer (sources_of c core)) scope
     → Adds (held_optional in_where (condition_of c core)) second third → Adds (held_optional in_list (having_of c core)) third new
     → Adds (clauses_of c around scope core) old new
-clauses-adds c around scope core in_list in_where items sources old first second third new list_is where_is same same_too listed from condition having =
+clauses-adds c around scope core in_list in_where items sources old first second third new list_is where_is same same_too listed from there condition having =
     adds-both
     (subst (λ (here : Surroundings). Adds (held_items (has_some (sources_of c core)) scope here (items_of c core)) old first) list_is
     (subst (λ (items : List SelectItem). Adds (held_items (has_some (sources_of c core)) scope in_list (map (item_of c) items)) old first) same
     (listed (has_some (sources_of c core)) scope)))
-    (adds-both (subst (λ (sources : List FromTree). Adds (held_froms around.outer [] (map (from_of c) sources)) first second) same_too (from []))
+    (adds-both (there-adds (from_all around.outer (sources_of c core)) scope first second there
+    (subst (λ (sources : List FromTree). AddsFrom (from_all around.outer (map (from_of c) sources)) 0 scope first second) same_too from))
     (adds-both (subst (λ (here : Surroundings). Adds (held_optional here (condition_of c core)) second third) where_is condition)
     (subst (λ (here : Surroundings). Adds (held_optional here (having_of c core)) third new) list_is having)))

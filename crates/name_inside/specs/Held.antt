@@ -1,10 +1,10 @@
 -- What stands inside parts that may break.
-use Rattle.std.specs.Prelude.{◌≡◌, ℕ, Bool, true, false, List, [], ◌∷◌, ◌++◌, map, Option, Some, None, option_map, nat_lt}
+use Rattle.std.specs.Prelude.{◌≡◌, ℕ, Bool, true, false, List, [], ◌∷◌, ◌++◌, map, Option, Some, None, option_map, nat_lt, suc, length}
 use Rattle.perm_catalog.specs.Contents.{Contents}
 use Rattle.sql_tree.specs.declared.query.Core.{Core, out-Core}
-use Rattle.name_meaning.specs.Cores.{has_some, in_clause}
+use Rattle.name_meaning.specs.Cores.{has_some}
 use Rattle.name_meaning.specs.Expressions.{ArmPart, StepPart}
-use Rattle.name_meaning.specs.Froms.{FromMeant, FromPart, ItemMeant, JoinPart, Read}
+use Rattle.name_meaning.specs.Froms.{FromMeant, FromPart, ItemMeant, JoinPart, Read, in_clause, from_all, join_item, joined_item}
 use Rattle.name_meaning.specs.Items.{SelectMeant, SelectPart}
 use Rattle.name_meaning.specs.Meanings.{Around, Inside, Meant, Part, QueryMeant, Surroundings, both_inside, nothing_inside, means_at}
 use Rattle.name_meaning.specs.Queries.{SetStepPart, may_not_ask}
@@ -13,6 +13,8 @@ use Rattle.name_meaning.specs.Trees.{from_of, item_of, part_of}
 use Rattle.name_meaning.specs.declared.answer.Break.{Break}
 use Rattle.name_meaning.specs.declared.scope.Scope.{Scope}
 use Rattle.name_inside.specs.declared.gathered.Gathered.{Gathered}
+use Rattle.name_meaning.specs.Scopes.{ScopeItem}
+use Rattle.name_made_parts.specs.Sources.{StandsIn}
 
 abbrev pub inside_in : Gathered → Inside
 inside_in found = record { queries = found.queries; names = found.names }
@@ -83,19 +85,6 @@ pub record Adds (parts : List Held) (old new : Gathered) : Type 0 where
 abbrev pub held_operand : Around → SetStepPart → Held
 held_operand around step = held_query (step.operand.means (may_not_ask around))
 
--- each item behind those of these names
-abbrev pub held_joins : List Scope → List (List ℕ) → List JoinPart → List Held
-held_joins outer names [] = []
-held_joins outer names (step ∷ steps) =
-    let m = step.item.means outer names in
-    held_item m ∷ held_joins outer (names ++ m.name ∷ []) steps
-
-abbrev pub held_froms : List Scope → List (List ℕ) → List FromPart → List Held
-held_froms outer names [] = []
-held_froms outer names (part ∷ parts) =
-    let m = part.means outer names in
-    held_from m ∷ held_froms outer m.names parts
-
 abbrev pub held_items : Bool → Scope → Surroundings → List SelectPart → List Held
 held_items has_from scope here items = map (λ (item : SelectPart). held_select (item.means has_from scope here)) items
 
@@ -103,8 +92,8 @@ held_items has_from scope here items = map (λ (item : SelectPart). held_select 
 abbrev pub held_clauses : Around → Scope → Bool → List SelectPart → List FromPart → Option Part → Option Part → List Held
 held_clauses around scope has_from items sources condition having =
     held_items has_from scope (in_clause scope around.outer true) items
-    ++ (held_froms around.outer [] sources
-    ++ (held_optional (in_clause (record scope { groups = None }) around.outer false) condition
+    ++ (held_from (from_all around.outer sources)
+    ∷ (held_optional (in_clause (record scope { groups = None }) around.outer false) condition
     ++ held_optional (in_clause scope around.outer true) having))
 
 -- a core where it stands, and its parts
@@ -123,3 +112,29 @@ having_of c core = option_map (part_of c) (out-Core core).having
 abbrev pub clauses_of : Contents → Around → Scope → Core → List Held
 clauses_of c around scope core =
     held_clauses around scope (has_some (sources_of c core)) (items_of c core) (sources_of c core) (condition_of c core) (having_of c core)
+
+-- ---- FROM, gone through from the left
+
+-- where the items of a part of FROM stand there in the scope
+abbrev pub AddsFrom : FromMeant → ℕ → Scope → Gathered → Gathered → Type 0
+AddsFrom m first scope old new = StandsIn m.items first scope → Adds (held_from m ∷ []) old new
+
+-- all items of FROM stand there in the scope, where it breaks nothing
+abbrev pub StandsThere : FromMeant → Scope → Type 0
+StandsThere m scope = m.breaks ≡ [] → StandsIn m.items 0 scope
+
+-- the parts so far, and how many items they have
+pub record SourcesAdded (outer : List Scope) (parts : List FromPart) (scope : Scope) (old new : Gathered) (count : ℕ) : Type 0 where
+  pub adds : AddsFrom (from_all outer parts) 0 scope old new
+  pub counts : (items : List ScopeItem) → (from_all outer parts).items ≡ Some items → length items ≡ count
+
+-- a part with its joins so far
+pub record JoinsAdded (m : FromMeant) (first : ℕ) (scope : Scope) (old new : Gathered) (joins : ℕ) : Type 0 where
+  pub adds : AddsFrom m first scope old new
+  pub counts : (items : List ScopeItem) → m.items ≡ Some items → length items ≡ suc joins
+
+-- one more join, behind as many items less one
+abbrev pub AddsJoin : List Scope → JoinPart → ℕ → ℕ → Scope → Gathered → Gathered → Type 0
+AddsJoin outer step first count scope middle new = (left : FromMeant) (old : Gathered) → ((items : List ScopeItem) →
+    (join_item outer left step (joined_item outer left.names step)).items ≡ Some items → length items ≡ count)
+    → AddsFrom left first scope old middle → AddsFrom (join_item outer left step (joined_item outer left.names step)) first scope old new

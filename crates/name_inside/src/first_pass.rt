@@ -9,10 +9,10 @@ ghost use Rattle.sql_tree.specs.declared.query.Core.{out-Core};
 ghost use Rattle.name_inside.specs.Held.{having_of, items_of, sources_of};
 ghost use Rattle.name_inside.specs.Passed.{HasScope, HasWidth};
 
+use name_made_parts::scope_or_none;
 use name_meaning::Scope;
-use name_seen::{from_scope, query_seen};
+use name_seen::query_seen;
 use name_seen_cores::behind_groups;
-use name_seen_from::Facts;
 use name_seen_parts::{Around, Refusal};
 use perm_values::NoMemory;
 use sql_tree::{Core, QueryTree};
@@ -38,10 +38,11 @@ pub(crate) fn scope_of(core: &Core, around: &Around) -> Result<Option<Scope>, No
         (out-Core core.now).groups (having_of around.now.catalog.now core.now)
         (items_of around.now.catalog.now core.now)) }
 {
-    let mut facts = Facts::none(around.alloc);
-    match from_scope(core.sources.as_slice(), around, &mut facts) {
-        Ok(own) => Ok(Some(behind_groups(around.alloc, core, own)?)),
-        Err(Refusal::Break(_)) => Ok(None),
-        Err(Refusal::NoMemory) => Err(NoMemory),
+    match scope_or_none(core.sources.as_slice(), around)? {
+        None => Ok(None),
+        Some(own) => {
+            let scope = behind_groups(around.alloc, core, own)?;
+            Ok(Some(scope))
+        }
     }
 }

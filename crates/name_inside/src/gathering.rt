@@ -5,12 +5,14 @@ ghost use Rattle.name_meaning.specs.Trees.{arm_of, core_of, from_item_of, from_o
 ghost use Rattle.name_meaning.specs.declared.scope.Scope.{Scope as Sight};
 ghost use Rattle.name_seen_parts.specs.Standing.{around_of, surroundings};
 ghost use Rattle.perm_catalog.specs.Sound.{IsSound};
-ghost use Rattle.name_inside.specs.Held.{Adds, clauses_of, held_arm, held_at, held_from, held_froms, held_item, held_items, held_joins, held_operand, held_optional, held_query, held_read, held_step};
-ghost use Rattle.name_meaning.specs.Froms.{read_named};
+ghost use Rattle.name_inside.specs.Held.{Adds, AddsFrom, AddsJoin, JoinsAdded, StandsThere, clauses_of, held_arm, held_at, held_item, held_items, held_operand, held_optional, held_query, held_read, held_step, sources_of};
+ghost use Rattle.name_meaning.specs.Froms.{from_all, read_named};
+ghost use Rattle.name_made_parts.specs.Sources.{join_count};
 ghost use Rattle.name_meaning.specs.Sublinks.{around_of as below};
 
 use crate::first_pass::{scope_of, width_of};
 use crate::gathered::Gathered;
+use name_made_parts::{behind, segment};
 use name_meaning::Scope;
 use name_seen_cores::in_clause;
 use name_seen_parts::{Around, Here, inside};
@@ -98,13 +100,14 @@ fn clauses_inside(
     found: &mut Gathered,
 ) -> Result<(), NoMemory>
     requires { IsSound around.now.catalog.now }
-    ensures { OnOk result (Adds (clauses_of around.now.catalog.now (around_of around.now) scope.now core.now)
-        found.old found.new) }
+    ensures { OnOk result (StandsThere (from_all (around_of around.now).outer
+        (sources_of around.now.catalog.now core.now)) scope.now
+        → Adds (clauses_of around.now.catalog.now (around_of around.now) scope.now core.now) found.old found.new) }
 {
     let grouped = inside(&*scope, false, &*around.outer)?;
     let in_list = (&*around).seeing(&grouped, in_clause(true));
     items_inside(core.items.as_slice(), &in_list, found)?;
-    sources_inside(core.sources.as_slice(), around, found)?;
+    sources_inside(core.sources.as_slice(), &*scope, around, found)?;
     let rows = inside(&*scope, true, &*around.outer)?;
     let in_where = (&*around).seeing(&rows, in_clause(false));
     condition_inside(&core.condition, &in_where, found)?;
@@ -161,40 +164,66 @@ fn condition_inside(
     }
 }
 
+/// The items of all sources are in scope.
 #[cycle(gathering)]
-fn sources_inside(trees: &[FromTree], around: &Around, found: &mut Gathered) -> Result<(), NoMemory>
+fn sources_inside(
+    trees: &[FromTree],
+    scope: &Scope,
+    around: &Around,
+    found: &mut Gathered,
+) -> Result<(), NoMemory>
     requires { IsSound around.now.catalog.now }
-    ensures { OnOk result ((names : Items (Items ℕ))
-        → Adds (held_froms (around_of around.now).outer names
-        (map (from_of around.now.catalog.now) trees.now)) found.old found.new) }
+    ensures { OnOk result (AddsFrom (from_all (around_of around.now).outer
+        (map (from_of around.now.catalog.now) trees.now)) 0 scope.now found.old found.new) }
 {
+    let mut first = 0;
     for tree in trees {
-        from_inside(tree, around, found)?;
+        from_inside(tree, first, scope, around, found)?;
+        first = behind(first, tree)?;
     }
     Ok(())
 }
 
+/// The items of a source with its joins are in scope behind the first ones.
 #[cycle(gathering)]
-fn from_inside(tree: &FromTree, around: &Around, found: &mut Gathered) -> Result<(), NoMemory>
+fn from_inside(
+    tree: &FromTree,
+    first: usize,
+    scope: &Scope,
+    around: &Around,
+    found: &mut Gathered,
+) -> Result<(), NoMemory>
     requires { IsSound around.now.catalog.now }
     ensures { OnOk result ((names : Items (Items ℕ))
-        → Adds (held_from ((from_of around.now.catalog.now tree.now).means (around_of around.now).outer names) ∷ []) found.old found.new) }
+        → JoinsAdded ((from_of around.now.catalog.now tree.now).means (around_of around.now).outer names) first
+        scope.now found.old found.new (join_count tree.now)) }
 {
     source_inside(&tree.first, around, found)?;
-    joins_inside(tree.joins.as_slice(), around, found)?;
+    for (place, step) in tree.joins.as_slice().iter().enumerate() {
+        join_inside(step, first, place + 2, scope, around, found)?;
+    }
     Ok(())
 }
 
+/// One more join; with its item there are as many as `count` says, and its condition sees these.
 #[cycle(gathering)]
-fn joins_inside(steps: &[JoinStep], around: &Around, found: &mut Gathered) -> Result<(), NoMemory>
+fn join_inside(
+    step: &JoinStep,
+    first: usize,
+    count: usize,
+    scope: &Scope,
+    around: &Around,
+    found: &mut Gathered,
+) -> Result<(), NoMemory>
     requires { IsSound around.now.catalog.now }
-    ensures { OnOk result ((names : Items (Items ℕ))
-        → Adds (held_joins (around_of around.now).outer names
-        (map (join_of around.now.catalog.now) steps.now)) found.old found.new) }
+    ensures { OnOk result (AddsJoin (around_of around.now).outer (join_of around.now.catalog.now step.now) first
+        count scope.now found.old found.new) }
 {
-    for step in steps {
-        source_inside(&step.item, around, found)?;
-    }
+    source_inside(&step.item, around, found)?;
+    let own = segment(around.alloc, scope, first, count)?;
+    let rows = inside(&own, false, &*around.outer)?;
+    let here = (&*around).seeing(&rows, in_clause(false));
+    condition_inside(&step.condition, &here, found)?;
     Ok(())
 }
 

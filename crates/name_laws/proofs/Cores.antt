@@ -13,8 +13,8 @@ use Rattle.bag_algebra.specs.declared.query.Aggr.{Aggr}
 use Rattle.bag_algebra.specs.declared.query.Query.{Query}
 use Rattle.bag_algebra.specs.declared.query.Query.TheVariants.{Project, Aggregate}
 use Rattle.sql_tree.specs.declared.name.ColRef.{ColRef}
-use Rattle.name_meaning.specs.Cores.{settle_known, in_clause, optional_meant, optional_built, optional_breaks, group_break, group_place, group_scope, is_grouped, filtered, distinct_if, core_query, Clauses, list_columns, before_list, clauses_query, core_clauses, clause_breaks}
-use Rattle.name_meaning.specs.Froms.{FromMeant, condition_breaks}
+use Rattle.name_meaning.specs.Cores.{settle_known, optional_built, group_break, group_place, group_scope, is_grouped, filtered, distinct_if, core_query, Clauses, list_columns, before_list, clauses_query, core_clauses, clause_breaks}
+use Rattle.name_meaning.specs.Froms.{FromMeant, condition_breaks, in_clause, optional_meant, optional_breaks}
 use Rattle.name_meaning.specs.Items.{Made, SelectPart, made_items, items_breaks}
 use Rattle.name_meaning.specs.Meanings.{Surroundings, Built, Meant, Part, broken_if, seen_kind, unites, settled}
 use Rattle.name_meaning.specs.Scopes.{ScopeItem, scope_of, ungrouped}

@@ -62,6 +62,12 @@ facts-Project input items subs =
     facts-alike (shape-Project input items subs)
     ∙ ap (both_facts (facts_of input)) (sub_facts-is subs)
 
+pub facts-Join : (kind : JoinKind) (left right : Query) (condition : Expr) (subs : List Sublink) →
+    facts_of (Join kind left right condition subs) ≡ both_facts (both_facts (facts_of left) (facts_of right)) (sub_facts subs)
+facts-Join kind left right condition subs =
+    facts-alike (shape-Join kind left right condition subs)
+    ∙ ap (both_facts (both_facts (facts_of left) (facts_of right))) (sub_facts-is subs)
+
 pub facts-Join_alone : (kind : JoinKind) (left right : Query) (condition : Expr) →
     facts_of (Join kind left right condition []) ≡ both_facts (facts_of left) (facts_of right)
 facts-Join_alone kind left right condition =

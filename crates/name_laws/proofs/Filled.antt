@@ -22,8 +22,8 @@ use Rattle.sql_tree.specs.declared.name.ColRef.{ColRef}
 use Rattle.sql_tree.specs.declared.name.Name.{Name}
 use Rattle.sql_tree.specs.declared.query.OrderTree.{OrderTree}
 use Rattle.name_meaning.proofs.Equations.{SelectItemFrame}
-use Rattle.name_meaning.specs.Cores.{BodyPart, core_over, core_unlooked, core_seen, group_scope, has_some, in_clause, word_breaks}
-use Rattle.name_meaning.specs.Froms.{FromItemPart, FromMeant, FromPart, ItemMeant, JoinPart, SourcePart, named as named_source, inner as inner_source, beside_from, both_known, first_item, from_all, from_more, join_all, join_item, joined_item, named_columns, read_named, read_nothing, read_of, read_table, read_view, settled_columns}
+use Rattle.name_meaning.specs.Cores.{BodyPart, core_over, core_unlooked, core_seen, group_scope, has_some, word_breaks}
+use Rattle.name_meaning.specs.Froms.{FromItemPart, FromMeant, FromPart, ItemMeant, JoinPart, SourcePart, named as named_source, inner as inner_source, beside_from, both_known, first_item, from_all, from_more, join_all, join_item, joined_item, named_columns, read_named, read_nothing, read_of, read_table, read_view, settled_columns, in_clause}
 use Rattle.name_meaning.specs.Items.{SelectMeant, SelectPart, Titled, all_known, columns_meant, item_step, named_from, no_columns, titled}
 use Rattle.name_meaning.specs.Meanings.{Around, OutColumn, Part, QueryMeant, Surroundings, is_whole}
 use Rattle.name_meaning.specs.Queries.{SetStepPart, columns_so_far, asks_provenance, keys_of, limited, plain_query, columns_with_provenance, query_with_provenance, provenance_columns, query_seen, set_chain, set_joined, united_columns, may_not_ask}

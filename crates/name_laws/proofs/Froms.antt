@@ -36,9 +36,10 @@ use Rattle.perm_catalog.specs.declared.entries.ViewEntry.{ViewEntry}
 use Rattle.sql_tree.specs.declared.name.Name.{Name}
 use Rattle.sql_tree.specs.declared.source.ScopeMark.{ScopeMark}
 use Rattle.sql_tree.specs.declared.source.ScopeMark.TheVariants as mark
-use Rattle.name_meaning.specs.Froms.{names_of, names_at, all_places, table_columns, settled_columns, named_columns, Read, external, read_table, read_view, read_nothing, read_named, read_query, named_so, place_of, column_breaks, attribute_breaks, texts_of, marked, mark_breaks, SourcePart, named as named_source, inner as inner_source, ItemMeant, FromItemPart, read_of, read_names, item_meant, in_on, FromMeant, JoinPart, FromPart, join_kind, scope_items, both_known, first_item, on_meant, on_breaks, on_made, join_item, joined_item, unbuilt_breaks, join_all, beside_from, from_more, from_all, yes}
-use Rattle.name_meaning.specs.Meanings.{Around, Part, OutColumn, QueryMeant, broken_if}
+use Rattle.name_meaning.specs.Froms.{names_of, names_at, all_places, table_columns, settled_columns, named_columns, Read, external, read_table, read_view, read_nothing, read_named, read_query, named_so, place_of, column_breaks, attribute_breaks, texts_of, marked, mark_breaks, SourcePart, named as named_source, inner as inner_source, ItemMeant, FromItemPart, read_of, read_names, item_meant, in_on, FromMeant, JoinPart, FromPart, join_kind, scope_items, both_known, first_item, on_meant, optional_breaks, on_built, join_item, joined_item, unbuilt_breaks, join_all, beside_from, from_more, from_all, yes}
+use Rattle.name_meaning.specs.Meanings.{Around, Part, OutColumn, QueryMeant, broken_if, Built}
 use Rattle.name_meaning.specs.Scopes.{KnownColumn, ScopeItem, scope_of, numbered_columns, columns_from}
+use Rattle.name_meaning.specs.Sublinks.{nothing_before}
 use Rattle.name_meaning.specs.declared.answer.Break.{Break}
 use Rattle.name_meaning.specs.declared.scope.Scope.{Scope}
 use Rattle.name_meaning.specs.declared.scope.ScopeColumn.{ScopeColumn}
@@ -51,6 +52,7 @@ use Rattle.name_meaning.specs.declared.rule.Rule.TheVariants as rule
 use Rattle.name_laws.proofs.Every.{front-none, back-none, unbroken-not}
 use Rattle.name_laws.proofs.KindsOf.{kinds-table_columns, kinds-settled_columns, items_kinds-append, kinds-plain, table_with, kinds-table, kinds-marked}
 use Rattle.name_laws.proofs.Settled.{kinds-named_columns}
+use Rattle.name_laws.proofs.Standing.{stand-whole}
 
 -- ---- places
 
@@ -274,28 +276,38 @@ good-first outer earlier m good whole =
 yes-holds : (rows : List (List Kind)) → HasKind rows [] yes Boolean
 yes-holds rows = record { fitting = refl; gives = refl }
 
--- a condition in the rows up to its own step
-on-holds : (outer : List Scope) (items : List ScopeItem) (condition : Option Part) (row : List Kind) (rows : List (List Kind)) → GoodOptional condition
-    → on_breaks condition (on_meant outer (Some items) condition) ≡ [] → row ≡ items_kinds items → RowsHold outer rows
-    → HasKind (row ∷ rows) [] (on_made (on_meant outer (Some items) condition)) Boolean
-on-holds outer items None row rows good whole is hold = yes-holds (row ∷ rows)
-on-holds outer items (Some part) row rows good whole is hold =
-    let here = in_on items outer in
-    let formed = formed-condition here part.at (part.means here) (good.formed here) whole in
-    formed.holds (row ∷ rows) [] (scope-holds items row is, hold)
-    (subst (λ aggregates. AggregatesStand here.scopes 0 aggregates (row ∷ rows)) (sym (formed.without_aggregates refl)) tt)
-    (subst (λ subs. StandAt 0 (subs_kinds subs) []) (sym (formed.without_subs refl)) tt)
-
-joined-formed : (kind : JoinKind) (left right : Query) (condition : Expr) (rows : List (List Kind)) → WellFormed rows left → WellFormed rows right
+crossed-formed : (kind : JoinKind) (left right : Query) (condition : Expr) (rows : List (List Kind)) → WellFormed rows left → WellFormed rows right
     → HasKind ((kinds_of left ++ kinds_of right) ∷ rows) [] condition Boolean → WellFormed rows (Join kind left right condition [])
-joined-formed kind left right condition rows f g h =
+crossed-formed kind left right condition rows f g h =
     by (sym (WellFormed-Join rows kind left right condition [])) (record { left = f; right = g; subs = tt; condition = h })
+
+-- a condition in the rows up to its own step, with its sublinks
+joined-formed : (kind : JoinKind) (left right : Query) (outer : List Scope) (items : List ScopeItem) (condition : Option Part) (rows : List (List Kind))
+    → GoodOptional condition → optional_breaks condition (on_meant outer (Some items) condition) ≡ [] → kinds_of left ++ kinds_of right ≡ items_kinds items
+    → RowsHold outer rows → WellFormed rows left → WellFormed rows right
+    → WellFormed rows (Join kind left right (on_built (on_meant outer (Some items) condition)).expr (on_built (on_meant outer (Some items) condition)).subs)
+joined-formed kind left right outer items None rows good whole is hold f g =
+    crossed-formed kind left right yes rows f g (yes-holds ((kinds_of left ++ kinds_of right) ∷ rows))
+joined-formed kind left right outer items (Some part) rows good whole is hold f g =
+    let here = in_on items outer in
+    let row : List Kind = kinds_of left ++ kinds_of right in
+    let made : Built = (part.means here).make Boolean nothing_before in
+    let formed = formed-condition here part.at (part.means here) (good.formed here) whole in
+    let holds : RowsHold here.scopes (row ∷ rows) = (scope-holds items row is, hold) in
+    let stand : AggregatesStand here.scopes 0 made.aggregates (row ∷ rows) =
+    subst (λ aggregates. AggregatesStand here.scopes 0 aggregates (row ∷ rows)) (sym (formed.without_aggregates refl)) tt in
+    by (sym (WellFormed-Join rows kind left right made.expr made.subs)) (record {
+      left = f;
+      right = g;
+      subs = formed.subs_formed (row ∷ rows) holds stand;
+      condition = formed.holds (row ∷ rows) (subs_kinds made.subs) holds stand (stand-whole (subs_kinds made.subs));
+    })
 
 good-joined : (outer : List Scope) (left : FromMeant) (step : JoinPart) (m : ItemMeant) → GoodFrom outer left → GoodItemMeant outer m
     → GoodOptional step.condition → GoodFrom outer (join_item outer left step m)
 good-joined outer left step m l r condition whole =
     let on = on_meant outer (both_known left.items (scope_items m)) step.condition in
-    let operands = front-none (left.breaks ++ m.breaks) (on_breaks step.condition on) whole in
+    let operands = front-none (left.breaks ++ m.breaks) (optional_breaks step.condition on) whole in
     let from = l (front-none left.breaks m.breaks operands) in
     let item = r (back-none left.breaks m.breaks operands) in
     let own : List ScopeItem = item_of m item.columns in
@@ -304,16 +316,18 @@ good-joined outer left step m l r condition whole =
     λ i. both_known (from.known i) (ap (option_map (λ (columns : List KnownColumn). item_of m columns)) item.known i) in
     let kinds : kinds_of left.query ++ kinds_of m.query ≡ items_kinds items =
     (λ i. from.kinds i ++ (item.kinds ∙ sym (append-nil (column_kinds_of item.columns))) i) ∙ sym (items_kinds-append from.items own) in
-    let on_whole : on_breaks step.condition (on_meant outer (Some items) step.condition) ≡ [] =
-    subst (λ (found : Option (List ScopeItem)). on_breaks step.condition (on_meant outer found step.condition) ≡ []) known
-    (back-none (left.breaks ++ m.breaks) (on_breaks step.condition on) whole) in
+    let on_whole : optional_breaks step.condition (on_meant outer (Some items) step.condition) ≡ [] =
+    subst (λ (found : Option (List ScopeItem)). optional_breaks step.condition (on_meant outer found step.condition) ≡ []) known
+    (back-none (left.breaks ++ m.breaks) (optional_breaks step.condition on) whole) in
     record {
       items = items;
       known = known;
-      kinds = kinds_of-Join (join_kind step.word) left.query m.query (on_made on) [] ∙ kinds;
-      formed = λ rows hold. joined-formed (join_kind step.word) left.query m.query (on_made on) rows (from.formed rows hold) (item.formed rows hold)
-          (subst (λ (found : Option (List ScopeItem)). HasKind ((kinds_of left.query ++ kinds_of m.query) ∷ rows) [] (on_made (on_meant outer found step.condition)) Boolean)
-          (sym known) (on-holds outer items step.condition (kinds_of left.query ++ kinds_of m.query) rows condition on_whole kinds hold));
+      kinds = kinds_of-Join (join_kind step.word) left.query m.query (on_built on).expr (on_built on).subs ∙ kinds;
+      formed = λ rows hold.
+          subst (λ (found : Option (List ScopeItem)). let built = on_built (on_meant outer found step.condition) in
+          WellFormed rows (Join (join_kind step.word) left.query m.query built.expr built.subs)) (sym known)
+          (joined-formed (join_kind step.word) left.query m.query outer items step.condition rows condition on_whole kinds hold
+          (from.formed rows hold) (item.formed rows hold));
     }
 
 good-joined_item : (step : JoinPart) → GoodFromItem step.item → (outer : List Scope) (earlier : List (List ℕ))
@@ -338,7 +352,7 @@ good-beside outer left right l r whole =
       items = a.items ++ b.items;
       known = λ i. both_known (a.known i) (b.known i);
       kinds = kinds_of-Join join.Inner left.query right.query yes [] ∙ (λ i. a.kinds i ++ b.kinds i) ∙ sym (items_kinds-append a.items b.items);
-      formed = λ rows hold. joined-formed join.Inner left.query right.query yes rows (a.formed rows hold) (b.formed rows hold) (yes-holds ((kinds_of left.query ++ kinds_of right.query) ∷ rows));
+      formed = λ rows hold. crossed-formed join.Inner left.query right.query yes rows (a.formed rows hold) (b.formed rows hold) (yes-holds ((kinds_of left.query ++ kinds_of right.query) ∷ rows));
     }
 
 good-more : (outer : List Scope) (left : FromMeant) (parts : List FromPart) → GoodFrom outer left → Every GoodFromPart parts

@@ -10,8 +10,8 @@ use Rattle.bag_algebra.specs.declared.query.Aggr.{Aggr}
 use Rattle.bag_algebra.specs.declared.query.Query.{Query}
 use Rattle.bag_algebra.specs.declared.query.Query.TheVariants.{Project}
 use Rattle.sql_tree.specs.declared.name.ColRef.{ColRef}
-use Rattle.name_meaning.specs.Cores.{settle, settle_known, in_clause, optional_meant, optional_built, optional_breaks, group_break, group_scope, filtered, aggregated_input, distinct_if, core_query, Clauses, list_columns, before_list, clauses_query, core_meant, core_unlooked, core_clauses, clause_breaks, core_over, word_breaks, core_seen}
-use Rattle.name_meaning.specs.Froms.{FromMeant}
+use Rattle.name_meaning.specs.Cores.{settle, settle_known, optional_built, group_break, group_scope, filtered, aggregated_input, distinct_if, core_query, Clauses, list_columns, before_list, clauses_query, core_meant, core_unlooked, core_clauses, clause_breaks, core_over, word_breaks, core_seen}
+use Rattle.name_meaning.specs.Froms.{FromMeant, in_clause, optional_meant, optional_breaks}
 use Rattle.name_meaning.specs.Items.{Made, SelectPart, made_items, named_from, items_breaks}
 use Rattle.name_meaning.specs.Meanings.{Surroundings, Meant, Part, Around, OutColumn, is_whole}
 use Rattle.name_meaning.specs.Scopes.{ScopeItem, scope_of}

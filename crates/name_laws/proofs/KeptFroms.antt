@@ -9,6 +9,7 @@ use Rattle.bag_algebra.specs.built.Openings.{kinds_of-Join, shape-Base}
 use Rattle.bag_algebra.specs.Kinds.{kinds_of, shape}
 use Rattle.bag_algebra.specs.WellFormed.{label_width}
 use Rattle.bag_algebra.specs.declared.query.JoinKind.TheVariants as join
+use Rattle.perm_values.specs.declared.kind.Kind.TheVariants as kind
 use Rattle.bag_algebra.specs.declared.query.Label.{Label}
 use Rattle.bag_algebra.specs.declared.query.Label.TheVariants.{Relation, External}
 use Rattle.bag_algebra.specs.declared.query.Query.{Query}
@@ -25,20 +26,22 @@ use Rattle.sql_tree.specs.declared.name.Name.{Name}
 use Rattle.sql_tree.specs.declared.source.JoinWord.{JoinWord}
 use Rattle.sql_tree.specs.declared.source.ScopeMark.{ScopeMark}
 use Rattle.sql_tree.specs.declared.source.ScopeMark.TheVariants as mark
-use Rattle.name_meaning.specs.Froms.{names_of, names_at, all_places, table_columns, settled_columns, named_columns, Read, external, read_table, read_view, read_nothing, read_named, read_query, named_so, place_of, texts_of, marked, mark_breaks, SourcePart, named as named_source, inner as inner_source, ItemMeant, FromItemPart, read_of, read_names, item_meant, FromMeant, JoinPart, FromPart, join_kind, scope_items, both_known, first_item, on_meant, on_breaks, on_made, joined, join_item, joined_item, unbuilt_breaks, join_all, beside_from, from_more, from_all, yes}
+use Rattle.name_meaning.specs.Froms.{names_of, names_at, all_places, table_columns, settled_columns, named_columns, Read, external, read_table, read_view, read_nothing, read_named, read_query, named_so, place_of, texts_of, marked, mark_breaks, SourcePart, named as named_source, inner as inner_source, ItemMeant, FromItemPart, read_of, read_names, item_meant, FromMeant, JoinPart, FromPart, join_kind, scope_items, both_known, first_item, on_meant, optional_breaks, on_built, joined, join_item, joined_item, unbuilt_breaks, join_all, beside_from, from_more, from_all, yes, in_on}
 use Rattle.name_meaning.specs.Meanings.{Around, Meant, Part, OutColumn, QueryMeant, broken_if}
 use Rattle.name_meaning.specs.Scopes.{KnownColumn, ScopeItem}
 use Rattle.name_meaning.specs.declared.answer.Break.{Break}
 use Rattle.name_meaning.specs.declared.scope.Scope.{Scope}
-use Rattle.name_laws.specs.Facts.{Facts}
+use Rattle.name_laws.specs.Facts.{Facts, sub_facts}
 use Rattle.name_laws.specs.Known.{ReadIsKnown, ItemIsKnown, FromIsKnown, column_kinds_of}
 use Rattle.name_laws.proofs.Every.{Every, every-append, front-none, back-none}
-use Rattle.name_laws.proofs.FactsOf.{facts-Join_alone}
+use Rattle.name_laws.proofs.FactsOf.{facts-Join_alone, facts-Join}
 use Rattle.name_laws.proofs.Kept.{GoodQuery}
 use Rattle.name_laws.proofs.NamedPlaces.{IsNamed, AreNamed, named-base, named-formed}
 use Rattle.name_laws.proofs.Settled.{kinds-named_columns}
 use Rattle.name_meaning.specs.declared.rule.Rule.TheVariants as rule
 use Rattle.name_laws.proofs.KindsOf.{kinds-table_columns, kinds-settled_columns, items_kinds-append, kinds-plain, table_with, kinds-table, kinds-marked}
+use Rattle.name_laws.proofs.KeptCores.{GoodOptional, GoodOptionalPart}
+use Rattle.name_meaning.specs.Sublinks.{nothing_before}
 
 -- ---- sources
 
@@ -173,7 +176,7 @@ module _ (c : Contents) where
   GoodFromPart part = (outer : List Scope) (earlier : List (List ℕ)) → GoodFrom (part.means outer earlier)
 
   abbrev pub GoodJoin : JoinPart → Type 0
-  GoodJoin step = GoodFromItem step.item
+  GoodJoin step = GoodFromItem step.item × GoodOptionalPart (IsSound c) step.condition
 
   pub good-first : (earlier : List (List ℕ)) (m : ItemMeant) → GoodItem m → GoodFrom (first_item earlier m)
   good-first earlier m good = record {
@@ -190,11 +193,21 @@ module _ (c : Contents) where
   known-both : {X : Type 0} (a b : Option (List X)) (xs ys : List X) → a ≡ Some xs → b ≡ Some ys → both_known a b ≡ Some (xs ++ ys)
   known-both a b xs ys e f = λ i. both_known (e i) (f i)
 
+  good-on : (outer : List Scope) (items : Option (List ScopeItem)) (condition : Option Part) → GoodOptionalPart (IsSound c) condition
+      → GoodOptional (IsSound c) (on_meant outer items condition)
+  good-on outer None condition good = tt
+  good-on outer (Some items) None good = tt
+  good-on outer (Some items) (Some condition) good = good (in_on items outer)
+
+  named-on : IsSound c → (on : Option Meant) → GoodOptional (IsSound c) on → AreNamed (sub_facts (on_built on).subs).places
+  named-on sound None good = tt
+  named-on sound (Some m) good = good.named sound kind.Boolean nothing_before
+
   good-joined : (left : FromMeant) (word : JoinWord) (condition : Option Part) (m : ItemMeant) (on : Option Meant) → GoodFrom left → GoodItem m
-      → GoodFrom (joined left word condition m on)
-  good-joined left word condition m on l r = record {
+      → GoodOptional (IsSound c) on → GoodFrom (joined left word condition m on)
+  good-joined left word condition m on l r conditions = record {
     known = λ sound whole.
-        let operands = front-none (left.breaks ++ m.breaks) (on_breaks condition on) whole in
+        let operands = front-none (left.breaks ++ m.breaks) (optional_breaks condition on) whole in
         let from = l.known sound (front-none left.breaks m.breaks operands) in
         let item = r.known sound (back-none left.breaks m.breaks operands) in
         let own : List ScopeItem = record { name = m.name; columns = item.columns } ∷ [] in
@@ -202,12 +215,14 @@ module _ (c : Contents) where
           items = from.items ++ own;
           known = known-both left.items (scope_items m) from.items own from.known
               (ap (option_map (λ (columns : List KnownColumn). record { name = m.name; columns = columns } ∷ [])) item.known);
-          kinds = kinds_of-Join (join_kind word) left.query m.query (on_made on) []
+          kinds = kinds_of-Join (join_kind word) left.query m.query (on_built on).expr (on_built on).subs
               ∙ (λ i. from.kinds i ++ (item.kinds ∙ sym (append-nil (column_kinds_of item.columns))) i)
               ∙ sym (items_kinds-append from.items own);
         };
-    named = λ sound. subst (λ (facts : Facts). AreNamed facts.places) (sym (facts-Join_alone (join_kind word) left.query m.query (on_made on)))
-        (every-append IsNamed (shape left.query) (shape m.query) (l.named sound) (r.named sound));
+    named = λ sound. subst (λ (facts : Facts). AreNamed facts.places)
+        (sym (facts-Join (join_kind word) left.query m.query (on_built on).expr (on_built on).subs))
+        (every-append IsNamed (shape left.query ++ shape m.query) (sub_facts (on_built on).subs).places
+        (every-append IsNamed (shape left.query) (shape m.query) (l.named sound) (r.named sound)) (named-on sound on conditions));
   }
 
   good-joined_item : (step : JoinPart) → GoodFromItem step.item → (outer : List Scope) (earlier : List (List ℕ)) → GoodItem (joined_item outer earlier step)
@@ -227,7 +242,8 @@ module _ (c : Contents) where
       let m : ItemMeant = joined_item outer left.names step in
       let on : Option Meant = on_meant outer (both_known left.items (scope_items m)) step.condition in
       good-join_all outer (join_item outer left step m) steps
-      (good-joined left step.word step.condition m on l (good-joined_item step h.0 outer left.names)) h.1
+      (good-joined left step.word step.condition m on l (good-joined_item step h.0.0 outer left.names)
+      (good-on outer (both_known left.items (scope_items m)) step.condition h.0.1)) h.1
 
   good-beside : (left right : FromMeant) → GoodFrom left → GoodFrom right → GoodFrom (beside_from left right)
   good-beside left right l r = record {

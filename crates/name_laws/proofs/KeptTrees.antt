@@ -164,7 +164,7 @@ module _ (c : Contents) where
         (kept_froms.good-read_of c outer frame.source source);
     from_tree = λ frame first joins outer earlier. kept_froms.good-join_all c outer (first_item earlier (frame.first.means outer earlier)) frame.joins
         (kept_froms.good-first c earlier (frame.first.means outer earlier) (first outer earlier)) joins;
-    join = λ frame item condition. item;
+    join = λ frame item condition. (item, good-optional frame.condition condition);
   }
 
   -- ---- every tree

@@ -13,8 +13,8 @@ use Rattle.sql_tree.specs.declared.name.ColRef.{ColRef}
 use Rattle.sql_tree.specs.declared.query.OrderTree.{OrderTree}
 use Rattle.sql_tree.specs.declared.query.SetWord.{SetWord}
 use Rattle.sql_tree.specs.declared.query.SetWord.TheVariants as word
-use Rattle.name_meaning.specs.Cores.{BodyPart, settle_known, in_clause, optional_meant, optional_built, optional_inside, group_scope, filtered, aggregated_input, distinct_if, Clauses, list_columns, before_list, core_unlooked, core_clauses, core_over, word_breaks, core_seen}
-use Rattle.name_meaning.specs.Froms.{FromMeant}
+use Rattle.name_meaning.specs.Cores.{BodyPart, settle_known, optional_built, group_scope, filtered, aggregated_input, distinct_if, Clauses, list_columns, before_list, core_unlooked, core_clauses, core_over, word_breaks, core_seen}
+use Rattle.name_meaning.specs.Froms.{FromMeant, in_clause, optional_meant, optional_inside}
 use Rattle.name_meaning.specs.Items.{Made, SelectPart, made_items, items_inside}
 use Rattle.name_meaning.specs.Meanings.{Surroundings, Part, Around, Built, QueryMeant, is_whole}
 use Rattle.name_meaning.specs.Queries.{SetStepPart, set_of, columns_so_far, set_joined, may_not_ask, set_chain, keys_of, limited, plain_query, query_with_provenance, asks_provenance, query_seen}

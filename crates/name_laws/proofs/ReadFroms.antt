@@ -3,6 +3,7 @@ use Rattle.std.specs.Prelude.{⊤, ℕ, true, List, [], ◌∷◌, ◌++◌, map
 use Rattle.std.proofs.Common.{◌≡◌, refl}
 use Rattle.std.specs.Option.{option_map_or}
 use Rattle.perm_values.specs.declared.kind.Kind.{Kind}
+use Rattle.perm_values.specs.declared.kind.Kind.TheVariants as kind
 use Rattle.bag_algebra.specs.TablesRead.{EachTable}
 use Rattle.bag_algebra.specs.declared.query.JoinKind.TheVariants as join
 use Rattle.bag_algebra.specs.declared.query.Label.TheVariants.{Relation, External}
@@ -18,12 +19,16 @@ use Rattle.sql_tree.specs.declared.name.Name.{Name}
 use Rattle.sql_tree.specs.declared.source.JoinWord.{JoinWord}
 use Rattle.sql_tree.specs.declared.source.ScopeMark.{ScopeMark}
 use Rattle.sql_tree.specs.declared.source.ScopeMark.TheVariants as mark
-use Rattle.name_meaning.specs.Froms.{names_of, names_at, all_places, table_columns, settled_columns, Read, external, read_table, read_view, read_nothing, read_named, read_query, place_of, texts_of, marked, SourcePart, named as named_source, inner as inner_source, ItemMeant, FromItemPart, read_of, read_names, item_meant, FromMeant, JoinPart, FromPart, join_kind, both_known, scope_items, on_meant, on_made, joined, join_item, joined_item, join_all, beside_from, from_more, from_all, yes}
+use Rattle.name_meaning.specs.Froms.{names_of, names_at, all_places, table_columns, settled_columns, Read, external, read_table, read_view, read_nothing, read_named, read_query, place_of, texts_of, marked, SourcePart, named as named_source, inner as inner_source, ItemMeant, FromItemPart, read_of, read_names, item_meant, FromMeant, JoinPart, FromPart, join_kind, both_known, scope_items, on_meant, on_built, joined, join_item, joined_item, join_all, beside_from, from_more, from_all, yes, in_on, optional_inside}
 use Rattle.name_meaning.specs.Meanings.{Meant, Part, QueryMeant, nothing_inside}
+use Rattle.name_meaning.specs.Scopes.{ScopeItem}
 use Rattle.name_meaning.specs.declared.scope.Scope.{Scope}
 use Rattle.name_laws.proofs.Every.{Every}
 use Rattle.name_laws.proofs.ReadMeant.{QueryReads, QueryPartReads}
-use Rattle.name_laws.proofs.ReadNodes.{Grows, wide-left, wide-right, reads-Base, reads-Join}
+use Rattle.name_laws.proofs.ReadNodes.{Grows, wide-left, wide-right, reads-Base, reads-Join, subs-right}
+use Rattle.name_laws.proofs.ReadCores.{OptionalReads}
+use Rattle.name_meaning.specs.Sublinks.{nothing_before}
+use Rattle.bag_algebra.specs.built.Forms.{EachTableOfSubs}
 
 module _ (P : List (List ℕ) → ℕ → List Kind → Type 0) (g : Grows P) where
   -- it holds of the tables that the catalog holds, and of those that its views read
@@ -103,19 +108,31 @@ module _ (P : List (List ℕ) → ℕ → List Kind → Type 0) (g : Grows P) wh
   FromPartReads part = (outer : List Scope) (earlier : List (List ℕ)) → EachTable (P (part.means outer earlier).inside.names) (part.means outer earlier).query
 
   abbrev pub JoinReads : JoinPart → Type 0
-  JoinReads step = FromItemReads step.item
+  JoinReads step = FromItemReads step.item × OptionalReads P g step.condition
 
   abbrev pub FromReads : FromMeant → Type 0
   FromReads m = EachTable (P m.inside.names) m.query
 
+  -- what a condition reads
+  abbrev OnReads : Option Meant → Type 0
+  OnReads on = EachTableOfSubs (P (optional_inside on).names) (on_built on).subs
+
+  reads-on : (outer : List Scope) (items : Option (List ScopeItem)) (condition : Option Part) → OptionalReads P g condition
+      → OnReads (on_meant outer items condition)
+  reads-on outer None condition good = tt
+  reads-on outer (Some items) None good = tt
+  reads-on outer (Some items) (Some condition) good = good (in_on items outer) kind.Boolean nothing_before
+
   reads-joined : (left : FromMeant) (word : JoinWord) (condition : Option Part) (m : ItemMeant) (on : Option Meant) → FromReads left
-      → EachTable (P m.inside.names) m.query → FromReads (joined left word condition m on)
-  reads-joined left word condition m on l r =
+      → EachTable (P m.inside.names) m.query → OnReads on → FromReads (joined left word condition m on)
+  reads-joined left word condition m on l r conditions =
       let of_left : List (List ℕ) = left.inside.names in
       let of_item : List (List ℕ) = m.inside.names in
       let of_on : List (List ℕ) = (option_map_or (λ (meant : Meant). meant.inside) on nothing_inside).names in
-      reads-Join (P (of_left ++ (of_item ++ of_on))) (join_kind word) left.query m.query (on_made on) (wide-left P g of_left (of_item ++ of_on) left.query l)
+      reads-Join (P (of_left ++ (of_item ++ of_on))) (join_kind word) left.query m.query (on_built on).expr (on_built on).subs
+      (wide-left P g of_left (of_item ++ of_on) left.query l)
       (wide-right P g of_left (of_item ++ of_on) m.query (wide-left P g of_item of_on m.query r))
+      (subs-right P g of_left (of_item ++ of_on) (on_built on).subs (subs-right P g of_item of_on (on_built on).subs conditions))
 
   pub reads-join_all : (outer : List Scope) (left : FromMeant) (steps : List JoinPart) → FromReads left → Every JoinReads steps
       → FromReads (join_all outer left steps)
@@ -123,13 +140,14 @@ module _ (P : List (List ℕ) → ℕ → List Kind → Type 0) (g : Grows P) wh
   reads-join_all outer left (step ∷ steps) l h =
       let m : ItemMeant = joined_item outer left.names step in
       let on : Option Meant = on_meant outer (both_known left.items (scope_items m)) step.condition in
-      reads-join_all outer (join_item outer left step m) steps (reads-joined left step.word step.condition m on l (h.0 outer left.names)) h.1
+      reads-join_all outer (join_item outer left step m) steps
+      (reads-joined left step.word step.condition m on l (h.0.0 outer left.names) (reads-on outer (both_known left.items (scope_items m)) step.condition h.0.1)) h.1
 
   reads-beside : (left right : FromMeant) → FromReads left → FromReads right → FromReads (beside_from left right)
   reads-beside left right l r =
       let of_left : List (List ℕ) = left.inside.names in
       let of_right : List (List ℕ) = right.inside.names in
-      reads-Join (P (of_left ++ of_right)) join.Inner left.query right.query yes (wide-left P g of_left of_right left.query l) (wide-right P g of_left of_right right.query r)
+      reads-Join (P (of_left ++ of_right)) join.Inner left.query right.query yes [] (wide-left P g of_left of_right left.query l) (wide-right P g of_left of_right right.query r) tt
 
   reads-more : (outer : List Scope) (left : FromMeant) (parts : List FromPart) → FromReads left → Every FromPartReads parts
       → FromReads (from_more outer left parts)

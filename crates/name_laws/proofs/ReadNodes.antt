@@ -52,8 +52,9 @@ module _ (P : ℕ → List Kind → Type 0) where
   pub reads-Project : (input : Query) (items : List Item) (subs : List Sublink) → EachTable P input → EachTableOfSubs P subs → EachTable P (Project input items subs)
   reads-Project input items subs f g = along (EachTable-Project P input items subs) (f, g)
 
-  pub reads-Join : (kind : JoinKind) (left right : Query) (condition : Expr) → EachTable P left → EachTable P right → EachTable P (Join kind left right condition [])
-  reads-Join kind left right condition f g = along (EachTable-Join P kind left right condition []) (f, g, tt)
+  pub reads-Join : (kind : JoinKind) (left right : Query) (condition : Expr) (subs : List Sublink) → EachTable P left → EachTable P right
+      → EachTableOfSubs P subs → EachTable P (Join kind left right condition subs)
+  reads-Join kind left right condition subs f g h = along (EachTable-Join P kind left right condition subs) (f, g, h)
 
   pub reads-Union : (all : Bool) (left right : Query) → EachTable P left → EachTable P right → EachTable P (Union all left right)
   reads-Union all left right f g = along (EachTable-Union P all left right) (f, g)

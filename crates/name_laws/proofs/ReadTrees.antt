@@ -153,7 +153,7 @@ module _ (P : List (List ℕ) → ℕ → List Kind → Type 0) (g : Grows P) (c
         (reads-read_of P g c held outer frame.source source);
     from_tree = λ frame first joins outer earlier. reads-join_all P g outer (first_item earlier (frame.first.means outer earlier)) frame.joins
         (first outer earlier) joins;
-    join = λ frame item condition. item;
+    join = λ frame item condition. (item, reads-optional frame.condition condition);
   }
 
   -- ---- every tree

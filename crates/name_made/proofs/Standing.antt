@@ -1,8 +1,7 @@
 -- What stands around the clauses of a core and the items of its FROM, made one after the other.
-use Rattle.std.specs.Prelude.{◌≡◌, ℕ, suc, ◌+◌, ◌<◌, List, [], ◌∷◌, length, map, take, drop, Bool, Option, Some, None, option_map, Result, Ok, Err, OnOk}
-use Rattle.std.proofs.Common.{refl, ap, sym, subst, ◌∙◌, arith, get_or}
-use Rattle.std.proofs.lemmas.List.{append-nil, length-map, map-append}
-use Rattle.bag_algebra.specs.declared.expr.Expr.{Expr}
+use Rattle.std.specs.Prelude.{◌≡◌, ℕ, suc, ◌+◌, ◌<◌, List, [], ◌∷◌, length, map, take, drop, Bool, Some, option_map, Result, Ok, Err, OnOk}
+use Rattle.std.proofs.Common.{ap, sym, subst, ◌∙◌, arith, get_or}
+use Rattle.std.proofs.lemmas.List.{length-map, map-append}
 use Rattle.bag_algebra.specs.declared.expr.Item.{Item}
 use Rattle.bag_algebra.specs.declared.query.Query.{Query}
 use Rattle.perm_catalog.specs.Contents.{Contents}
@@ -10,37 +9,24 @@ use Rattle.perm_values.specs.declared.kind.Kind.{Kind}
 use Rattle.sql_tree.specs.declared.query.SelectItem.{SelectItem}
 use Rattle.sql_tree.specs.declared.source.FromTree.{FromTree, out-FromTree}
 use Rattle.sql_tree.specs.declared.source.JoinStep.{JoinStep, out-JoinStep}
-use Rattle.name_meaning.specs.Froms.{FromMeant, ItemMeant, JoinPart, first_item, join_all, join_item, join_kind, scope_items, joined_item}
+use Rattle.name_meaning.specs.Froms.{FromMeant, JoinPart, first_item, join_all, join_item, join_kind, scope_items, joined_item}
 use Rattle.name_meaning.specs.Items.{SelectMeant, SelectPart}
 use Rattle.name_meaning.specs.Meanings.{Surroundings}
-use Rattle.name_meaning.specs.Scopes.{ScopeItem, scope_of}
+use Rattle.name_meaning.specs.Scopes.{ScopeItem}
 use Rattle.name_meaning.specs.Trees.{from_item_of, from_of, item_of, join_of, part_of}
 use Rattle.name_meaning.specs.declared.scope.Scope.{Scope}
-use Rattle.bag_algebra.specs.declared.query.Query.TheVariants.{Join}
 use Rattle.name_made_nodes.specs.Listed.{MakesItems}
 use Rattle.name_made_nodes.specs.declared.within.Within.{Within}
 use Rattle.name_made_parts.specs.Cored.{items_meant}
-use Rattle.name_made_parts.specs.Sources.{IsScope, JoinsMade, MakesJoin, MakesOn, MakesSource, StandsIn, join_count}
+use Rattle.name_made_parts.specs.Sources.{JoinsMade, MakesJoin, MakesOn, MakesSource, join_count, join_on_kept}
 use Rattle.name_made_parts.proofs.Coring.{next-listed}
 use Rattle.name_made_parts.proofs.AskedListing.{mapped}
-use Rattle.name_made_parts.proofs.Sourcing.{both-count, from-fields, join-fields, join-made, join-more, joins-append}
+use Rattle.name_made_parts.proofs.Sourcing.{both-count, from-fields, join-fields, join-made, join-more, joins-append, one-item}
+use Rattle.name_made_parts.specs.declared.asked.cores.Kept.{Kept}
 
 pub of-on : {X E : Type 0} (P Q : Type 0) (result : Result X E) → (P → Q) → OnOk result P → OnOk result Q
 of-on P Q (Ok x) f p = f p
 of-on P Q (Err e) f p = p
-
--- all items of FROM stand in the core's own scope
-pub own-stands : (m : FromMeant) (own scope : Scope) (groups : Option (List ℕ)) → IsScope m own → scope ≡ record own { groups = groups } → StandsIn m.items 0 scope
-own-stands m own scope groups s is =
-    record {
-      before = [];
-      own = s.items;
-      after = [];
-      known = s.known;
-      scope_is = ap (λ (t : Scope). record t { groups = None }) is ∙ ap (λ (t : Scope). record t { groups = None }) s.scope_is
-          ∙ ap scope_of (sym (append-nil s.items));
-      at = refl;
-    }
 
 -- ---- the list
 
@@ -57,19 +43,13 @@ items-more c may_link has_from scope here items i item wanted q r old before aft
 
 -- ---- how many items a `from` has
 
-one-known : (m : ItemMeant) (items : List ScopeItem) → scope_items m ≡ Some items → length items ≡ 1
-one-known m items known = of-columns m.columns known where
-  of-columns : (columns : Option (List _)) → option_map (λ columns. record { name = m.name; columns = columns } ∷ []) columns ≡ Some items → length items ≡ 1
-  of-columns None e = absurd (cc e)
-  of-columns (Some columns) e = let same : items ≡ record { name = m.name; columns = columns } ∷ [] = cc e in ap length same
-
 joins-count : (outer : List Scope) (left : FromMeant) (steps : List JoinPart) (n : ℕ)
     → ((items : List ScopeItem) → left.items ≡ Some items → length items ≡ n)
     → (items : List ScopeItem) → (join_all outer left steps).items ≡ Some items → length items ≡ n + length steps
 joins-count outer left [] n counts items known = let same = counts items known in omega (arith, same)
 joins-count outer left (step ∷ steps) n counts items known =
     let m = joined_item outer left.names step in
-    let all = joins-count outer (join_item outer left step m) steps (n + 1) (both-count left.items (scope_items m) n 1 counts (one-known m)) items known in
+    let all = joins-count outer (join_item outer left step m) steps (n + 1) (both-count left.items (scope_items m) n 1 counts (one-item m)) items known in
     omega (arith, all)
 
 pub from-count : (c : Contents) (tree : FromTree) (outer : List Scope) (earlier : List (List ℕ)) (items : List ScopeItem)
@@ -77,7 +57,7 @@ pub from-count : (c : Contents) (tree : FromTree) (outer : List Scope) (earlier 
 from-count c tree outer earlier items known =
     let first = first_item earlier ((from_item_of c (out-FromTree tree).first).means outer earlier) in
     let steps = map (join_of c) (out-FromTree tree).joins in
-    let all = joins-count outer first steps 1 (one-known ((from_item_of c (out-FromTree tree).first).means outer earlier)) items
+    let all = joins-count outer first steps 1 (one-item ((from_item_of c (out-FromTree tree).first).means outer earlier)) items
     (ap (λ (m : FromMeant). m.items) (sym (from-fields c tree outer earlier)) ∙ known) in
     let size = length-map (out-FromTree tree).joins (join_of c) in
     omega (arith, all, size)
@@ -96,14 +76,14 @@ step-more c outer left joins i step first scope before after within is so_far ma
     (sym (ap (join_all outer left) (mapped (join_of c) joins i step within is) ∙ joins-append outer left (map (join_of c) (take i joins)) (join_of c step)))
     (join-more outer (join_all outer left (map (join_of c) (take i joins))) (join_of c step) first i scope before after so_far makes))
 
-pub tree-join : (c : Contents) (outer : List Scope) (tree : JoinStep) (first count : ℕ) (scope : Scope) (before right after : Query) (condition : Expr)
-    → MakesOn outer (option_map (part_of c) (out-JoinStep tree).condition) first count scope condition
+pub tree-join : (c : Contents) (outer : List Scope) (tree : JoinStep) (first count : ℕ) (scope : Scope) (before right after : Query) (kept : Kept)
+    → MakesOn outer (option_map (part_of c) (out-JoinStep tree).condition) first count scope kept
     → ((earlier : List (List ℕ)) → MakesSource ((from_item_of c (out-JoinStep tree).item).means outer earlier) right)
-    → after ≡ Join (join_kind (out-JoinStep tree).word) before right condition [] → MakesJoin outer (join_of c tree) first count scope before after
-tree-join c outer tree first count scope before right after condition on item is =
+    → after ≡ join_on_kept (join_kind (out-JoinStep tree).word) before right kept → MakesJoin outer (join_of c tree) first count scope before after
+tree-join c outer tree first count scope before right after kept on item is =
     subst (λ (step : JoinPart). MakesJoin outer step first count scope before after) (sym (join-fields c tree))
     (join-made outer (record {
       word = (out-JoinStep tree).word;
       item = from_item_of c (out-JoinStep tree).item;
       condition = option_map (part_of c) (out-JoinStep tree).condition;
-    }) first count scope before right after condition on item is)
+    }) first count scope before right after kept on item is)

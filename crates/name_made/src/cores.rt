@@ -1,7 +1,7 @@
 //! Cores, with their clauses.
 ghost use Rattle.std.specs.Prelude.{◌≡◌, Bool, not, drop, length, ◌∷◌, [], List, IfOk, OnOk, map, option_map};
 ghost use Rattle.perm_catalog.specs.Sound.{IsSound};
-ghost use Rattle.name_meaning.specs.Cores.{in_clause, optional_meant};
+ghost use Rattle.name_meaning.specs.Froms.{in_clause, optional_meant};
 ghost use Rattle.name_meaning.specs.Meanings.{means_at};
 ghost use Rattle.name_meaning.specs.Scopes.{ScopeItem, scope_of};
 ghost use Rattle.name_meaning.specs.Trees.{core_of, item_of, part_of};
@@ -19,7 +19,7 @@ use bag_algebra::{Aggr, Item, Query};
 use name_made_nodes::{Clauses, Condition, Listed, Within, add_value, beside, core_of};
 use name_made_parts::{
     Kept, add_star, add_table_star, behind_aggregates, clauses_of, groups_of, item_kind, kept_of,
-    listed_of, scope_grouped, scope_or_none,
+    listed_of, nothing_kept, scope_grouped, scope_or_none,
 };
 use name_meaning::Scope;
 use name_seen_cores::in_clause;
@@ -97,9 +97,9 @@ fn selected_made(
     beside(condition, list)
 }
 
-/// The condition of WHERE or of HAVING, if there is one.
+/// The condition of WHERE, of HAVING or of ON, if there is one.
 #[cycle(made)]
-fn condition_made(
+pub(crate) fn condition_made(
     condition: &Option<ExprTree>,
     in_groups: bool,
     around: &Around,
@@ -110,10 +110,7 @@ fn condition_made(
         (in_clause (here_only (not in_groups) scope.now) (scopes_of around.now.outer.now) in_groups) (option_map (part_of around.now.catalog.now) condition.now))) }
 {
     match condition {
-        None => Ok(Kept {
-            condition: None,
-            aggregates: List::new(around.alloc),
-        }),
+        None => Ok(nothing_kept(around.alloc)),
         Some(tree) => kept_made(tree, in_groups, around, scope),
     }
 }

@@ -1,25 +1,21 @@
 //! What FROM reads, with its joins.
-ghost use Rattle.std.specs.Prelude.{◌≡◌, ℕ, [], List, IfOk, map, option_map};
+ghost use Rattle.std.specs.Prelude.{ℕ, List, IfOk, map, option_map};
 ghost use Rattle.perm_catalog.specs.Sound.{IsSound};
-ghost use Rattle.name_meaning.specs.Froms.{from_all, in_on, on_made};
-ghost use Rattle.name_meaning.specs.Meanings.{means_at};
-ghost use Rattle.name_meaning.specs.Scopes.{ScopeItem, scope_of};
+ghost use Rattle.name_meaning.specs.Froms.{from_all};
 ghost use Rattle.name_meaning.specs.Trees.{from_item_of, from_of, join_of, part_of};
 ghost use Rattle.name_seen_parts.specs.Named.{scopes_of};
 ghost use Rattle.name_made_parts.specs.Sources.{MakesFrom, MakesJoin, MakesOn, MakesSource};
 
-use crate::expressions::made;
+use crate::cores::condition_made;
 use crate::queries::query_made;
-use bag_algebra::{Expr, Query};
-use name_made_nodes::{Within, truth_value};
+use bag_algebra::Query;
 use name_made_parts::{
-    behind, input_or_single, join_kind, marked_of, named_item, segment, shown_names, with_next,
-    with_right,
+    Kept, behind, input_or_single, join_kind, marked_of, named_item, segment, shown_names,
+    with_next, with_right,
 };
 use name_meaning::Scope;
-use name_seen_cores::in_on;
-use name_seen_parts::{Around, Here, inside};
-use perm_values::{Kind, NoMemory};
+use name_seen_parts::Around;
+use perm_values::NoMemory;
 use sql_tree::{ExprTree, FromItem, FromSource, FromTree, JoinStep};
 
 /// All of FROM, whose items are in scope.
@@ -80,12 +76,12 @@ fn join_made(
     ensures { IfOk result (MakesJoin (scopes_of around.now.outer.now)
         (join_of around.now.catalog.now step.now) first count scope.now whole) }
 {
-    let condition = on_made(&step.condition, first, count, around, scope);
+    let kept = on_made(&step.condition, first, count, around, scope);
     let right = item_made(&step.item, around);
-    with_right(around.alloc, join_kind(step.word), whole, right, condition)
+    with_right(around.alloc, join_kind(step.word), whole, right, kept)
 }
 
-/// A condition of ON, which sees as many items behind the first ones; TRUE, if there is none.
+/// A condition of ON, which sees as many items behind the first ones.
 #[cycle(made)]
 fn on_made(
     condition: &Option<ExprTree>,
@@ -93,43 +89,15 @@ fn on_made(
     count: usize,
     around: &Around,
     scope: &Scope,
-) -> Result<Expr, NoMemory>
+) -> Result<Kept, NoMemory>
     requires { IsSound around.now.catalog.now }
     ensures { IfOk result (MakesOn (scopes_of around.now.outer.now)
         (option_map (part_of around.now.catalog.now) condition.now) first count scope.now) }
 {
-    match condition {
-        None => Ok(truth_value(true)),
-        Some(tree) => {
-            let own = segment(around.alloc, scope, first, count)?;
-            let condition = on_items(tree, around, &own);
-            drop(own);
-            condition
-        }
-    }
-}
-
-/// A condition of ON over the items in scope.
-#[cycle(made)]
-fn on_items(tree: &ExprTree, around: &Around, own: &Scope) -> Result<Expr, NoMemory>
-    requires { IsSound around.now.catalog.now }
-    ensures { IfOk result (λ e. (items : List ScopeItem) → own.now ≡ scope_of items →
-        (means_at (part_of around.now.catalog.now tree.now)
-        (in_on items (scopes_of around.now.outer.now))).breaks ≡ []
-        → e ≡ on_made (Some (means_at (part_of around.now.catalog.now tree.now)
-        (in_on items (scopes_of around.now.outer.now))))) }
-{
-    let scopes = inside(own, false, &*around.outer)?;
-    let here = Here {
-        alloc: around.alloc,
-        catalog: &*around.catalog,
-        scopes: &scopes,
-        standing: in_on(),
-    };
-    let mut found = Within::nothing(around.alloc);
-    let condition = made(tree, Kind::Boolean, &here, &mut found);
-    drop(found);
-    condition
+    let own = segment(around.alloc, scope, first, count)?;
+    let kept = condition_made(condition, false, around, &own);
+    drop(own);
+    kept
 }
 
 /// An item of FROM.

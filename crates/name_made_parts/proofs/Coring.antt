@@ -16,8 +16,8 @@ use Rattle.sql_tree.specs.declared.name.Name.{Name}
 use Rattle.sql_tree.specs.declared.query.SelectItem.{SelectItem}
 use Rattle.sql_tree.specs.declared.query.SelectItem.TheVariants as i
 use Rattle.sql_tree.specs.declared.query.Core.{Core, out-Core}
-use Rattle.name_meaning.specs.Cores.{BodyPart, aggregated_input, before_list, clause_breaks, core_clauses, core_over, core_seen, core_unlooked, distinct_if, filtered, group_break, group_scope, has_some, in_clause, optional_breaks, optional_built, optional_meant, settle_known, word_breaks}
-use Rattle.name_meaning.specs.Froms.{FromMeant, from_all}
+use Rattle.name_meaning.specs.Cores.{BodyPart, aggregated_input, before_list, clause_breaks, core_clauses, core_over, core_seen, core_unlooked, distinct_if, filtered, group_break, group_scope, has_some, optional_built, settle_known, word_breaks}
+use Rattle.name_meaning.specs.Froms.{FromMeant, from_all, in_clause, optional_breaks, optional_meant}
 use Rattle.name_meaning.specs.Items.{Made, SelectMeant, SelectPart, all_known, items_breaks, made_items, named_from, star_meant, table_star_meant, title, value_meant}
 use Rattle.name_meaning.specs.Meanings.{Around, Before, Built, Meant, Part, QueryMeant, Surroundings, is_whole, means_at}
 use Rattle.name_meaning.specs.Operands.{behind}
@@ -35,8 +35,8 @@ use Rattle.name_made_nodes.specs.declared.cores.Condition.{Condition}
 use Rattle.name_made_nodes.specs.declared.within.Within.{Within}
 use Rattle.name_made_nodes.proofs.ItemLists.{more-listed}
 use Rattle.name_made_nodes.proofs.Parts.{none-first, none-second}
-use Rattle.name_made_parts.specs.Cored.{AreKept, Keeps, MakesClauses, MakesList, MakesSelected, condition_of, condition_part, core_over_items, having_part, in_groups, in_rows, items_meant, kept_of, select_parts, source_parts, sources_meant}
-use Rattle.name_made_parts.specs.Sources.{IsScope, own_breaks}
+use Rattle.name_made_parts.specs.Cored.{AreKept, Keeps, MakesClauses, MakesList, MakesSelected, condition_of, condition_part, core_over_items, having_part, in_groups, in_rows, items_meant, kept_of, select_parts, source_parts, sources_meant, own_breaks}
+use Rattle.name_made_parts.specs.Sources.{IsScope}
 use Rattle.name_made_parts.specs.declared.asked.cores.Kept.{Kept}
 use Rattle.name_made_parts.proofs.Settling.{list-settles, settled-list}
 use Rattle.name_meaning.proofs.Opened.{core-is}
@@ -55,7 +55,7 @@ some-kept may_link m e found makes whole =
       aggregates = ap (λ (w : Within). w.aggregates) built.found;
     }
 
-own-whole : (here : Surroundings) (part : Option Part) → optional_breaks part (optional_meant here part) ≡ [] → own_breaks (optional_meant here part) ≡ []
+pub own-whole : (here : Surroundings) (part : Option Part) → optional_breaks part (optional_meant here part) ≡ [] → own_breaks (optional_meant here part) ≡ []
 own-whole here None whole = refl
 own-whole here (Some part) whole = none-first _ _ whole
 

@@ -1,8 +1,7 @@
 -- What FROM is made of, its parts made one after the other.
 use Rattle.std.specs.Prelude.{◌≡◌, ℕ, suc, ◌+◌, true, List, [], ◌∷◌, ◌++◌, length, map, Option, Some, None, option_map}
 use Rattle.std.specs.Option.{option_map_or}
-use Rattle.std.proofs.Common.{refl, ap, sym, subst, ◌∙◌, arith, append_assoc, length-append}
-use Rattle.bag_algebra.specs.declared.expr.Expr.{Expr}
+use Rattle.std.proofs.Common.{refl, ap, sym, subst, ◌∙◌, arith, append-nil, append_assoc, length-append}
 use Rattle.bag_algebra.specs.declared.query.JoinKind.TheVariants as join
 use Rattle.bag_algebra.specs.declared.query.Query.{Query}
 use Rattle.bag_algebra.specs.declared.query.Query.TheVariants.{Join}
@@ -17,18 +16,35 @@ use Rattle.sql_tree.specs.declared.source.JoinWord.{JoinWord}
 use Rattle.sql_tree.specs.declared.expression.ExprTree.{ExprTree}
 use Rattle.sql_tree.specs.declared.expression.ExprBody.TheViews.{roll-out-JoinStep}
 use Rattle.sql_tree.specs.declared.source.ScopeMark.{ScopeMark}
-use Rattle.name_meaning.specs.Froms.{FromMeant, FromPart, ItemMeant, JoinPart, Read, SourcePart, beside_from, both_known, first_item, from_all, from_more, item_meant, join_all, join_item, join_kind, label_of, marked, no_from, named as named_source, inner as inner_source, on_breaks, on_made, on_meant, read_named, read_names, read_of, read_query, scope_items, scope_name, yes, joined_item, unbuilt_breaks}
-use Rattle.name_meaning.specs.Meanings.{Part, query_means_at}
+use Rattle.name_meaning.specs.Froms.{FromMeant, FromPart, ItemMeant, JoinPart, Read, SourcePart, beside_from, both_known, first_item, from_all, from_more, in_on, item_meant, join_all, join_item, join_kind, label_of, marked, no_from, named as named_source, inner as inner_source, optional_breaks, on_meant, read_named, read_names, read_of, read_query, scope_items, scope_name, yes, joined_item, unbuilt_breaks, on_built}
+use Rattle.name_meaning.specs.Meanings.{Meant, query_means_at}
 use Rattle.name_meaning.specs.Scopes.{ScopeItem, scope_of}
 use Rattle.name_meaning.specs.Trees.{from_item_of, from_of, join_of, part_of, query_of, source_of}
 use Rattle.name_meaning.specs.declared.scope.Scope.{Scope}
 use Rattle.name_meaning.proofs.Equations.{token, fromitem-record, fromsource-inner, fromsource-named, joinstep-record-none, joinstep-record-some}
 use Rattle.name_meaning.proofs.Opened.{opened_from}
 use Rattle.name_made_nodes.proofs.Parts.{none-first, none-second}
-use Rattle.name_made_parts.specs.Sources.{JoinsMade, MakesFrom, MakesJoin, MakesOn, MakesSource, SourcesMade, StandsIn, beside_left, own_breaks, text_of}
+use Rattle.name_made_parts.specs.Sources.{IsScope, JoinsMade, MakesFrom, MakesJoin, MakesOn, MakesSource, SourcesMade, StandsIn, beside_left, text_of, join_on_kept, kept_or_yes}
 use Rattle.name_seen_parts.proofs.Scoping.{more-behind}
+use Rattle.name_made_parts.proofs.Coring.{own-whole}
+use Rattle.name_made_parts.specs.Cored.{AreKept}
+use Rattle.name_made_nodes.specs.declared.cores.Condition.{Condition}
+use Rattle.name_made_parts.specs.declared.asked.cores.Kept.{Kept}
 
 -- ---- items in scope
+
+-- all items of FROM stand in the core's own scope
+pub own-stands : (m : FromMeant) (own scope : Scope) (groups : Option (List ℕ)) → IsScope m own → scope ≡ record own { groups = groups } → StandsIn m.items 0 scope
+own-stands m own scope groups s is =
+    record {
+      before = [];
+      own = s.items;
+      after = [];
+      known = s.known;
+      scope_is = ap (λ (t : Scope). record t { groups = None }) is ∙ ap (λ (t : Scope). record t { groups = None }) s.scope_is
+          ∙ ap scope_of (sym (append-nil s.items));
+      at = refl;
+    }
 
 pub stands-left : (a b : Option (List ScopeItem)) (first : ℕ) (scope : Scope) → StandsIn (both_known a b) first scope → StandsIn a first scope
 stands-left None b first scope s = absurd (cc s.known)
@@ -70,20 +86,13 @@ both-count (Some xs) (Some ys) m n first second items known =
     let own : items ≡ xs ++ ys = cc known in
     ap length own ∙ length-append xs ys ∙ ap (λ (k : ℕ). k + length ys) (first xs refl) ∙ ap (λ (k : ℕ). m + k) (second ys refl)
 
-one-item : (m : ItemMeant) (items : List ScopeItem) → scope_items m ≡ Some items → length items ≡ 1
+pub one-item : (m : ItemMeant) (items : List ScopeItem) → scope_items m ≡ Some items → length items ≡ 1
 one-item m items known = of-columns m.columns known where
   of-columns : (columns : Option (List _)) → option_map (λ columns. record { name = m.name; columns = columns } ∷ []) columns ≡ Some items → length items ≡ 1
   of-columns None e = absurd (cc e)
   of-columns (Some columns) e = ap length (sym (some e)) where
     some : {X : Type 0} {x y : X} → Some x ≡ Some y → x ≡ y
     some e = cc
-
--- ---- conditions
-
-own-whole : (outer : List Scope) (items : List ScopeItem) (condition : Option Part)
-    → on_breaks condition (on_meant outer (Some items) condition) ≡ [] → own_breaks (on_meant outer (Some items) condition) ≡ []
-own-whole outer items None whole = refl
-own-whole outer items (Some condition) whole = none-first _ _ whole
 
 -- ---- joins
 
@@ -106,7 +115,7 @@ join-more outer left step first joins scope before after so_far makes =
     record {
       makes = λ whole stands.
           makes left (λ items known. let n = counts items known in omega (arith, n))
-          (so_far.makes (none-first left.breaks m.breaks (none-first (left.breaks ++ m.breaks) (on_breaks step.condition on) whole))
+          (so_far.makes (none-first left.breaks m.breaks (none-first (left.breaks ++ m.breaks) (optional_breaks step.condition on) whole))
           (stands-left left.items (scope_items m) first scope stands)) whole stands;
       counts = λ items known. let n = counts items known in omega (arith, n);
     }
@@ -116,28 +125,35 @@ pub first-made : (earlier : List (List ℕ)) (m : ItemMeant) (first : ℕ) (scop
     → JoinsMade (first_item earlier m) first scope made 0
 first-made earlier m first scope made makes = record { makes = λ whole stands. makes whole; counts = one-item m }
 
+abbrev on_condition : Option Meant → Condition
+on_condition on = record { expr = (on_built on).expr; subs = (on_built on).subs }
+
+kept-so : (on : Option Meant) (kept : Kept) → AreKept on kept → kept_or_yes kept.condition ≡ on_condition on
+kept-so None kept is = ap kept_or_yes is.condition
+kept-so (Some m) kept is = ap kept_or_yes is.condition
+
 -- a join of what is made
-pub join-made : (outer : List Scope) (step : JoinPart) (first count : ℕ) (scope : Scope) (before right after : Query) (condition : Expr)
-    → MakesOn outer step.condition first count scope condition → ((earlier : List (List ℕ)) → MakesSource (step.item.means outer earlier) right)
-    → after ≡ Join (join_kind step.word) before right condition [] → MakesJoin outer step first count scope before after
-join-made outer step first count scope before right after condition on item is left counts same whole stands =
+pub join-made : (outer : List Scope) (step : JoinPart) (first count : ℕ) (scope : Scope) (before right after : Query) (kept : Kept)
+    → MakesOn outer step.condition first count scope kept → ((earlier : List (List ℕ)) → MakesSource (step.item.means outer earlier) right)
+    → after ≡ join_on_kept (join_kind step.word) before right kept → MakesJoin outer step first count scope before after
+join-made outer step first count scope before right after kept on item is left counts same whole stands =
     let m = joined_item outer left.names step in
     let known = both_known left.items (scope_items m) in
     let sees = on_meant outer known step.condition in
     let own : known ≡ Some stands.own = stands.known in
-    let breaks : on_breaks step.condition (on_meant outer (Some stands.own) step.condition) ≡ [] =
-    subst (λ (items : Option (List ScopeItem)). on_breaks step.condition (on_meant outer items step.condition) ≡ []) own
-    (none-second (left.breaks ++ m.breaks) (on_breaks step.condition sees) whole) in
+    let breaks : optional_breaks step.condition (on_meant outer (Some stands.own) step.condition) ≡ [] =
+    subst (λ (items : Option (List ScopeItem)). optional_breaks step.condition (on_meant outer items step.condition) ≡ []) own
+    (none-second (left.breaks ++ m.breaks) (optional_breaks step.condition sees) whole) in
     let made = item left.names (none-second (unbuilt_breaks step.word step.item.at) _
-    (none-second left.breaks m.breaks (none-first (left.breaks ++ m.breaks) (on_breaks step.condition sees) whole))) in
+    (none-second left.breaks m.breaks (none-first (left.breaks ++ m.breaks) (optional_breaks step.condition sees) whole))) in
     let stands_own : StandsIn (Some stands.own) first scope =
     record { before = stands.before; own = stands.own; after = stands.after; known = refl; scope_is = stands.scope_is; at = stands.at } in
-    let expr : condition ≡ on_made sees =
-    on stands.own stands_own (counts stands.own own) (own-whole outer stands.own step.condition breaks)
-    ∙ ap (λ (items : Option (List ScopeItem)). on_made (on_meant outer items step.condition)) (sym own) in
-    is ∙ ap (λ (q : Query). Join (join_kind step.word) q right condition []) same
-    ∙ ap (λ (q : Query). Join (join_kind step.word) left.query q condition []) made
-    ∙ ap (λ (e : Expr). Join (join_kind step.word) left.query m.query e []) expr
+    let keeps : AreKept sees kept =
+    subst (λ (items : Option (List ScopeItem)). AreKept (on_meant outer items step.condition) kept) (sym own)
+    (on stands.own stands_own (counts stands.own own) (own-whole (in_on stands.own outer) step.condition breaks)) in
+    is ∙ ap (λ (q : Query). join_on_kept (join_kind step.word) q right kept) same
+    ∙ ap (λ (q : Query). join_on_kept (join_kind step.word) left.query q kept) made
+    ∙ ap (λ (k : Condition). Join (join_kind step.word) left.query m.query k.expr k.subs) (kept-so sees kept keeps)
 
 -- ---- parts before and behind commas
 

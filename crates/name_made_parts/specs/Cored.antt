@@ -1,13 +1,13 @@
 -- What the second pass makes of the clauses of a core.
-use Rattle.std.specs.Prelude.{◌≡◌, Bool, true, false, List, [], map, Option, Some, option_map}
+use Rattle.std.specs.Prelude.{◌≡◌, Bool, true, false, List, [], map, Option, Some, None, option_map}
 use Rattle.bag_algebra.specs.declared.expr.Expr.{Expr}
 use Rattle.bag_algebra.specs.declared.query.Aggr.{Aggr}
 use Rattle.perm_catalog.specs.Contents.{Contents}
 use Rattle.perm_values.specs.declared.kind.Kind.{Kind}
 use Rattle.sql_tree.specs.declared.name.ColRef.{ColRef}
 use Rattle.sql_tree.specs.declared.query.Core.{Core, out-Core}
-use Rattle.name_meaning.specs.Cores.{core_over, has_some, in_clause, optional_built, optional_meant}
-use Rattle.name_meaning.specs.Froms.{FromMeant, FromPart, from_all}
+use Rattle.name_meaning.specs.Cores.{core_over, has_some, optional_built}
+use Rattle.name_meaning.specs.Froms.{FromMeant, FromPart, from_all, in_clause, optional_meant}
 use Rattle.name_meaning.specs.Items.{SelectMeant, SelectPart}
 use Rattle.name_meaning.specs.Meanings.{Around, Meant, Part, QueryMeant, Surroundings}
 use Rattle.name_meaning.specs.Scopes.{ScopeItem}
@@ -20,7 +20,6 @@ use Rattle.name_made_nodes.specs.declared.cores.Condition.{Condition}
 use Rattle.name_made_nodes.specs.declared.cores.Listed.{Listed}
 use Rattle.name_made_nodes.specs.declared.within.Within.{Within}
 use Rattle.name_seen_parts.specs.Named.{here_only}
-use Rattle.name_made_parts.specs.Sources.{own_breaks}
 use Rattle.name_made_parts.specs.declared.asked.cores.Kept.{Kept}
 
 -- ---- the parts of a core
@@ -62,6 +61,11 @@ condition_of m = record { expr = (optional_built (Some m)).expr; subs = (optiona
 
 abbrev pub kept_of : Expr → Within → Kept
 kept_of expr found = record { condition = Some (record { expr = expr; subs = found.subs }); aggregates = found.aggregates }
+
+-- what a condition breaks, if there is one
+abbrev pub own_breaks : Option Meant → List Break
+own_breaks None = []
+own_breaks (Some m) = m.breaks
 
 -- a condition with its sublinks, and its aggregates
 pub record AreKept (meant : Option Meant) (kept : Kept) : Type 0 where

@@ -1,7 +1,7 @@
 -- What the second pass makes of FROM.
 use Rattle.std.specs.Prelude.{◌≡◌, ℕ, suc, List, [], ◌∷◌, ◌++◌, length, Option, Some, None}
 use Rattle.std.specs.Option.{option_map_or}
-use Rattle.bag_algebra.specs.declared.expr.Expr.{Expr}
+use Rattle.bag_algebra.specs.declared.query.JoinKind.{JoinKind}
 use Rattle.bag_algebra.specs.declared.query.JoinKind.TheVariants as join
 use Rattle.bag_algebra.specs.declared.query.Query.{Query}
 use Rattle.bag_algebra.specs.declared.query.Query.TheVariants.{Join}
@@ -9,12 +9,14 @@ use Rattle.perm_catalog.specs.Changes.{view_named}
 use Rattle.perm_catalog.specs.Contents.{Contents}
 use Rattle.sql_tree.specs.declared.name.Name.{Name}
 use Rattle.sql_tree.specs.declared.source.FromTree.{FromTree, out-FromTree}
-use Rattle.name_meaning.specs.Froms.{FromMeant, FromPart, ItemMeant, JoinPart, from_all, join_item, on_made, on_meant, Read, read_names, read_nothing, read_query, read_view, yes, joined_item}
-use Rattle.name_meaning.specs.Meanings.{Meant, Part, QueryMeant}
+use Rattle.name_meaning.specs.Froms.{FromMeant, FromPart, ItemMeant, JoinPart, from_all, join_item, on_meant, Read, read_names, read_nothing, read_query, read_view, yes, joined_item}
+use Rattle.name_meaning.specs.Meanings.{Part, QueryMeant}
 use Rattle.name_meaning.specs.Scopes.{ScopeItem, scope_of}
-use Rattle.name_meaning.specs.declared.answer.Break.{Break}
 use Rattle.name_meaning.specs.declared.scope.Scope.{Scope}
 use Rattle.name_made_parts.specs.declared.shown.ShownNames.{ShownNames}
+use Rattle.name_made_parts.specs.Cored.{Keeps}
+use Rattle.name_made_nodes.specs.declared.cores.Condition.{Condition}
+use Rattle.name_made_parts.specs.declared.asked.cores.Kept.{Kept}
 
 abbrev pub text_of : Name → List ℕ
 text_of name = name.text
@@ -68,15 +70,18 @@ MakesFrom m first scope made = m.breaks ≡ [] → StandsIn m.items first scope 
 abbrev pub MakesSource : ItemMeant → Query → Type 0
 MakesSource m made = m.breaks ≡ [] → made ≡ m.query
 
--- what a condition breaks, if there is one
-abbrev pub own_breaks : Option Meant → List Break
-own_breaks None = []
-own_breaks (Some m) = m.breaks
-
 -- a condition of ON made, where it breaks nothing and its items stand there in the scope
-abbrev pub MakesOn : List Scope → Option Part → ℕ → ℕ → Scope → Expr → Type 0
-MakesOn outer condition first count scope made = (items : List ScopeItem) → StandsIn (Some items) first scope → length items ≡ count
-    → own_breaks (on_meant outer (Some items) condition) ≡ [] → made ≡ on_made (on_meant outer (Some items) condition)
+abbrev pub MakesOn : List Scope → Option Part → ℕ → ℕ → Scope → Kept → Type 0
+MakesOn outer condition first count scope kept = (items : List ScopeItem) → StandsIn (Some items) first scope → length items ≡ count
+    → Keeps (on_meant outer (Some items) condition) kept
+
+-- a condition that is kept; TRUE, if there is none
+abbrev pub kept_or_yes : Option Condition → Condition
+kept_or_yes None = record { expr = yes; subs = [] }
+kept_or_yes (Some condition) = condition
+
+abbrev pub join_on_kept : JoinKind → Query → Query → Kept → Query
+join_on_kept kind left right kept = Join kind left right (kept_or_yes kept.condition).expr (kept_or_yes kept.condition).subs
 
 -- one more join made, behind as many items less one
 abbrev pub MakesJoin : List Scope → JoinPart → ℕ → ℕ → Scope → Query → Query → Type 0

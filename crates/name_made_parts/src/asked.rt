@@ -7,9 +7,10 @@ mod queries;
 mod reading;
 mod united;
 
+pub(crate) use cores::condition_of;
 pub use cores::{
-    Kept, behind_aggregates, clauses_of, groups_of, kept_of, listed_of, scope_grouped,
-    scope_or_none,
+    Kept, behind_aggregates, clauses_of, groups_of, kept_of, listed_of, nothing_kept,
+    scope_grouped, scope_or_none,
 };
 pub use items::item_kind;
 pub use queries::{chain_kinds, limit_keys};

@@ -2,16 +2,17 @@
 ghost use Rattle.std.specs.Prelude.{◌≡◌, ◌≤◌, ℕ, ◌+◌, ◌^◌, suc, List, [], length, IfOk, IfErr, IsOkAnd};
 ghost use Rattle.std.specs.Option.{option_map_or};
 ghost use Rattle.bag_algebra.specs.Kinds.{width_of};
-ghost use Rattle.bag_algebra.specs.declared.query.Query.TheVariants.{Join, Single};
+ghost use Rattle.bag_algebra.specs.declared.query.Query.TheVariants.{Single};
 ghost use Rattle.perm_catalog.specs.Sound.{IsSound};
 ghost use Rattle.name_meaning.specs.Froms.{external, join_kind, marked, read_named, read_names, read_query, read_table, read_view};
 ghost use Rattle.name_meaning.specs.Meanings.{QueryMeant};
-ghost use Rattle.name_made_parts.specs.Sources.{Shows, beside_left, join_count, read_viewed, text_of};
+ghost use Rattle.name_made_parts.specs.Sources.{Shows, beside_left, join_count, join_on_kept, kept_or_yes, read_viewed, text_of};
 
+use crate::asked::{Kept, condition_of, nothing_kept};
 use crate::shown::ShownNames;
-use bag_algebra::{Expr, JoinKind, Query};
+use bag_algebra::{JoinKind, Query};
 use name_made_nodes::{
-    attributes_of, beside, column_names, external, table_plain, table_rows, truth_value,
+    Condition, attributes_of, beside, column_names, external, table_plain, table_rows, truth_value,
     whole_source,
 };
 use perm_catalog::{Catalog, TableEntry, ViewEntry};
@@ -184,20 +185,34 @@ pub fn join_kind(word: JoinWord) -> JoinKind
     }
 }
 
-/// A join with what stands before it, whose condition has no sublink.
+/// A join with what stands before it.
 pub fn with_right(
     alloc: Global,
     kind: JoinKind,
     whole: Query,
     right: Result<Query, NoMemory>,
-    condition: Result<Expr, NoMemory>,
+    kept: Result<Kept, NoMemory>,
 ) -> Result<Query, NoMemory>
-    ensures { IfOk result (λ made. IsOkAnd right (λ right. IsOkAnd condition (λ condition.
-        made ≡ Join kind whole right condition []))) }
+    ensures { IfOk result (λ made. IsOkAnd right (λ right. IsOkAnd kept (λ kept.
+        made ≡ join_on_kept kind whole right kept))) }
 {
-    let both_made = both(right, condition);
-    let (whole, (right, condition)) = beside(whole, both_made)?;
-    Query::join(alloc, kind, whole, right, condition, List::new(alloc))
+    let both_made = both(right, kept);
+    let (whole, (right, kept)) = beside(whole, both_made)?;
+    let Condition { expr, subs } = kept_or_yes(alloc, kept);
+    Query::join(alloc, kind, whole, right, expr, subs)
+}
+
+/// The condition that is kept; TRUE, if there is none.
+fn kept_or_yes(alloc: Global, kept: Kept) -> Condition
+    ensures { result ≡ kept_or_yes kept.condition }
+{
+    match condition_of(kept) {
+        None => Condition {
+            expr: truth_value(true),
+            subs: List::new(alloc),
+        },
+        Some(condition) => condition,
+    }
 }
 
 /// What is behind a comma, beside what is before it.
@@ -216,7 +231,7 @@ pub fn with_next(
             JoinKind::Inner,
             whole,
             Ok(next),
-            Ok(truth_value(true)),
+            Ok(nothing_kept(alloc)),
         ),
     }
 }

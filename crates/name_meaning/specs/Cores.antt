@@ -9,7 +9,7 @@ use Rattle.bag_algebra.specs.declared.query.Query.{Query}
 use Rattle.bag_algebra.specs.declared.query.Query.TheVariants.{Single, Filter, Project, Distinct, Aggregate}
 use Rattle.sql_tree.specs.declared.expression.ExprBody.TheOpen.{Core-F}
 use Rattle.sql_tree.specs.declared.name.ColRef.{ColRef}
-use Rattle.name_meaning.specs.Froms.{FromMeant, FromPart, from_all, condition_breaks}
+use Rattle.name_meaning.specs.Froms.{FromMeant, FromPart, from_all, in_clause, optional_meant, optional_breaks, optional_inside}
 use Rattle.name_meaning.specs.Items.{SelectMeant, SelectPart, Made, all_known, made_items, named_from, items_breaks, items_inside}
 use Rattle.name_meaning.specs.Meanings.{Inside, nothing_inside, both_inside, Surroundings, Before, Built, Meant, Part, Around, OutColumn, QueryMeant, broken, is_whole, settled}
 use Rattle.name_meaning.specs.Operands.{behind}
@@ -37,26 +37,6 @@ abbrev pub settle_known : Option (List OutColumn) → List Kind → List Kind
 settle_known columns wanted = option_map_or (λ known. settle known wanted) columns []
 
 -- ---- the clauses, seen
-
--- in a clause of a core, sublinks may stand
-abbrev pub in_clause : Scope → List Scope → Bool → Surroundings
-in_clause scope outer aggregates = record {
-  scopes = scope ∷ outer;
-  aggregates = aggregates;
-  sublinks = true;
-  argument = false;
-}
-
-abbrev pub optional_meant : Surroundings → Option Part → Option Meant
-optional_meant here part = option_map (λ (p : Part). p.means here) part
-
-abbrev pub optional_breaks : Option Part → Option Meant → List Break
-optional_breaks None m = []
-optional_breaks (Some part) None = []
-optional_breaks (Some part) (Some m) = condition_breaks part.at m
-
-abbrev pub optional_inside : Option Meant → Inside
-optional_inside m = option_map_or (λ (meant : Meant). meant.inside) m nothing_inside
 
 -- a condition made, behind what stands before it
 abbrev pub optional_built : Option Meant → Built

@@ -28,9 +28,9 @@ use Rattle.sql_tree.specs.declared.source.JoinWord.{JoinWord}
 use Rattle.sql_tree.specs.declared.source.JoinWord.TheVariants as word
 use Rattle.sql_tree.specs.declared.source.ScopeMark.{ScopeMark}
 use Rattle.sql_tree.specs.declared.source.ScopeMark.TheVariants as mark
-use Rattle.name_meaning.specs.Meanings.{Inside, nothing_inside, both_inside, Surroundings, Meant, seen_kind, Part, OutColumn, QueryMeant, QueryPart, broken, broken_if, settled, unites}
+use Rattle.name_meaning.specs.Meanings.{Inside, nothing_inside, both_inside, Surroundings, Built, Meant, seen_kind, Part, OutColumn, QueryMeant, QueryPart, broken, broken_if, settled, unites}
 use Rattle.name_meaning.specs.Scopes.{KnownColumn, ScopeItem, scope_of}
-use Rattle.name_meaning.specs.Sublinks.{nothing_before}
+use Rattle.name_meaning.specs.Sublinks.{nothing_before, built_alone}
 use Rattle.name_meaning.specs.declared.answer.Break.{Break}
 use Rattle.name_meaning.specs.declared.scope.Scope.{Scope}
 use Rattle.name_meaning.specs.declared.rule.Rule.TheVariants as rule
@@ -204,17 +204,32 @@ item_meant at mark earlier name label read = record {
 abbrev pub condition_breaks : ℕ → Meant → List Break
 condition_breaks at m = m.breaks ++ broken_if (not (unites (Some kind.Boolean) (seen_kind m))) rule.UnfitKind at
 
+-- in a clause of a core, sublinks may stand
+abbrev pub in_clause : Scope → List Scope → Bool → Surroundings
+in_clause scope outer aggregates = record {
+  scopes = scope ∷ outer;
+  aggregates = aggregates;
+  sublinks = true;
+  argument = false;
+}
+
+abbrev pub optional_meant : Surroundings → Option Part → Option Meant
+optional_meant here part = option_map (λ (p : Part). p.means here) part
+
+abbrev pub optional_breaks : Option Part → Option Meant → List Break
+optional_breaks None m = []
+optional_breaks (Some part) None = []
+optional_breaks (Some part) (Some m) = condition_breaks part.at m
+
+abbrev pub optional_inside : Option Meant → Inside
+optional_inside m = option_map_or (λ (meant : Meant). meant.inside) m nothing_inside
+
 abbrev pub yes : Expr
 yes = Lit (v.Boolean true) kind.Boolean
 
--- neither an aggregate nor a sublink stands in ON
+-- ON stands as a clause over the items up to its own step
 abbrev pub in_on : List ScopeItem → List Scope → Surroundings
-in_on items outer = record {
-  scopes = scope_of items ∷ outer;
-  aggregates = false;
-  sublinks = false;
-  argument = false;
-}
+in_on items outer = in_clause (scope_of items) outer false
 
 -- ---- joins
 
@@ -263,24 +278,19 @@ first_item earlier m = record {
 -- a condition sees the items of its own `from` up to its own step, then the outer scopes
 abbrev pub on_meant : List Scope → Option (List ScopeItem) → Option Part → Option Meant
 on_meant outer None condition = None
-on_meant outer (Some items) None = None
-on_meant outer (Some items) (Some condition) = Some (condition.means (in_on items outer))
+on_meant outer (Some items) condition = optional_meant (in_on items outer) condition
 
-abbrev pub on_breaks : Option Part → Option Meant → List Break
-on_breaks None m = []
-on_breaks (Some condition) None = []
-on_breaks (Some condition) (Some m) = condition_breaks condition.at m
-
-abbrev pub on_made : Option Meant → Expr
-on_made m = option_map_or (λ (meant : Meant). (meant.make kind.Boolean nothing_before).expr) m yes
+-- its sublinks are those of the join alone
+abbrev pub on_built : Option Meant → Built
+on_built m = option_map_or (λ (meant : Meant). meant.make kind.Boolean nothing_before) m (built_alone yes)
 
 abbrev pub joined : FromMeant → JoinWord → Option Part → ItemMeant → Option Meant → FromMeant
 joined left word condition m on = record {
-  breaks = left.breaks ++ m.breaks ++ on_breaks condition on;
+  breaks = left.breaks ++ m.breaks ++ optional_breaks condition on;
   names = left.names ++ m.name ∷ [];
   items = both_known left.items (scope_items m);
-  query = Join (join_kind word) left.query m.query (on_made on) [];
-  inside = both_inside left.inside (both_inside m.inside (option_map_or (λ (meant : Meant). meant.inside) on nothing_inside));
+  query = Join (join_kind word) left.query m.query (on_built on).expr (on_built on).subs;
+  inside = both_inside left.inside (both_inside m.inside (optional_inside on));
 }
 
 abbrev pub join_item : List Scope → FromMeant → JoinPart → ItemMeant → FromMeant

@@ -5,8 +5,7 @@ use Rattle.perm_catalog.specs.Contents.{Contents}
 use Rattle.perm_values.specs.declared.kind.Kind.{Kind}
 use Rattle.perm_values.specs.declared.kind.Kind.TheVariants as kind
 use Rattle.sql_tree.specs.declared.expression.ExprTree.{ExprTree}
-use Rattle.name_meaning.specs.Cores.{optional_meant}
-use Rattle.name_meaning.specs.Froms.{condition_breaks}
+use Rattle.name_meaning.specs.Froms.{condition_breaks, optional_meant}
 use Rattle.name_meaning.specs.Meanings.{Meant, Part, Surroundings, broken_if, means_at, seen_kind, unites}
 use Rattle.name_meaning.specs.Sublinks.{breaking, nothing_before}
 use Rattle.name_meaning.specs.Trees.{part_of}

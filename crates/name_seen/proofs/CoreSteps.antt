@@ -4,8 +4,8 @@ use Rattle.std.proofs.Common.{refl, ap, sym, subst, ◌∙◌}
 use Rattle.perm_catalog.specs.Contents.{Contents}
 use Rattle.sql_tree.specs.declared.query.Core.{Core, out-Core}
 use Rattle.sql_tree.specs.declared.source.FromTree.{FromTree}
-use Rattle.name_meaning.specs.Cores.{BodyPart, core_seen, group_break, group_scope, has_some, in_clause, optional_breaks, optional_meant, word_breaks}
-use Rattle.name_meaning.specs.Froms.{FromMeant, from_all}
+use Rattle.name_meaning.specs.Cores.{BodyPart, core_seen, group_break, group_scope, has_some, word_breaks}
+use Rattle.name_meaning.specs.Froms.{FromMeant, from_all, in_clause, optional_breaks, optional_meant}
 use Rattle.name_meaning.specs.Meanings.{Around, QueryMeant}
 use Rattle.name_meaning.specs.Scopes.{ScopeItem, scope_of}
 use Rattle.name_meaning.specs.Trees.{core_of, from_of, item_of}

@@ -1,28 +1,28 @@
 -- What the code finds of a source with its joins is what these mean.
-use Rattle.std.specs.Prelude.{◌≡◌, ℕ, List, [], ◌∷◌, ◌++◌, map, Option, Some, None, option_map, Result, Ok, Err}
+use Rattle.std.specs.Prelude.{◌≡◌, ℕ, List, [], ◌∷◌, ◌++◌, map, Option, Some, None, option_map, Result, Ok, Err, false}
 use Rattle.std.proofs.Common.{refl, ap, sym, subst, ◌∙◌, append_assoc, append-nil}
 use Rattle.perm_catalog.specs.declared.column.Column.{Column}
-use Rattle.name_meaning.specs.Froms.{FromMeant, FromPart, ItemMeant, JoinPart, first_item, from_all, in_on, scope_items, join_all, join_item, join_kind, joined, on_meant, on_breaks, on_made, both_known, table_columns, joined_item, unbuilt_breaks}
-use Rattle.name_meaning.specs.Meanings.{Meant, Part, means_at}
+use Rattle.name_meaning.specs.Froms.{FromMeant, FromPart, ItemMeant, JoinPart, first_item, from_all, scope_items, join_all, join_item, join_kind, on_meant, optional_breaks, both_known, table_columns, joined_item, unbuilt_breaks, in_clause, optional_meant, on_built}
+use Rattle.name_meaning.specs.Meanings.{Meant}
 use Rattle.name_meaning.specs.Scopes.{KnownColumn, ScopeItem, scope_of}
 use Rattle.name_meaning.specs.declared.answer.Break.{Break}
 use Rattle.name_meaning.specs.declared.scope.Scope.{Scope}
-use Rattle.name_laws.specs.Facts.{facts_of, both_facts}
-use Rattle.name_laws.proofs.FactsOf.{both_facts-none, facts-Join_alone}
+use Rattle.name_laws.specs.Facts.{facts_of, both_facts, sub_facts}
+use Rattle.name_laws.proofs.FactsOf.{both_facts-none, facts-Join}
 use Rattle.name_seen_parts.specs.Seen.{first_or}
 use Rattle.name_seen_parts.specs.declared.refusal.Refusal.{Refusal}
 use Rattle.name_seen_parts.specs.declared.refusal.Refusal.TheVariants.{Break as Broken, NoMemory}
-use Rattle.name_seen_parts.proofs.Arms.{means-is}
-use Rattle.name_seen_parts.specs.Told.{Tells}
 use Rattle.name_seen_from.specs.Added.{facts_in}
 use Rattle.name_seen_from.specs.Queried.{FromSeen, FromWhole}
 use Rattle.name_seen_parts.specs.Scopes.{item_scope, scope_beside}
 use Rattle.name_seen_from.specs.Readings.{ItemAdded, ItemSeen}
 use Rattle.name_seen_from.specs.declared.facts.Facts.{Facts as Gathered}
-use Rattle.name_seen_parts.proofs.Firsts.{all-none, first-behind, first-behind_two, first-stays, first-stays_first, first-stays_second, none-broken}
+use Rattle.name_seen_parts.proofs.Firsts.{all-none, first-behind, first-behind_two, first-stays, first-stays_first, first-stays_second}
 use Rattle.name_seen_parts.proofs.Scoping.{scope-beside-is}
 use Rattle.name_seen.specs.Joining.{JoinSeen}
 use Rattle.name_seen_from.proofs.Sourced.{beside-known, both-add, source-breaks}
+use Rattle.name_meaning.specs.Cores.{optional_built}
+use Rattle.name_seen_cores.specs.Behind.{ConditionSeen, ConditionWhole}
 
 abbrev one_item : ItemMeant → List Column → ScopeItem
 one_item m columns = record { name = m.name; columns = table_columns columns }
@@ -46,22 +46,28 @@ first-whole m earlier old new scope wider empty added =
       adds = added.adds;
     }
 
-pub join-whole : (outer : List Scope) (left : FromMeant) (step : JoinPart) (m : ItemMeant) (earlier : List (List ℕ)) (before old new : Gathered) (scope wider : Scope)
-    → FromWhole left earlier before old scope → ItemAdded m scope old new wider
-    → on_breaks step.condition (on_meant outer (both_known left.items (scope_items m)) step.condition) ≡ []
+same-subs : (on : Option Meant) → sub_facts (optional_built on).subs ≡ sub_facts (on_built on).subs
+same-subs None = refl
+same-subs (Some m) = refl
+
+join-whole : (outer : List Scope) (left : FromMeant) (step : JoinPart) (m : ItemMeant) (earlier : List (List ℕ)) (before old middle new : Gathered) (scope wider : Scope)
+    → FromWhole left earlier before old scope → ItemAdded m scope old middle wider
+    → ConditionWhole step.condition (on_meant outer (both_known left.items (scope_items m)) step.condition) middle new
     → FromWhole (join_item outer left step m) earlier before new wider
-join-whole outer left step m earlier before old new scope wider first added none =
-    let item : ScopeItem = record { name = m.name; columns = table_columns added.columns } in
+join-whole outer left step m earlier before old middle new scope wider first added on =
+    let item : ScopeItem = one_item m added.columns in
+    let sees : Option Meant = on_meant outer (both_known left.items (scope_items m)) step.condition in
     record {
-      whole = all-none left.breaks m.breaks (on_breaks step.condition (on_meant outer (both_known left.items (scope_items m)) step.condition)) first.whole added.whole none;
+      whole = all-none left.breaks m.breaks (optional_breaks step.condition sees) first.whole added.whole on.whole;
       items = first.items ++ item ∷ [];
       known = beside-known left.items (scope_items m) first.items (item ∷ []) first.known (items-known m added.columns added.known);
       scope_is = added.scope_is ∙ ap (λ (s : Scope). scope_beside s (item_scope m.name added.columns)) first.scope_is ∙ scope-beside-is first.items (item ∷ []);
       names = ap (λ (names : List (List ℕ)). names ++ m.name ∷ []) first.names ∙ append_assoc earlier scope.items (m.name ∷ [])
           ∙ ap (λ (s : Scope). earlier ++ s.items) (sym added.scope_is);
-      adds = both-add (facts_of left.query) (facts_of m.query) (facts_in before) (facts_in old) (facts_in new) first.adds added.adds
-          ∙ ap (both_facts (facts_in before)) (sym (facts-Join_alone (join_kind step.word) left.query m.query
-          (on_made (on_meant outer (both_known left.items (scope_items m)) step.condition))));
+      adds = both-add (both_facts (facts_of left.query) (facts_of m.query)) (sub_facts (on_built sees).subs) (facts_in before) (facts_in middle) (facts_in new)
+          (both-add (facts_of left.query) (facts_of m.query) (facts_in before) (facts_in old) (facts_in middle) first.adds added.adds)
+          (on.adds ∙ ap (both_facts (facts_in middle)) (same-subs sees))
+          ∙ ap (both_facts (facts_in before)) (sym (facts-Join (join_kind step.word) left.query m.query (on_built sees).expr (on_built sees).subs));
     }
 
 -- ---- all joins so far, and one more
@@ -83,7 +89,7 @@ joins-stay outer left [] b e = e
 joins-stay outer left (s ∷ steps) b e =
     joins-stay outer (join_item outer left s (joined_item outer left.names s)) steps b
     (first-stays_first left.breaks (joined_item outer left.names s).breaks
-    (on_breaks s.condition (on_meant outer (both_known left.items (scope_items (joined_item outer left.names s))) s.condition)) (tt {0}) (tt {0}) b e)
+    (optional_breaks s.condition (on_meant outer (both_known left.items (scope_items (joined_item outer left.names s))) s.condition)) (tt {0}) (tt {0}) b e)
 
 -- ---- one more join
 
@@ -92,7 +98,7 @@ pub join-unbuilt : (outer : List Scope) (left : FromMeant) (step : JoinPart) (ea
     → JoinSeen (join_item outer left step (joined_item outer left.names step)) earlier before old scope (Err (Broken b))
 join-unbuilt outer left step earlier before old scope b first broken =
     let m = joined_item outer left.names step in
-    first-stays_second left.breaks m.breaks (on_breaks step.condition (on_meant outer (both_known left.items (scope_items m)) step.condition)) (tt {0}) (tt {0}) b first.whole
+    first-stays_second left.breaks m.breaks (optional_breaks step.condition (on_meant outer (both_known left.items (scope_items m)) step.condition)) (tt {0}) (tt {0}) b first.whole
     (first-stays (unbuilt_breaks step.word step.item.at) (step.item.means outer left.names).breaks (tt {0}) (tt {0}) b broken)
 
 module _ (outer : List Scope) (names : List (List ℕ)) (step : JoinPart) (none : unbuilt_breaks step.word step.item.at ≡ []) where
@@ -116,45 +122,32 @@ pub join-refused : (outer : List Scope) (left : FromMeant) (step : JoinPart) (m 
     (refusal : Refusal) → FromWhole left earlier before old scope → ItemSeen m scope old new wider (Err refusal)
     → JoinSeen (join_item outer left step m) earlier before new wider (Err refusal)
 join-refused outer left step m earlier before old new scope wider (Broken b) first broken =
-    first-stays_second left.breaks m.breaks (on_breaks step.condition (on_meant outer (both_known left.items (scope_items m)) step.condition)) (tt {0}) (tt {0}) b first.whole broken
+    first-stays_second left.breaks m.breaks (optional_breaks step.condition (on_meant outer (both_known left.items (scope_items m)) step.condition)) (tt {0}) (tt {0}) b first.whole broken
 join-refused outer left step m earlier before old new scope wider NoMemory first broken = tt
 
-pub join-crossed : (outer : List Scope) (left : FromMeant) (step : JoinPart) (m : ItemMeant) (earlier : List (List ℕ)) (before old new : Gathered) (scope wider : Scope)
-    → step.condition ≡ None → FromWhole left earlier before old scope → ItemAdded m scope old new wider → FromWhole (join_item outer left step m) earlier before new wider
-join-crossed outer left step m earlier before old new scope wider none first added =
-    join-whole outer left step m earlier before old new scope wider first added
-    (ap (λ (condition : Option Part). on_breaks condition (on_meant outer (both_known left.items (scope_items m)) condition)) none)
-
--- what a condition breaks, which sees the items up to its own
-on-is : (outer : List Scope) (condition : Option Part) (part : Part) (known : Option (List ScopeItem)) (items : List ScopeItem) → condition ≡ Some part → known ≡ Some items
-    → on_breaks condition (on_meant outer known condition) ≡ on_breaks (Some part) (Some (means_at part (in_on items outer)))
-on-is outer condition part known items is are =
-    (λ i. on_breaks (is i) (on_meant outer (are i) (is i)))
-    ∙ ap (λ (m : Meant). on_breaks (Some part) (Some m)) (means-is part (in_on items outer))
-
-pub join-on : (outer : List Scope) (left : FromMeant) (step : JoinPart) (part : Part) (m : ItemMeant) (earlier : List (List ℕ)) (before old new : Gathered)
-    (scope wider : Scope) (result : Result Unit Refusal) → step.condition ≡ Some part → FromWhole left earlier before old scope → ItemAdded m scope old new wider
-    → ((items : List ScopeItem) → wider ≡ scope_of items → Tells (first_or (on_breaks (Some part) (Some (means_at part (in_on items outer)))) tt) result)
+pub join-behind : (outer : List Scope) (left : FromMeant) (step : JoinPart) (m : ItemMeant) (earlier : List (List ℕ)) (before old middle new : Gathered)
+    (scope wider : Scope) (result : Result Unit Refusal) → FromWhole left earlier before old scope → ItemAdded m scope old middle wider
+    → ConditionSeen step.condition (optional_meant (in_clause wider outer false) step.condition) middle new result
     → JoinSeen (join_item outer left step m) earlier before new wider result
-join-on outer left step part m earlier before old new scope wider result is first added tells =
+join-behind outer left step m earlier before old middle new scope wider result first added on =
     let item : ScopeItem = one_item m added.columns in
     let items : List ScopeItem = first.items ++ item ∷ [] in
     let known : both_known left.items (scope_items m) ≡ Some items =
     beside-known left.items (scope_items m) first.items (item ∷ []) first.known (items-known m added.columns added.known) in
     let same : wider ≡ scope_of items =
     added.scope_is ∙ ap (λ (s : Scope). scope_beside s (item_scope m.name added.columns)) first.scope_is ∙ scope-beside-is first.items (item ∷ []) in
-    by-result result items (tells items same) (on-is outer step.condition part (both_known left.items (scope_items m)) items is known) where
-      by-result : (result : Result Unit Refusal) (items : List ScopeItem) → Tells (first_or (on_breaks (Some part) (Some (means_at part (in_on items outer)))) tt) result
-          → on_breaks step.condition (on_meant outer (both_known left.items (scope_items m)) step.condition)
-          ≡ on_breaks (Some part) (Some (means_at part (in_on items outer)))
+    let sees : optional_meant (in_clause wider outer false) step.condition ≡ on_meant outer (both_known left.items (scope_items m)) step.condition =
+    ap (λ (s : Scope). optional_meant (in_clause s outer false) step.condition) same
+    ∙ ap (λ (known : Option (List ScopeItem)). on_meant outer known step.condition) (sym known) in
+    by-result result (subst (λ (m : Option Meant). ConditionSeen step.condition m middle new result) sees on) where
+      by-result : (result : Result Unit Refusal)
+          → ConditionSeen step.condition (on_meant outer (both_known left.items (scope_items m)) step.condition) middle new result
           → JoinSeen (join_item outer left step m) earlier before new wider result
-      by-result (Ok done) items fine are =
-          join-whole outer left step m earlier before old new scope wider first added
-          (are ∙ none-broken (on_breaks (Some part) (Some (means_at part (in_on items outer)))) tt tt fine)
-      by-result (Err (Broken b)) items broken are =
-          first-behind_two left.breaks m.breaks (on_breaks step.condition (on_meant outer (both_known left.items (scope_items m)) step.condition)) tt first.whole added.whole
-          ∙ ap (λ (breaks : List Break). first_or breaks tt) are ∙ broken
-      by-result (Err NoMemory) items told are = tt
+      by-result (Ok done) fine = join-whole outer left step m earlier before old middle new scope wider first added fine
+      by-result (Err (Broken b)) broken =
+          first-behind_two left.breaks m.breaks (optional_breaks step.condition (on_meant outer (both_known left.items (scope_items m)) step.condition)) tt first.whole added.whole
+          ∙ broken
+      by-result (Err NoMemory) told = tt
 
 -- ---- all of FROM
 

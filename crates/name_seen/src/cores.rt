@@ -1,8 +1,7 @@
 //! The columns of cores.
 ghost use Rattle.std.specs.Prelude.{◌≡◌, true, List as Items, map};
 ghost use Rattle.perm_catalog.specs.Sound.{IsSound};
-ghost use Rattle.name_meaning.specs.Cores.{in_clause, optional_meant};
-ghost use Rattle.name_meaning.specs.Froms.{FromMeant};
+ghost use Rattle.name_meaning.specs.Froms.{FromMeant, in_clause, optional_meant};
 ghost use Rattle.name_meaning.specs.Meanings.{means_at};
 ghost use Rattle.name_meaning.specs.Scopes.{ScopeItem, scope_of};
 ghost use Rattle.name_meaning.specs.Trees.{core_of, item_of, part_of};
@@ -67,9 +66,9 @@ fn core_clauses(
     )
 }
 
-/// That a condition of a clause, where there is one, breaks nothing and is a truth value, or its first break.
+/// That a condition of a clause or a join, where there is one, breaks nothing and is a truth value, or its first break.
 #[cycle(seen)]
-fn condition_seen(
+pub(crate) fn condition_seen(
     condition: &Option<ExprTree>,
     scope: &Scope,
     aggregates: bool,

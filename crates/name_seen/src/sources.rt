@@ -1,27 +1,23 @@
 //! What FROM reads.
-ghost use Rattle.std.specs.Prelude.{◌≡◌, ◌++◌, true, List as Items, Some, [], map};
+ghost use Rattle.std.specs.Prelude.{◌++◌, [], map};
 ghost use Rattle.perm_catalog.specs.Sound.{IsSound};
-ghost use Rattle.name_meaning.specs.Froms.{FromMeant, from_all, in_on, join_item, joined_item, on_breaks, read_of, read_query};
-ghost use Rattle.name_meaning.specs.Meanings.{means_at, query_means_at};
-ghost use Rattle.name_meaning.specs.Scopes.{ScopeItem, scope_of};
-ghost use Rattle.name_meaning.specs.Trees.{from_item_of, from_of, join_of, part_of, query_of, source_of};
+ghost use Rattle.name_meaning.specs.Froms.{FromMeant, from_all, join_item, joined_item, read_of, read_query};
+ghost use Rattle.name_meaning.specs.Meanings.{query_means_at};
+ghost use Rattle.name_meaning.specs.Trees.{from_item_of, from_of, join_of, query_of, source_of};
 ghost use Rattle.name_seen_parts.specs.Named.{scopes_of};
-ghost use Rattle.name_seen_parts.specs.Seen.{first_or};
 ghost use Rattle.name_seen_parts.specs.Standing.{around_in_from, around_of};
-ghost use Rattle.name_seen_parts.specs.Told.{Tells};
 ghost use Rattle.name_seen_from.specs.Queried.{FromSeen, FromWhole};
 ghost use Rattle.name_seen_from.specs.declared.facts.Facts.{Facts as Gathered};
 ghost use Rattle.name_seen_from.specs.Readings.{ItemSeen, ReadSeen};
 ghost use Rattle.name_seen.specs.Joining.{JoinSeen};
 
-use crate::expressions::kind_of;
+use crate::cores::condition_seen;
 use crate::queries::query_seen;
 use name_meaning::Scope;
-use name_seen_cores::in_on;
 use name_seen_from::{Facts, Reading, put_item, read_named, read_shown};
-use name_seen_parts::{Around, Refusal, add_items, condition_over, inside, join_break, no_items};
+use name_seen_parts::{Around, Refusal, add_items, join_break, no_items};
 use perm_values::Chars;
-use sql_tree::{ExprTree, FromItem, FromSource, FromTree, JoinStep, QueryTree, ScopeMark};
+use sql_tree::{FromItem, FromSource, FromTree, JoinStep, QueryTree, ScopeMark};
 
 /// The scope of all items of FROM, whose rows aren't grouped, or its first break. The facts of what is read come behind
 /// those so far.
@@ -62,7 +58,7 @@ fn source_items(
     Ok(scope)
 }
 
-/// One more join of a source, whose items so far are in scope.
+/// One more join of a source, whose items so far are in scope. Its condition sees the items up to its own.
 #[cycle(seen)]
 fn join_seen(
     step: &JoinStep,
@@ -80,24 +76,7 @@ fn join_seen(
 {
     join_break(step.word, step.item.at)?;
     from_item(&step.item, earlier, scope, around, facts)?;
-    match &step.condition {
-        None => Ok(()),
-        Some(condition) => on_seen(condition, scope, around),
-    }
-}
-
-/// That the condition of a join breaks nothing and is a truth value, or its first break: it sees the items up to its own.
-#[cycle(seen)]
-fn on_seen(condition: &ExprTree, scope: &Scope, around: &Around) -> Result<(), Refusal>
-    requires { IsSound around.now.catalog.now }
-    ensures { (items : Items ScopeItem) → scope.now ≡ scope_of items →
-        Tells (first_or (on_breaks (Some (part_of around.now.catalog.now condition.now))
-        (Some (means_at (part_of around.now.catalog.now condition.now)
-        (in_on items (scopes_of around.now.outer.now))))) tt) result }
-{
-    let scopes = inside(scope, false, around.outer)?;
-    let place = (&*around).seeing(&scopes, in_on());
-    condition_over(condition.at, kind_of(condition, &place))
+    condition_seen(&step.condition, scope, false, around, facts)
 }
 
 /// One more item in scope, behind items of these names and those in scope, or its first break.

@@ -8,8 +8,8 @@ use Rattle.sql_tree.specs.declared.expression.ExprTree.{ExprTree}
 use Rattle.sql_tree.specs.declared.name.ColRef.{ColRef}
 use Rattle.sql_tree.specs.declared.query.Core.{Core, out-Core}
 use Rattle.sql_tree.specs.declared.query.OrderTree.{OrderTree}
-use Rattle.name_meaning.specs.Cores.{core_over, group_break, group_scope, has_some, optional_breaks, optional_built}
-use Rattle.name_meaning.specs.Froms.{FromMeant, named_columns}
+use Rattle.name_meaning.specs.Cores.{core_over, group_break, group_scope, has_some, optional_built}
+use Rattle.name_meaning.specs.Froms.{FromMeant, named_columns, optional_breaks}
 use Rattle.name_meaning.specs.Items.{SelectPart}
 use Rattle.name_meaning.specs.Meanings.{Around, Meant, Part, QueryMeant}
 use Rattle.name_meaning.specs.Queries.{keys_of, limited, operand_break, out_column, plain_query, query_with_provenance, united_columns}

@@ -19,5 +19,5 @@ pub use grouping::{behind_groups, grouped_scope, is_grouped, places_of_groups};
 pub use listing::{add_star, add_table_star, add_value};
 pub use queries::{asks_provenance, core_word, query_over};
 pub use sets::{add_operand, add_shown};
-pub use standing::{in_clause, in_on};
+pub use standing::in_clause;
 pub use sublinks::{InnerColumns, add_inner, exists_over, in_tested, scalar_over, tested_over};

@@ -35,9 +35,9 @@ use Rattle.sql_tree.specs.declared.statement.StatementBody.{StatementBody}
 use Rattle.sql_tree.specs.declared.statement.StatementBody.TheVariants as st
 use Rattle.sql_tree.specs.declared.statement.ValuesRow.{ValuesRow}
 use Rattle.name_meaning.proofs.Equations.{ExprBodyFrame, SelectItemFrame, SetTreeFrame, FromSourceFrame, CoreFrame}
-use Rattle.name_meaning.specs.Cores.{BodyPart, core_step, core_over, core_seen, has_some, group_scope, group_break, group_found, in_clause, optional_breaks, optional_meant, word_breaks}
+use Rattle.name_meaning.specs.Cores.{BodyPart, core_step, core_over, core_seen, has_some, group_scope, group_break, group_found, word_breaks}
 use Rattle.name_meaning.specs.Expressions.{Body, ArmPart, StepPart, body_step, first_of, second_of, negated_if, times, chain_made, step_operand, first_need, chain_gives, in_kind, arm_operands, else_operand, case_made}
-use Rattle.name_meaning.specs.Froms.{Read, SourcePart, named, inner, FromItemPart, FromMeant, FromPart, JoinPart, attribute_breaks, column_breaks, condition_breaks, first_item, from_all, from_more, beside_from, in_on, item_meant, join_all, join_item, label_of, marked, mark_breaks, named_so, names_of, on_breaks, on_meant, both_known, scope_items, read_of, read_named, read_table, read_view, read_nothing, read_names, scope_name, source_step, joined_item, unbuilt_breaks}
+use Rattle.name_meaning.specs.Froms.{Read, SourcePart, named, inner, FromItemPart, FromMeant, FromPart, JoinPart, attribute_breaks, column_breaks, condition_breaks, first_item, from_all, from_more, beside_from, in_on, item_meant, join_all, join_item, label_of, marked, mark_breaks, named_so, names_of, optional_breaks, on_meant, both_known, scope_items, read_of, read_named, read_table, read_view, read_nothing, read_names, scope_name, source_step, joined_item, unbuilt_breaks, in_clause, optional_meant}
 use Rattle.name_meaning.specs.Items.{SelectPart, columns_meant, item_step, no_columns, star_meant, table_star_meant, items_breaks, is_ungrouped}
 use Rattle.name_meaning.specs.Meanings.{Around, Meant, OutColumn, Part, QueryMeant, QueryPart, Surroundings, broken, broken_if, is_whole, means_at, query_means_at, seen_kind, unites}
 use Rattle.name_meaning.specs.Operands.{Operand, first_unfit, gives_of, need_of, node, operand, operated, parts_breaks, unfit_break}
@@ -325,7 +325,7 @@ unspent-item_meant at m earlier name label read h =
     three read.breaks (broken_if (list_any (named_so name) earlier) rule.RepeatedItem at) (mark_breaks m _)
     h (one_if (list_any (named_so name) earlier) rule.RepeatedItem at refl) (unspent-mark m _)
 
-unspent-on : (outer : List Scope) (items : Option (List ScopeItem)) (condition : Option Part) → UnspentOptional condition → Unspent (on_breaks condition (on_meant outer items condition))
+unspent-on : (outer : List Scope) (items : Option (List ScopeItem)) (condition : Option Part) → UnspentOptional condition → Unspent (optional_breaks condition (on_meant outer items condition))
 unspent-on outer None None h = tt
 unspent-on outer None (Some part) h = tt
 unspent-on outer (Some items) None h = tt

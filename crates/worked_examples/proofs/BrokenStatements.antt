@@ -1,7 +1,7 @@
 -- Worked examples of the breaks of statements: each code with its offset, and the order of two.
 use Rattle.std.specs.Prelude.{◌≡◌, pos, false, [], ◌∷◌, Some, None, codes}
 use Rattle.std.proofs.Common.{refl}
-use Rattle.null_logic.specs.declared.compare.Compare.TheVariants.{Equal}
+use Rattle.null_logic.specs.declared.compare.Compare.TheVariants.{Equal, Greater}
 use Rattle.sql_tree.specs.declared.query.OrderKey.TheVariants.{Named as named_key, Position}
 use Rattle.name_meaning.specs.Meanings.{broken}
 use Rattle.name_meaning.specs.Statements.{name_breaks}
@@ -16,6 +16,7 @@ use Rattle.sql_tree.specs.declared.source.FromSource.TheVariants as source
 use Rattle.sql_tree.specs.declared.source.ScopeMark.TheVariants as mark
 use Rattle.sql_tree.specs.declared.source.JoinWord.TheVariants as join_word
 use Rattle.sql_tree.specs.declared.expression.AggWord.TheVariants as word
+use Rattle.null_logic.specs.declared.operator.Operator.TheVariants as x
 use Rattle.sql_tree.specs.declared.statement.StatementBody.TheVariants as st
 use Rattle.perm_values.specs.declared.kind.Kind.TheVariants as kind
 use Rattle.name_meaning.specs.declared.rule.Rule.TheVariants as rule
@@ -104,11 +105,17 @@ pub sublink_in_delete :
     ≡ broken rule.MisplacedSublink 20 ∷ []
 sublink_in_delete = simp (tree_equations, name_breaks) (rw token-given refl)
 
--- behind its left operand, at the first token of both: SELECT 1 FROM r JOIN s ON nosuch IN (SELECT 1)
+-- behind its left operand, at the first token of both: DELETE FROM r WHERE nosuch IN (SELECT 1)
 pub left_operand_of_misplaced :
-    name_breaks contents (st.Select (query 0 (core (select 0 (item (number 7 1) ∷ []) (from (table 14 (codes "r")) (join join_word.Inner (table 21 (codes "s")) (Some (expr 26 (e.InQuery false (column 26 (codes "nosuch")) (query 37 (core (select 37 (item (number 44 1) ∷ []) [])))))) ∷ []) ∷ [])))))
-    ≡ broken rule.UnknownColumn 26 ∷ broken rule.MisplacedSublink 26 ∷ []
+    name_breaks contents (st.Delete (name 12 (codes "r")) (Some (expr 20 (e.InQuery false (column 20 (codes "nosuch")) (query 31 (core (select 31 (item (number 38 1) ∷ []) [])))))))
+    ≡ broken rule.UnknownColumn 20 ∷ broken rule.MisplacedSublink 20 ∷ []
 left_operand_of_misplaced = simp (tree_equations, name_breaks) (rw token-given refl)
+
+-- a sublink in ON is looked at, and no aggregate stands there: SELECT 1 FROM r JOIN s ON a IN (SELECT nosuch FROM s) AND COUNT(*) > 1
+pub sublink_in_on :
+    name_breaks contents (st.Select (query 0 (core (select 0 (item (number 7 1) ∷ []) (from (table 14 (codes "r")) (join join_word.Inner (table 21 (codes "s")) (Some (expr 26 (e.Logic x.And (expr 26 (e.InQuery false (column 26 (codes "a")) (query 32 (core (select 32 (item (column 39 (codes "nosuch")) ∷ []) (from (table 51 (codes "s")) [] ∷ []))))) ∷ expr 58 (e.Compared Greater (expr 58 (e.Aggregate word.CountRows None)) (number 69 1)) ∷ [])))) ∷ []) ∷ [])))))
+    ≡ broken rule.UnknownColumn 39 ∷ broken rule.MisplacedAggregate 58 ∷ []
+sublink_in_on = simp (tree_equations, name_breaks) (rw token-given refl)
 
 -- no sublink stands left of one, and is not looked at there: SELECT (SELECT nosuch) IN (SELECT zz FROM r) FROM r
 pub sublink_as_left_operand :

@@ -14,7 +14,7 @@ use Rattle.name_meaning.specs.Froms.{names_of}
 use Rattle.name_meaning.specs.Statements.{query_meant, columns_of, resolved_body}
 use Rattle.name_meaning.proofs.Equations.{tree_equations, token-given}
 use Rattle.worked_examples.specs.NamedCatalog.{contents, read_r, read_s, a_of_r, c_of_s, column_item, stored, view_of, table_s_read, table_t_read}
-use Rattle.worked_examples.specs.NamedTrees.{name, reference, expr, column, column_of, number, text, null, step, arm, reads, table, from, item, select, core, operand, key, ordered, query, values}
+use Rattle.worked_examples.specs.NamedTrees.{name, reference, expr, column, column_of, number, text, null, step, arm, reads, table, join as join_step, from, item, select, core, operand, key, ordered, query, values}
 use Rattle.worked_examples.specs.NamedQueries.{one_over, truth_of, yes, built, tested, sub, aggregate, nothing, word, whole}
 use Rattle.sql_tree.specs.declared.expression.ExprBody.TheVariants as e
 use Rattle.sql_tree.specs.declared.query.SelectItem.TheVariants as i
@@ -22,6 +22,7 @@ use Rattle.sql_tree.specs.declared.query.SetTree.TheVariants as set
 use Rattle.sql_tree.specs.declared.query.SetWord.TheVariants as set_word
 use Rattle.sql_tree.specs.declared.source.FromSource.TheVariants as source
 use Rattle.sql_tree.specs.declared.source.ScopeMark.TheVariants as mark
+use Rattle.sql_tree.specs.declared.source.JoinWord.TheVariants as join_word
 use Rattle.sql_tree.specs.declared.expression.AggWord.TheVariants as word
 use Rattle.sql_tree.specs.declared.statement.StatementBody.TheVariants as st
 use Rattle.perm_values.specs.declared.kind.Kind.TheVariants as kind
@@ -30,6 +31,12 @@ use Rattle.null_logic.specs.declared.operator.Operator.TheVariants as x
 use Rattle.bag_algebra.specs.declared.query.JoinKind.TheVariants as join
 use Rattle.bag_algebra.specs.declared.query.AggFn.TheVariants as fn
 use Rattle.name_meaning.specs.declared.answer.Resolved.TheVariants as r
+
+-- ON sees the items up to its own step, and its sublinks are the join's own: SELECT 1 FROM r LEFT JOIN s ON EXISTS (SELECT 1 FROM s z WHERE z.c > r.a)
+pub sublink_in_on :
+    (query_meant contents (query 0 (core (select 0 (item (number 7 1) ∷ []) (from (table 14 (codes "r")) (join_step join_word.Left (table 26 (codes "s")) (Some (expr 31 (e.Exists (query 39 (core (record (select 39 (item (number 46 1) ∷ []) (from (reads 53 (source.Named (name 53 (codes "s"))) (Some (name 55 (codes "z"))) mark.Plain) [] ∷ [])) { condition = Some (expr 63 (e.Compared Greater (column_of 63 (codes "z") (codes "c")) (column_of 69 (codes "r") (codes "a")))) })))))) ∷ []) ∷ []))))).make []
+    ≡ one_over (Join join.Left read_r read_s (Sub 0) (sub Exists (one_over (Filter read_s (Op (x.Compare Greater) (Col 0 0 ∷ Col 1 0 ∷ [])) [])) ∷ []))
+sublink_in_on = simp tree_equations (rw token-given refl)
 
 -- a column through two sublinks, one, and none: SELECT a FROM r WHERE EXISTS (SELECT 1 FROM s WHERE EXISTS (SELECT 1 FROM s y WHERE a = y.c AND s.c = 1))
 pub levels :

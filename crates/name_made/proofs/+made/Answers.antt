@@ -1,4 +1,4 @@
-use Rattle.std.specs.Prelude.{◌≡◌, ℕ, suc, ◌+◌, Bool, true, false, cond, not, List, [], ◌∷◌, ◌++◌, map, Some, None, IfOk}
+use Rattle.std.specs.Prelude.{◌≡◌, ℕ, suc, ◌+◌, Bool, true, false, cond, not, List, [], ◌∷◌, ◌++◌, map, Some, None, option_map, IfOk}
 use Rattle.std.proofs.Common.{refl, ap, sym, subst, ◌∙◌, take}
 use Rattle.std.proofs.lemmas.List.{take_all, map-append}
 use Rattle.null_logic.specs.declared.compare.Compare.TheVariants.{Equal, NotEqual}
@@ -29,8 +29,8 @@ use Rattle.name_made_parts.proofs.Querying.{chain-made, chain-of-one, core-is, p
 use Rattle.null_logic.specs.declared.operator.Operator.TheVariants as x
 use Rattle.perm_values.specs.declared.kind.Kind.TheVariants as kind
 use Rattle.perm_values.specs.declared.value.Value.TheVariants as v
-use Rattle.name_meaning.specs.Cores.{group_scope, in_clause}
-use Rattle.name_meaning.specs.Froms.{first_item, in_on, join_all, FromMeant, FromPart}
+use Rattle.name_meaning.specs.Cores.{group_scope}
+use Rattle.name_meaning.specs.Froms.{first_item, in_clause, join_all, optional_meant, FromMeant, FromPart}
 use Rattle.name_meaning.specs.declared.scope.Scope.{Scope}
 use Rattle.bag_algebra.specs.declared.query.Aggr.{Aggr}
 use Rattle.sql_tree.specs.declared.query.Core.{out-Core}
@@ -39,12 +39,12 @@ use Rattle.sql_tree.specs.declared.source.FromTree.{out-FromTree}
 use Rattle.sql_tree.specs.declared.source.JoinStep.{JoinStep}
 use Rattle.name_made_nodes.specs.Cored.{clauses_over}
 use Rattle.name_made_nodes.proofs.ItemLists.{value-listed}
-use Rattle.name_made_parts.specs.Cored.{MakesClauses, MakesList, having_part, kept_of, select_parts, sources_meant}
+use Rattle.name_made_parts.specs.Cored.{Keeps, MakesClauses, MakesList, having_part, kept_of, select_parts, sources_meant}
 use Rattle.name_made_parts.specs.Sources.{JoinsMade, SourcesMade, join_count}
-use Rattle.name_made_parts.proofs.Sourcing.{first-made, from-fields, item-inner, item-named, no-sources, source-more, sources-made}
+use Rattle.name_made_parts.proofs.Sourcing.{first-made, from-fields, item-inner, item-named, no-sources, own-stands, source-more, sources-made}
 use Rattle.bag_algebra.specs.declared.query.Query.{Query}
 use Rattle.name_made.proofs.Chaining.{ChainMade, chain-step}
-use Rattle.name_made.proofs.Standing.{from-count, items-more, of-on, own-stands, step-more, tree-join}
+use Rattle.name_made.proofs.Standing.{from-count, items-more, of-on, step-more, tree-join}
 use Rattle.name_made.proofs.OfResults.{from-one, of-beside, of-both, of-both-is, of-one, of-one-is, of-three-is}
 use Rattle.name_made.proofs.+made.Goals as goal
 
@@ -487,25 +487,19 @@ sources::source_made-loop-place-init t c = λ earlier.
 pub sources::join_made-returns : goal.sources::join_made-returns
 sources::join_made-returns t c =
     let around = c.args.around.now in
-    of-both _ _ _ _ c.item_made-right.result c.on_made-condition.result c.with_right.result c.item_made-right.ensures c.on_made-condition.ensures (rw c.join_kind.ensures at c.with_right.ensures)
-    (λ right condition after of_right of_condition is. tree-join around.catalog.now (scopes_of around.outer.now) c.args.step.now c.args.first c.args.count c.args.scope.now c.args.whole right after condition of_condition of_right is)
+    of-both _ _ _ _ c.item_made-right.result c.on_made-kept.result c.with_right.result c.item_made-right.ensures c.on_made-kept.ensures (rw c.join_kind.ensures at c.with_right.ensures)
+    (λ right kept after of_right of_kept is. tree-join around.catalog.now (scopes_of around.outer.now) c.args.step.now c.args.first c.args.count c.args.scope.now c.args.whole right after kept of_kept of_right is)
 
-pub sources::on_items-returns : goal.sources::on_items-returns
-sources::on_items-returns t c =
+pub sources::on_made-returns-in_ok-own : goal.sources::on_made-returns-in_ok-own
+sources::on_made-returns-in_ok-own t c =
     let around = c.args.around.now in
     let outer = scopes_of around.outer.now in
-    of-ok _ _ c.made-condition.result
-    (λ e makes items is whole.
-    let same = rw (c.in_ok-scopes.ensures, is, c.in_on.ensures items outer, c.nothing-found.ensures) at makes in
-    (same.makes whole).expr)
-    c.made-condition.ensures
-
-pub sources::on_made-returns-in_ok-own-in-Some : goal.sources::on_made-returns-in_ok-own-in-Some
-unfolding means_at
-sources::on_made-returns-in_ok-own-in-Some t c =
-    of-ok _ _ c.on_items-condition.result
-    (λ e makes items stands counted whole. rw c.in-Some.is (makes items (c.in_ok-own-in-Some.ensures items stands counted) (rw c.in-Some.is at whole)))
-    c.on_items-condition.ensures
+    let condition = option_map (part_of around.catalog.now) c.args.condition.now in
+    of-ok _ _ c.condition_made-kept.result
+    (λ kept keeps items stands counted.
+    subst (λ (own : Scope). Keeps (optional_meant (in_clause (here_only true own) outer false) condition) kept)
+    (c.in_ok-own.ensures items stands counted) keeps)
+    c.condition_made-kept.ensures
 
 pub sources::item_made-returns-in-Named : goal.sources::item_made-returns-in-Named
 sources::item_made-returns-in-Named t c =

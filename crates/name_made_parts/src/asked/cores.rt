@@ -1,5 +1,5 @@
 //! What the clauses of a core rest on.
-ghost use Rattle.std.specs.Prelude.{◌≡◌, ◌⊎◌, [], Err, IfOk, IfErr, IsOkAnd, map};
+ghost use Rattle.std.specs.Prelude.{◌≡◌, ◌⊎◌, [], Err, IfOk, IfErr, IsOkAnd, None, map};
 ghost use Rattle.perm_catalog.specs.Contents.{Contents};
 ghost use Rattle.perm_catalog.specs.Sound.{IsSound};
 ghost use Rattle.name_meaning.specs.Cores.{group_scope};
@@ -25,6 +25,16 @@ use std::alloc::Global;
 pub struct Kept {
     pub condition: Option<Condition>,
     pub aggregates: List<Aggr>,
+}
+
+/// No condition.
+pub fn nothing_kept(alloc: Global) -> Kept
+    ensures { result ≡ record { condition = None; aggregates = [] } }
+{
+    Kept {
+        condition: None,
+        aggregates: List::new(alloc),
+    }
 }
 
 /// A condition, with what was found in it.
@@ -96,7 +106,8 @@ pub fn clauses_of(
     })
 }
 
-fn condition_of(kept: Kept) -> Option<Condition>
+/// The condition that is kept, if there is one.
+pub(crate) fn condition_of(kept: Kept) -> Option<Condition>
     ensures { result ≡ kept.condition }
 {
     let Kept {

@@ -36,10 +36,10 @@ use Rattle.std.specs.Prelude.{◌+◌, Bool, Option}
 use Rattle.std.proofs.Common.{take, drop}
 use Rattle.sql_tree.specs.declared.query.Core.{out-Core}
 use Rattle.sql_tree.specs.declared.source.FromTree.{FromTree, out-FromTree}
-use Rattle.sql_tree.specs.declared.source.JoinStep.{JoinStep}
+use Rattle.sql_tree.specs.declared.source.JoinStep.{JoinStep, out-JoinStep}
 use Rattle.sql_tree.specs.declared.query.SetStep.{SetStep}
-use Rattle.name_meaning.specs.Cores.{BodyPart, in_clause, optional_meant}
-use Rattle.name_meaning.specs.Froms.{FromMeant, FromPart, ItemMeant, Read, condition_breaks, first_item, from_all, in_on, join_all, join_item, label_of, read_of, scope_name, joined_item}
+use Rattle.name_meaning.specs.Cores.{BodyPart}
+use Rattle.name_meaning.specs.Froms.{FromMeant, FromPart, ItemMeant, Read, first_item, from_all, in_clause, join_all, join_item, joined_item, label_of, optional_meant, read_of, scope_name}
 use Rattle.name_meaning.specs.Items.{SelectMeant}
 use Rattle.name_meaning.specs.Meanings.{Around, QueryMeant}
 use Rattle.perm_catalog.specs.Contents.{Contents}
@@ -59,7 +59,7 @@ use Rattle.name_seen_from.specs.Readings.{ItemAdded, ItemSeen, ReadSeen}
 use Rattle.name_seen.proofs.Conditions.{some-condition}
 use Rattle.name_seen.proofs.CoreSteps.{core-answered, from-answered, from-refused, groups-refused, has-from, having-refused, where-refused, word-refused}
 use Rattle.name_seen.proofs.FromTrees.{from-means, inner-read, item-refused, item-means, joined-condition, joined-item, named-read, read-refused, joined-breaks, joined-whole}
-use Rattle.name_seen.proofs.Joined.{first-refused, first-whole, join-crossed, join-on, join-refused, joins-behind, none-held, source-refused, step-refused, join-unbuilt, joined-added, joined-refused}
+use Rattle.name_seen.proofs.Joined.{first-refused, first-whole, join-refused, joins-behind, none-held, source-refused, step-refused, join-unbuilt, joined-added, joined-refused, join-behind}
 use Rattle.name_seen.specs.Joining.{JoinSeen}
 use Rattle.name_seen_from.proofs.Sourced.{source-behind}
 use Rattle.name_seen.proofs.Nodes.{aggregate-alone, aggregate-means, argument-told, case-means, node-behind, none-first, rest-so, steps-so}
@@ -634,14 +634,6 @@ sources::from_item-returns t c =
     (c.put_item.ensures around.catalog.now (read_of around.catalog.now (scopes_of around.outer.now) (source_of around.catalog.now item.source))
     c.in_ok-reading.ensures)
 
-pub sources::on_seen-returns : goal.sources::on_seen-returns
-sources::on_seen-returns t c = λ items is.
-    let around = c.args.around.now in
-    let m = means_at (part_of around.catalog.now c.args.condition.now) (in_on items (scopes_of around.outer.now)) in
-    subst (λ (at : ℕ). Tells (first_or (condition_breaks at m) (tt {0})) c.condition_over.result) (sym (part-at around.catalog.now c.args.condition.now))
-    (c.condition_over.ensures.tells m
-    (rw (c.seeing-place.ensures.place, c.seeing-place.ensures.catalog, c.in_ok-scopes.ensures, is, c.in_on.ensures items (scopes_of around.outer.now)) at c.kind_of.ensures))
-
 pub sources::join_seen-returns-in_err-join_break : goal.sources::join_seen-returns-in_err-join_break
 sources::join_seen-returns-in_err-join_break t c = λ left before first.
     let around = c.args.around.now in
@@ -668,33 +660,21 @@ sources::join_seen-returns-in_err-from_item t c = λ left before first.
     (subst (λ (m : ItemMeant). ItemSeen m c.args.scope.now c.args.facts.now c.from_item.new.facts c.from_item.new.scope (Err c.in_err-from_item.field-0.0))
     (sym (joined-item around.catalog.now step outer left.names (c.args.earlier.now ++ c.args.scope.now.items) first.names)) c.in_err-from_item.ensures)))
 
-pub sources::join_seen-returns-in-None : goal.sources::join_seen-returns-in-None
-sources::join_seen-returns-in-None t c = λ left before first.
+pub sources::join_seen-returns : goal.sources::join_seen-returns
+sources::join_seen-returns t c = λ left before first.
     let around = c.args.around.now in
     let step = c.args.step.now in
     let outer = scopes_of around.outer.now in
     let joined = join_of around.catalog.now step in
-    join-crossed outer left joined (joined_item outer left.names joined) c.args.earlier.now before c.args.facts.now
-    c.from_item.new.facts c.args.scope.now c.from_item.new.scope (joined-condition around.catalog.now step None c.in-None.is) first
+    join-behind outer left joined (joined_item outer left.names joined) c.args.earlier.now before c.args.facts.now c.from_item.new.facts
+    c.condition_seen.new.facts c.args.scope.now c.from_item.new.scope c.condition_seen.result first
     (joined-added outer left.names joined (joined-whole around.catalog.now step c.in_ok-join_break.ensures) c.args.scope.now c.from_item.new.scope
     c.args.facts.now c.from_item.new.facts
     (subst (λ (m : ItemMeant). ItemAdded m c.args.scope.now c.args.facts.now c.from_item.new.facts c.from_item.new.scope)
     (sym (joined-item around.catalog.now step outer left.names (c.args.earlier.now ++ c.args.scope.now.items) first.names)) c.in_ok-from_item.ensures))
-
-pub sources::join_seen-returns-in-Some : goal.sources::join_seen-returns-in-Some
-sources::join_seen-returns-in-Some t c = λ left before first.
-    let around = c.args.around.now in
-    let step = c.args.step.now in
-    let outer = scopes_of around.outer.now in
-    let joined = join_of around.catalog.now step in
-    join-on outer left joined (part_of around.catalog.now c.in-Some.condition)
-    (joined_item outer left.names joined) c.args.earlier.now before c.args.facts.now
-    c.from_item.new.facts c.args.scope.now c.from_item.new.scope c.on_seen.result (joined-condition around.catalog.now step (Some c.in-Some.condition) c.in-Some.is) first
-    (joined-added outer left.names joined (joined-whole around.catalog.now step c.in_ok-join_break.ensures) c.args.scope.now c.from_item.new.scope
-    c.args.facts.now c.from_item.new.facts
-    (subst (λ (m : ItemMeant). ItemAdded m c.args.scope.now c.args.facts.now c.from_item.new.facts c.from_item.new.scope)
-    (sym (joined-item around.catalog.now step outer left.names (c.args.earlier.now ++ c.args.scope.now.items) first.names)) c.in_ok-from_item.ensures))
-    c.on_seen.ensures
+    (subst (λ (part : Option Part). ConditionSeen part (optional_meant (in_clause c.from_item.new.scope outer false) part) c.from_item.new.facts
+    c.condition_seen.new.facts c.condition_seen.result)
+    (sym (joined-condition around.catalog.now step (out-JoinStep step).condition refl)) c.condition_seen.ensures)
 
 pub sources::source_items-returns-in_err-from_item : goal.sources::source_items-returns-in_err-from_item
 sources::source_items-returns-in_err-from_item t c =

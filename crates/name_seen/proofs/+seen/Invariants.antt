@@ -6,8 +6,7 @@ use Rattle.name_meaning.specs.Trees.{part_of, step_of, arm_of}
 use Rattle.name_seen_parts.specs.Standing.{surroundings}
 use Rattle.name_seen_cores.specs.Expressed.{OperandsBehind}
 use Rattle.sql_tree.specs.declared.source.FromTree.{out-FromTree}
-use Rattle.name_meaning.specs.Cores.{in_clause}
-use Rattle.name_meaning.specs.Froms.{first_item, from_all, join_all}
+use Rattle.name_meaning.specs.Froms.{first_item, from_all, join_all, in_clause}
 use Rattle.name_meaning.specs.Meanings.{QueryMeant}
 use Rattle.name_meaning.specs.Queries.{set_chain}
 use Rattle.name_meaning.specs.Trees.{from_item_of, from_of, item_of, join_of, set_step_of}

@@ -1,17 +1,23 @@
-use Rattle.std.specs.Prelude.{List, None}
-use Rattle.std.proofs.Common.{ap, refl, subst, ◌∙◌}
+use Rattle.std.specs.Prelude.{List, None, suc, ◌+◌, length, map}
+use Rattle.std.proofs.Common.{ap, refl, subst, ◌∙◌, sym, take}
 use Rattle.name_meaning.specs.Items.{SelectPart}
 use Rattle.name_meaning.specs.Meanings.{query_means_at}
-use Rattle.name_meaning.specs.Trees.{arm_of, from_of, item_of, join_of, part_of, query_of, set_step_of, step_of}
+use Rattle.name_meaning.specs.Trees.{arm_of, from_item_of, from_of, item_of, part_of, query_of, set_step_of, step_of}
 use Rattle.name_meaning.specs.declared.scope.Scope.{Scope}
 use Rattle.name_seen_parts.specs.Standing.{around_of, standing_in, surroundings}
-use Rattle.name_inside.specs.Held.{held_arm, held_at, held_operand, held_select, held_step}
+use Rattle.name_inside.specs.Held.{held_arm, held_at, held_operand, held_select, held_step, JoinsAdded, SourcesAdded}
 use Rattle.name_inside.specs.Passed.{HasWidth}
 use Rattle.name_inside.proofs.Arms.{aggregate_adds, arm-adds, between_adds, case_adds, chain_adds, coalesce_adds, column_adds, compared_adds, exists_adds, inlist_adds, inquery_adds, integer_adds, isdistinct_adds, isnull_adds, istruth_adds, like_adds, logic_adds, nots_adds, null_adds, nullif_adds, nullof_adds, paren_adds, quantified_adds, scalar_adds, signs_adds, step-adds, text_adds, truth_adds}
-use Rattle.name_inside.proofs.Cores.{chain-stands, clauses-adds, core-adds, core-broken, core-stands, from-adds, inner-adds, join-adds, named-adds, operand-adds, paren-stands, query-adds, star-adds, table_star-adds, value-adds}
-use Rattle.name_inside.proofs.Gone.{flat-more, froms-more, joins-more, mapped-more}
+use Rattle.name_inside.proofs.Cores.{chain-stands, clauses-adds, core-adds, core-broken, core-stands, inner-adds, named-adds, operand-adds, paren-stands, query-adds, star-adds, table_star-adds, value-adds, first-added, join-tree, no-sources, source-more, step-added}
+use Rattle.name_inside.proofs.Gone.{flat-more, mapped-more}
 use Rattle.name_inside.proofs.Over.{adds-alike, adds-both, adds-over, when-ok}
 use Rattle.name_inside.proofs.gathering.+gathering.Goals as goal
+use Rattle.name_made_parts.proofs.AskedListing.{mapped}
+use Rattle.name_made_parts.proofs.Sourcing.{from-fields}
+use Rattle.name_meaning.specs.Froms.{first_item, FromMeant, FromPart}
+use Rattle.name_made_parts.specs.Sources.{join_count}
+use Rattle.std.proofs.lemmas.List.{take_all}
+use Rattle.sql_tree.specs.declared.source.FromTree.{out-FromTree}
 
 pub expression_inside-returns-in-Null : goal.expression_inside-returns-in-Null
 expression_inside-returns-in-Null t c =
@@ -169,21 +175,56 @@ items_inside-loop-item-preserved t c =
     λ has_from scope. mapped-more (λ (item : SelectPart). held_select (item.means has_from scope (surroundings c.args.here.now))) (item_of c.args.here.now.catalog.now) c.args.items.now c.loop-item.item-index c.item-item.result
     c.loop-item-test.true c.item-item.is (c.loop-item.invariant has_from scope) (c.in_ok-item_inside.ensures has_from scope)
 
+pub sources_inside-loop-tree-init : goal.sources_inside-loop-tree-init
+sources_inside-loop-tree-init t c = no-sources (around_of c.args.around.now).outer c.args.scope.now c.args.found.now
+
 pub sources_inside-loop-tree-preserved : goal.sources_inside-loop-tree-preserved
 sources_inside-loop-tree-preserved t c =
-    λ names. froms-more (around_of c.args.around.now).outer (from_of c.args.around.now.catalog.now) c.args.trees.now c.loop-tree.tree-index c.tree-item.result names
-    c.loop-tree-test.true c.tree-item.is (c.loop-tree.invariant names) c.in_ok-from_inside.ensures
+    let around = c.args.around.now in
+    let part = from_of around.catalog.now in
+    rw c.in_ok-first.ensures.next
+    (subst (λ (parts : List FromPart). SourcesAdded (around_of around).outer parts c.args.scope.now c.args.found.now c.from_inside.new.found (c.loop-tree.first + suc (join_count c.tree-item.result)))
+    (sym (mapped part c.args.trees.now c.loop-tree.tree-index c.tree-item.result c.loop-tree-test.true c.tree-item.is))
+    (source-more (around_of around).outer (map part (take c.loop-tree.tree-index c.args.trees.now)) (part c.tree-item.result) c.args.scope.now c.args.found.now c.loop-tree.found
+    c.from_inside.new.found c.loop-tree.first (join_count c.tree-item.result) c.loop-tree.invariant c.in_ok-from_inside.ensures))
 
-pub joins_inside-loop-step-preserved : goal.joins_inside-loop-step-preserved
-joins_inside-loop-step-preserved t c =
-    λ names. joins-more (around_of c.args.around.now).outer (join_of c.args.around.now.catalog.now) c.args.steps.now c.loop-step.step-index c.step-item.result names
-    c.loop-step-test.true c.step-item.is (c.loop-step.invariant names)
-    (join-adds c.args.around.now.catalog.now (around_of c.args.around.now).outer c.step-item.result c.in_ok-source_inside.ensures)
+pub sources_inside-returns : goal.sources_inside-returns
+sources_inside-returns t c =
+    (rw (take_all c.loop-tree.tree-index c.args.trees.now c.loop-tree-test.false) at c.loop-tree.invariant).adds
+
+pub from_inside-loop-place-init : goal.from_inside-loop-place-init
+from_inside-loop-place-init t c = λ names.
+    first-added names _ c.args.first c.args.scope.now _ _ (c.in_ok-source_inside.ensures names)
+
+pub from_inside-loop-place-preserved : goal.from_inside-loop-place-preserved
+from_inside-loop-place-preserved t c = λ names.
+    let around = c.args.around.now in
+    let outer = (around_of around).outer in
+    let tree = c.args.tree.now in
+    let first = (from_item_of around.catalog.now (out-FromTree tree).first).means outer names in
+    step-added around.catalog.now outer (first_item names first) (out-FromTree tree).joins c.loop-place.place c.step-item.result c.args.first c.args.scope.now
+    (rw c.as_slice-step-items.ensures at c.loop-place-test.true) (rw c.as_slice-step-items.ensures at c.step-item.is) (c.loop-place.invariant names) c.in_ok-join_inside.ensures
 
 pub from_inside-returns : goal.from_inside-returns
-from_inside-returns t c =
-    from-adds c.args.around.now.catalog.now (around_of c.args.around.now).outer c.args.tree.now c.as_slice.result.now _ _ _ c.as_slice.ensures
-    c.in_ok-source_inside.ensures c.in_ok-joins_inside.ensures
+from_inside-returns t c = λ names.
+    let around = c.args.around.now in
+    let outer = (around_of around).outer in
+    let tree = c.args.tree.now in
+    let first = (from_item_of around.catalog.now (out-FromTree tree).first).means outer names in
+    let joins = (out-FromTree tree).joins in
+    let all = rw c.as_slice-step-items.ensures at c.loop-place-test.false in
+    subst (λ (m : FromMeant). JoinsAdded m c.args.first c.args.scope.now c.args.found.now c.loop-place.found (length joins))
+    (sym (from-fields around.catalog.now tree outer names))
+    (rw (take_all c.loop-place.place joins all) at c.loop-place.invariant names)
+
+pub join_inside-returns : goal.join_inside-returns
+join_inside-returns t c =
+    let around = c.args.around.now in
+    join-tree around.catalog.now (around_of around).outer c.args.step.now c.args.first c.args.count c.args.scope.now c.in_ok-own.own (surroundings c.seeing-here.result)
+    c.args.found.now c.source_inside.new.found c.condition_inside.new.found c.in_ok-source_inside.ensures c.in_ok-own.ensures
+    (c.seeing-here.ensures.place ∙ ap (λ (scopes : List Scope). standing_in scopes c.in_clause.result) c.in_ok-rows.ensures
+    ∙ c.in_clause.ensures c.in_ok-own.own (around_of around).outer)
+    (rw c.seeing-here.ensures.catalog at c.in_ok-condition_inside.ensures)
 
 pub item_inside-returns-in-Star : goal.item_inside-returns-in-Star
 item_inside-returns-in-Star t c =
@@ -221,14 +262,14 @@ core_inside-returns-in_ok-clauses_inside-in-Some t c =
     c.in_ok-clauses_inside-in-Some.ensures
 
 pub clauses_inside-returns : goal.clauses_inside-returns
-clauses_inside-returns t c =
+clauses_inside-returns t c = λ there.
     clauses-adds c.args.around.now.catalog.now (around_of c.args.around.now) c.args.scope.now c.args.core.now (surroundings c.seeing-in_list.result)
     (surroundings c.seeing-in_where.result) c.as_slice.result.now c.as_slice-2.result.now _ _ _ _ _
     (c.seeing-in_list.ensures.place ∙ ap (λ (scopes : List Scope). standing_in scopes c.in_clause.result) c.in_ok-grouped.ensures
     ∙ c.in_clause.ensures c.args.scope.now (around_of c.args.around.now).outer)
     (c.seeing-in_where.ensures.place ∙ ap (λ (scopes : List Scope). standing_in scopes c.in_clause-2.result) c.in_ok-rows.ensures
     ∙ c.in_clause-2.ensures (record c.args.scope.now { groups = None }) (around_of c.args.around.now).outer)
-    c.as_slice.ensures c.as_slice-2.ensures (rw c.seeing-in_list.ensures.catalog at c.in_ok-items_inside.ensures) c.in_ok-sources_inside.ensures
+    c.as_slice.ensures c.as_slice-2.ensures (rw c.seeing-in_list.ensures.catalog at c.in_ok-items_inside.ensures) c.in_ok-sources_inside.ensures there
     (rw c.seeing-in_where.ensures.catalog at c.in_ok-condition_inside.ensures) (rw c.seeing-in_list.ensures.catalog at c.in_ok-condition_inside-2.ensures)
 
 pub query_inside-returns-in_ok-set_inside-in-Some : goal.query_inside-returns-in_ok-set_inside-in-Some
