@@ -1,3 +1,4 @@
+mod KeptOnce
 pub mod MissingRows
 pub mod ReadKinds
 pub mod ReducedForms

@@ -26,8 +26,9 @@ use Rattle.bag_algebra.specs.TablesRead.{EachTable}
 use Rattle.bag_algebra.specs.declared.expr.Expr.{Expr}
 use Rattle.bag_algebra.specs.declared.expr.Expr.TheVariants.{IsTruth, Sub}
 use Rattle.bag_algebra.specs.declared.query.Query.{Query}
-use Rattle.bag_algebra.specs.declared.query.Query.TheVariants.{Filter}
+use Rattle.bag_algebra.specs.declared.query.Query.TheVariants.{Filter, Distinct}
 use Rattle.bag_algebra.specs.declared.query.SubKind.TheVariants.{Exists}
+use Rattle.contribution.proofs.BagMembers.{from-once}
 use Rattle.contribution.proofs.Growth.{denote-closed}
 use Rattle.contribution.proofs.LongerKinds.{well_formed-longer, longer-names}
 use Rattle.contribution.proofs.NodeQueries.{meaning-chosen, plain-chosen}
@@ -35,6 +36,7 @@ use Rattle.contribution.proofs.SameTests.{tests-value, conjunction-formed}
 use Rattle.contribution.specs.Conjunctions.{all_hold, same_tests}
 use Rattle.contribution.specs.Longer.{more_lists}
 use Rattle.reduced_queries.specs.Reduced.{matching, exists_in, missing}
+use Rattle.reduced_queries.proofs.KeptOnce.{filter-once}
 use Rattle.reduced_queries.proofs.Tested.{gather-tested, is_false}
 
 -- ---- lists
@@ -96,53 +98,53 @@ module _ (width : ℕ) (p : Query) (closed : WellFormed [] p) (db : Database) (v
 
     pub missing-rows : (q : Query) → meaning q db [] ≡ Good us → meaning (missing width q p) db [] ≡ Good (once (filter (λ u. not (member u vs)) us))
     missing-rows q e =
-        meaning-Distinct db [] (Filter q (IsTruth False (Sub 0)) (exists_in (matching width p)))
-        ∙ ap (mapped once) (meaning-Filter db [] q (IsTruth False (Sub 0)) (exists_in (matching width p)))
-        ∙ ap (λ o. mapped once (and_then o (gather (kept on)))) e
-        ∙ ap (mapped once) (gather-tested on (λ u. not (member u vs)) us (λ u h. tested-row u ∙ ap (λ b. Good (Boolean (not b))) (agrees-member u h)))
+        meaning-Filter db [] (Distinct q) (IsTruth False (Sub 0)) (exists_in (matching width p))
+        ∙ ap (λ o. and_then o (gather (kept on))) (meaning-Distinct db [] q ∙ ap (mapped once) e)
+        ∙ gather-tested on (λ u. not (member u vs)) (once us) (λ u h. tested-row u ∙ ap (λ b. Good (Boolean (not b))) (agrees-member u (from-once u us h)))
+        ∙ ap Good (filter-once (λ u. not (member u vs)) us)
 
 -- where the query is bad, the other isn't looked at
 pub missing-faults : (width : ℕ) (q p : Query) (db : Database) (faults : Faults) → meaning q db [] ≡ Bad faults → meaning (missing width q p) db [] ≡ Bad faults
 missing-faults width q p db faults e =
-    meaning-Distinct db [] (Filter q (IsTruth False (Sub 0)) (exists_in (matching width p)))
-    ∙ ap (mapped once) (meaning-Filter db [] q (IsTruth False (Sub 0)) (exists_in (matching width p)))
-    ∙ ap (λ o. mapped once (and_then o (gather (kept (condition_on (IsTruth False (Sub 0)) [] (subs_denote (exists_in (matching width p)) db [])))))) e
+    meaning-Filter db [] (Distinct q) (IsTruth False (Sub 0)) (exists_in (matching width p))
+    ∙ ap (λ o. and_then o (gather (kept (condition_on (IsTruth False (Sub 0)) [] (subs_denote (exists_in (matching width p)) db [])))))
+    (meaning-Distinct db [] q ∙ ap (mapped once) e)
 
 -- ---- forms
 
+by : {A B : Type 0} → A ≡ B → A → B
+by e a = subst (λ (X : Type 0). X) e a
+
+-- the rows of a query that none of p's matches
 module _ (width : ℕ) (q p : Query) where
-  abbrev filtered : Query
-  filtered = Filter q (IsTruth False (Sub 0)) (exists_in (matching width p))
-
-  pub kinds-missing : kinds_of (missing width q p) ≡ kinds_of q
-  kinds-missing = kinds_of-Distinct filtered ∙ kinds_of-Filter q (IsTruth False (Sub 0)) (exists_in (matching width p))
-
-  pub plain-missing : is_plain q ≡ true → is_plain p ≡ true → is_plain (missing width q p) ≡ true
-  plain-missing e f =
-      is_plain-Distinct filtered ∙ is_plain-Filter q (IsTruth False (Sub 0)) (exists_in (matching width p))
-      ∙ (λ i. e i && ((plain-chosen p (all_hold (same_tests 1 (range_with_len 0 width) (range_with_len 0 width))) ∙ f) i && true))
-
-  pub tables-missing : (P : ℕ → List Kind → Type 0) → EachTable P q → EachTable P p → EachTable P (missing width q p)
-  tables-missing P h k =
-      by (sym (EachTable-Distinct P filtered)) (by (sym (EachTable-Filter P q (IsTruth False (Sub 0)) (exists_in (matching width p)))) (h, ((k, tt), tt)))
-    where
-      by : {A B : Type 0} → A ≡ B → A → B
-      by e a = subst (λ (X : Type 0). X) e a
-
-  pub formed-missing : width ≡ width_of q → kinds_of p ≡ kinds_of q → WellFormed [] q → WellFormed [] p → WellFormed [] (missing width q p)
-  formed-missing wide alike f g =
-      by (sym (WellFormed-Distinct [] filtered)) (by (sym (WellFormed-Filter [] q (IsTruth False (Sub 0)) (exists_in (matching width p)))) (record {
+  formed-tested : width ≡ width_of q → kinds_of p ≡ kinds_of q → WellFormed [] q → WellFormed [] p → WellFormed [] (Filter q (IsTruth False (Sub 0)) (exists_in (matching width p)))
+  formed-tested wide alike f g =
+      by (sym (WellFormed-Filter [] q (IsTruth False (Sub 0)) (exists_in (matching width p)))) (record {
         input = f;
         subs = record { query = record { input = well_formed-longer p [] (kinds_of q ∷ []) (longer-names (more_lists (kinds_of q ∷ []))) g; subs = tt; condition = same-formed }; fitting = tt; others = tt };
         condition = subst (λ e. HasKind (kinds_of q ∷ []) (subs_kinds (exists_in (matching width p))) e kind.Boolean) (sym (IsTruth-is False (Sub 0))) (record { parts = refl; gives = refl });
-      }))
+      })
     where
-      by : {A B : Type 0} → A ≡ B → A → B
-      by e a = subst (λ (X : Type 0). X) e a
-
       same-formed : HasKind (kinds_of p ∷ kinds_of q ∷ []) [] (all_hold (same_tests 1 (range_with_len 0 width) (range_with_len 0 width))) kind.Boolean
       same-formed =
           conjunction-formed (kinds_of p) (kinds_of q ∷ []) [] 1 (kinds_of q) refl (range_with_len 0 width) (range_with_len 0 width)
           (subst (λ n. PlacesIn n (range_with_len 0 width)) wide (places-in width))
           (subst (λ n. PlacesIn n (range_with_len 0 width)) (wide ∙ ap length (sym alike)) (places-in width))
           (ap (λ ks. kinds_in ks (range_with_len 0 width)) (sym alike))
+
+module _ (width : ℕ) (q p : Query) where
+  pub kinds-missing : kinds_of (missing width q p) ≡ kinds_of q
+  kinds-missing = kinds_of-Filter (Distinct q) (IsTruth False (Sub 0)) (exists_in (matching width p)) ∙ kinds_of-Distinct q
+
+  pub plain-missing : is_plain q ≡ true → is_plain p ≡ true → is_plain (missing width q p) ≡ true
+  plain-missing e f =
+      is_plain-Filter (Distinct q) (IsTruth False (Sub 0)) (exists_in (matching width p))
+      ∙ (λ i. (is_plain-Distinct q ∙ e) i && ((plain-chosen p (all_hold (same_tests 1 (range_with_len 0 width) (range_with_len 0 width))) ∙ f) i && true))
+
+  pub tables-missing : (P : ℕ → List Kind → Type 0) → EachTable P q → EachTable P p → EachTable P (missing width q p)
+  tables-missing P h k =
+      by (sym (EachTable-Filter P (Distinct q) (IsTruth False (Sub 0)) (exists_in (matching width p)))) (by (sym (EachTable-Distinct P q)) h, ((k, tt), tt))
+
+  pub formed-missing : width ≡ width_of q → kinds_of p ≡ kinds_of q → WellFormed [] q → WellFormed [] p → WellFormed [] (missing width q p)
+  formed-missing wide alike f g =
+      formed-tested width (Distinct q) p (wide ∙ ap length (sym (kinds_of-Distinct q))) (alike ∙ sym (kinds_of-Distinct q)) (by (sym (WellFormed-Distinct [] q)) f) g

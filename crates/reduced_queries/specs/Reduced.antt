@@ -33,6 +33,6 @@ matching width q = FilterOf q (all_hold (same_tests 1 (range_with_len 0 width) (
 abbrev pub exists_in : Query → List Sublink
 exists_in q = record { kind = Exists; tested = None; query = q } ∷ []
 
--- the rows of q that are none of p's, each once
+-- the rows of q that are none of p's, each once; each is looked for once
 abbrev pub missing : ℕ → Query → Query → Query
-missing width q p = Distinct (Filter q (IsTruth False (Sub 0)) (exists_in (matching width p)))
+missing width q p = Filter (Distinct q) (IsTruth False (Sub 0)) (exists_in (matching width p))

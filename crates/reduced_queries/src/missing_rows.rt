@@ -13,17 +13,20 @@ use perm_values::{Boxed, List, NoMemory};
 use std::alloc::Global;
 
 /// Those rows of the first query, each once, that aren't the same as a row of the second in so many first columns, two NULLs
-/// included. The second is run where the first is good and has rows. It fails only for want of memory.
+/// included. Each is looked for once. The second is run where the first is good and has rows. It fails only for want of memory.
 pub fn missing(alloc: Global, width: usize, rows: Query, others: Query) -> Result<Query, NoMemory>
     ensures { IfOk result (λ p. p ≡ missing width rows others) }
 {
+    let Ok(rows) = Query::distinct(alloc, rows) else {
+        drop(others);
+        return Err(NoMemory);
+    };
     let Ok(test) = none_matches(alloc, width, others) else {
         drop(rows);
         return Err(NoMemory);
     };
     let Test { condition, subs } = test;
-    let kept = Query::filter(alloc, rows, condition, subs)?;
-    Query::distinct(alloc, kept)
+    Query::filter(alloc, rows, condition, subs)
 }
 
 /// A condition and the sublinks that it reads.
