@@ -4,3 +4,4 @@ pub mod ReadKinds
 pub mod ReducedForms
 mod ReducedMade
 pub mod Tested
+mod Unmatched
