@@ -24,7 +24,7 @@ use Rattle.name_made_nodes.proofs.Parts.{more-more, node-made}
 use Rattle.name_made_parts.proofs.AskedListing.{mapped}
 use Rattle.bag_algebra.specs.declared.query.Query.TheVariants.{Prov}
 use Rattle.name_meaning.specs.Queries.{limited, may_not_ask}
-use Rattle.name_made_parts.proofs.Coring.{core-none, core-some, clauses-made, item-so, some-kept, star-is, table-star-is, value-is}
+use Rattle.name_made_parts.proofs.Coring.{core-none, core-some, clauses-made, item-so, none-kept, some-kept, star-is, table-star-is, value-is}
 use Rattle.name_made_parts.proofs.Querying.{chain-made, chain-of-one, core-is, paren-is, query-is}
 use Rattle.null_logic.specs.declared.operator.Operator.TheVariants as x
 use Rattle.perm_values.specs.declared.kind.Kind.TheVariants as kind
@@ -490,8 +490,8 @@ sources::join_made-returns t c =
     of-both _ _ _ _ c.item_made-right.result c.on_made-kept.result c.with_right.result c.item_made-right.ensures c.on_made-kept.ensures (rw c.join_kind.ensures at c.with_right.ensures)
     (λ right kept after of_right of_kept is. tree-join around.catalog.now (scopes_of around.outer.now) c.args.step.now c.args.first c.args.count c.args.scope.now c.args.whole right after kept of_kept of_right is)
 
-pub sources::on_made-returns-in_ok-own : goal.sources::on_made-returns-in_ok-own
-sources::on_made-returns-in_ok-own t c =
+pub sources::on_made-returns : goal.sources::on_made-returns
+sources::on_made-returns t c =
     let around = c.args.around.now in
     let outer = scopes_of around.outer.now in
     let condition = option_map (part_of around.catalog.now) c.args.condition.now in
@@ -535,6 +535,10 @@ sources::source_made-returns t c = λ earlier whole stands.
     (ap (λ (steps : List JoinStep). join_all outer (first_item earlier first) (map (join_of around.catalog.now) steps)) (take_all c.loop-place.place (out-FromTree tree).joins all)
     ∙ sym (from-fields around.catalog.now tree outer earlier)) (c.loop-place.invariant earlier) in
     made.makes whole stands
+
+pub cores::condition_made-returns-in-None : goal.cores::condition_made-returns-in-None
+cores::condition_made-returns-in-None t c =
+    rw (c.in-None.is, c.nothing_kept.ensures) (none-kept (in_clause c.args.scope.now (scopes_of c.args.around.now.outer.now) c.args.in_groups))
 
 pub cores::condition_made-returns-in-Some : goal.cores::condition_made-returns-in-Some
 unfolding means_at

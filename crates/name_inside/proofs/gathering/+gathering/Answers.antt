@@ -1,8 +1,8 @@
-use Rattle.std.specs.Prelude.{List, None, suc, ◌+◌, length, map}
-use Rattle.std.proofs.Common.{ap, refl, subst, ◌∙◌, sym, take}
+use Rattle.std.specs.Prelude.{◌≡◌, ℕ, suc, ◌+◌, List, length, map, None}
+use Rattle.std.proofs.Common.{ap, refl, subst, ◌∙◌, sym, take, arith}
 use Rattle.name_meaning.specs.Items.{SelectPart}
 use Rattle.name_meaning.specs.Meanings.{query_means_at}
-use Rattle.name_meaning.specs.Trees.{arm_of, from_item_of, from_of, item_of, part_of, query_of, set_step_of, step_of}
+use Rattle.name_meaning.specs.Trees.{arm_of, from_item_of, from_of, item_of, join_of, part_of, query_of, set_step_of, step_of}
 use Rattle.name_meaning.specs.declared.scope.Scope.{Scope}
 use Rattle.name_seen_parts.specs.Standing.{around_of, standing_in, surroundings}
 use Rattle.name_inside.specs.Held.{held_arm, held_at, held_operand, held_select, held_step, JoinsAdded, SourcesAdded}
@@ -14,10 +14,11 @@ use Rattle.name_inside.proofs.Over.{adds-alike, adds-both, adds-over, when-ok}
 use Rattle.name_inside.proofs.gathering.+gathering.Goals as goal
 use Rattle.name_made_parts.proofs.AskedListing.{mapped}
 use Rattle.name_made_parts.proofs.Sourcing.{from-fields}
-use Rattle.name_meaning.specs.Froms.{first_item, FromMeant, FromPart}
+use Rattle.name_meaning.specs.Froms.{first_item, join_all, FromMeant, FromPart}
 use Rattle.name_made_parts.specs.Sources.{join_count}
 use Rattle.std.proofs.lemmas.List.{take_all}
 use Rattle.sql_tree.specs.declared.source.FromTree.{out-FromTree}
+use Rattle.sql_tree.specs.declared.source.JoinStep.{JoinStep}
 
 pub expression_inside-returns-in-Null : goal.expression_inside-returns-in-Null
 expression_inside-returns-in-Null t c =
@@ -190,20 +191,28 @@ sources_inside-loop-tree-preserved t c =
 
 pub sources_inside-returns : goal.sources_inside-returns
 sources_inside-returns t c =
-    (rw (take_all c.loop-tree.tree-index c.args.trees.now c.loop-tree-test.false) at c.loop-tree.invariant).adds
+    let all = rw (take_all c.loop-tree.tree-index c.args.trees.now c.loop-tree-test.false) at c.loop-tree.invariant in
+    all.adds
 
 pub from_inside-loop-place-init : goal.from_inside-loop-place-init
-from_inside-loop-place-init t c = λ names.
-    first-added names _ c.args.first c.args.scope.now _ _ (c.in_ok-source_inside.ensures names)
+from_inside-loop-place-init t c = record {
+  within = omega arith;
+  added = λ names. first-added names _ c.args.first c.args.scope.now _ _ (c.in_ok-source_inside.ensures names);
+}
 
 pub from_inside-loop-place-preserved : goal.from_inside-loop-place-preserved
-from_inside-loop-place-preserved t c = λ names.
+from_inside-loop-place-preserved t c =
     let around = c.args.around.now in
     let outer = (around_of around).outer in
     let tree = c.args.tree.now in
-    let first = (from_item_of around.catalog.now (out-FromTree tree).first).means outer names in
-    step-added around.catalog.now outer (first_item names first) (out-FromTree tree).joins c.loop-place.place c.step-item.result c.args.first c.args.scope.now
-    (rw c.as_slice-step-items.ensures at c.loop-place-test.true) (rw c.as_slice-step-items.ensures at c.step-item.is) (c.loop-place.invariant names) c.in_ok-join_inside.ensures
+    let more = rw c.as_slice-step-items.ensures at c.loop-place-test.true in
+    record {
+      within = omega (arith, more);
+      added = λ names.
+          let first = (from_item_of around.catalog.now (out-FromTree tree).first).means outer names in
+          step-added around.catalog.now outer (first_item names first) (out-FromTree tree).joins c.loop-place.place c.step-item.result c.args.first c.args.scope.now
+          more (rw c.as_slice-step-items.ensures at c.step-item.is) (c.loop-place.invariant.added names) c.in_ok-join_inside.ensures;
+    }
 
 pub from_inside-returns : goal.from_inside-returns
 from_inside-returns t c = λ names.
@@ -213,9 +222,11 @@ from_inside-returns t c = λ names.
     let first = (from_item_of around.catalog.now (out-FromTree tree).first).means outer names in
     let joins = (out-FromTree tree).joins in
     let all = rw c.as_slice-step-items.ensures at c.loop-place-test.false in
-    subst (λ (m : FromMeant). JoinsAdded m c.args.first c.args.scope.now c.args.found.now c.loop-place.found (length joins))
-    (sym (from-fields around.catalog.now tree outer names))
-    (rw (take_all c.loop-place.place joins all) at c.loop-place.invariant names)
+    let count : c.loop-place.place ≡ length (out-FromTree c.args.tree.now).joins = omega (arith, all, c.loop-place.invariant.within) in
+    subst (λ (n : ℕ). JoinsAdded ((from_of around.catalog.now tree).means outer names) c.args.first c.args.scope.now c.args.found.now c.loop-place.found n) count
+    (subst (λ (m : FromMeant). JoinsAdded m c.args.first c.args.scope.now c.args.found.now c.loop-place.found c.loop-place.place)
+    (ap (λ (steps : List JoinStep). join_all outer (first_item names first) (map (join_of around.catalog.now) steps)) (take_all c.loop-place.place joins all)
+    ∙ sym (from-fields around.catalog.now tree outer names)) (c.loop-place.invariant.added names))
 
 pub join_inside-returns : goal.join_inside-returns
 join_inside-returns t c =
