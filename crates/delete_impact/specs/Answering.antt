@@ -32,7 +32,7 @@ abbrev pub looked_through : List Kind → ℕ → List Kind → Expr → Query
 looked_through columns id kinds condition =
     ProjectOf (no_row_of (FilterOf (Table id kinds) condition [] end_of-Sublink)) (map null_item columns) [] end_of-Sublink
 
--- the rows of q, which has these columns; where the condition can meet a fault, also those that it meets on the rows of the table
+-- q, which has these columns, with the faults that the condition meets on the rows of the table, where it can meet any
 abbrev pub with_faults : Query → List Kind → ℕ → List Kind → Expr → Query
 with_faults q columns id kinds condition = cond (faultless condition) q (Union true q (looked_through columns id kinds condition))
 

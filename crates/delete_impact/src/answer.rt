@@ -77,7 +77,7 @@ fn vanishing(
     missing(alloc, columns.len(), rows, others)
 }
 
-/// The rows of the query; where the condition can meet a fault, also those that it meets on the rows of the table.
+/// The query, with the faults that the condition meets on the rows of the table, where it can meet any.
 fn with_faults(
     alloc: Global,
     query: &Query,
