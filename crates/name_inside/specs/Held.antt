@@ -133,8 +133,14 @@ pub record JoinsAdded (m : FromMeant) (first : ℕ) (scope : Scope) (old new : G
   pub adds : AddsFrom m first scope old new
   pub counts : (items : List ScopeItem) → m.items ≡ Some items → length items ≡ suc joins
 
--- one more join, behind as many items less one
+-- a lateral subquery, behind as many items
+abbrev pub AddsLateral : List Scope → JoinPart → ℕ → ℕ → Scope → Gathered → Gathered → Type 0
+AddsLateral outer step first before scope middle new = (left : FromMeant) (old : Gathered) → is_lateral step.word ≡ true
+    → ((items : List ScopeItem) → left.items ≡ Some items → length items ≡ before) → AddsFrom left first scope old middle
+    → AddsFrom (join_item outer left step (joined_item outer left step)) first scope old new
+
+-- one more join, behind as many items less one, that isn't lateral
 abbrev pub AddsJoin : List Scope → JoinPart → ℕ → ℕ → Scope → Gathered → Gathered → Type 0
-AddsJoin outer step first count scope middle new = (left : FromMeant) (old : Gathered) → ((items : List ScopeItem) →
-    (join_item outer left step (joined_item outer left.names step)).items ≡ Some items → length items ≡ count)
-    → AddsFrom left first scope old middle → AddsFrom (join_item outer left step (joined_item outer left.names step)) first scope old new
+AddsJoin outer step first count scope middle new = (left : FromMeant) (old : Gathered) → is_lateral step.word ≡ false
+    → ((items : List ScopeItem) → (join_item outer left step (joined_item outer left step)).items ≡ Some items → length items ≡ count)
+    → AddsFrom left first scope old middle → AddsFrom (join_item outer left step (joined_item outer left step)) first scope old new

@@ -5,7 +5,7 @@ ghost use Rattle.name_meaning.specs.Trees.{arm_of, core_of, from_item_of, from_o
 ghost use Rattle.name_meaning.specs.declared.scope.Scope.{Scope as Sight};
 ghost use Rattle.name_seen_parts.specs.Standing.{around_of, surroundings};
 ghost use Rattle.perm_catalog.specs.Sound.{IsSound};
-ghost use Rattle.name_inside.specs.Held.{Adds, AddsFrom, AddsJoin, JoinsAdded, StandsThere, clauses_of, held_arm, held_at, held_item, held_items, held_operand, held_optional, held_query, held_read, held_step, sources_of};
+ghost use Rattle.name_inside.specs.Held.{Adds, AddsFrom, AddsJoin, AddsLateral, JoinsAdded, StandsThere, clauses_of, held_arm, held_at, held_item, held_items, held_operand, held_optional, held_query, held_read, held_step, sources_of};
 ghost use Rattle.name_meaning.specs.Froms.{from_all, read_named};
 ghost use Rattle.name_made_parts.specs.Sources.{join_count};
 ghost use Rattle.name_meaning.specs.Sublinks.{around_of as below};
@@ -15,7 +15,7 @@ use crate::gathered::Gathered;
 use name_made_parts::{behind, segment};
 use name_meaning::Scope;
 use name_seen_cores::in_clause;
-use name_seen_parts::{Around, Here, inside};
+use name_seen_parts::{Around, Here, inside, is_lateral};
 use perm_values::{Boxed, NoMemory};
 use sql_tree::{
     ArmTree, Core, ExprBody, ExprStep, ExprTree, FromItem, FromSource, FromTree, JoinStep, Name,
@@ -198,10 +198,34 @@ fn from_inside(
         → JoinsAdded ((from_of around.now.catalog.now tree.now).means (around_of around.now).outer names) first
         scope.now found.old found.new (join_count tree.now)) }
 {
-    source_inside(&tree.first, around, found)?;
+    source_inside(&tree.first, &around.in_from(), found)?;
     for (place, step) in tree.joins.as_slice().iter().enumerate() {
-        join_inside(step, first, place + 2, scope, around, found)?;
+        if is_lateral(step.word) {
+            lateral_inside(step, first, place + 1, scope, around, found)?;
+        } else {
+            join_inside(step, first, place + 2, scope, around, found)?;
+        }
     }
+    Ok(())
+}
+
+/// A lateral subquery, which sees as many items behind the first ones.
+#[cycle(gathering)]
+fn lateral_inside(
+    step: &JoinStep,
+    first: usize,
+    before: usize,
+    scope: &Scope,
+    around: &Around,
+    found: &mut Gathered,
+) -> Result<(), NoMemory>
+    requires { IsSound around.now.catalog.now }
+    ensures { OnOk result (AddsLateral (around_of around.now).outer (join_of around.now.catalog.now step.now)
+        first before scope.now found.old found.new) }
+{
+    let own = segment(around.alloc, scope, first, before)?;
+    let scopes = inside(&own, false, &*around.outer)?;
+    source_inside(&step.item, &around.lateral(&scopes), found)?;
     Ok(())
 }
 
@@ -219,7 +243,7 @@ fn join_inside(
     ensures { OnOk result (AddsJoin (around_of around.now).outer (join_of around.now.catalog.now step.now) first
         count scope.now found.old found.new) }
 {
-    source_inside(&step.item, around, found)?;
+    source_inside(&step.item, &around.in_from(), found)?;
     let own = segment(around.alloc, scope, first, count)?;
     let rows = inside(&own, false, &*around.outer)?;
     let here = (&*around).seeing(&rows, in_clause(false));
@@ -227,11 +251,13 @@ fn join_inside(
     Ok(())
 }
 
+/// An item whose subquery stands there.
 #[cycle(gathering)]
 fn source_inside(item: &FromItem, around: &Around, found: &mut Gathered) -> Result<(), NoMemory>
     requires { IsSound around.now.catalog.now }
     ensures { OnOk result ((names : Items (Items ℕ))
-        → Adds (held_item ((from_item_of around.now.catalog.now item.now).means (around_of around.now).outer names) ∷ []) found.old found.new) }
+        → Adds (held_item ((from_item_of around.now.catalog.now item.now).means (around_of around.now) names)
+        ∷ []) found.old found.new) }
 {
     match &item.source {
         FromSource::Named(name) => {
@@ -239,7 +265,7 @@ fn source_inside(item: &FromItem, around: &Around, found: &mut Gathered) -> Resu
             Ok(())
         }
         FromSource::Inner(query) => {
-            query_inside(query.get(), &around.in_from(), found)?;
+            query_inside(query.get(), around, found)?;
             Ok(())
         }
     }
