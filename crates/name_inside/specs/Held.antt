@@ -1,6 +1,7 @@
 -- What stands inside parts that may break.
 use Rattle.std.specs.Prelude.{◌≡◌, ℕ, Bool, true, false, List, [], ◌∷◌, ◌++◌, map, Option, Some, None, option_map, nat_lt, suc, length}
 use Rattle.perm_catalog.specs.Contents.{Contents}
+use Rattle.sql_tree.specs.Regular.{is_lateral}
 use Rattle.sql_tree.specs.declared.query.Core.{Core, out-Core}
 use Rattle.name_meaning.specs.Cores.{has_some}
 use Rattle.name_meaning.specs.Expressions.{ArmPart, StepPart}
