@@ -1,9 +1,10 @@
 -- What a join is, by whether its subquery sees the row on the left.
-use Rattle.std.specs.Prelude.{◌≡◌, Bool, true, false, cond, List}
-use Rattle.std.proofs.Common.{ap}
+use Rattle.std.specs.Prelude.{◌≡◌, Bool, true, false, cond, List, [], ◌++◌}
+use Rattle.std.proofs.Common.{refl, ap}
 use Rattle.sql_tree.specs.Regular.{is_lateral}
-use Rattle.name_meaning.specs.Froms.{FromMeant, ItemMeant, JoinPart, applied, beside_items, both_known, in_from, join_item, joined, joined_item, on_meant, scope_items}
+use Rattle.name_meaning.specs.Froms.{FromMeant, ItemMeant, JoinPart, applied, beside_items, both_known, in_from, join_item, joined, joined_item, on_meant, optional_breaks, scope_items}
 use Rattle.name_meaning.specs.declared.scope.Scope.{Scope}
+use Rattle.name_laws.proofs.Every.{front-none}
 
 -- one that isn't lateral
 abbrev pub plainly : List Scope → FromMeant → JoinPart → ItemMeant → FromMeant
@@ -28,3 +29,21 @@ module _ (outer : List Scope) (left : FromMeant) (step : JoinPart) where
   pub join-lateral : is_lateral step.word ≡ true
       → join_item outer left step (joined_item outer left step) ≡ applied left step.word (lateral_item outer left step)
   join-lateral e = ap of_word e
+
+module _ (outer : List Scope) (left : FromMeant) (step : JoinPart) (m : ItemMeant) where
+  abbrev joined_so : Bool → FromMeant
+  joined_so lateral = cond lateral (applied left step.word m) (plainly outer left step m)
+
+  pub join-items : (join_item outer left step m).items ≡ both_known left.items (scope_items m)
+  join-items = by_word (is_lateral step.word) where
+    by_word : (lateral : Bool) → (joined_so lateral).items ≡ both_known left.items (scope_items m)
+    by_word true = refl
+    by_word false = refl
+
+  pub join-begins : (join_item outer left step m).breaks ≡ [] → left.breaks ≡ []
+  join-begins = by_word (is_lateral step.word) where
+    by_word : (lateral : Bool) → (joined_so lateral).breaks ≡ [] → left.breaks ≡ []
+    by_word true whole = front-none left.breaks m.breaks whole
+    by_word false whole =
+        front-none left.breaks m.breaks (front-none (left.breaks ++ m.breaks)
+        (optional_breaks step.condition (on_meant outer (both_known left.items (scope_items m)) step.condition)) whole)
