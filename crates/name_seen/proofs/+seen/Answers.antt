@@ -41,7 +41,7 @@ use Rattle.sql_tree.specs.declared.query.SetStep.{SetStep}
 use Rattle.name_meaning.specs.Cores.{BodyPart}
 use Rattle.name_meaning.specs.Froms.{FromMeant, FromPart, ItemMeant, Read, first_item, from_all, in_clause, join_all, join_item, joined_item, label_of, optional_meant, read_of, scope_name}
 use Rattle.name_meaning.specs.Items.{SelectMeant}
-use Rattle.name_meaning.specs.Meanings.{Around, QueryMeant}
+use Rattle.name_meaning.specs.Meanings.{Around, Part, QueryMeant}
 use Rattle.perm_catalog.specs.Contents.{Contents}
 use Rattle.name_meaning.specs.Queries.{set_chain, may_not_ask}
 use Rattle.name_meaning.specs.Trees.{core_of, from_item_of, from_of, item_of, join_of, set_of_tree, set_step_of, source_of}
