@@ -74,7 +74,7 @@ fn limit_sentence(code: u8) -> &'static [u8]
     match code {
         26 => b"a table may have 256 columns, and a query 1,024",
         27 => b"this query is too large, with what its views stand for",
-        28 => b"this query isn't monotone",
+        28 => b"this query may gain rows where a table loses some",
         29 => b"this form isn't built yet",
         _ => b"",
     }
