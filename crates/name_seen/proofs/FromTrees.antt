@@ -1,5 +1,5 @@
 -- What trees of FROM mean, of what their parts mean.
-use Rattle.std.specs.Prelude.{◌≡◌, ℕ, true, List, map, Option, Err, [], Ok}
+use Rattle.std.specs.Prelude.{◌≡◌, ℕ, List, ◌∷◌, ◌++◌, map, Option, Err, [], Ok}
 use Rattle.std.proofs.Common.{ap, sym, ◌∙◌}
 use Rattle.perm_catalog.specs.Contents.{Contents}
 use Rattle.sql_tree.specs.declared.expression.ExprTree.{ExprTree}
@@ -12,14 +12,17 @@ use Rattle.sql_tree.specs.declared.source.FromTree.{FromTree, out-FromTree}
 use Rattle.sql_tree.specs.declared.expression.ExprBody.TheViews.{roll-out-FromTree}
 use Rattle.sql_tree.specs.declared.source.JoinStep.{JoinStep, out-JoinStep}
 use Rattle.sql_tree.specs.declared.source.ScopeMark.{ScopeMark}
-use Rattle.name_meaning.specs.Froms.{FromItemPart, FromPart, JoinPart, Read, SourcePart, first_item, in_from, item_meant, join_all, label_of, read_named, read_of, read_query, scope_name}
+use Rattle.name_meaning.specs.Froms.{FromItemPart, FromMeant, FromPart, JoinPart, Read, SourcePart, beside_items, first_item, in_from, item_meant, join_all, label_of, read_named, read_of, read_query, scope_name}
 use Rattle.name_meaning.specs.Meanings.{Around, QueryMeant, query_means_at}
 use Rattle.name_meaning.specs.Trees.{from_item_of, from_of, join_of, query_of, source_of}
+use Rattle.name_meaning.specs.Scopes.{ScopeItem}
 use Rattle.name_meaning.specs.declared.scope.Scope.{Scope}
+use Rattle.name_laws.proofs.Lateral.{lateral_item}
+use Rattle.name_seen_parts.specs.Standing.{around_beside}
 use Rattle.name_meaning.proofs.Equations.{token, fromitem-record, fromsource-inner, fromsource-named, fromtree-record}
 use Rattle.name_seen_parts.specs.declared.refusal.Refusal.{Refusal}
 use Rattle.name_seen_parts.specs.declared.refusal.Refusal.TheVariants.{Break as Broken, NoMemory}
-use Rattle.name_seen_from.specs.Queried.{QuerySeen}
+use Rattle.name_seen_from.specs.Queried.{FromWhole, QuerySeen}
 use Rattle.name_seen_from.specs.declared.facts.Facts.{Facts as Gathered}
 use Rattle.name_seen_from.specs.Readings.{ItemSeen, ReadSeen}
 use Rattle.name_seen_cores.specs.Behind.{optional_part}
@@ -80,3 +83,12 @@ pub item-refused : (at : ℕ) (mark : ScopeMark) (earlier : List (List ℕ)) (na
     → ReadSeen read (Err refusal) → ItemSeen (item_meant at mark earlier name label read) scope old new wider (Err refusal)
 item-refused at mark earlier name label read scope wider old new (Broken b) broken = first-stays_first read.breaks _ _ (tt {0}) (tt {0}) b broken
 item-refused at mark earlier name label read scope wider old new NoMemory broken = tt
+
+-- the item of a lateral join, whose subquery sees the items in scope
+pub lateral-means : (c : Contents) (step : JoinStep) (outer : List Scope) (left : FromMeant) (earlier : List (List ℕ)) (before old : Gathered) (scope : Scope)
+    → FromWhole left earlier before old scope
+    → lateral_item outer left (join_of c step) ≡ (from_item_of c (out-JoinStep step).item).means (around_beside (scope ∷ outer)) (earlier ++ scope.items)
+lateral-means c step outer left earlier before old scope first =
+    joined-item c step (beside_items left.items outer) left.names (earlier ++ scope.items) first.names
+    ∙ ap (λ (around : Around). (from_item_of c (out-JoinStep step).item).means around (earlier ++ scope.items))
+    (ap (λ (known : Option (List ScopeItem)). beside_items known outer) first.known ∙ ap (λ (s : Scope). around_beside (s ∷ outer)) (sym first.scope_is))
