@@ -115,7 +115,7 @@ pub(crate) fn condition_made(
     }
 }
 
-/// A condition of WHERE or of HAVING.
+/// A condition of WHERE, of HAVING or of ON.
 #[cycle(made)]
 fn kept_made(
     tree: &ExprTree,

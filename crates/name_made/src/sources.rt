@@ -1,11 +1,11 @@
 //! What FROM reads, with its joins.
-ghost use Rattle.std.specs.Prelude.{ℕ, ◌∷◌, List, IfOk, map, option_map};
+ghost use Rattle.std.specs.Prelude.{ℕ, suc, ◌∷◌, List, IfOk, map, option_map};
 ghost use Rattle.perm_catalog.specs.Sound.{IsSound};
 ghost use Rattle.name_meaning.specs.Froms.{from_all};
 ghost use Rattle.name_meaning.specs.Trees.{from_item_of, from_of, join_of, part_of};
 ghost use Rattle.name_seen_parts.specs.Named.{scopes_of};
 ghost use Rattle.name_seen_parts.specs.Standing.{around_beside, around_of};
-ghost use Rattle.name_made_parts.specs.Sources.{MakesBeside, MakesFrom, MakesJoin, MakesLateral, MakesOn, MakesSource};
+ghost use Rattle.name_made_parts.specs.Sources.{MakesBeside, MakesFrom, MakesJoin, MakesOn, MakesSource};
 
 use crate::cores::condition_made;
 use crate::queries::query_made;
@@ -58,31 +58,9 @@ fn source_made(
 {
     let mut whole = item_made(&source.first, &around.in_from())?;
     for (place, step) in source.joins.as_slice().iter().enumerate() {
-        whole = if is_lateral(step.word) {
-            lateral_made(step, whole, first, place + 1, around, scope)?
-        } else {
-            join_made(step, whole, first, place + 2, around, scope)?
-        };
+        whole = join_made(step, whole, first, place + 1, around, scope)?;
     }
     Ok(whole)
-}
-
-/// A lateral subquery beside what stands before it, as many items behind the first ones.
-#[cycle(made)]
-fn lateral_made(
-    step: &JoinStep,
-    whole: Query,
-    first: usize,
-    before: usize,
-    around: &Around,
-    scope: &Scope,
-) -> Result<Query, NoMemory>
-    requires { IsSound around.now.catalog.now }
-    ensures { IfOk result (MakesLateral (scopes_of around.now.outer.now)
-        (join_of around.now.catalog.now step.now) first before scope.now whole) }
-{
-    let right = beside_made(&step.item, first, before, around, scope);
-    with_lateral(around.alloc, join_kind(step.word), whole, right)
 }
 
 /// An item whose subquery sees as many items behind the first ones.
@@ -116,38 +94,45 @@ fn seeing_made(item: &FromItem, own: &Scope, around: &Around) -> Result<Query, N
     item_made(item, &around.lateral(&scopes))
 }
 
-/// One more join; with its item there are as many as `count` says.
+/// One more join, behind as many items.
 #[cycle(made)]
 fn join_made(
     step: &JoinStep,
     whole: Query,
     first: usize,
-    count: usize,
+    before: usize,
     around: &Around,
     scope: &Scope,
 ) -> Result<Query, NoMemory>
     requires { IsSound around.now.catalog.now }
     ensures { IfOk result (MakesJoin (scopes_of around.now.outer.now)
-        (join_of around.now.catalog.now step.now) first count scope.now whole) }
+        (join_of around.now.catalog.now step.now) first before scope.now whole) }
 {
-    let kept = on_made(&step.condition, first, count, around, scope);
+    if is_lateral(step.word) {
+        let right = beside_made(&step.item, first, before, around, scope);
+        return with_lateral(around.alloc, join_kind(step.word), whole, right);
+    }
+    let kept = on_made(&step.condition, first, before, around, scope);
     let right = item_made(&step.item, &around.in_from());
     with_right(around.alloc, join_kind(step.word), whole, right, kept)
 }
 
-/// A condition of ON, which sees as many items behind the first ones.
+/// A condition of ON, which sees as many items behind the first ones, and one more.
 #[cycle(made)]
 fn on_made(
     condition: &Option<ExprTree>,
     first: usize,
-    count: usize,
+    before: usize,
     around: &Around,
     scope: &Scope,
 ) -> Result<Kept, NoMemory>
     requires { IsSound around.now.catalog.now }
     ensures { IfOk result (MakesOn (scopes_of around.now.outer.now)
-        (option_map (part_of around.now.catalog.now) condition.now) first count scope.now) }
+        (option_map (part_of around.now.catalog.now) condition.now) first (suc before) scope.now) }
 {
+    let Some(count) = before.checked_add(1) else {
+        return Err(NoMemory);
+    };
     let own = segment(around.alloc, scope, first, count)?;
     let kept = condition_made(condition, false, around, &own);
     drop(own);

@@ -26,7 +26,7 @@ use Rattle.name_meaning.proofs.Equations.{token, fromitem-record, fromsource-inn
 use Rattle.name_meaning.proofs.Opened.{opened_from}
 use Rattle.name_laws.proofs.Lateral.{join-begins, join-items, join-lateral, join-plain, lateral_item, plain_item, plainly}
 use Rattle.name_made_nodes.proofs.Parts.{none-first, none-second}
-use Rattle.name_made_parts.specs.Sources.{IsScope, JoinsMade, MakesBeside, MakesFrom, MakesJoin, MakesLateral, MakesOn, MakesSource, SourcesMade, StandsIn, beside_left, text_of, join_on_kept, kept_or_yes}
+use Rattle.name_made_parts.specs.Sources.{IsScope, JoinsMade, MakesBeside, MakesFrom, MakesJoin, MakesOn, MakesSource, SourcesMade, StandsIn, beside_left, text_of, join_on_kept, kept_or_yes}
 use Rattle.name_seen_parts.proofs.Scoping.{more-behind}
 use Rattle.name_made_parts.proofs.Coring.{own-whole}
 use Rattle.name_made_parts.specs.Cored.{AreKept}
@@ -105,36 +105,21 @@ joins-append outer left [] step = refl
 joins-append outer left (first ∷ steps) step =
     joins-append outer (join_item outer left first (joined_item outer left first)) steps step
 
--- one more join, made where what is before it is
-next-made : (outer : List Scope) (left : FromMeant) (step : JoinPart) (first joins : ℕ) (scope : Scope) (before after : Query)
-    → JoinsMade left first scope before joins
-    → (before ≡ left.query → MakesFrom (join_item outer left step (joined_item outer left step)) first scope after)
+-- one more join
+pub join-more : (outer : List Scope) (left : FromMeant) (step : JoinPart) (first joins : ℕ) (scope : Scope) (before after : Query)
+    → JoinsMade left first scope before joins → MakesJoin outer step first (joins + 1) scope before after
     → JoinsMade (join_item outer left step (joined_item outer left step)) first scope after (suc joins)
-next-made outer left step first joins scope before after so_far makes =
+join-more outer left step first joins scope before after so_far makes =
     let m = joined_item outer left step in
     let items = join-items outer left step m in
     record {
       makes = λ whole stands.
-          makes (so_far.makes (join-begins outer left step m whole) (stands-left left.items (scope_items m) first scope
+          makes left (λ own known. let n = so_far.counts own known in omega (arith, n))
+          (so_far.makes (join-begins outer left step m whole) (stands-left left.items (scope_items m) first scope
           (subst (λ (known : Option (List ScopeItem)). StandsIn known first scope) items stands))) whole stands;
       counts = λ own known.
           let n = both-count left.items (scope_items m) (suc joins) 1 so_far.counts (one-item m) own (sym items ∙ known) in omega (arith, n);
     }
-
-pub join-more : (outer : List Scope) (left : FromMeant) (step : JoinPart) (first joins : ℕ) (scope : Scope) (before after : Query)
-    → is_lateral step.word ≡ false → JoinsMade left first scope before joins → MakesJoin outer step first (joins + 2) scope before after
-    → JoinsMade (join_item outer left step (joined_item outer left step)) first scope after (suc joins)
-join-more outer left step first joins scope before after plain so_far makes =
-    let m = joined_item outer left step in
-    next-made outer left step first joins scope before after so_far (makes left plain (λ own known.
-    let n = both-count left.items (scope_items m) (suc joins) 1 so_far.counts (one-item m) own (sym (join-items outer left step m) ∙ known) in omega (arith, n)))
-
-pub lateral-more : (outer : List Scope) (left : FromMeant) (step : JoinPart) (first joins : ℕ) (scope : Scope) (before after : Query)
-    → is_lateral step.word ≡ true → JoinsMade left first scope before joins → MakesLateral outer step first (joins + 1) scope before after
-    → JoinsMade (join_item outer left step (joined_item outer left step)) first scope after (suc joins)
-lateral-more outer left step first joins scope before after lateral so_far makes =
-    next-made outer left step first joins scope before after so_far
-    (makes left lateral (λ own known. let n = so_far.counts own known in omega (arith, n)))
 
 -- the first item alone
 pub first-made : (earlier : List (List ℕ)) (m : ItemMeant) (first : ℕ) (scope : Scope) (made : Query) → MakesSource m made
@@ -172,14 +157,15 @@ plainly-made outer left step first count scope before right after kept on item i
     ∙ ap (λ (k : Condition). Join (join_kind step.word) left.query m.query k.expr k.subs) (kept-so sees kept keeps)
 
 -- a join of what is made
-pub join-made : (outer : List Scope) (step : JoinPart) (first count : ℕ) (scope : Scope) (before right after : Query) (kept : Kept)
-    → MakesOn outer step.condition first count scope kept → ((earlier : List (List ℕ)) → MakesSource (step.item.means (in_from outer) earlier) right)
-    → after ≡ join_on_kept (join_kind step.word) before right kept → MakesJoin outer step first count scope before after
-join-made outer step first count scope before right after kept on item is left plain counts same =
-    let so = join-plain outer left step plain in
-    subst (λ (m : FromMeant). MakesFrom m first scope after) (sym so)
-    (plainly-made outer left step first count scope before right after kept on (item left.names) is
-    (λ items known. counts items (ap (λ (m : FromMeant). m.items) so ∙ known)) same)
+pub join-made : (outer : List Scope) (step : JoinPart) (first before : ℕ) (scope : Scope) (whole right after : Query) (kept : Kept)
+    → is_lateral step.word ≡ false → MakesOn outer step.condition first (suc before) scope kept
+    → ((earlier : List (List ℕ)) → MakesSource (step.item.means (in_from outer) earlier) right)
+    → after ≡ join_on_kept (join_kind step.word) whole right kept → MakesJoin outer step first before scope whole after
+join-made outer step first before scope whole right after kept plain on item is left counts same =
+    let m = plain_item outer left step in
+    subst (λ (m : FromMeant). MakesFrom m first scope after) (sym (join-plain outer left step plain))
+    (plainly-made outer left step first (suc before) scope whole right after kept on (item left.names) is
+    (λ items known. let n = both-count left.items (scope_items m) before 1 counts (one-item m) items known in omega (arith, n)) same)
 
 applied-made : (outer : List Scope) (left : FromMeant) (step : JoinPart) (first before : ℕ) (scope : Scope) (whole right after : Query)
     → MakesBeside outer step.item first before scope right → after ≡ Apply (join_kind step.word) whole right
@@ -198,9 +184,9 @@ applied-made outer left step first before scope whole right after item is counts
 
 -- a lateral subquery beside what is made
 pub lateral-made : (outer : List Scope) (step : JoinPart) (first before : ℕ) (scope : Scope) (whole right after : Query)
-    → MakesBeside outer step.item first before scope right → after ≡ Apply (join_kind step.word) whole right
-    → MakesLateral outer step first before scope whole after
-lateral-made outer step first before scope whole right after item is left lateral counts same =
+    → is_lateral step.word ≡ true → MakesBeside outer step.item first before scope right → after ≡ Apply (join_kind step.word) whole right
+    → MakesJoin outer step first before scope whole after
+lateral-made outer step first before scope whole right after lateral item is left counts same =
     subst (λ (m : FromMeant). MakesFrom m first scope after) (sym (join-lateral outer left step lateral))
     (applied-made outer left step first before scope whole right after item is counts same)
 

@@ -1,5 +1,5 @@
 -- What the second pass makes of FROM.
-use Rattle.std.specs.Prelude.{◌≡◌, ℕ, suc, true, false, List, [], ◌∷◌, ◌++◌, length, Option, Some, None}
+use Rattle.std.specs.Prelude.{◌≡◌, ℕ, suc, List, [], ◌∷◌, ◌++◌, length, Option, Some, None}
 use Rattle.std.specs.Option.{option_map_or}
 use Rattle.bag_algebra.specs.declared.query.JoinKind.{JoinKind}
 use Rattle.bag_algebra.specs.declared.query.JoinKind.TheVariants as join
@@ -7,7 +7,6 @@ use Rattle.bag_algebra.specs.declared.query.Query.{Query}
 use Rattle.bag_algebra.specs.declared.query.Query.TheVariants.{Join}
 use Rattle.perm_catalog.specs.Changes.{view_named}
 use Rattle.perm_catalog.specs.Contents.{Contents}
-use Rattle.sql_tree.specs.Regular.{is_lateral}
 use Rattle.sql_tree.specs.declared.name.Name.{Name}
 use Rattle.sql_tree.specs.declared.source.FromTree.{FromTree, out-FromTree}
 use Rattle.name_meaning.specs.Froms.{FromItemPart, FromMeant, FromPart, ItemMeant, JoinPart, beside_items, from_all, join_item, on_meant, Read, read_names, read_nothing, read_query, read_view, yes, joined_item}
@@ -89,17 +88,11 @@ abbrev pub MakesBeside : List Scope → FromItemPart → ℕ → ℕ → Scope �
 MakesBeside outer item first before scope made = (items : List ScopeItem) → StandsIn (Some items) first scope → length items ≡ before
     → (earlier : List (List ℕ)) → MakesSource (item.means (beside_items (Some items) outer) earlier) made
 
--- a lateral subquery made, behind as many items
-abbrev pub MakesLateral : List Scope → JoinPart → ℕ → ℕ → Scope → Query → Query → Type 0
-MakesLateral outer step first before scope whole made = (left : FromMeant) → is_lateral step.word ≡ true
+-- one more join made, behind as many items
+abbrev pub MakesJoin : List Scope → JoinPart → ℕ → ℕ → Scope → Query → Query → Type 0
+MakesJoin outer step first before scope whole made = (left : FromMeant)
     → ((items : List ScopeItem) → left.items ≡ Some items → length items ≡ before) → whole ≡ left.query
     → MakesFrom (join_item outer left step (joined_item outer left step)) first scope made
-
--- one more join made, behind as many items less one, that isn't lateral
-abbrev pub MakesJoin : List Scope → JoinPart → ℕ → ℕ → Scope → Query → Query → Type 0
-MakesJoin outer step first count scope before made = (left : FromMeant) → is_lateral step.word ≡ false → ((items : List ScopeItem) →
-    (join_item outer left step (joined_item outer left step)).items ≡ Some items → length items ≡ count)
-    → before ≡ left.query → MakesFrom (join_item outer left step (joined_item outer left step)) first scope made
 
 -- what is before a comma, if anything is
 abbrev pub left_of : List FromPart → FromMeant → Option Query
