@@ -20,12 +20,8 @@ use Rattle.bag_algebra.specs.Outcome.{Good, both, each}
 use Rattle.bag_algebra.specs.Rewriting.{is_plain}
 use Rattle.bag_algebra.specs.TablesRead.{EachTable, tables_read}
 use Rattle.bag_algebra.specs.WellFormed.{WellFormed, HasKind}
-use Rattle.bag_algebra.specs.built.Forms.{WellFormed-Union, EachTable-Union}
-use Rattle.bag_algebra.specs.built.Openings.{meaning-Union, kinds_of-Union}
-use Rattle.bag_algebra.specs.built.Scopes.{is_plain-Union}
 use Rattle.bag_algebra.specs.declared.expr.Expr.{Expr}
 use Rattle.bag_algebra.specs.declared.query.Query.{Query}
-use Rattle.bag_algebra.specs.declared.query.Query.TheVariants.{Union}
 use Rattle.contribution.proofs.NodeQueries.{plain-chosen, formed-chosen}
 use Rattle.contribution.proofs.QueryKinds.{rows_have-width}
 use Rattle.contribution.specs.Conjunctions.{always}
@@ -36,20 +32,18 @@ use Rattle.impact_laws.specs.Doomed.{doomed_on, after_deletion, places_over}
 use Rattle.impact_laws.specs.Vanishing.{Vanishes}
 use Rattle.impact_laws.proofs.KeptQueries.{KeptRows, all-at}
 use Rattle.impact_laws.proofs.VanishingRows.{kept-of}
-use Rattle.delete_impact.specs.Answering.{condition_or_true, never, no_row_of, looked_through, vanishing}
+use Rattle.delete_impact.specs.Answering.{condition_or_true, never, no_row_of, vanishing, with_faults}
 use Rattle.reduced_queries.specs.Reads.{Unread, IsRead, first_kinds}
 use Rattle.reduced_queries.specs.Reduced.{reduced}
 use Rattle.delete_impact.specs.Impact.{IsImpact}
 use Rattle.monotone_queries.specs.Conditions.{ConditionFits}
 use Rattle.delete_impact.proofs.Conditions.{each-item, emptied}
-use Rattle.delete_impact.proofs.LookedThrough.{meaning-no_row, meaning-looked_through, kinds-looked_through, formed-looked_through, good-both, bad-both}
+use Rattle.delete_impact.proofs.LookedThrough.{meaning-no_row, good-both, bad-both}
+use Rattle.delete_impact.proofs.WithFaults.{kinds-with_faults, plain-with_faults, tables-with_faults, formed-with_faults, meaning-with_faults}
 use Rattle.reduced_queries.proofs.MissingRows.{missing-rows, missing-faults, kinds-missing, plain-missing, tables-missing, formed-missing}
 use Rattle.reduced_queries.proofs.ReadKinds.{none-unread, found-contained, found-is_read}
 use Rattle.reduced_queries.proofs.ReducedForms.{plain-monotone, formed-reduced, kinds-reduced, plain-reduced, tables-reduced, OnTables}
 use Rattle.delete_impact.proofs.ReducedRows.{reduced-rows}
-
-by : {A B : Type 0} → A ≡ B → A → B
-by e a = subst (λ (X : Type 0). X) e a
 
 -- ---- where the table isn't read
 
@@ -88,11 +82,8 @@ module _ (q : Query) (id : ℕ) (given : Option Expr) (kinds : List Kind) (m : i
   abbrev test : Expr
   test = condition_or_true given
 
-  abbrev none : Query
-  none = looked_through (kinds_of q) id kinds test
-
   abbrev rows : Query
-  rows = Union true q none
+  rows = with_faults q (kinds_of q) id kinds test
 
   abbrev others : Query
   others = reduced id test q
@@ -108,24 +99,20 @@ module _ (q : Query) (id : ℕ) (given : Option Expr) (kinds : List Kind) (m : i
 
   -- ---- forms
 
-  formed-rows : WellFormed [] rows
-  formed-rows =
-      by (sym (WellFormed-Union [] true q none))
-      (record { left_side = f; right_side = formed-looked_through (kinds_of q) id kinds test condition-formed; same_kinds = sym (kinds-looked_through (kinds_of q) id kinds test) })
+  kinds-rows : kinds_of rows ≡ kinds_of q
+  kinds-rows = kinds-with_faults q id kinds test
 
   formed-answer : WellFormed [] (vanishing q id kinds test)
   formed-answer =
-      formed-missing (width_of q) rows others (ap length (sym (kinds_of-Union true q none))) (kinds-reduced id test q ∙ sym (kinds_of-Union true q none)) formed-rows formed-others
-
-  plain-rows : is_plain rows ≡ true
-  plain-rows = is_plain-Union true q none ∙ both-true (is_plain q) (is_plain none) (plain-monotone q m) refl
+      formed-missing (width_of q) rows others (ap length (sym kinds-rows)) (kinds-reduced id test q ∙ sym kinds-rows)
+      (formed-with_faults q id kinds test f condition-formed) formed-others
 
   abbrev among : ℕ → List Kind → Type 0
   among other own = Contains (tables_read q) (record { id = other; kinds = own })
 
   tables-answer : EachTable among (vanishing q id kinds test)
   tables-answer =
-      tables-missing (width_of q) rows others among (by (sym (EachTable-Union among true q none)) (reads_among-itself q, (((there, tt), tt), tt)))
+      tables-missing (width_of q) rows others among (tables-with_faults q id kinds test among (reads_among-itself q) there)
       (tables-reduced id test among q (reads_among-itself q))
 
   -- ---- rows
@@ -133,8 +120,7 @@ module _ (q : Query) (id : ℕ) (given : Option Expr) (kinds : List Kind) (m : i
   module _ (db : Database) (fits : TablesFit db q) where
     meaning-rows : meaning rows db [] ≡ both (union_of true) (meaning q db []) (emptied (each (doomed_on given) (db id)))
     meaning-rows =
-        meaning-Union db [] true q none
-        ∙ ap (both (union_of true) (meaning q db [])) (meaning-looked_through (kinds_of q) id kinds test db ∙ ap emptied (same-looked given (db id)))
+        meaning-with_faults q id kinds test db ∙ ap (λ o. both (union_of true) (meaning q db []) (emptied o)) (same-looked given (db id))
 
     module _ (us : Bag) (good : meaning q db [] ≡ Good us) (flags : List Bool) (looked : each (doomed_on given) (db id) ≡ Good flags) where
       rows-good : meaning rows db [] ≡ Good us
@@ -182,10 +168,10 @@ module _ (q : Query) (id : ℕ) (given : Option Expr) (kinds : List Kind) (m : i
 
   pub read-impact : IsRead id q → IsImpact q id given (vanishing q id kinds test)
   read-impact read = record {
-    plain = plain-missing (width_of q) rows others plain-rows (plain-reduced id test q m);
+    plain = plain-missing (width_of q) rows others (plain-with_faults q id kinds test (plain-monotone q m)) (plain-reduced id test q m);
     closed = query_within [] (vanishing q id kinds test) 0 refl formed-answer;
     formed = formed-answer;
-    kinds = kinds-missing (width_of q) rows others ∙ kinds_of-Union true q none;
+    kinds = kinds-missing (width_of q) rows others ∙ kinds-rows;
     tables = tables-answer;
     nothing = λ db us fits unread good. absurd (read unread);
     own_faults = λ db faults fits unread bad. absurd (read unread);

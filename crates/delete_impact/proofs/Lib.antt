@@ -2,3 +2,4 @@ mod Answered
 mod Conditions
 mod LookedThrough
 mod ReducedRows
+mod WithFaults

@@ -1,8 +1,9 @@
 -- The query that answers, of the query that is asked about: its rows that the query over what is left of the table doesn't have.
-use Rattle.std.specs.Prelude.{ℕ, Bool, true, List, [], map, Option, Some, None}
+use Rattle.std.specs.Prelude.{ℕ, Bool, true, cond, List, [], map, Option, Some, None}
 use Rattle.perm_values.specs.declared.kind.Kind.{Kind}
 use Rattle.perm_values.specs.declared.kind.Kind.TheVariants as kind
 use Rattle.perm_values.specs.declared.value.Value.TheVariants.{Boolean}
+use Rattle.bag_algebra.specs.FaultFree.{faultless}
 use Rattle.bag_algebra.specs.Kinds.{kinds_of, width_of}
 use Rattle.bag_algebra.specs.built.Patterns.{FilterOf, ProjectOf}
 use Rattle.bag_algebra.specs.declared.expr.Expr.{Expr}
@@ -31,7 +32,10 @@ abbrev pub looked_through : List Kind → ℕ → List Kind → Expr → Query
 looked_through columns id kinds condition =
     ProjectOf (no_row_of (FilterOf (Table id kinds) condition [] end_of-Sublink)) (map null_item columns) [] end_of-Sublink
 
+-- q, which has these columns, with the faults that the condition meets on the rows of the table, where it can meet any
+abbrev pub with_faults : Query → List Kind → ℕ → List Kind → Expr → Query
+with_faults q columns id kinds condition = cond (faultless condition) q (Union true q (looked_through columns id kinds condition))
+
 -- which rows of q vanish, where it reads the table with these kinds
 abbrev pub vanishing : Query → ℕ → List Kind → Expr → Query
-vanishing q id kinds condition =
-    missing (width_of q) (Union true q (looked_through (kinds_of q) id kinds condition)) (reduced id condition q)
+vanishing q id kinds condition = missing (width_of q) (with_faults q (kinds_of q) id kinds condition) (reduced id condition q)

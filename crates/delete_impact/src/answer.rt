@@ -2,12 +2,12 @@
 ghost use Rattle.std.specs.Prelude.{◌≡◌, [], true, IfOk, IsTrue, option_copied};
 ghost use Rattle.bag_algebra.specs.WellFormed.{WellFormed};
 ghost use Rattle.bag_algebra.specs.declared.query.Query.TheVariants.{Union};
-ghost use Rattle.delete_impact.specs.Answering.{condition_or_true, looked_through, never, no_row_of, vanishing};
+ghost use Rattle.delete_impact.specs.Answering.{condition_or_true, looked_through, never, no_row_of, vanishing, with_faults};
 ghost use Rattle.delete_impact.specs.Impact.{IsImpact};
 ghost use Rattle.monotone_queries.specs.Conditions.{ConditionFits};
 ghost use Rattle.monotone_queries.specs.Monotone.{is_monotone};
 
-use bag_algebra::{Expr, Query};
+use bag_algebra::{Expr, Query, faultless};
 use contribution::{always, kinds as columns, null_items, projection, selection};
 use perm_values::{Copyable, Kind, List, NoMemory, Value, both};
 use reduced_queries::{first_kinds, missing, reduced};
@@ -77,8 +77,26 @@ fn vanishing(
     missing(alloc, columns.len(), rows, others)
 }
 
-/// The rows of the query, with the faults of the condition on the rows of the table beside its own.
+/// The query, with the faults that the condition meets on the rows of the table, where it can meet any.
 fn with_faults(
+    alloc: Global,
+    query: &Query,
+    columns: &[Kind],
+    id: u64,
+    kinds: &List<Kind>,
+    condition: &Expr,
+) -> Result<Query, NoMemory>
+    ensures { IfOk result (λ p. p ≡ with_faults query.now columns.now id kinds.now condition.now) }
+{
+    if faultless(condition) {
+        query.copy(alloc)
+    } else {
+        looked_beside(alloc, query, columns, id, kinds, condition)
+    }
+}
+
+/// The rows of the query, with the faults of the condition on the rows of the table beside its own.
+fn looked_beside(
     alloc: Global,
     query: &Query,
     columns: &[Kind],

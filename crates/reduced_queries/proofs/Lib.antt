@@ -1,5 +1,7 @@
+mod KeptOnce
 pub mod MissingRows
 pub mod ReadKinds
 pub mod ReducedForms
 mod ReducedMade
 pub mod Tested
+mod Unmatched

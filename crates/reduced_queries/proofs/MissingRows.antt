@@ -1,148 +1,76 @@
--- The rows of a query that a closed one doesn't have.
-use Rattle.std.proofs.Common.{◌≡◌, ℕ, ◌<◌, inl, inr, Bool, true, false, cond, not, ◌&&◌, ◌||◌, List, [], ◌∷◌, filter, length, refl, sym, ap, ◌∙◌, subst, arith}
-use Rattle.std.specs.List.{list_any, range_with_len}
-use Rattle.std.proofs.lemmas.List.FromFn.{fill_by_all, length-range_with_len, get_or-range_with_len}
-use Rattle.null_logic.specs.declared.truth.Truth.TheVariants.{False}
-use Rattle.perm_values.specs.Rows.{same_row, picked, value_at}
+-- The rows of a query that a closed one doesn't have, in whichever way they are found.
+use Rattle.std.proofs.Common.{◌≡◌, ℕ, Bool, true, false, cond, not, List, [], filter, length, refl, sym, ap, ◌∙◌, subst, true≢false}
 use Rattle.perm_values.specs.declared.kind.Kind.{Kind}
-use Rattle.perm_values.specs.declared.kind.Kind.TheVariants as kind
-use Rattle.perm_values.specs.declared.value.Value.{Value}
-use Rattle.perm_values.specs.declared.value.Value.TheVariants.{Null, Boolean}
-use Rattle.bag_algebra.proofs.BagLaws.{same_row-sym}
 use Rattle.bag_algebra.proofs.Members.{IsIn}
-use Rattle.bag_algebra.specs.Bags.{Row, Bag, member, once}
-use Rattle.bag_algebra.specs.Children.{subs_denote}
-use Rattle.bag_algebra.specs.Expressions.{value}
-use Rattle.bag_algebra.specs.Kinds.{kinds_of, kinds_in, width_of}
-use Rattle.bag_algebra.specs.Meaning.{Database, meaning, condition_on}
-use Rattle.bag_algebra.specs.Means.{kept, is_some_row, no_subs, sub_value}
-use Rattle.bag_algebra.specs.Outcome.{Faults, Outcome, Good, Bad, and_then, mapped, both, both_then, gather}
-use Rattle.bag_algebra.specs.WellFormed.{WellFormed, HasKind, PlacesIn}
-use Rattle.bag_algebra.specs.built.Forms.{subs_kinds, WellFormed-Filter, WellFormed-Distinct, EachTable-Filter, EachTable-Distinct}
-use Rattle.bag_algebra.specs.built.Openings.{IsTruth-is, value-IsTruth, meaning-Filter, meaning-Distinct, kinds_of-Filter, kinds_of-Distinct}
-use Rattle.bag_algebra.specs.built.Scopes.{is_plain-Filter, is_plain-Distinct}
+use Rattle.bag_algebra.proofs.NeverBad.{good-query}
+use Rattle.bag_algebra.proofs.Truths.{both-true}
+use Rattle.bag_algebra.specs.Bags.{Row, Bag, member, once, except_of}
+use Rattle.bag_algebra.specs.FaultFree.{fault_free}
+use Rattle.bag_algebra.specs.Kinds.{kinds_of, width_of}
+use Rattle.bag_algebra.specs.Meaning.{Database, meaning}
+use Rattle.bag_algebra.specs.Outcome.{Faults, Outcome, Good, Bad, is_good, both}
 use Rattle.bag_algebra.specs.Rewriting.{is_plain}
 use Rattle.bag_algebra.specs.TablesRead.{EachTable}
-use Rattle.bag_algebra.specs.declared.expr.Expr.{Expr}
-use Rattle.bag_algebra.specs.declared.expr.Expr.TheVariants.{IsTruth, Sub}
+use Rattle.bag_algebra.specs.WellFormed.{WellFormed}
+use Rattle.bag_algebra.specs.built.Forms.{WellFormed-Except, EachTable-Except}
+use Rattle.bag_algebra.specs.built.Openings.{meaning-Except, kinds_of-Except}
+use Rattle.bag_algebra.specs.built.Scopes.{is_plain-Except}
 use Rattle.bag_algebra.specs.declared.query.Query.{Query}
-use Rattle.bag_algebra.specs.declared.query.Query.TheVariants.{Filter}
-use Rattle.bag_algebra.specs.declared.query.SubKind.TheVariants.{Exists}
-use Rattle.contribution.proofs.Growth.{denote-closed}
-use Rattle.contribution.proofs.LongerKinds.{well_formed-longer, longer-names}
-use Rattle.contribution.proofs.NodeQueries.{meaning-chosen, plain-chosen}
-use Rattle.contribution.proofs.SameTests.{tests-value, conjunction-formed}
-use Rattle.contribution.specs.Conjunctions.{all_hold, same_tests}
-use Rattle.contribution.specs.Longer.{more_lists}
-use Rattle.reduced_queries.specs.Reduced.{matching, exists_in, missing}
-use Rattle.reduced_queries.proofs.Tested.{gather-tested, is_false}
+use Rattle.bag_algebra.specs.declared.query.Query.TheVariants.{Except}
+use Rattle.reduced_queries.specs.Reduced.{unmatched, missing}
+use Rattle.reduced_queries.proofs.Unmatched.{unmatched-rows, unmatched-faults, kinds-unmatched, plain-unmatched, tables-unmatched, formed-unmatched}
 
--- ---- lists
-
-pub any-same : {X : Type 0} (f g : X → Bool) (xs : List X) → ((x : X) → IsIn x xs → f x ≡ g x) → list_any f xs ≡ list_any g xs
-any-same f g [] h = refl
-any-same f g (x ∷ xs) h = λ i. h x (inl refl) i || any-same f g xs (λ y k. h y (inr k)) i
-
-first-passes : (b rest : Bool) (passes : Row → Bool) (u : Row) (us : Bag) → is_some_row (filter passes us) ≡ rest → is_some_row (cond b (u ∷ filter passes us) (filter passes us)) ≡ (b || rest)
-first-passes true rest passes u us e = refl
-first-passes false rest passes u us e = e
-
-some-passes : (passes : Row → Bool) (us : Bag) → is_some_row (filter passes us) ≡ list_any passes us
-some-passes passes [] = refl
-some-passes passes (u ∷ us) = first-passes (passes u) (list_any passes us) passes u us (some-passes passes us)
-
-pub all_columns : (width : ℕ) (t : Row) → length t ≡ width → picked (range_with_len 0 width) t ≡ t
-all_columns width t long = sym (fill_by_all (value_at t) t width Null long (λ k h. refl))
-
-places-in : (width : ℕ) → PlacesIn width (range_with_len 0 width)
-places-in width k d h =
-    let within : k < width = subst (λ n. k < n) (length-range_with_len 0 width) h in
-    subst (λ place. place < width) (sym (get_or-range_with_len 0 width k d within)) (omega (arith, within))
+-- what both ways have
+either : (P : Query → Type 0) (free : Bool) (q r : Query) → P q → P r → P (cond free q r)
+either P true q r h k = h
+either P false q r h k = k
 
 -- ---- rows
 
 module _ (width : ℕ) (p : Query) (closed : WellFormed [] p) (db : Database) (vs : Bag) (good : meaning p db [] ≡ Good vs) where
-  abbrev places : List ℕ
-  places = range_with_len 0 width
-
-  abbrev same : Expr
-  same = all_hold (same_tests 1 places places)
-
-  abbrev agrees : Row → Row → Bool
-  agrees u v = same_row (picked places u) (picked places v)
-
-  found-rows : (u : Row) → meaning (matching width p) db (u ∷ []) ≡ Good (filter (agrees u) vs)
-  found-rows u =
-      meaning-chosen p same db (u ∷ [])
-      ∙ ap (λ o. and_then o (gather (kept (condition_on same (u ∷ []) no_subs)))) ((λ i. (denote-closed p db (u ∷ []) [] closed i).rows) ∙ good)
-      ∙ gather-tested (condition_on same (u ∷ []) no_subs) (agrees u) vs (λ v h. tests-value v (u ∷ []) [] 1 places places refl)
-
-  abbrev on : Row → Outcome Value
-  on = condition_on (IsTruth False (Sub 0)) [] (subs_denote (exists_in (matching width p)) db [])
-
-  tested-row : (u : Row) → on u ≡ Good (Boolean (not (list_any (agrees u) vs)))
-  tested-row u =
-      ap (λ o. and_then (both (λ v vs. v ∷ vs) (both_then (Good Null) o (sub_value Exists)) (Good [])) (value (IsTruth False (Sub 0)) u [])) (found-rows u)
-      ∙ value-IsTruth u [] (Boolean (is_some_row (filter (agrees u) vs)) ∷ []) False (Sub 0)
-      ∙ ap (λ b. Good (Boolean b)) (is_false (is_some_row (filter (agrees u) vs)))
-      ∙ ap (λ b. Good (Boolean (not b))) (some-passes (agrees u) vs)
-
-  -- where all rows have the width, those that agree are the same
+  -- where all rows have the width
   module _ (us : Bag) (us_wide : (u : Row) → IsIn u us → length u ≡ width) (vs_wide : (v : Row) → IsIn v vs → length v ≡ width) where
-    agrees-member : (u : Row) → IsIn u us → list_any (agrees u) vs ≡ member u vs
-    agrees-member u h =
-        any-same (agrees u) (λ v. same_row v u) vs (λ v k.
-        (λ i. same_row (all_columns width u (us_wide u h) i) (all_columns width v (vs_wide v k) i)) ∙ same_row-sym u v)
-
     pub missing-rows : (q : Query) → meaning q db [] ≡ Good us → meaning (missing width q p) db [] ≡ Good (once (filter (λ u. not (member u vs)) us))
     missing-rows q e =
-        meaning-Distinct db [] (Filter q (IsTruth False (Sub 0)) (exists_in (matching width p)))
-        ∙ ap (mapped once) (meaning-Filter db [] q (IsTruth False (Sub 0)) (exists_in (matching width p)))
-        ∙ ap (λ o. mapped once (and_then o (gather (kept on)))) e
-        ∙ ap (mapped once) (gather-tested on (λ u. not (member u vs)) us (λ u h. tested-row u ∙ ap (λ b. Good (Boolean (not b))) (agrees-member u h)))
+        either (λ r. meaning r db [] ≡ Good (once (filter (λ u. not (member u vs)) us))) (fault_free p) (Except false q p) (unmatched width q p)
+        (meaning-Except db [] false q p ∙ (λ i. both (except_of false) (e i) (good i)))
+        (unmatched-rows width p closed db vs good us us_wide vs_wide q e)
 
--- where the query is bad, the other isn't looked at
+bad-beside : (faults : Faults) (o : Outcome Bag) → is_good o ≡ true → both (except_of false) (Bad faults) o ≡ Bad faults
+bad-beside faults (Good vs) g = refl
+bad-beside faults (Bad f) g = absurd (true≢false (sym g))
+
+faults-by : (width : ℕ) (q p : Query) (db : Database) (faults : Faults) → meaning q db [] ≡ Bad faults → (free : Bool) → fault_free p ≡ free →
+    meaning (cond free (Except false q p) (unmatched width q p)) db [] ≡ Bad faults
+faults-by width q p db faults e true is =
+    meaning-Except db [] false q p
+    ∙ ap (λ o. both (except_of false) o (meaning p db [])) e
+    ∙ bad-beside faults (meaning p db []) (good-query p is db [])
+faults-by width q p db faults e false is = unmatched-faults width q p db faults e
+
+-- where the query is bad, the other adds no fault
 pub missing-faults : (width : ℕ) (q p : Query) (db : Database) (faults : Faults) → meaning q db [] ≡ Bad faults → meaning (missing width q p) db [] ≡ Bad faults
-missing-faults width q p db faults e =
-    meaning-Distinct db [] (Filter q (IsTruth False (Sub 0)) (exists_in (matching width p)))
-    ∙ ap (mapped once) (meaning-Filter db [] q (IsTruth False (Sub 0)) (exists_in (matching width p)))
-    ∙ ap (λ o. mapped once (and_then o (gather (kept (condition_on (IsTruth False (Sub 0)) [] (subs_denote (exists_in (matching width p)) db [])))))) e
+missing-faults width q p db faults e = faults-by width q p db faults e (fault_free p) refl
 
 -- ---- forms
 
-module _ (width : ℕ) (q p : Query) where
-  abbrev filtered : Query
-  filtered = Filter q (IsTruth False (Sub 0)) (exists_in (matching width p))
+by : {A B : Type 0} → A ≡ B → A → B
+by e a = subst (λ (X : Type 0). X) e a
 
+module _ (width : ℕ) (q p : Query) where
   pub kinds-missing : kinds_of (missing width q p) ≡ kinds_of q
-  kinds-missing = kinds_of-Distinct filtered ∙ kinds_of-Filter q (IsTruth False (Sub 0)) (exists_in (matching width p))
+  kinds-missing = either (λ r. kinds_of r ≡ kinds_of q) (fault_free p) (Except false q p) (unmatched width q p) (kinds_of-Except false q p) (kinds-unmatched width q p)
 
   pub plain-missing : is_plain q ≡ true → is_plain p ≡ true → is_plain (missing width q p) ≡ true
   plain-missing e f =
-      is_plain-Distinct filtered ∙ is_plain-Filter q (IsTruth False (Sub 0)) (exists_in (matching width p))
-      ∙ (λ i. e i && ((plain-chosen p (all_hold (same_tests 1 (range_with_len 0 width) (range_with_len 0 width))) ∙ f) i && true))
+      either (λ r. is_plain r ≡ true) (fault_free p) (Except false q p) (unmatched width q p)
+      (is_plain-Except false q p ∙ both-true (is_plain q) (is_plain p) e f) (plain-unmatched width q p e f)
 
   pub tables-missing : (P : ℕ → List Kind → Type 0) → EachTable P q → EachTable P p → EachTable P (missing width q p)
   tables-missing P h k =
-      by (sym (EachTable-Distinct P filtered)) (by (sym (EachTable-Filter P q (IsTruth False (Sub 0)) (exists_in (matching width p)))) (h, ((k, tt), tt)))
-    where
-      by : {A B : Type 0} → A ≡ B → A → B
-      by e a = subst (λ (X : Type 0). X) e a
+      either (EachTable P) (fault_free p) (Except false q p) (unmatched width q p) (by (sym (EachTable-Except P false q p)) (h, k)) (tables-unmatched width q p P h k)
 
   pub formed-missing : width ≡ width_of q → kinds_of p ≡ kinds_of q → WellFormed [] q → WellFormed [] p → WellFormed [] (missing width q p)
   formed-missing wide alike f g =
-      by (sym (WellFormed-Distinct [] filtered)) (by (sym (WellFormed-Filter [] q (IsTruth False (Sub 0)) (exists_in (matching width p)))) (record {
-        input = f;
-        subs = record { query = record { input = well_formed-longer p [] (kinds_of q ∷ []) (longer-names (more_lists (kinds_of q ∷ []))) g; subs = tt; condition = same-formed }; fitting = tt; others = tt };
-        condition = subst (λ e. HasKind (kinds_of q ∷ []) (subs_kinds (exists_in (matching width p))) e kind.Boolean) (sym (IsTruth-is False (Sub 0))) (record { parts = refl; gives = refl });
-      }))
-    where
-      by : {A B : Type 0} → A ≡ B → A → B
-      by e a = subst (λ (X : Type 0). X) e a
-
-      same-formed : HasKind (kinds_of p ∷ kinds_of q ∷ []) [] (all_hold (same_tests 1 (range_with_len 0 width) (range_with_len 0 width))) kind.Boolean
-      same-formed =
-          conjunction-formed (kinds_of p) (kinds_of q ∷ []) [] 1 (kinds_of q) refl (range_with_len 0 width) (range_with_len 0 width)
-          (subst (λ n. PlacesIn n (range_with_len 0 width)) wide (places-in width))
-          (subst (λ n. PlacesIn n (range_with_len 0 width)) (wide ∙ ap length (sym alike)) (places-in width))
-          (ap (λ ks. kinds_in ks (range_with_len 0 width)) (sym alike))
+      either (WellFormed []) (fault_free p) (Except false q p) (unmatched width q p)
+      (by (sym (WellFormed-Except [] false q p)) (record { left_side = f; right_side = g; same_kinds = sym alike })) (formed-unmatched width q p wide alike f g)

@@ -3,27 +3,41 @@ ghost use Rattle.std.specs.Prelude.{◌≡◌, IfOk};
 ghost use Rattle.std.specs.List.{range_with_len};
 ghost use Rattle.bag_algebra.specs.declared.expr.Expr.TheVariants.{IsTruth, Sub};
 ghost use Rattle.contribution.specs.Conjunctions.{all_hold, same_tests};
-ghost use Rattle.reduced_queries.specs.Reduced.{exists_in, matching, missing};
+ghost use Rattle.reduced_queries.specs.Reduced.{exists_in, matching, missing, unmatched};
 ghost use Rattle.null_logic.specs.declared.truth.Truth.TheVariants.{False};
 
-use bag_algebra::{Expr, Query, SubKind, Sublink};
+use bag_algebra::{Expr, Query, SubKind, Sublink, fault_free};
 use contribution::{same_columns, selection};
 use null_logic::Truth;
 use perm_values::{Boxed, List, NoMemory};
 use std::alloc::Global;
 
-/// Those rows of the first query, each once, that aren't the same as a row of the second in so many first columns, two NULLs
-/// included. The second is run where the first is good and has rows. It fails only for want of memory.
+/// Those rows of the first query, each once, that aren't the same as a row of the second, two NULLs included; both have this
+/// width. Where the second can meet a fault, it is run where the first is good and has rows. It fails only for want of memory.
 pub fn missing(alloc: Global, width: usize, rows: Query, others: Query) -> Result<Query, NoMemory>
     ensures { IfOk result (λ p. p ≡ missing width rows others) }
 {
+    if fault_free(&others) {
+        Query::except(alloc, false, rows, others)
+    } else {
+        unmatched(alloc, width, rows, others)
+    }
+}
+
+/// The same, with the second as the query of a sublink; each row is looked for once.
+fn unmatched(alloc: Global, width: usize, rows: Query, others: Query) -> Result<Query, NoMemory>
+    ensures { IfOk result (λ p. p ≡ unmatched width rows others) }
+{
+    let Ok(rows) = Query::distinct(alloc, rows) else {
+        drop(others);
+        return Err(NoMemory);
+    };
     let Ok(test) = none_matches(alloc, width, others) else {
         drop(rows);
         return Err(NoMemory);
     };
     let Test { condition, subs } = test;
-    let kept = Query::filter(alloc, rows, condition, subs)?;
-    Query::distinct(alloc, kept)
+    Query::filter(alloc, rows, condition, subs)
 }
 
 /// A condition and the sublinks that it reads.
