@@ -242,7 +242,7 @@ fn beside_inside(
 {
     let own = segment(around.alloc, scope, first, before)?;
     let scopes = inside(&own, false, &*around.outer)?;
-    source_inside(item, &around.lateral(&scopes), found)?;
+    source_inside(item, &(&*around).lateral(&scopes), found)?;
     Ok(())
 }
 

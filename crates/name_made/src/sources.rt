@@ -90,8 +90,8 @@ fn seeing_made(item: &FromItem, own: &Scope, around: &Around) -> Result<Query, N
         MakesSource ((from_item_of around.now.catalog.now item.now).means
         (around_beside (own.now ∷ scopes_of around.now.outer.now)) earlier) query) }
 {
-    let scopes = inside(own, false, &*around.outer)?;
-    item_made(item, &around.lateral(&scopes))
+    let scopes = inside(&*own, false, &*around.outer)?;
+    item_made(item, &(&*around).lateral(&scopes))
 }
 
 /// One more join, behind as many items.

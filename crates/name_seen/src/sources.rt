@@ -107,8 +107,8 @@ fn read_beside(item: &FromItem, scope: &Scope, around: &Around) -> Result<Readin
         (around_beside (scope.now ∷ scopes_of around.now.outer.now))
         (source_of around.now.catalog.now item.now.source)) result }
 {
-    let scopes = inside(scope, false, &*around.outer)?;
-    read_source(&item.source, &around.lateral(&scopes))
+    let scopes = inside(&*scope, false, &*around.outer)?;
+    read_source(&item.source, &(&*around).lateral(&scopes))
 }
 
 /// One more item in scope, behind items of these names and those in scope, or its first break.
