@@ -621,7 +621,10 @@ sources::from_item-returns-in_err-reading t c =
     (sym (item-means around.catalog.now item place held))
     (item-refused item.at item.mark held (scope_name (source_of around.catalog.now item.source) item.alias) (label_of (source_of around.catalog.now item.source) item.alias)
     (read_of around.catalog.now place (source_of around.catalog.now item.source)) c.args.scope.now c.args.scope.now c.args.facts.now c.args.facts.now
-    c.in_err-reading.field-0.0 (rw (c.in_from.ensures.place, c.in_from.ensures.catalog) at c.in_err-reading.ensures)))
+    c.in_err-reading.field-0.0
+    (subst (λ (there : Around). ReadSeen (read_of around.catalog.now there (source_of around.catalog.now item.source)) (Err c.in_err-reading.field-0.0)) c.in_from.ensures.place
+    (subst (λ (kept : Contents). ReadSeen (read_of kept (around_of c.in_from.result) (source_of kept item.source)) (Err c.in_err-reading.field-0.0)) c.in_from.ensures.catalog
+    c.in_err-reading.ensures))))
 
 pub sources::from_item-returns : goal.sources::from_item-returns
 sources::from_item-returns t c =
@@ -657,7 +660,13 @@ sources::lateral_item-returns t c =
     (c.put_item.ensures around.catalog.now (read_of around.catalog.now place (source_of around.catalog.now item.source)) c.in_ok-reading.ensures)
 
 pub sources::read_beside-returns : goal.sources::read_beside-returns
-sources::read_beside-returns t c = rw (c.lateral.ensures.place, c.lateral.ensures.catalog, c.in_ok-scopes.ensures) at c.read_source.ensures
+sources::read_beside-returns t c =
+    let around = c.args.around.now in
+    let source = c.args.item.now.source in
+    subst (λ (there : Around). ReadSeen (read_of around.catalog.now there (source_of around.catalog.now source)) c.read_source.result)
+    (c.lateral.ensures.place ∙ ap around_beside c.in_ok-scopes.ensures)
+    (subst (λ (kept : Contents). ReadSeen (read_of kept (around_of c.lateral.result) (source_of kept source)) c.read_source.result) c.lateral.ensures.catalog
+    c.read_source.ensures)
 
 pub sources::join_seen-returns-then-is_lateral : goal.sources::join_seen-returns-then-is_lateral
 sources::join_seen-returns-then-is_lateral t c = λ left before first.
