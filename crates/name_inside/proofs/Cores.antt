@@ -164,35 +164,35 @@ join-added : (outer : List Scope) (step : JoinPart) (first before : ℕ) (scope 
     → AddsOn outer step.condition first (suc before) scope items_in new → AddsJoin outer step first before scope middle new
 join-added outer step first before scope middle items_in new plain item on left old counts so_far =
     subst (λ (m : FromMeant). AddsFrom m first scope old new) (sym (join-plain outer left step plain)) added where
-  m : ItemMeant
-  m = plain_item outer left step
+      m : ItemMeant
+      m = plain_item outer left step
 
-  added : AddsFrom (plainly outer left step m) first scope old new
-  added stands =
-      let stands_own : StandsIn (Some stands.own) first scope =
-      record { before = stands.before; own = stands.own; after = stands.after; known = refl; scope_is = stands.scope_is; at = stands.at } in
-      let n = both-count left.items (scope_items m) before 1 counts (one-item m) stands.own stands.known in
-      adds-over (join-over outer left step m stands.own stands.known)
-      (adds-both (so_far (stands-left left.items (scope_items m) first scope stands))
-      (adds-both (item left.names) (on stands.own stands_own (omega (arith, n)))))
+      added : AddsFrom (plainly outer left step m) first scope old new
+      added stands =
+          let stands_own : StandsIn (Some stands.own) first scope =
+          record { before = stands.before; own = stands.own; after = stands.after; known = refl; scope_is = stands.scope_is; at = stands.at } in
+          let n = both-count left.items (scope_items m) before 1 counts (one-item m) stands.own stands.known in
+          adds-over (join-over outer left step m stands.own stands.known)
+          (adds-both (so_far (stands-left left.items (scope_items m) first scope stands))
+          (adds-both (item left.names) (on stands.own stands_own (omega (arith, n)))))
 
 -- a lateral subquery, which sees the items before it
 lateral-added : (outer : List Scope) (step : JoinPart) (first before : ℕ) (scope : Scope) (middle new : Gathered) → is_lateral step.word ≡ true
     → AddsBeside outer step.item first before scope middle new → AddsJoin outer step first before scope middle new
 lateral-added outer step first before scope middle new lateral item left old counts so_far =
     subst (λ (m : FromMeant). AddsFrom m first scope old new) (sym (join-lateral outer left step lateral)) added where
-  m : ItemMeant
-  m = lateral_item outer left step
+      m : ItemMeant
+      m = lateral_item outer left step
 
-  added : AddsFrom (applied left step.word m) first scope old new
-  added stands =
-      let own = stands-left left.items (scope_items m) first scope stands in
-      let stands_own : StandsIn (Some own.own) first scope =
-      record { before = own.before; own = own.own; after = own.after; known = refl; scope_is = own.scope_is; at = own.at } in
-      adds-over (lateral-over left step.word m)
-      (adds-both (so_far own)
-      (subst (λ (items : Option (List ScopeItem)). Adds (held_item (step.item.means (beside_items items outer) left.names) ∷ []) middle new) (sym own.known)
-      (item own.own stands_own (counts own.own own.known) left.names)))
+      added : AddsFrom (applied left step.word m) first scope old new
+      added stands =
+          let own = stands-left left.items (scope_items m) first scope stands in
+          let stands_own : StandsIn (Some own.own) first scope =
+          record { before = own.before; own = own.own; after = own.after; known = refl; scope_is = own.scope_is; at = own.at } in
+          adds-over (lateral-over left step.word m)
+          (adds-both (so_far own)
+          (subst (λ (items : Option (List ScopeItem)). Adds (held_item (step.item.means (beside_items items outer) left.names) ∷ []) middle new) (sym own.known)
+          (item own.own stands_own (counts own.own own.known) left.names)))
 
 pub first-added : (earlier : List (List ℕ)) (m : ItemMeant) (first : ℕ) (scope : Scope) (old new : Gathered) → Adds (held_item m ∷ []) old new
     → JoinsAdded (first_item earlier m) first scope old new 0
