@@ -497,7 +497,7 @@ pub sources::join_made-returns : goal.sources::join_made-returns
 sources::join_made-returns t c =
     let around = c.args.around.now in
     of-both _ _ _ _ c.item_made-right.result c.on_made-kept.result c.with_right.result
-    (rw (c.in_from.ensures.place, c.in_from.ensures.catalog) at c.item_made-right.ensures) c.on_made-kept.ensures (rw c.join_kind.ensures at c.with_right.ensures)
+    (rw (c.in_from.ensures.place, c.in_from.ensures.catalog) at c.item_made-right.ensures) c.on_made-kept.ensures (rw c.join_kind-2.ensures at c.with_right.ensures)
     (λ right kept after of_right of_kept is. tree-join around.catalog.now (scopes_of around.outer.now) c.args.step.now c.args.first c.args.before c.args.scope.now c.args.whole right after kept
     (sym c.is_lateral.ensures ∙ c.if-is_lateral.false) of_kept of_right is)
 
