@@ -22,7 +22,10 @@ use Rattle.sql_tree.specs.declared.source.JoinStep.{JoinStep, out-JoinStep}
 use Rattle.sql_tree.specs.declared.source.ScopeMark.{ScopeMark}
 use Rattle.name_meaning.proofs.Equations.{token, selectitem-star, selectitem-tablestar, selectitem-value, fromsource-named, fromsource-inner}
 use Rattle.name_meaning.specs.Cores.{BodyPart, Clauses, clause_breaks, core_clauses, core_over, core_seen, core_unlooked, group_break, group_scope, has_some, word_breaks}
-use Rattle.name_meaning.specs.Froms.{FromMeant, FromPart, ItemMeant, JoinPart, Read, SourcePart, beside_from, both_known, first_item, from_all, from_more, in_on, item_meant, join_all, join_item, label_of, optional_breaks, on_meant, read_named, read_of, scope_items, scope_name, joined_item, unbuilt_breaks, in_clause, optional_inside, optional_meant, no_from}
+use Rattle.name_meaning.specs.Froms.{FromMeant, FromPart, ItemMeant, JoinPart, Read, SourcePart, beside_from, both_known, first_item, from_all, from_more, in_on, item_meant, join_all, join_item, label_of, optional_breaks, on_meant, read_named, read_of, scope_items, scope_name, applied, beside_items, in_from, joined_item, in_clause, optional_inside, optional_meant, no_from}
+use Rattle.name_laws.proofs.Lateral.{join-items, join-lateral, join-plain, lateral_item, plain_item, plainly}
+use Rattle.sql_tree.specs.Regular.{is_lateral}
+use Rattle.sql_tree.specs.declared.source.JoinWord.{JoinWord}
 use Rattle.name_meaning.specs.Items.{SelectPart, columns_meant, items_breaks, items_inside, no_columns, star_meant, table_star_meant}
 use Rattle.name_meaning.specs.Meanings.{Around, Inside, Meant, Part, QueryMeant, Surroundings, both_inside, is_whole, means_at, query_means_at}
 use Rattle.name_meaning.specs.Queries.{SetStepPart, count_columns, asks_provenance, keys_breaks, keys_of, limited, operand_breaks, plain_query, query_with_provenance, query_seen, set_chain, set_joined, may_not_ask}
@@ -32,7 +35,7 @@ use Rattle.name_meaning.specs.declared.answer.Break.{Break}
 use Rattle.name_meaning.specs.declared.scope.Scope.{Scope}
 use Rattle.name_laws.proofs.Every.{front-none, back-none, whole-none, none-whole}
 use Rattle.name_meaning.proofs.Opened.{core-is, opened_from_item}
-use Rattle.name_inside.specs.Held.{Adds, Held, all_breaks, all_inside, clauses_of, condition_of, having_of, held_at, held_clauses, held_from, held_item, held_items, held_operand, held_optional, held_query, held_read, held_select, inside_in, items_of, query_alone, sources_of, AddsFrom, AddsJoin, JoinsAdded, SourcesAdded, StandsThere}
+use Rattle.name_inside.specs.Held.{Adds, Held, all_breaks, all_inside, clauses_of, condition_of, having_of, held_at, held_clauses, held_from, held_item, held_items, held_operand, held_optional, held_query, held_read, held_select, inside_in, items_of, query_alone, sources_of, AddsBeside, AddsFrom, AddsJoin, AddsOn, JoinsAdded, SourcesAdded, StandsThere}
 use Rattle.name_inside.specs.Passed.{HasScope, HasWidth}
 use Rattle.name_inside.specs.declared.gathered.Gathered.{Gathered}
 use Rattle.name_inside.proofs.Over.{IsOver, adds-alike, adds-both, adds-broken, adds-nothing, adds-over, adds-this, breaks-append, breaks-one, inside-append, inside-one, over-alike, over-front, over-pair, over-self}
@@ -136,61 +139,80 @@ optional-inside here (Some part) = sym (inside-one (held_at here part))
 beside-over : (left right : FromMeant) → IsOver (held_from (beside_from left right)) (held_from left ∷ held_from right ∷ [])
 beside-over left right = over-pair (held_from (beside_from left right)) (held_from left) (held_from right) (λ none. none) (λ none. refl)
 
-join-over : (outer : List Scope) (left : FromMeant) (step : JoinPart) (items : List ScopeItem)
-    → both_known left.items (scope_items (step.item.means outer left.names)) ≡ Some items
-    → IsOver (held_from (join_item outer left step (joined_item outer left.names step)))
-    (held_from left ∷ (held_item (step.item.means outer left.names) ∷ held_optional (in_on items outer) step.condition))
-join-over outer left step items known =
-    let m = step.item.means outer left.names in
-    let built = joined_item outer left.names step in
+lateral-over : (left : FromMeant) (word : JoinWord) (m : ItemMeant) → IsOver (held_from (applied left word m)) (held_from left ∷ held_item m ∷ [])
+lateral-over left word m = over-pair (held_from (applied left word m)) (held_from left) (held_item m) (λ none. none) (λ none. refl)
+
+join-over : (outer : List Scope) (left : FromMeant) (step : JoinPart) (m : ItemMeant) (items : List ScopeItem)
+    → both_known left.items (scope_items m) ≡ Some items
+    → IsOver (held_from (plainly outer left step m)) (held_from left ∷ (held_item m ∷ held_optional (in_on items outer) step.condition))
+join-over outer left step m items known =
     let here = in_on items outer in
     let on = on_meant outer (both_known left.items (scope_items m)) step.condition in
     let same : on ≡ optional_meant here step.condition = ap (λ (known : Option (List ScopeItem)). on_meant outer known step.condition) known in
     record {
       breaks = λ none.
-          let operands = front-none (left.breaks ++ built.breaks) (optional_breaks step.condition on) none in
-          let own = back-none (unbuilt_breaks step.word step.item.at) m.breaks (back-none left.breaks built.breaks operands) in
+          let operands = front-none (left.breaks ++ m.breaks) (optional_breaks step.condition on) none in
           let conditions = optional-none here step.condition
-          (subst (λ (m : Option Meant). optional_breaks step.condition m ≡ []) same (back-none (left.breaks ++ built.breaks) (optional_breaks step.condition on) none)) in
-          λ i. front-none left.breaks built.breaks operands i ++ (own i ++ conditions i);
+          (subst (λ (m : Option Meant). optional_breaks step.condition m ≡ []) same (back-none (left.breaks ++ m.breaks) (optional_breaks step.condition on) none)) in
+          λ i. front-none left.breaks m.breaks operands i ++ (back-none left.breaks m.breaks operands i ++ conditions i);
       inside = λ none. ap (both_inside left.inside) (ap (both_inside m.inside) (ap optional_inside same ∙ optional-inside here step.condition));
     }
 
 -- one more join, whose condition sees the items up to its own
-pub join-added : (outer : List Scope) (step : JoinPart) (first count : ℕ) (scope own : Scope) (here : Surroundings) (middle items_in new : Gathered)
-    → ((names : List (List ℕ)) → Adds (held_item (step.item.means outer names) ∷ []) middle items_in)
-    → ((items : List ScopeItem) → StandsIn (Some items) first scope → length items ≡ count → own ≡ scope_of items)
-    → here ≡ in_clause own outer false → Adds (held_optional here step.condition) items_in new → AddsJoin outer step first count scope middle new
-join-added outer step first count scope own here middle items_in new item own_is here_is condition left old counts so_far stands =
-    let m = step.item.means outer left.names in
-    let stands_own : StandsIn (Some stands.own) first scope =
-    record { before = stands.before; own = stands.own; after = stands.after; known = refl; scope_is = stands.scope_is; at = stands.at } in
-    let same : here ≡ in_on stands.own outer =
-    here_is ∙ ap (λ (s : Scope). in_clause s outer false) (own_is stands.own stands_own (counts stands.own stands.known)) in
-    adds-over (join-over outer left step stands.own stands.known)
-    (adds-both (so_far (stands-left left.items (scope_items m) first scope stands))
-    (adds-both (item left.names) (subst (λ (here : Surroundings). Adds (held_optional here step.condition) items_in new) same condition)))
+join-added : (outer : List Scope) (step : JoinPart) (first before : ℕ) (scope : Scope) (middle items_in new : Gathered) → is_lateral step.word ≡ false
+    → ((names : List (List ℕ)) → Adds (held_item (step.item.means (in_from outer) names) ∷ []) middle items_in)
+    → AddsOn outer step.condition first (suc before) scope items_in new → AddsJoin outer step first before scope middle new
+join-added outer step first before scope middle items_in new plain item on left old counts so_far =
+    subst (λ (m : FromMeant). AddsFrom m first scope old new) (sym (join-plain outer left step plain)) added where
+      m : ItemMeant
+      m = plain_item outer left step
+
+      added : AddsFrom (plainly outer left step m) first scope old new
+      added stands =
+          let stands_own : StandsIn (Some stands.own) first scope =
+          record { before = stands.before; own = stands.own; after = stands.after; known = refl; scope_is = stands.scope_is; at = stands.at } in
+          let n = both-count left.items (scope_items m) before 1 counts (one-item m) stands.own stands.known in
+          adds-over (join-over outer left step m stands.own stands.known)
+          (adds-both (so_far (stands-left left.items (scope_items m) first scope stands))
+          (adds-both (item left.names) (on stands.own stands_own (omega (arith, n)))))
+
+-- a lateral subquery, which sees the items before it
+lateral-added : (outer : List Scope) (step : JoinPart) (first before : ℕ) (scope : Scope) (middle new : Gathered) → is_lateral step.word ≡ true
+    → AddsBeside outer step.item first before scope middle new → AddsJoin outer step first before scope middle new
+lateral-added outer step first before scope middle new lateral item left old counts so_far =
+    subst (λ (m : FromMeant). AddsFrom m first scope old new) (sym (join-lateral outer left step lateral)) added where
+      m : ItemMeant
+      m = lateral_item outer left step
+
+      added : AddsFrom (applied left step.word m) first scope old new
+      added stands =
+          let own = stands-left left.items (scope_items m) first scope stands in
+          let stands_own : StandsIn (Some own.own) first scope =
+          record { before = own.before; own = own.own; after = own.after; known = refl; scope_is = own.scope_is; at = own.at } in
+          adds-over (lateral-over left step.word m)
+          (adds-both (so_far own)
+          (subst (λ (items : Option (List ScopeItem)). Adds (held_item (step.item.means (beside_items items outer) left.names) ∷ []) middle new) (sym own.known)
+          (item own.own stands_own (counts own.own own.known) left.names)))
 
 pub first-added : (earlier : List (List ℕ)) (m : ItemMeant) (first : ℕ) (scope : Scope) (old new : Gathered) → Adds (held_item m ∷ []) old new
     → JoinsAdded (first_item earlier m) first scope old new 0
 first-added earlier m first scope old new added = record { adds = λ stands. added; counts = one-item m }
 
 pub join-more : (outer : List Scope) (left : FromMeant) (step : JoinPart) (first joins : ℕ) (scope : Scope) (old middle new : Gathered)
-    → JoinsAdded left first scope old middle joins → AddsJoin outer step first (joins + 2) scope middle new
-    → JoinsAdded (join_item outer left step (joined_item outer left.names step)) first scope old new (suc joins)
+    → JoinsAdded left first scope old middle joins → AddsJoin outer step first (joins + 1) scope middle new
+    → JoinsAdded (join_item outer left step (joined_item outer left step)) first scope old new (suc joins)
 join-more outer left step first joins scope old middle new so_far adds =
-    let m = joined_item outer left.names step in
-    let counts = λ (items : List ScopeItem) (known : both_known left.items (scope_items m) ≡ Some items).
-    both-count left.items (scope_items m) (suc joins) 1 so_far.counts (one-item m) items known in
+    let m = joined_item outer left step in
     record {
-      adds = adds left old (λ items known. let n = counts items known in omega (arith, n)) so_far.adds;
-      counts = λ items known. let n = counts items known in omega (arith, n);
+      adds = adds left old (λ items known. let n = so_far.counts items known in omega (arith, n)) so_far.adds;
+      counts = λ items known.
+          let n = both-count left.items (scope_items m) (suc joins) 1 so_far.counts (one-item m) items (sym (join-items outer left step m) ∙ known) in omega (arith, n);
     }
 
 module _ (c : Contents) (outer : List Scope) (left : FromMeant) (joins : List JoinStep) (i : ℕ) (step : JoinStep) (first : ℕ) (scope : Scope)
     {old middle new : Gathered} where
   pub step-added : i < length joins → step ≡ get_or joins i step → JoinsAdded (join_all outer left (map (join_of c) (take i joins))) first scope old middle i
-      → AddsJoin outer (join_of c step) first (i + 2) scope middle new
+      → AddsJoin outer (join_of c step) first (i + 1) scope middle new
       → JoinsAdded (join_all outer left (map (join_of c) (take (i + 1) joins))) first scope old new (i + 1)
   step-added within is so_far adds =
       let next : suc i ≡ i + 1 = omega arith in
@@ -249,18 +271,28 @@ source-more outer (first ∷ parts) part scope old middle new count joins so_far
     }
 
 module _ (c : Contents) where
-  pub join-tree : (outer : List Scope) (step : JoinStep) (first count : ℕ) (scope own : Scope) (here : Surroundings) (middle items_in new : Gathered)
-      → ((names : List (List ℕ)) → Adds (held_item ((from_item_of c (out-JoinStep step).item).means outer names) ∷ []) middle items_in)
-      → ((items : List ScopeItem) → StandsIn (Some items) first scope → length items ≡ count → own ≡ scope_of items)
-      → here ≡ in_clause own outer false → Adds (held_optional here (option_map (part_of c) (out-JoinStep step).condition)) items_in new
-      → AddsJoin outer (join_of c step) first count scope middle new
-  join-tree outer step first count scope own here middle items_in new item own_is here_is condition =
-      subst (λ (part : JoinPart). AddsJoin outer part first count scope middle new) (sym (join-fields c step))
-      (join-added outer (record {
-        word = (out-JoinStep step).word;
-        item = from_item_of c (out-JoinStep step).item;
-        condition = option_map (part_of c) (out-JoinStep step).condition;
-      }) first count scope own here middle items_in new item own_is here_is condition)
+  abbrev fields : JoinStep → JoinPart
+  fields step = record {
+    word = (out-JoinStep step).word;
+    item = from_item_of c (out-JoinStep step).item;
+    condition = option_map (part_of c) (out-JoinStep step).condition;
+  }
+
+  pub join-tree : (outer : List Scope) (step : JoinStep) (first before : ℕ) (scope : Scope) (middle items_in new : Gathered)
+      → is_lateral (out-JoinStep step).word ≡ false
+      → ((names : List (List ℕ)) → Adds (held_item ((from_item_of c (out-JoinStep step).item).means (in_from outer) names) ∷ []) middle items_in)
+      → AddsOn outer (option_map (part_of c) (out-JoinStep step).condition) first (suc before) scope items_in new
+      → AddsJoin outer (join_of c step) first before scope middle new
+  join-tree outer step first before scope middle items_in new plain item on =
+      subst (λ (part : JoinPart). AddsJoin outer part first before scope middle new) (sym (join-fields c step))
+      (join-added outer (fields step) first before scope middle items_in new plain item on)
+
+  pub lateral-tree : (outer : List Scope) (step : JoinStep) (first before : ℕ) (scope : Scope) (middle new : Gathered)
+      → is_lateral (out-JoinStep step).word ≡ true → AddsBeside outer (from_item_of c (out-JoinStep step).item) first before scope middle new
+      → AddsJoin outer (join_of c step) first before scope middle new
+  lateral-tree outer step first before scope middle new lateral item =
+      subst (λ (part : JoinPart). AddsJoin outer part first before scope middle new) (sym (join-fields c step))
+      (lateral-added outer (fields step) first before scope middle new lateral item)
 
   item-over : (at : ℕ) (mark : ScopeMark) (earlier : List (List ℕ)) (name label : List ℕ) (read : Read)
       → IsOver (held_item (item_meant at mark earlier name label read)) (held_read read ∷ [])
@@ -269,28 +301,28 @@ module _ (c : Contents) where
     inside = λ none. sym (inside-one (held_read read));
   }
 
-  module _ (outer : List Scope) (names : List (List ℕ)) (item : FromItem) where
-    item-stands : IsOver (held_item ((from_item_of c item).means outer names)) (held_read (read_of c outer (source_of c item.source)) ∷ [])
-    item-stands = over-alike (ap (λ part. held_item (part.means outer names)) (opened_from_item c item))
+  module _ (around : Around) (names : List (List ℕ)) (item : FromItem) where
+    item-stands : IsOver (held_item ((from_item_of c item).means around names)) (held_read (read_of c around (source_of c item.source)) ∷ [])
+    item-stands = over-alike (ap (λ part. held_item (part.means around names)) (opened_from_item c item))
         (item-over item.at item.mark names (scope_name (source_of c item.source) item.alias) (label_of (source_of c item.source) item.alias)
-        (read_of c outer (source_of c item.source)))
+        (read_of c around (source_of c item.source)))
 
     pub named-adds : (name read : Name) (old new : Gathered) → item.source ≡ source.Named name → read ≡ name
         → Adds (held_read (read_named c read) ∷ []) old new
-        → Adds (held_item ((from_item_of c item).means outer names) ∷ []) old new
+        → Adds (held_item ((from_item_of c item).means around names) ∷ []) old new
     unfolding token
     named-adds name read old new is same added = adds-over item-stands
         (subst (λ (r : Read). Adds (held_read r ∷ []) old new)
-        (ap (read_named c) same ∙ sym (ap (read_of c outer) (ap (source_of c) is ∙ fromsource-named c name))) added)
+        (ap (read_named c) same ∙ sym (ap (read_of c around) (ap (source_of c) is ∙ fromsource-named c name))) added)
 
     pub inner-adds : (query read : QueryTree) (old new : Gathered) → item.source ≡ source.Inner query → read ≡ query
-        → Adds (held_query (query_means_at (query_of c read) (record { outer = outer; may_ask = true })) ∷ []) old new
-        → Adds (held_item ((from_item_of c item).means outer names) ∷ []) old new
+        → Adds (held_query (query_means_at (query_of c read) around) ∷ []) old new
+        → Adds (held_item ((from_item_of c item).means around names) ∷ []) old new
     unfolding token query_means_at
     inner-adds query read old new is same added = adds-over item-stands
         (subst (λ (h : Held). Adds (h ∷ []) old new)
-        (ap (λ (q : QueryTree). held_query (query_means_at (query_of c q) (record { outer = outer; may_ask = true }))) same
-        ∙ sym (ap (λ (part : SourcePart). held_read (read_of c outer part)) (ap (source_of c) is ∙ fromsource-inner c query))) added)
+        (ap (λ (q : QueryTree). held_query (query_means_at (query_of c q) around)) same
+        ∙ sym (ap (λ (part : SourcePart). held_read (read_of c around part)) (ap (source_of c) is ∙ fromsource-inner c query))) added)
 
 -- ---- the SELECT list
 

@@ -4,7 +4,7 @@ use Rattle.perm_catalog.specs.Contents.{Contents}
 use Rattle.sql_tree.specs.declared.query.Core.{Core, out-Core}
 use Rattle.name_meaning.specs.Cores.{has_some}
 use Rattle.name_meaning.specs.Expressions.{ArmPart, StepPart}
-use Rattle.name_meaning.specs.Froms.{FromMeant, FromPart, ItemMeant, JoinPart, Read, in_clause, from_all, join_item, joined_item}
+use Rattle.name_meaning.specs.Froms.{FromItemPart, FromMeant, FromPart, ItemMeant, JoinPart, Read, beside_items, in_clause, in_on, from_all, join_item, joined_item}
 use Rattle.name_meaning.specs.Items.{SelectMeant, SelectPart}
 use Rattle.name_meaning.specs.Meanings.{Around, Inside, Meant, Part, QueryMeant, Surroundings, both_inside, nothing_inside, means_at}
 use Rattle.name_meaning.specs.Queries.{SetStepPart, may_not_ask}
@@ -133,8 +133,18 @@ pub record JoinsAdded (m : FromMeant) (first : ℕ) (scope : Scope) (old new : G
   pub adds : AddsFrom m first scope old new
   pub counts : (items : List ScopeItem) → m.items ≡ Some items → length items ≡ suc joins
 
--- one more join, behind as many items less one
+-- an item whose subquery sees as many items, which stand there in the scope
+abbrev pub AddsBeside : List Scope → FromItemPart → ℕ → ℕ → Scope → Gathered → Gathered → Type 0
+AddsBeside outer item first before scope old new = (items : List ScopeItem) → StandsIn (Some items) first scope → length items ≡ before
+    → (names : List (List ℕ)) → Adds (held_item (item.means (beside_items (Some items) outer) names) ∷ []) old new
+
+-- a condition of ON, which sees as many
+abbrev pub AddsOn : List Scope → Option Part → ℕ → ℕ → Scope → Gathered → Gathered → Type 0
+AddsOn outer condition first count scope old new = (items : List ScopeItem) → StandsIn (Some items) first scope → length items ≡ count
+    → Adds (held_optional (in_on items outer) condition) old new
+
+-- one more join, behind as many items
 abbrev pub AddsJoin : List Scope → JoinPart → ℕ → ℕ → Scope → Gathered → Gathered → Type 0
-AddsJoin outer step first count scope middle new = (left : FromMeant) (old : Gathered) → ((items : List ScopeItem) →
-    (join_item outer left step (joined_item outer left.names step)).items ≡ Some items → length items ≡ count)
-    → AddsFrom left first scope old middle → AddsFrom (join_item outer left step (joined_item outer left.names step)) first scope old new
+AddsJoin outer step first before scope middle new = (left : FromMeant) (old : Gathered)
+    → ((items : List ScopeItem) → left.items ≡ Some items → length items ≡ before)
+    → AddsFrom left first scope old middle → AddsFrom (join_item outer left step (joined_item outer left step)) first scope old new

@@ -1,11 +1,11 @@
 //! The queries and the names of tables and views that stand inside the parts of a query, in the order of the definition.
-ghost use Rattle.std.specs.Prelude.{ℕ, Bool, List as Items, ◌∷◌, [], OnOk, Some, map, flat_map, option_map};
+ghost use Rattle.std.specs.Prelude.{ℕ, suc, Bool, List as Items, ◌∷◌, [], OnOk, Some, map, flat_map, option_map};
 ghost use Rattle.name_meaning.specs.Meanings.{means_at, query_means_at};
 ghost use Rattle.name_meaning.specs.Trees.{arm_of, core_of, from_item_of, from_of, item_of, join_of, part_of, query_of, set_of_tree, set_step_of, step_of};
 ghost use Rattle.name_meaning.specs.declared.scope.Scope.{Scope as Sight};
 ghost use Rattle.name_seen_parts.specs.Standing.{around_of, surroundings};
 ghost use Rattle.perm_catalog.specs.Sound.{IsSound};
-ghost use Rattle.name_inside.specs.Held.{Adds, AddsFrom, AddsJoin, JoinsAdded, StandsThere, clauses_of, held_arm, held_at, held_item, held_items, held_operand, held_optional, held_query, held_read, held_step, sources_of};
+ghost use Rattle.name_inside.specs.Held.{Adds, AddsBeside, AddsFrom, AddsJoin, AddsOn, JoinsAdded, StandsThere, clauses_of, held_arm, held_at, held_item, held_items, held_operand, held_optional, held_query, held_read, held_step, sources_of};
 ghost use Rattle.name_meaning.specs.Froms.{from_all, read_named};
 ghost use Rattle.name_made_parts.specs.Sources.{join_count};
 ghost use Rattle.name_meaning.specs.Sublinks.{around_of as below};
@@ -15,7 +15,7 @@ use crate::gathered::Gathered;
 use name_made_parts::{behind, segment};
 use name_meaning::Scope;
 use name_seen_cores::in_clause;
-use name_seen_parts::{Around, Here, inside};
+use name_seen_parts::{Around, Here, inside, is_lateral};
 use perm_values::{Boxed, NoMemory};
 use sql_tree::{
     ArmTree, Core, ExprBody, ExprStep, ExprTree, FromItem, FromSource, FromTree, JoinStep, Name,
@@ -198,40 +198,86 @@ fn from_inside(
         → JoinsAdded ((from_of around.now.catalog.now tree.now).means (around_of around.now).outer names) first
         scope.now found.old found.new (join_count tree.now)) }
 {
-    source_inside(&tree.first, around, found)?;
+    source_inside(&tree.first, &around.in_from(), found)?;
     for (place, step) in tree.joins.as_slice().iter().enumerate() {
-        join_inside(step, first, place + 2, scope, around, found)?;
+        join_inside(step, first, place + 1, scope, around, found)?;
     }
     Ok(())
 }
 
-/// One more join; with its item there are as many as `count` says, and its condition sees these.
+/// One more join, behind as many items: its condition sees these and its own, and a lateral subquery these alone.
 #[cycle(gathering)]
 fn join_inside(
     step: &JoinStep,
     first: usize,
-    count: usize,
+    before: usize,
     scope: &Scope,
     around: &Around,
     found: &mut Gathered,
 ) -> Result<(), NoMemory>
     requires { IsSound around.now.catalog.now }
     ensures { OnOk result (AddsJoin (around_of around.now).outer (join_of around.now.catalog.now step.now) first
-        count scope.now found.old found.new) }
+        before scope.now found.old found.new) }
 {
-    source_inside(&step.item, around, found)?;
-    let own = segment(around.alloc, scope, first, count)?;
-    let rows = inside(&own, false, &*around.outer)?;
-    let here = (&*around).seeing(&rows, in_clause(false));
-    condition_inside(&step.condition, &here, found)?;
+    if is_lateral(step.word) {
+        return beside_inside(&step.item, first, before, scope, around, found);
+    }
+    source_inside(&step.item, &around.in_from(), found)?;
+    on_inside(&step.condition, first, before, scope, around, found)
+}
+
+/// An item whose subquery sees as many items behind the first ones.
+#[cycle(gathering)]
+fn beside_inside(
+    item: &FromItem,
+    first: usize,
+    before: usize,
+    scope: &Scope,
+    around: &Around,
+    found: &mut Gathered,
+) -> Result<(), NoMemory>
+    requires { IsSound around.now.catalog.now }
+    ensures { OnOk result (AddsBeside (around_of around.now).outer (from_item_of around.now.catalog.now item.now)
+        first before scope.now found.old found.new) }
+{
+    let own = segment(around.alloc, scope, first, before)?;
+    let scopes = inside(&own, false, &*around.outer)?;
+    source_inside(item, &(&*around).lateral(&scopes), found)?;
     Ok(())
 }
 
+/// A condition of ON, which sees as many items behind the first ones, and one more.
+#[cycle(gathering)]
+fn on_inside(
+    condition: &Option<ExprTree>,
+    first: usize,
+    before: usize,
+    scope: &Scope,
+    around: &Around,
+    found: &mut Gathered,
+) -> Result<(), NoMemory>
+    requires { IsSound around.now.catalog.now }
+    ensures { OnOk result (AddsOn (around_of around.now).outer
+        (option_map (part_of around.now.catalog.now) condition.now)
+        first (suc before) scope.now found.old found.new) }
+{
+    let Some(count) = before.checked_add(1) else {
+        return Err(NoMemory);
+    };
+    let own = segment(around.alloc, scope, first, count)?;
+    let rows = inside(&own, false, &*around.outer)?;
+    let here = (&*around).seeing(&rows, in_clause(false));
+    condition_inside(condition, &here, found)?;
+    Ok(())
+}
+
+/// An item whose subquery stands there.
 #[cycle(gathering)]
 fn source_inside(item: &FromItem, around: &Around, found: &mut Gathered) -> Result<(), NoMemory>
     requires { IsSound around.now.catalog.now }
     ensures { OnOk result ((names : Items (Items ℕ))
-        → Adds (held_item ((from_item_of around.now.catalog.now item.now).means (around_of around.now).outer names) ∷ []) found.old found.new) }
+        → Adds (held_item ((from_item_of around.now.catalog.now item.now).means (around_of around.now) names)
+        ∷ []) found.old found.new) }
 {
     match &item.source {
         FromSource::Named(name) => {
@@ -239,7 +285,7 @@ fn source_inside(item: &FromItem, around: &Around, found: &mut Gathered) -> Resu
             Ok(())
         }
         FromSource::Inner(query) => {
-            query_inside(query.get(), &around.in_from(), found)?;
+            query_inside(query.get(), around, found)?;
             Ok(())
         }
     }

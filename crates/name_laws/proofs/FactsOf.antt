@@ -2,7 +2,7 @@
 use Rattle.std.specs.Prelude.{◌≡◌, ℕ, Bool, List, [], ◌∷◌, ◌++◌, ℤ, nat_abs, true, false, Option, Some, None}
 use Rattle.std.proofs.Common.{refl, ap, sym, ◌∙◌, append_assoc, append-nil}
 use Rattle.perm_values.specs.declared.key.Key.{Key}
-use Rattle.bag_algebra.specs.built.Openings.{shape-Base, shape-Filter, shape-Project, shape-Join, shape-Union, shape-Intersect, shape-Except, shape-Distinct, shape-Aggregate, shape-Limit, shape-Prov}
+use Rattle.bag_algebra.specs.built.Openings.{shape-Base, shape-Filter, shape-Project, shape-Join, shape-Apply, shape-Union, shape-Intersect, shape-Except, shape-Distinct, shape-Aggregate, shape-Limit, shape-Prov}
 use Rattle.bag_algebra.specs.Children.{subs_shape}
 use Rattle.bag_algebra.specs.Kinds.{kinds_of, kinds_in}
 use Rattle.bag_algebra.specs.declared.expr.Expr.{Expr}
@@ -12,7 +12,7 @@ use Rattle.bag_algebra.specs.declared.query.Aggr.{Aggr}
 use Rattle.bag_algebra.specs.declared.query.JoinKind.{JoinKind}
 use Rattle.bag_algebra.specs.declared.query.Label.{Label}
 use Rattle.bag_algebra.specs.declared.query.Query.{Query}
-use Rattle.bag_algebra.specs.declared.query.Query.TheVariants.{Base, Filter, Project, Join, Union, Intersect, Except, Distinct, Aggregate, Limit, Prov}
+use Rattle.bag_algebra.specs.declared.query.Query.TheVariants.{Base, Filter, Project, Join, Apply, Union, Intersect, Except, Distinct, Aggregate, Limit, Prov}
 use Rattle.bag_algebra.specs.declared.query.Sublink.{Sublink}
 use Rattle.name_laws.specs.Facts.{Facts, facts_of, no_facts, both_facts, sub_facts, source_facts}
 use Rattle.sql_tree.specs.declared.query.SetWord.{SetWord}
@@ -73,6 +73,9 @@ pub facts-Join_alone : (kind : JoinKind) (left right : Query) (condition : Expr)
 facts-Join_alone kind left right condition =
     facts-alike (shape-Join kind left right condition [])
     ∙ both_facts-none (both_facts (facts_of left) (facts_of right))
+
+pub facts-Apply : (kind : JoinKind) (left right : Query) → facts_of (Apply kind left right) ≡ both_facts (facts_of left) (facts_of right)
+facts-Apply kind left right = facts-alike (shape-Apply kind left right)
 
 pub facts-Union : (all : Bool) (left right : Query) → facts_of (Union all left right) ≡ both_facts (facts_of left) (facts_of right)
 facts-Union all left right = facts-alike (shape-Union all left right)

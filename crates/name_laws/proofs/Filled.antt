@@ -16,14 +16,14 @@ use Rattle.perm_catalog.specs.Sound.{IsSound}
 use Rattle.perm_catalog.specs.declared.column.Column.{Column}
 use Rattle.perm_catalog.specs.declared.entries.TableEntry.{TableEntry}
 use Rattle.perm_catalog.specs.declared.entries.ViewEntry.{ViewEntry}
-use Rattle.sql_tree.specs.Regular.{IsFilled}
+use Rattle.sql_tree.specs.Regular.{IsFilled, is_lateral}
 use Rattle.sql_tree.specs.declared.expression.ExprBody.TheOpen.{SelectItem-F}
 use Rattle.sql_tree.specs.declared.name.ColRef.{ColRef}
 use Rattle.sql_tree.specs.declared.name.Name.{Name}
 use Rattle.sql_tree.specs.declared.query.OrderTree.{OrderTree}
 use Rattle.name_meaning.proofs.Equations.{SelectItemFrame}
 use Rattle.name_meaning.specs.Cores.{BodyPart, core_over, core_unlooked, core_seen, group_scope, has_some, word_breaks}
-use Rattle.name_meaning.specs.Froms.{FromItemPart, FromMeant, FromPart, ItemMeant, JoinPart, SourcePart, named as named_source, inner as inner_source, beside_from, both_known, first_item, from_all, from_more, join_all, join_item, joined_item, named_columns, read_named, read_nothing, read_of, read_table, read_view, settled_columns, in_clause}
+use Rattle.name_meaning.specs.Froms.{FromItemPart, FromMeant, FromPart, ItemMeant, JoinPart, SourcePart, named as named_source, inner as inner_source, beside_from, both_known, applied, first_item, from_all, from_more, join_all, join_item, joined, joined_around, joined_item, on_meant, scope_items, named_columns, read_named, read_nothing, read_of, read_table, read_view, settled_columns, in_clause}
 use Rattle.name_meaning.specs.Items.{SelectMeant, SelectPart, Titled, all_known, columns_meant, item_step, named_from, no_columns, titled}
 use Rattle.name_meaning.specs.Meanings.{Around, OutColumn, Part, QueryMeant, Surroundings, is_whole}
 use Rattle.name_meaning.specs.Queries.{SetStepPart, columns_so_far, asks_provenance, keys_of, limited, plain_query, columns_with_provenance, query_with_provenance, provenance_columns, query_seen, set_chain, set_joined, united_columns, may_not_ask}
@@ -79,7 +79,7 @@ FilledSource (named_source name) = ⊤
 FilledSource (inner_source query) = (around : Around) → Shown (query.means around).columns
 
 abbrev pub FilledItem : FromItemPart → Type 0
-FilledItem item = (outer : List Scope) (earlier : List (List ℕ)) → Shown (item.means outer earlier).columns
+FilledItem item = (around : Around) (earlier : List (List ℕ)) → Shown (item.means around earlier).columns
 
 module _ (c : Contents) (sound : IsSound c) where
   shown-named : (name : Name) → Shown (read_named c name).columns
@@ -97,12 +97,10 @@ module _ (c : Contents) (sound : IsSound c) where
         filled-map (λ (column : Column). record { name = column.name; kind = column.kind }) table.columns
         (some-filled table.columns (sound.tables name.text table e).columns.some)
 
-  pub shown-read_of : (outer : List Scope) (source : SourcePart) → FilledSource source
-      → Shown (read_of c outer source).columns
-  shown-read_of outer (named_source name) h = shown-named name
-  shown-read_of outer (inner_source query) h =
-      let around : Around = record { outer = outer; may_ask = true } in
-      shown-under settled_columns settled-filled (query.means around).columns (h around)
+  pub shown-read_of : (around : Around) (source : SourcePart) → FilledSource source
+      → Shown (read_of c around source).columns
+  shown-read_of around (named_source name) h = shown-named name
+  shown-read_of around (inner_source query) h = shown-under settled_columns settled-filled (query.means around).columns (h around)
 
 -- ---- FROM
 
@@ -135,14 +133,24 @@ shown-both (Some left) (Some right) h k = (filled-append left right h.0, every-a
 pub shown-first : (earlier : List (List ℕ)) (m : ItemMeant) → Shown m.columns → ShownItems (first_item earlier m).items
 shown-first earlier m h = shown-item m.name m.columns h
 
+shown-join_item : (outer : List Scope) (left : FromMeant) (step : JoinPart) (m : ItemMeant) → ShownItems left.items → Shown m.columns
+    → ShownItems (join_item outer left step m).items
+shown-join_item outer left step m l h = by_word (is_lateral step.word) where
+  both : ShownItems (both_known left.items (scope_items m))
+  both = shown-both left.items (scope_items m) l (shown-item m.name m.columns h)
+
+  by_word : (lateral : Bool) → ShownItems (cond lateral (applied left step.word m)
+      (joined left step.word step.condition m (on_meant outer (both_known left.items (scope_items m)) step.condition))).items
+  by_word true = both
+  by_word false = both
+
 pub shown-join_all : (outer : List Scope) (left : FromMeant) (steps : List JoinPart) → ShownItems left.items
     → Every (λ (step : JoinPart). FilledItem step.item) steps → ShownItems (join_all outer left steps).items
 shown-join_all outer left [] l h = l
 shown-join_all outer left (step ∷ steps) l h =
-    let m : ItemMeant = joined_item outer left.names step in
+    let m : ItemMeant = joined_item outer left step in
     shown-join_all outer (join_item outer left step m) steps
-    (shown-both left.items (option_map (λ (known : List KnownColumn). record { name = m.name; columns = known } ∷ []) m.columns) l
-    (shown-item m.name m.columns (h.0 outer left.names))) h.1
+    (shown-join_item outer left step m l (h.0 (joined_around step.word outer left.items) left.names)) h.1
 
 shown-more : (outer : List Scope) (left : FromMeant) (parts : List FromPart) → ShownItems left.items → Every FilledFrom parts
     → ShownItems (from_more outer left parts).items

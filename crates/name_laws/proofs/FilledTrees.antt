@@ -13,7 +13,7 @@ use Rattle.sql_tree.specs.declared.source.FromItem.{FromItem}
 use Rattle.sql_tree.specs.declared.source.FromTree.{FromTree, out-FromTree}
 use Rattle.sql_tree.specs.declared.source.JoinStep.{JoinStep}
 use Rattle.name_meaning.specs.Cores.{BodyPart, has_some}
-use Rattle.name_meaning.specs.Froms.{JoinPart, first_item, from_all, source_step}
+use Rattle.name_meaning.specs.Froms.{JoinPart, first_item, from_all, in_from, source_step}
 use Rattle.name_meaning.specs.Meanings.{Around, QueryPart}
 use Rattle.name_meaning.specs.Queries.{set_step, may_not_ask}
 use Rattle.name_meaning.specs.Trees.{core_of, from_item_of, from_of, item_of, join_of, query_of, set_of_tree, set_step_of, source_of}
@@ -44,7 +44,7 @@ module _ (c : Contents) (sound : IsSound c) where
 
   item-of_source : (item : FromItem) → FilledSource (source_of c item.source) → FilledItem (from_item_of c item)
   item-of_source item filled = subst FilledItem (sym (opened_from_item c item))
-      (λ outer earlier. shown-read_of c sound outer (source_of c item.source) filled)
+      (λ around earlier. shown-read_of c sound around (source_of c item.source) filled)
 
   abbrev FilledJoin : JoinPart → Type 0
   FilledJoin step = FilledItem step.item
@@ -79,8 +79,8 @@ module _ (c : Contents) (sound : IsSound c) where
         let steps : Every FilledJoin (map (join_of c) layer.joins) =
         all-meant FilledJoin (join_of c) layer.joins (λ step in_joins. filled-join (joins step in_joins)) in
         subst FilledFrom (sym (opened_from c tree))
-        (λ outer earlier. shown-join_all outer (first_item earlier ((from_item_of c layer.first).means outer earlier)) (map (join_of c) layer.joins)
-        (shown-first earlier ((from_item_of c layer.first).means outer earlier) (item outer earlier)) steps)
+        (λ outer earlier. shown-join_all outer (first_item earlier ((from_item_of c layer.first).means (in_from outer) earlier))
+        (map (join_of c) layer.joins) (shown-first earlier ((from_item_of c layer.first).means (in_from outer) earlier) (item (in_from outer) earlier)) steps)
 
     filled-join : {step : JoinStep} → RegularJoin step → FilledJoin (join_of c step)
     filled-join (regular_join_step {step = step} same lateral item condition) =

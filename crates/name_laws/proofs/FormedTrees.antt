@@ -20,7 +20,7 @@ use Rattle.sql_tree.specs.declared.source.JoinStep.{JoinStep, out-JoinStep}
 use Rattle.name_meaning.proofs.Equations.{SelectItemFrame}
 use Rattle.name_meaning.specs.Cores.{BodyPart, has_some}
 use Rattle.name_meaning.specs.Expressions.{Body}
-use Rattle.name_meaning.specs.Froms.{from_all, first_item, source_step, scope_name, label_of, read_of}
+use Rattle.name_meaning.specs.Froms.{from_all, first_item, in_from, source_step, scope_name, label_of, read_of}
 use Rattle.name_meaning.specs.Items.{item_step, title}
 use Rattle.name_meaning.specs.Meanings.{Surroundings, Part, Around, QueryPart, query_means_at}
 use Rattle.name_meaning.specs.Queries.{SetStepPart, set_step, may_not_ask}
@@ -117,9 +117,9 @@ module _ (c : Contents) (sound : IsSound c) where
 
   item-of_source : (item : FromItem) → GoodSource c sound (source_of c item.source) → GoodFromItem (from_item_of c item)
   item-of_source item good = subst GoodFromItem (sym (opened_from_item c item))
-      (λ outer earlier. good-item_meant outer item.at item.mark earlier (scope_name (source_of c item.source) item.alias)
-      (label_of (source_of c item.source) item.alias) (read_of c outer (source_of c item.source))
-      (good-read_of c sound outer (source_of c item.source) good))
+      (λ around earlier. good-item_meant around.outer item.at item.mark earlier (scope_name (source_of c item.source) item.alias)
+      (label_of (source_of c item.source) item.alias) (read_of c around (source_of c item.source))
+      (good-read_of c sound around (source_of c item.source) good))
 
   -- ---- the recursion over what makes a tree regular
 
@@ -235,8 +235,9 @@ module _ (c : Contents) (sound : IsSound c) where
         let steps : Every GoodJoin (map (join_of c) layer.joins) =
         all-meant GoodJoin (join_of c) layer.joins (λ step in_joins. good-join (joins step in_joins)) in
         subst GoodFromPart (sym (opened_from c tree))
-        (λ outer earlier. good-join_all outer (first_item earlier ((from_item_of c layer.first).means outer earlier)) (map (join_of c) layer.joins)
-        (good-first outer earlier ((from_item_of c layer.first).means outer earlier) (item outer earlier)) steps)
+        (λ outer earlier. good-join_all outer (first_item earlier ((from_item_of c layer.first).means (in_from outer) earlier))
+        (map (join_of c) layer.joins)
+        (good-first outer earlier ((from_item_of c layer.first).means (in_from outer) earlier) (item (in_from outer) earlier)) steps)
 
     good-join : {step : JoinStep} → RegularJoin step → GoodJoin (join_of c step)
     good-join (regular_join_step {step = step} same lateral item condition) =

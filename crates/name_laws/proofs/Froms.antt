@@ -1,5 +1,5 @@
 -- FROM that breaks nothing is made well formed, and its rows hold the columns of its items.
-use Rattle.std.specs.Prelude.{◌≡◌, ⊤, ℕ, zero, suc, ◌+◌, ◌≤◌, ◌<◌, Bool, true, false, List, [], ◌∷◌, ◌++◌, map, length, nat_eq, nat_lt, position, slice_get, Option, Some, None, option_map, IfSome}
+use Rattle.std.specs.Prelude.{◌≡◌, ⊤, ℕ, zero, suc, ◌+◌, ◌≤◌, ◌<◌, Bool, true, false, cond, List, [], ◌∷◌, ◌++◌, map, length, nat_eq, nat_lt, position, slice_get, Option, Some, None, option_map, IfSome}
 use Rattle.std.proofs.Common.{refl, ap, sym, ◌∙◌, subst, append-nil, true≢false, arith}
 use Rattle.std.proofs.lemmas.List.{length-map, map-append}
 use Rattle.std.proofs.lemmas.List.Elements.{All-nil, All-cons}
@@ -11,10 +11,10 @@ use Rattle.std.specs.Option.{option_map_or}
 use Rattle.perm_values.specs.declared.kind.Kind.{Kind}
 use Rattle.perm_values.specs.declared.kind.Kind.TheVariants.{Boolean}
 use Rattle.bag_algebra.specs.Bags.{Bag}
-use Rattle.bag_algebra.specs.built.Openings.{kinds_of-Join}
-use Rattle.bag_algebra.specs.built.Forms.{subs_kinds, WellFormed-Base, WellFormed-Join}
+use Rattle.bag_algebra.specs.built.Openings.{kinds_of-Join, kinds_of-Apply}
+use Rattle.bag_algebra.specs.built.Forms.{subs_kinds, WellFormed-Base, WellFormed-Join, WellFormed-Apply}
 use Rattle.bag_algebra.specs.Kinds.{kinds_of, width_of}
-use Rattle.bag_algebra.specs.WellFormed.{HasKind, WellFormed, PlacesIn, label_width}
+use Rattle.bag_algebra.specs.WellFormed.{HasKind, WellFormed, PlacesIn, label_width, is_dependent}
 use Rattle.bag_algebra.specs.declared.expr.Expr.{Expr}
 use Rattle.bag_algebra.specs.declared.query.JoinKind.{JoinKind}
 use Rattle.bag_algebra.specs.declared.query.JoinKind.TheVariants as join
@@ -33,10 +33,13 @@ use Rattle.perm_catalog.specs.declared.column.Column.{Column}
 use Rattle.perm_catalog.specs.declared.entries.Mark.{Mark}
 use Rattle.perm_catalog.specs.declared.entries.TableEntry.{TableEntry}
 use Rattle.perm_catalog.specs.declared.entries.ViewEntry.{ViewEntry}
+use Rattle.sql_tree.specs.Regular.{is_lateral}
 use Rattle.sql_tree.specs.declared.name.Name.{Name}
+use Rattle.sql_tree.specs.declared.source.JoinWord.{JoinWord}
+use Rattle.sql_tree.specs.declared.source.JoinWord.TheVariants as word
 use Rattle.sql_tree.specs.declared.source.ScopeMark.{ScopeMark}
 use Rattle.sql_tree.specs.declared.source.ScopeMark.TheVariants as mark
-use Rattle.name_meaning.specs.Froms.{names_of, names_at, all_places, table_columns, settled_columns, named_columns, Read, external, read_table, read_view, read_nothing, read_named, read_query, named_so, place_of, column_breaks, attribute_breaks, texts_of, marked, mark_breaks, SourcePart, named as named_source, inner as inner_source, ItemMeant, FromItemPart, read_of, read_names, item_meant, in_on, FromMeant, JoinPart, FromPart, join_kind, scope_items, both_known, first_item, on_meant, optional_breaks, on_built, join_item, joined_item, unbuilt_breaks, join_all, beside_from, from_more, from_all, yes}
+use Rattle.name_meaning.specs.Froms.{names_of, names_at, all_places, table_columns, settled_columns, named_columns, Read, external, read_table, read_view, read_nothing, read_named, read_query, named_so, place_of, column_breaks, attribute_breaks, texts_of, marked, mark_breaks, SourcePart, named as named_source, inner as inner_source, ItemMeant, FromItemPart, read_of, read_names, item_meant, in_on, FromMeant, JoinPart, FromPart, join_kind, scope_items, both_known, first_item, on_meant, optional_breaks, on_built, beside_items, in_from, joined, applied, join_item, joined_item, join_all, beside_from, from_more, from_all, yes}
 use Rattle.name_meaning.specs.Meanings.{Around, Part, OutColumn, QueryMeant, broken_if, Built}
 use Rattle.name_meaning.specs.Scopes.{KnownColumn, ScopeItem, scope_of, numbered_columns, columns_from}
 use Rattle.name_meaning.specs.Sublinks.{nothing_before}
@@ -194,11 +197,9 @@ module _ (c : Contents) (sound : IsSound c) where
   GoodSource (named_source name) = ⊤
   GoodSource (inner_source query) = (around : Around) → GoodQuery around (query.means around)
 
-  pub good-read_of : (outer : List Scope) (source : SourcePart) → GoodSource source → GoodRead outer (read_of c outer source)
-  good-read_of outer (named_source name) good = good-read_named outer name
-  good-read_of outer (inner_source query) good =
-      let around : Around = record { outer = outer; may_ask = true } in
-      good-read_query around (query.means around) (good around)
+  pub good-read_of : (around : Around) (source : SourcePart) → GoodSource source → GoodRead around.outer (read_of c around source)
+  good-read_of around (named_source name) good = good-read_named around.outer name
+  good-read_of around (inner_source query) good = good-read_query around (query.means around) (good around)
 
 -- ---- items
 
@@ -212,7 +213,7 @@ abbrev pub GoodItemMeant : List Scope → ItemMeant → Type 0
 GoodItemMeant outer m = m.breaks ≡ [] → FormedItem outer m
 
 abbrev pub GoodFromItem : FromItemPart → Type 0
-GoodFromItem item = (outer : List Scope) (earlier : List (List ℕ)) → GoodItemMeant outer (item.means outer earlier)
+GoodFromItem item = (around : Around) (earlier : List (List ℕ)) → GoodItemMeant around.outer (item.means around earlier)
 
 marked-formed : (m : ScopeMark) (label : List ℕ) (names : List (List ℕ)) (read : Read) (rows : List (List Kind)) → WellFormed rows read.query → WellFormed rows read.plain
     → length names ≡ width_of read.query → mark_breaks m (Some names) ≡ [] → WellFormed rows (marked m label names read)
@@ -303,19 +304,28 @@ joined-formed kind left right outer items (Some part) rows good whole is hold f 
       condition = formed.holds (row ∷ rows) (subs_kinds made.subs) holds stand (stand-whole (subs_kinds made.subs));
     })
 
+-- the items so far, whose columns are known, with one more
+more-items : (outer : List Scope) (left : FromMeant) (m : ItemMeant) (from : FormedFrom outer left) (columns : List KnownColumn) → m.columns ≡ Some columns
+    → both_known left.items (scope_items m) ≡ Some (from.items ++ item_of m columns)
+more-items outer left m from columns known =
+    λ i. both_known (from.known i) (ap (option_map (λ (columns : List KnownColumn). item_of m columns)) known i)
+
+more-kinds : (outer : List Scope) (left : FromMeant) (m : ItemMeant) (from : FormedFrom outer left) (columns : List KnownColumn)
+    → kinds_of m.query ≡ column_kinds_of columns → kinds_of left.query ++ kinds_of m.query ≡ items_kinds (from.items ++ item_of m columns)
+more-kinds outer left m from columns kinds =
+    (λ i. from.kinds i ++ (kinds ∙ sym (append-nil (column_kinds_of columns))) i) ∙ sym (items_kinds-append from.items (item_of m columns))
+
 good-joined : (outer : List Scope) (left : FromMeant) (step : JoinPart) (m : ItemMeant) → GoodFrom outer left → GoodItemMeant outer m
-    → GoodOptional step.condition → GoodFrom outer (join_item outer left step m)
+    → GoodOptional step.condition
+    → GoodFrom outer (joined left step.word step.condition m (on_meant outer (both_known left.items (scope_items m)) step.condition))
 good-joined outer left step m l r condition whole =
     let on = on_meant outer (both_known left.items (scope_items m)) step.condition in
     let operands = front-none (left.breaks ++ m.breaks) (optional_breaks step.condition on) whole in
     let from = l (front-none left.breaks m.breaks operands) in
     let item = r (back-none left.breaks m.breaks operands) in
-    let own : List ScopeItem = item_of m item.columns in
-    let items : List ScopeItem = from.items ++ own in
-    let known : both_known left.items (scope_items m) ≡ Some items =
-    λ i. both_known (from.known i) (ap (option_map (λ (columns : List KnownColumn). item_of m columns)) item.known i) in
-    let kinds : kinds_of left.query ++ kinds_of m.query ≡ items_kinds items =
-    (λ i. from.kinds i ++ (item.kinds ∙ sym (append-nil (column_kinds_of item.columns))) i) ∙ sym (items_kinds-append from.items own) in
+    let items : List ScopeItem = from.items ++ item_of m item.columns in
+    let known = more-items outer left m from item.columns item.known in
+    let kinds = more-kinds outer left m from item.columns item.kinds in
     let on_whole : optional_breaks step.condition (on_meant outer (Some items) step.condition) ≡ [] =
     subst (λ (found : Option (List ScopeItem)). optional_breaks step.condition (on_meant outer found step.condition) ≡ []) known
     (back-none (left.breaks ++ m.breaks) (optional_breaks step.condition on) whole) in
@@ -330,19 +340,53 @@ good-joined outer left step m l r condition whole =
           (from.formed rows hold) (item.formed rows hold));
     }
 
-good-joined_item : (step : JoinPart) → GoodFromItem step.item → (outer : List Scope) (earlier : List (List ℕ))
-    → GoodItemMeant outer (joined_item outer earlier step)
-good-joined_item step good outer earlier whole =
-    let item = good outer earlier (back-none (unbuilt_breaks step.word step.item.at) (step.item.means outer earlier).breaks whole) in
-    record { columns = item.columns; known = item.known; kinds = item.kinds; formed = item.formed }
+lateral-kinds : (word : JoinWord) → is_lateral word ≡ true → is_dependent (join_kind word) ≡ true
+lateral-kinds word.Inner e = absurd (true≢false (sym e))
+lateral-kinds word.Left e = absurd (true≢false (sym e))
+lateral-kinds word.Right e = absurd (true≢false (sym e))
+lateral-kinds word.Full e = absurd (true≢false (sym e))
+lateral-kinds word.Cross e = absurd (true≢false (sym e))
+lateral-kinds word.CrossLateral e = refl
+lateral-kinds word.LeftLateral e = refl
+
+-- a lateral subquery is well formed behind a row of what is before it
+good-applied : (outer : List Scope) (left : FromMeant) (word : JoinWord) (m : ItemMeant) → is_lateral word ≡ true → GoodFrom outer left
+    → GoodItemMeant (beside_items left.items outer).outer m → GoodFrom outer (applied left word m)
+good-applied outer left word m lateral l r whole =
+    let from = l (front-none left.breaks m.breaks whole) in
+    let item = r (back-none left.breaks m.breaks whole) in
+    record {
+      items = from.items ++ item_of m item.columns;
+      known = more-items outer left m from item.columns item.known;
+      kinds = kinds_of-Apply (join_kind word) left.query m.query ∙ more-kinds outer left m from item.columns item.kinds;
+      formed = λ rows hold. by (sym (WellFormed-Apply rows (join_kind word) left.query m.query)) (record {
+        left = from.formed rows hold;
+        right = item.formed (kinds_of left.query ∷ rows)
+            (subst (λ found. RowsHold (beside_items found outer).outer (kinds_of left.query ∷ rows)) (sym from.known)
+            (scope-holds from.items (kinds_of left.query) from.kinds, hold));
+        dependent = lateral-kinds word lateral;
+      });
+    }
+
+good-join_item : (outer : List Scope) (left : FromMeant) (step : JoinPart) → GoodFrom outer left → GoodJoin step
+    → GoodFrom outer (join_item outer left step (joined_item outer left step))
+good-join_item outer left step l good = by_word (is_lateral step.word) refl where
+  item : (around : Around) → ItemMeant
+  item around = step.item.means around left.names
+
+  by_word : (lateral : Bool) → is_lateral step.word ≡ lateral
+      → let m = item (cond lateral (beside_items left.items outer) (in_from outer)) in
+      GoodFrom outer (cond lateral (applied left step.word m)
+      (joined left step.word step.condition m (on_meant outer (both_known left.items (scope_items m)) step.condition)))
+  by_word true e =
+      good-applied outer left step.word (item (beside_items left.items outer)) e l (good.0 (beside_items left.items outer) left.names)
+  by_word false e = good-joined outer left step (item (in_from outer)) l (good.0 (in_from outer) left.names) good.1
 
 pub good-join_all : (outer : List Scope) (left : FromMeant) (steps : List JoinPart) → GoodFrom outer left → Every GoodJoin steps
     → GoodFrom outer (join_all outer left steps)
 good-join_all outer left [] l h = l
 good-join_all outer left (step ∷ steps) l h =
-    let m : ItemMeant = joined_item outer left.names step in
-    good-join_all outer (join_item outer left step m) steps
-    (good-joined outer left step m l (good-joined_item step h.0.0 outer left.names) h.0.1) h.1
+    good-join_all outer (join_item outer left step (joined_item outer left step)) steps (good-join_item outer left step l h.0) h.1
 
 good-beside : (outer : List Scope) (left right : FromMeant) → GoodFrom outer left → GoodFrom outer right → GoodFrom outer (beside_from left right)
 good-beside outer left right l r whole =

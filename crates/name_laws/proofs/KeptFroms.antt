@@ -1,11 +1,11 @@
 -- What FROM keeps: where it breaks nothing its columns are known, and its places are named.
-use Rattle.std.specs.Prelude.{◌≡◌, ⊤, ℕ, true, List, [], ◌∷◌, ◌++◌, map, length, Option, Some, None, option_map}
+use Rattle.std.specs.Prelude.{◌≡◌, ⊤, ℕ, Bool, true, false, cond, List, [], ◌∷◌, ◌++◌, map, length, Option, Some, None, option_map}
 use Rattle.std.proofs.Common.{refl, ap, sym, ◌∙◌, subst, append-nil}
 use Rattle.std.proofs.lemmas.List.{length-map}
 use Rattle.std.proofs.lemmas.List.FromFn.{length-range_with_len}
 use Rattle.std.specs.List.{list_any}
 use Rattle.std.specs.Option.{option_map_or}
-use Rattle.bag_algebra.specs.built.Openings.{kinds_of-Join, shape-Base}
+use Rattle.bag_algebra.specs.built.Openings.{kinds_of-Join, kinds_of-Apply, shape-Base}
 use Rattle.bag_algebra.specs.Kinds.{kinds_of, shape}
 use Rattle.bag_algebra.specs.WellFormed.{label_width}
 use Rattle.bag_algebra.specs.declared.query.JoinKind.TheVariants as join
@@ -22,11 +22,12 @@ use Rattle.perm_catalog.specs.declared.column.Column.{Column}
 use Rattle.perm_catalog.specs.declared.entries.Mark.{Mark}
 use Rattle.perm_catalog.specs.declared.entries.TableEntry.{TableEntry}
 use Rattle.perm_catalog.specs.declared.entries.ViewEntry.{ViewEntry}
+use Rattle.sql_tree.specs.Regular.{is_lateral}
 use Rattle.sql_tree.specs.declared.name.Name.{Name}
 use Rattle.sql_tree.specs.declared.source.JoinWord.{JoinWord}
 use Rattle.sql_tree.specs.declared.source.ScopeMark.{ScopeMark}
 use Rattle.sql_tree.specs.declared.source.ScopeMark.TheVariants as mark
-use Rattle.name_meaning.specs.Froms.{names_of, names_at, all_places, table_columns, settled_columns, named_columns, Read, external, read_table, read_view, read_nothing, read_named, read_query, named_so, place_of, texts_of, marked, mark_breaks, SourcePart, named as named_source, inner as inner_source, ItemMeant, FromItemPart, read_of, read_names, item_meant, FromMeant, JoinPart, FromPart, join_kind, scope_items, both_known, first_item, on_meant, optional_breaks, on_built, joined, join_item, joined_item, unbuilt_breaks, join_all, beside_from, from_more, from_all, yes, in_on}
+use Rattle.name_meaning.specs.Froms.{names_of, names_at, all_places, table_columns, settled_columns, named_columns, Read, external, read_table, read_view, read_nothing, read_named, read_query, named_so, place_of, texts_of, marked, mark_breaks, SourcePart, named as named_source, inner as inner_source, ItemMeant, FromItemPart, read_of, read_names, item_meant, FromMeant, JoinPart, FromPart, join_kind, scope_items, both_known, first_item, on_meant, optional_breaks, on_built, joined, applied, join_item, joined_around, joined_item, join_all, beside_from, from_more, from_all, yes, in_on}
 use Rattle.name_meaning.specs.Meanings.{Around, Meant, Part, OutColumn, QueryMeant, broken_if}
 use Rattle.name_meaning.specs.Scopes.{KnownColumn, ScopeItem}
 use Rattle.name_meaning.specs.declared.answer.Break.{Break}
@@ -34,7 +35,7 @@ use Rattle.name_meaning.specs.declared.scope.Scope.{Scope}
 use Rattle.name_laws.specs.Facts.{Facts, sub_facts}
 use Rattle.name_laws.specs.Known.{ReadIsKnown, ItemIsKnown, FromIsKnown, column_kinds_of}
 use Rattle.name_laws.proofs.Every.{Every, every-append, front-none, back-none}
-use Rattle.name_laws.proofs.FactsOf.{facts-Join_alone, facts-Join}
+use Rattle.name_laws.proofs.FactsOf.{facts-Join_alone, facts-Join, facts-Apply}
 use Rattle.name_laws.proofs.Kept.{GoodQuery}
 use Rattle.name_laws.proofs.NamedPlaces.{IsNamed, AreNamed, named-base, named-formed}
 use Rattle.name_laws.proofs.Settled.{kinds-named_columns}
@@ -133,11 +134,9 @@ module _ (c : Contents) where
   GoodSource (named_source name) = ⊤
   GoodSource (inner_source query) = (around : Around) → GoodQuery (IsSound c) (query.means around)
 
-  pub good-read_of : (outer : List Scope) (source : SourcePart) → GoodSource source → GoodRead (read_of c outer source)
-  good-read_of outer (named_source name) good = good-read_named name
-  good-read_of outer (inner_source query) good =
-      good-read_query (query.means (record { outer = outer; may_ask = true }))
-      (good (record { outer = outer; may_ask = true }))
+  pub good-read_of : (around : Around) (source : SourcePart) → GoodSource source → GoodRead (read_of c around source)
+  good-read_of around (named_source name) good = good-read_named name
+  good-read_of around (inner_source query) good = good-read_query (query.means around) (good around)
 
   -- ---- items
 
@@ -146,7 +145,7 @@ module _ (c : Contents) where
     pub named : IsSound c → AreNamed (shape m.query)
 
   abbrev pub GoodFromItem : FromItemPart → Type 0
-  GoodFromItem item = (outer : List Scope) (earlier : List (List ℕ)) → GoodItem (item.means outer earlier)
+  GoodFromItem item = (around : Around) (earlier : List (List ℕ)) → GoodItem (item.means around earlier)
 
   named-marked : (m : ScopeMark) (label : List ℕ) (names : List (List ℕ)) (read : Read) → AreNamed (shape read.plain) → AreNamed (shape (marked m label names read))
   named-marked mark.Plain label names read h = h
@@ -203,47 +202,60 @@ module _ (c : Contents) where
   named-on sound None good = tt
   named-on sound (Some m) good = good.named sound kind.Boolean nothing_before
 
+  -- the columns of the items so far, with one more
+  more-known : (m left : FromMeant) (item : ItemMeant) → m.items ≡ both_known left.items (scope_items item)
+      → kinds_of m.query ≡ kinds_of left.query ++ kinds_of item.query → FromIsKnown left → ItemIsKnown item → FromIsKnown m
+  more-known m left item items kinds l r =
+      let own : List ScopeItem = record { name = item.name; columns = r.columns } ∷ [] in
+      record {
+        items = l.items ++ own;
+        known = items ∙ known-both left.items (scope_items item) l.items own l.known
+            (ap (option_map (λ (columns : List KnownColumn). record { name = item.name; columns = columns } ∷ [])) r.known);
+        kinds = kinds ∙ (λ i. l.kinds i ++ (r.kinds ∙ sym (append-nil (column_kinds_of r.columns))) i) ∙ sym (items_kinds-append l.items own);
+      }
+
   good-joined : (left : FromMeant) (word : JoinWord) (condition : Option Part) (m : ItemMeant) (on : Option Meant) → GoodFrom left → GoodItem m
       → GoodOptional (IsSound c) on → GoodFrom (joined left word condition m on)
   good-joined left word condition m on l r conditions = record {
     known = λ sound whole.
         let operands = front-none (left.breaks ++ m.breaks) (optional_breaks condition on) whole in
-        let from = l.known sound (front-none left.breaks m.breaks operands) in
-        let item = r.known sound (back-none left.breaks m.breaks operands) in
-        let own : List ScopeItem = record { name = m.name; columns = item.columns } ∷ [] in
-        record {
-          items = from.items ++ own;
-          known = known-both left.items (scope_items m) from.items own from.known
-              (ap (option_map (λ (columns : List KnownColumn). record { name = m.name; columns = columns } ∷ [])) item.known);
-          kinds = kinds_of-Join (join_kind word) left.query m.query (on_built on).expr (on_built on).subs
-              ∙ (λ i. from.kinds i ++ (item.kinds ∙ sym (append-nil (column_kinds_of item.columns))) i)
-              ∙ sym (items_kinds-append from.items own);
-        };
+        more-known (joined left word condition m on) left m refl
+        (kinds_of-Join (join_kind word) left.query m.query (on_built on).expr (on_built on).subs)
+        (l.known sound (front-none left.breaks m.breaks operands)) (r.known sound (back-none left.breaks m.breaks operands));
     named = λ sound. subst (λ (facts : Facts). AreNamed facts.places)
         (sym (facts-Join (join_kind word) left.query m.query (on_built on).expr (on_built on).subs))
         (every-append IsNamed (shape left.query ++ shape m.query) (sub_facts (on_built on).subs).places
         (every-append IsNamed (shape left.query) (shape m.query) (l.named sound) (r.named sound)) (named-on sound on conditions));
   }
 
-  good-joined_item : (step : JoinPart) → GoodFromItem step.item → (outer : List Scope) (earlier : List (List ℕ)) → GoodItem (joined_item outer earlier step)
-  good-joined_item step good outer earlier =
-      let item = good outer earlier in
-      record {
-        known = λ sound whole.
-            let is = item.known sound (back-none (unbuilt_breaks step.word step.item.at) (step.item.means outer earlier).breaks whole) in
-            record { columns = is.columns; known = is.known; kinds = is.kinds };
-        named = item.named;
-      }
+  good-applied : (left : FromMeant) (word : JoinWord) (m : ItemMeant) → GoodFrom left → GoodItem m → GoodFrom (applied left word m)
+  good-applied left word m l r = record {
+    known = λ sound whole.
+        more-known (applied left word m) left m refl (kinds_of-Apply (join_kind word) left.query m.query)
+        (l.known sound (front-none left.breaks m.breaks whole)) (r.known sound (back-none left.breaks m.breaks whole));
+    named = λ sound. subst (λ (facts : Facts). AreNamed facts.places) (sym (facts-Apply (join_kind word) left.query m.query))
+        (every-append IsNamed (shape left.query) (shape m.query) (l.named sound) (r.named sound));
+  }
+
+  good-join_item : (outer : List Scope) (left : FromMeant) (step : JoinPart) (m : ItemMeant) → GoodFrom left → GoodItem m
+      → GoodOptionalPart (IsSound c) step.condition → GoodFrom (join_item outer left step m)
+  good-join_item outer left step m l r condition = by_word (is_lateral step.word) where
+    items : Option (List ScopeItem)
+    items = both_known left.items (scope_items m)
+
+    by_word : (lateral : Bool)
+        → GoodFrom (cond lateral (applied left step.word m) (joined left step.word step.condition m (on_meant outer items step.condition)))
+    by_word true = good-applied left step.word m l r
+    by_word false =
+        good-joined left step.word step.condition m (on_meant outer items step.condition) l r (good-on outer items step.condition condition)
 
   pub good-join_all : (outer : List Scope) (left : FromMeant) (steps : List JoinPart) → GoodFrom left → Every GoodJoin steps
       → GoodFrom (join_all outer left steps)
   good-join_all outer left [] l h = l
   good-join_all outer left (step ∷ steps) l h =
-      let m : ItemMeant = joined_item outer left.names step in
-      let on : Option Meant = on_meant outer (both_known left.items (scope_items m)) step.condition in
+      let m : ItemMeant = joined_item outer left step in
       good-join_all outer (join_item outer left step m) steps
-      (good-joined left step.word step.condition m on l (good-joined_item step h.0.0 outer left.names)
-      (good-on outer (both_known left.items (scope_items m)) step.condition h.0.1)) h.1
+      (good-join_item outer left step m l (h.0.0 (joined_around step.word outer left.items) left.names) h.0.1) h.1
 
   good-beside : (left right : FromMeant) → GoodFrom left → GoodFrom right → GoodFrom (beside_from left right)
   good-beside left right l r = record {

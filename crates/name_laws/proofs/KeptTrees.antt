@@ -18,7 +18,7 @@ use Rattle.sql_tree.specs.declared.source.FromTree.{FromTree}
 use Rattle.name_meaning.proofs.Equations.{ExprBodyFrame, SelectItemFrame, SetTreeFrame, FromSourceFrame, CoreFrame}
 use Rattle.name_meaning.specs.Cores.{core_step, has_some}
 use Rattle.name_meaning.specs.Expressions.{Body, body_step, first_of, second_of, negated_if, times, chain_made, step_operand, first_need, chain_gives, in_kind}
-use Rattle.name_meaning.specs.Froms.{source_step, from_all, first_item, label_of, scope_name, read_of}
+use Rattle.name_meaning.specs.Froms.{source_step, from_all, first_item, in_from, label_of, scope_name, read_of}
 use Rattle.name_meaning.specs.Items.{item_step, title}
 use Rattle.name_meaning.specs.Meanings.{Surroundings, Part}
 use Rattle.name_meaning.specs.Operands.{operand}
@@ -159,11 +159,11 @@ module _ (c : Contents) where
     core = good-core;
     query = λ frame body around. kept_queries.good-query_seen S around frame.at frame.body frame.order frame.limit body;
     set_operand = λ frame operand. operand;
-    from_item = λ frame source outer earlier. kept_froms.good-item_meant c frame.at frame.mark earlier (scope_name frame.source frame.alias) (label_of frame.source frame.alias)
-        (read_of c outer frame.source)
-        (kept_froms.good-read_of c outer frame.source source);
-    from_tree = λ frame first joins outer earlier. kept_froms.good-join_all c outer (first_item earlier (frame.first.means outer earlier)) frame.joins
-        (kept_froms.good-first c earlier (frame.first.means outer earlier) (first outer earlier)) joins;
+    from_item = λ frame source around earlier. kept_froms.good-item_meant c frame.at frame.mark earlier (scope_name frame.source frame.alias) (label_of frame.source frame.alias)
+        (read_of c around frame.source)
+        (kept_froms.good-read_of c around frame.source source);
+    from_tree = λ frame first joins outer earlier. kept_froms.good-join_all c outer (first_item earlier (frame.first.means (in_from outer) earlier)) frame.joins
+        (kept_froms.good-first c earlier (frame.first.means (in_from outer) earlier) (first (in_from outer) earlier)) joins;
     join = λ frame item condition. (item, good-optional frame.condition condition);
   }
 

@@ -38,6 +38,7 @@ pub mod FittingTables
 pub mod Impacts
 pub mod Induction
 pub mod KindsOf
+pub mod Lateral
 pub mod Named
 pub mod TreeLaws
 pub mod Trees

@@ -1,5 +1,5 @@
 -- What holds of each table of the catalog, also of those that its views read, holds of each that FROM reads.
-use Rattle.std.specs.Prelude.{⊤, ℕ, true, List, [], ◌∷◌, ◌++◌, map, Option, Some, None}
+use Rattle.std.specs.Prelude.{⊤, ℕ, Bool, true, false, cond, List, [], ◌∷◌, ◌++◌, map, Option, Some, None}
 use Rattle.std.proofs.Common.{◌≡◌, refl}
 use Rattle.std.specs.Option.{option_map_or}
 use Rattle.perm_values.specs.declared.kind.Kind.{Kind}
@@ -15,17 +15,18 @@ use Rattle.perm_catalog.specs.Contents.{Contents}
 use Rattle.perm_catalog.specs.declared.entries.Mark.{Mark}
 use Rattle.perm_catalog.specs.declared.entries.TableEntry.{TableEntry}
 use Rattle.perm_catalog.specs.declared.entries.ViewEntry.{ViewEntry}
+use Rattle.sql_tree.specs.Regular.{is_lateral}
 use Rattle.sql_tree.specs.declared.name.Name.{Name}
 use Rattle.sql_tree.specs.declared.source.JoinWord.{JoinWord}
 use Rattle.sql_tree.specs.declared.source.ScopeMark.{ScopeMark}
 use Rattle.sql_tree.specs.declared.source.ScopeMark.TheVariants as mark
-use Rattle.name_meaning.specs.Froms.{names_of, names_at, all_places, table_columns, settled_columns, Read, external, read_table, read_view, read_nothing, read_named, read_query, place_of, texts_of, marked, SourcePart, named as named_source, inner as inner_source, ItemMeant, FromItemPart, read_of, read_names, item_meant, FromMeant, JoinPart, FromPart, join_kind, both_known, scope_items, on_meant, on_built, joined, join_item, joined_item, join_all, beside_from, from_more, from_all, yes, in_on, optional_inside}
-use Rattle.name_meaning.specs.Meanings.{Meant, Part, QueryMeant, nothing_inside}
+use Rattle.name_meaning.specs.Froms.{names_of, names_at, all_places, table_columns, settled_columns, Read, external, read_table, read_view, read_nothing, read_named, read_query, place_of, texts_of, marked, SourcePart, named as named_source, inner as inner_source, ItemMeant, FromItemPart, read_of, read_names, item_meant, FromMeant, JoinPart, FromPart, join_kind, both_known, scope_items, on_meant, on_built, joined, applied, join_item, joined_around, joined_item, join_all, beside_from, from_more, from_all, yes, in_on, optional_inside}
+use Rattle.name_meaning.specs.Meanings.{Around, Meant, Part, QueryMeant, nothing_inside}
 use Rattle.name_meaning.specs.Scopes.{ScopeItem}
 use Rattle.name_meaning.specs.declared.scope.Scope.{Scope}
 use Rattle.name_laws.proofs.Every.{Every}
 use Rattle.name_laws.proofs.ReadMeant.{QueryReads, QueryPartReads}
-use Rattle.name_laws.proofs.ReadNodes.{Grows, wide-left, wide-right, reads-Base, reads-Join, subs-right}
+use Rattle.name_laws.proofs.ReadNodes.{Grows, wide-left, wide-right, reads-Base, reads-Join, reads-Apply, subs-right}
 use Rattle.name_laws.proofs.ReadCores.{OptionalReads}
 use Rattle.name_meaning.specs.Sublinks.{nothing_before}
 use Rattle.bag_algebra.specs.built.Forms.{EachTableOfSubs}
@@ -90,15 +91,14 @@ module _ (P : List (List ℕ) → ℕ → List Kind → Type 0) (g : Grows P) wh
       as_table None e = as_view (view_named c name.text) refl
       as_table (Some table) e = reads-table name.text table (held.tables name.text table e)
 
-    pub reads-read_of : (outer : List Scope) (source : SourcePart) → SourceReads source → ReadHolds (read_of c outer source)
-    reads-read_of outer (named_source name) good = reads-named name
-    reads-read_of outer (inner_source query) good =
-        reads-query (query.means (record { outer = outer; may_ask = true })) (good (record { outer = outer; may_ask = true }))
+    pub reads-read_of : (around : Around) (source : SourcePart) → SourceReads source → ReadHolds (read_of c around source)
+    reads-read_of around (named_source name) good = reads-named name
+    reads-read_of around (inner_source query) good = reads-query (query.means around) (good around)
 
   -- ---- items and joins
 
   abbrev pub FromItemReads : FromItemPart → Type 0
-  FromItemReads item = (outer : List Scope) (earlier : List (List ℕ)) → EachTable (P (item.means outer earlier).inside.names) (item.means outer earlier).query
+  FromItemReads item = (around : Around) (earlier : List (List ℕ)) → EachTable (P (item.means around earlier).inside.names) (item.means around earlier).query
 
   pub reads-item_meant : (at : ℕ) (m : ScopeMark) (earlier : List (List ℕ)) (name label : List ℕ) (read : Read) → ReadHolds read
       → EachTable (P read.inside.names) (item_meant at m earlier name label read).query
@@ -134,14 +134,33 @@ module _ (P : List (List ℕ) → ℕ → List Kind → Type 0) (g : Grows P) wh
       (wide-right P g of_left (of_item ++ of_on) m.query (wide-left P g of_item of_on m.query r))
       (subs-right P g of_left (of_item ++ of_on) (on_built on).subs (subs-right P g of_item of_on (on_built on).subs conditions))
 
+  reads-applied : (left : FromMeant) (word : JoinWord) (m : ItemMeant) → FromReads left → EachTable (P m.inside.names) m.query
+      → FromReads (applied left word m)
+  reads-applied left word m l r =
+      let of_left : List (List ℕ) = left.inside.names in
+      let of_item : List (List ℕ) = m.inside.names in
+      reads-Apply (P (of_left ++ of_item)) (join_kind word) left.query m.query
+      (wide-left P g of_left of_item left.query l) (wide-right P g of_left of_item m.query r)
+
+  reads-join_item : (outer : List Scope) (left : FromMeant) (step : JoinPart) (m : ItemMeant) → FromReads left
+      → EachTable (P m.inside.names) m.query → OptionalReads P g step.condition → FromReads (join_item outer left step m)
+  reads-join_item outer left step m l r condition = by_word (is_lateral step.word) where
+    items : Option (List ScopeItem)
+    items = both_known left.items (scope_items m)
+
+    by_word : (lateral : Bool)
+        → FromReads (cond lateral (applied left step.word m) (joined left step.word step.condition m (on_meant outer items step.condition)))
+    by_word true = reads-applied left step.word m l r
+    by_word false =
+        reads-joined left step.word step.condition m (on_meant outer items step.condition) l r (reads-on outer items step.condition condition)
+
   pub reads-join_all : (outer : List Scope) (left : FromMeant) (steps : List JoinPart) → FromReads left → Every JoinReads steps
       → FromReads (join_all outer left steps)
   reads-join_all outer left [] l h = l
   reads-join_all outer left (step ∷ steps) l h =
-      let m : ItemMeant = joined_item outer left.names step in
-      let on : Option Meant = on_meant outer (both_known left.items (scope_items m)) step.condition in
+      let m : ItemMeant = joined_item outer left step in
       reads-join_all outer (join_item outer left step m) steps
-      (reads-joined left step.word step.condition m on l (h.0.0 outer left.names) (reads-on outer (both_known left.items (scope_items m)) step.condition h.0.1)) h.1
+      (reads-join_item outer left step m l (h.0.0 (joined_around step.word outer left.items) left.names) h.0.1) h.1
 
   reads-beside : (left right : FromMeant) → FromReads left → FromReads right → FromReads (beside_from left right)
   reads-beside left right l r =

@@ -4,7 +4,7 @@ use Rattle.std.proofs.Common.{◌≡◌, sym, subst}
 use Rattle.perm_values.specs.declared.key.Key.{Key}
 use Rattle.perm_values.specs.declared.kind.Kind.{Kind}
 use Rattle.bag_algebra.proofs.TablesRead.{each_table-kept}
-use Rattle.bag_algebra.specs.built.Forms.{EachTableOfSubs, EachTable-Base, EachTable-Filter, EachTable-Project, EachTable-Join, EachTable-Union, EachTable-Intersect, EachTable-Except, EachTable-Distinct, EachTable-Aggregate, EachTable-Limit, EachTable-Prov}
+use Rattle.bag_algebra.specs.built.Forms.{EachTableOfSubs, EachTable-Base, EachTable-Filter, EachTable-Project, EachTable-Join, EachTable-Apply, EachTable-Union, EachTable-Intersect, EachTable-Except, EachTable-Distinct, EachTable-Aggregate, EachTable-Limit, EachTable-Prov}
 use Rattle.bag_algebra.specs.TablesRead.{EachTable}
 use Rattle.bag_algebra.specs.declared.expr.Expr.{Expr}
 use Rattle.bag_algebra.specs.declared.expr.Item.{Item}
@@ -12,7 +12,7 @@ use Rattle.bag_algebra.specs.declared.query.Aggr.{Aggr}
 use Rattle.bag_algebra.specs.declared.query.JoinKind.{JoinKind}
 use Rattle.bag_algebra.specs.declared.query.Label.{Label}
 use Rattle.bag_algebra.specs.declared.query.Query.{Query}
-use Rattle.bag_algebra.specs.declared.query.Query.TheVariants.{Base, Filter, Project, Join, Union, Intersect, Except, Distinct, Aggregate, Limit, Prov}
+use Rattle.bag_algebra.specs.declared.query.Query.TheVariants.{Base, Filter, Project, Join, Apply, Union, Intersect, Except, Distinct, Aggregate, Limit, Prov}
 use Rattle.bag_algebra.specs.declared.query.Sublink.{Sublink}
 
 -- what holds of the tables that some names name holds of those that more names do
@@ -55,6 +55,9 @@ module _ (P : ℕ → List Kind → Type 0) where
   pub reads-Join : (kind : JoinKind) (left right : Query) (condition : Expr) (subs : List Sublink) → EachTable P left → EachTable P right
       → EachTableOfSubs P subs → EachTable P (Join kind left right condition subs)
   reads-Join kind left right condition subs f g h = along (EachTable-Join P kind left right condition subs) (f, g, h)
+
+  pub reads-Apply : (kind : JoinKind) (left right : Query) → EachTable P left → EachTable P right → EachTable P (Apply kind left right)
+  reads-Apply kind left right f g = along (EachTable-Apply P kind left right) (f, g)
 
   pub reads-Union : (all : Bool) (left right : Query) → EachTable P left → EachTable P right → EachTable P (Union all left right)
   reads-Union all left right f g = along (EachTable-Union P all left right) (f, g)

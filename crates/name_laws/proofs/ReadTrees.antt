@@ -12,7 +12,7 @@ use Rattle.sql_tree.specs.declared.query.QueryTree.{QueryTree}
 use Rattle.name_meaning.proofs.Equations.{ExprBodyFrame, SelectItemFrame, SetTreeFrame, FromSourceFrame, CoreFrame}
 use Rattle.name_meaning.specs.Cores.{core_step, has_some}
 use Rattle.name_meaning.specs.Expressions.{Body, body_step, first_of, second_of, negated_if, times, chain_made, step_operand, first_need, chain_gives, in_kind}
-use Rattle.name_meaning.specs.Froms.{source_step, from_all, first_item, label_of, scope_name, read_of}
+use Rattle.name_meaning.specs.Froms.{source_step, from_all, first_item, in_from, label_of, scope_name, read_of}
 use Rattle.name_meaning.specs.Items.{item_step, title}
 use Rattle.name_meaning.specs.Meanings.{Surroundings, Part}
 use Rattle.name_meaning.specs.Operands.{operand}
@@ -148,11 +148,11 @@ module _ (P : List (List ℕ) → ℕ → List Kind → Type 0) (g : Grows P) (c
     core = reads-core;
     query = λ frame body around. reads-query_seen P g around frame.at frame.body frame.order frame.limit body;
     set_operand = λ frame operand. operand;
-    from_item = λ frame source outer earlier. reads-item_meant P g frame.at frame.mark earlier (scope_name frame.source frame.alias) (label_of frame.source frame.alias)
-        (read_of c outer frame.source)
-        (reads-read_of P g c held outer frame.source source);
-    from_tree = λ frame first joins outer earlier. reads-join_all P g outer (first_item earlier (frame.first.means outer earlier)) frame.joins
-        (first outer earlier) joins;
+    from_item = λ frame source around earlier. reads-item_meant P g frame.at frame.mark earlier (scope_name frame.source frame.alias) (label_of frame.source frame.alias)
+        (read_of c around frame.source)
+        (reads-read_of P g c held around frame.source source);
+    from_tree = λ frame first joins outer earlier. reads-join_all P g outer (first_item earlier (frame.first.means (in_from outer) earlier)) frame.joins
+        (first (in_from outer) earlier) joins;
     join = λ frame item condition. (item, reads-optional frame.condition condition);
   }
 

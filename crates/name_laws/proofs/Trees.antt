@@ -31,9 +31,9 @@ pub core-known : (c : Contents) (tree : Core) (around : Around) → IsSound c �
     → HasItsKinds ((core_of c tree).means around)
 core-known c tree around sound whole = (good-core_tree c tree around).known sound whole
 
-pub item-known : (c : Contents) (tree : FromItem) (outer : List Scope) (earlier : List (List ℕ)) → IsSound c
-    → ((from_item_of c tree).means outer earlier).breaks ≡ [] → ItemIsKnown ((from_item_of c tree).means outer earlier)
-item-known c tree outer earlier sound whole = (good-from_item_tree c tree outer earlier).known sound whole
+pub item-known : (c : Contents) (tree : FromItem) (around : Around) (earlier : List (List ℕ)) → IsSound c
+    → ((from_item_of c tree).means around earlier).breaks ≡ [] → ItemIsKnown ((from_item_of c tree).means around earlier)
+item-known c tree around earlier sound whole = (good-from_item_tree c tree around earlier).known sound whole
 
 pub from-known : (c : Contents) (tree : FromTree) (outer : List Scope) (earlier : List (List ℕ)) → IsSound c
     → ((from_of c tree).means outer earlier).breaks ≡ [] → FromIsKnown ((from_of c tree).means outer earlier)

@@ -1,15 +1,18 @@
 -- What stands around the clauses of a core and the items of its FROM, made one after the other.
-use Rattle.std.specs.Prelude.{◌≡◌, ℕ, suc, ◌+◌, ◌<◌, List, [], ◌∷◌, length, map, take, drop, Bool, Some, option_map, Result, Ok, Err, OnOk}
+use Rattle.std.specs.Prelude.{◌≡◌, ℕ, suc, ◌+◌, ◌<◌, List, [], ◌∷◌, length, map, take, drop, Bool, true, false, Some, option_map, Result, Ok, Err, OnOk}
 use Rattle.std.proofs.Common.{ap, sym, subst, ◌∙◌, arith, get_or}
 use Rattle.std.proofs.lemmas.List.{length-map, map-append}
 use Rattle.bag_algebra.specs.declared.expr.Item.{Item}
 use Rattle.bag_algebra.specs.declared.query.Query.{Query}
+use Rattle.bag_algebra.specs.declared.query.Query.TheVariants.{Apply}
+use Rattle.sql_tree.specs.Regular.{is_lateral}
+use Rattle.name_laws.proofs.Lateral.{join-items}
 use Rattle.perm_catalog.specs.Contents.{Contents}
 use Rattle.perm_values.specs.declared.kind.Kind.{Kind}
 use Rattle.sql_tree.specs.declared.query.SelectItem.{SelectItem}
 use Rattle.sql_tree.specs.declared.source.FromTree.{FromTree, out-FromTree}
 use Rattle.sql_tree.specs.declared.source.JoinStep.{JoinStep, out-JoinStep}
-use Rattle.name_meaning.specs.Froms.{FromMeant, JoinPart, first_item, join_all, join_item, join_kind, scope_items, joined_item}
+use Rattle.name_meaning.specs.Froms.{FromMeant, JoinPart, first_item, in_from, join_all, join_item, join_kind, scope_items, joined_item}
 use Rattle.name_meaning.specs.Items.{SelectMeant, SelectPart}
 use Rattle.name_meaning.specs.Meanings.{Surroundings}
 use Rattle.name_meaning.specs.Scopes.{ScopeItem}
@@ -18,10 +21,10 @@ use Rattle.name_meaning.specs.declared.scope.Scope.{Scope}
 use Rattle.name_made_nodes.specs.Listed.{MakesItems}
 use Rattle.name_made_nodes.specs.declared.within.Within.{Within}
 use Rattle.name_made_parts.specs.Cored.{items_meant}
-use Rattle.name_made_parts.specs.Sources.{JoinsMade, MakesJoin, MakesOn, MakesSource, join_count, join_on_kept}
+use Rattle.name_made_parts.specs.Sources.{JoinsMade, MakesBeside, MakesJoin, MakesOn, MakesSource, join_count, join_on_kept}
 use Rattle.name_made_parts.proofs.Coring.{next-listed}
 use Rattle.name_made_parts.proofs.AskedListing.{mapped}
-use Rattle.name_made_parts.proofs.Sourcing.{both-count, from-fields, join-fields, join-made, join-more, joins-append, one-item}
+use Rattle.name_made_parts.proofs.Sourcing.{both-count, from-fields, join-fields, join-made, join-more, joins-append, lateral-made, one-item}
 use Rattle.name_made_parts.specs.declared.asked.cores.Kept.{Kept}
 
 pub of-on : {X E : Type 0} (P Q : Type 0) (result : Result X E) → (P → Q) → OnOk result P → OnOk result Q
@@ -48,16 +51,17 @@ joins-count : (outer : List Scope) (left : FromMeant) (steps : List JoinPart) (n
     → (items : List ScopeItem) → (join_all outer left steps).items ≡ Some items → length items ≡ n + length steps
 joins-count outer left [] n counts items known = let same = counts items known in omega (arith, same)
 joins-count outer left (step ∷ steps) n counts items known =
-    let m = joined_item outer left.names step in
-    let all = joins-count outer (join_item outer left step m) steps (n + 1) (both-count left.items (scope_items m) n 1 counts (one-item m)) items known in
+    let m = joined_item outer left step in
+    let all = joins-count outer (join_item outer left step m) steps (n + 1)
+    (λ own is. both-count left.items (scope_items m) n 1 counts (one-item m) own (sym (join-items outer left step m) ∙ is)) items known in
     omega (arith, all)
 
 pub from-count : (c : Contents) (tree : FromTree) (outer : List Scope) (earlier : List (List ℕ)) (items : List ScopeItem)
     → ((from_of c tree).means outer earlier).items ≡ Some items → length items ≡ suc (join_count tree)
 from-count c tree outer earlier items known =
-    let first = first_item earlier ((from_item_of c (out-FromTree tree).first).means outer earlier) in
+    let first = first_item earlier ((from_item_of c (out-FromTree tree).first).means (in_from outer) earlier) in
     let steps = map (join_of c) (out-FromTree tree).joins in
-    let all = joins-count outer first steps 1 (one-item ((from_item_of c (out-FromTree tree).first).means outer earlier)) items
+    let all = joins-count outer first steps 1 (one-item ((from_item_of c (out-FromTree tree).first).means (in_from outer) earlier)) items
     (ap (λ (m : FromMeant). m.items) (sym (from-fields c tree outer earlier)) ∙ known) in
     let size = length-map (out-FromTree tree).joins (join_of c) in
     omega (arith, all, size)
@@ -67,7 +71,7 @@ from-count c tree outer earlier items known =
 pub step-more : (c : Contents) (outer : List Scope) (left : FromMeant) (joins : List JoinStep) (i : ℕ) (step : JoinStep) (first : ℕ) (scope : Scope) (before after : Query)
     → i < length joins → step ≡ get_or joins i step
     → JoinsMade (join_all outer left (map (join_of c) (take i joins))) first scope before i
-    → MakesJoin outer (join_of c step) first (i + 2) scope before after
+    → MakesJoin outer (join_of c step) first (i + 1) scope before after
     → JoinsMade (join_all outer left (map (join_of c) (take (i + 1) joins))) first scope after (i + 1)
 step-more c outer left joins i step first scope before after within is so_far makes =
     let next : suc i ≡ i + 1 = omega arith in
@@ -76,14 +80,25 @@ step-more c outer left joins i step first scope before after within is so_far ma
     (sym (ap (join_all outer left) (mapped (join_of c) joins i step within is) ∙ joins-append outer left (map (join_of c) (take i joins)) (join_of c step)))
     (join-more outer (join_all outer left (map (join_of c) (take i joins))) (join_of c step) first i scope before after so_far makes))
 
-pub tree-join : (c : Contents) (outer : List Scope) (tree : JoinStep) (first count : ℕ) (scope : Scope) (before right after : Query) (kept : Kept)
-    → MakesOn outer (option_map (part_of c) (out-JoinStep tree).condition) first count scope kept
-    → ((earlier : List (List ℕ)) → MakesSource ((from_item_of c (out-JoinStep tree).item).means outer earlier) right)
-    → after ≡ join_on_kept (join_kind (out-JoinStep tree).word) before right kept → MakesJoin outer (join_of c tree) first count scope before after
-tree-join c outer tree first count scope before right after kept on item is =
-    subst (λ (step : JoinPart). MakesJoin outer step first count scope before after) (sym (join-fields c tree))
-    (join-made outer (record {
-      word = (out-JoinStep tree).word;
-      item = from_item_of c (out-JoinStep tree).item;
-      condition = option_map (part_of c) (out-JoinStep tree).condition;
-    }) first count scope before right after kept on item is)
+abbrev fields : Contents → JoinStep → JoinPart
+fields c tree = record {
+  word = (out-JoinStep tree).word;
+  item = from_item_of c (out-JoinStep tree).item;
+  condition = option_map (part_of c) (out-JoinStep tree).condition;
+}
+
+pub tree-join : (c : Contents) (outer : List Scope) (tree : JoinStep) (first before : ℕ) (scope : Scope) (whole right after : Query) (kept : Kept)
+    → is_lateral (out-JoinStep tree).word ≡ false
+    → MakesOn outer (option_map (part_of c) (out-JoinStep tree).condition) first (suc before) scope kept
+    → ((earlier : List (List ℕ)) → MakesSource ((from_item_of c (out-JoinStep tree).item).means (in_from outer) earlier) right)
+    → after ≡ join_on_kept (join_kind (out-JoinStep tree).word) whole right kept → MakesJoin outer (join_of c tree) first before scope whole after
+tree-join c outer tree first before scope whole right after kept plain on item is =
+    subst (λ (step : JoinPart). MakesJoin outer step first before scope whole after) (sym (join-fields c tree))
+    (join-made outer (fields c tree) first before scope whole right after kept plain on item is)
+
+pub tree-lateral : (c : Contents) (outer : List Scope) (tree : JoinStep) (first before : ℕ) (scope : Scope) (whole right after : Query)
+    → is_lateral (out-JoinStep tree).word ≡ true → MakesBeside outer (from_item_of c (out-JoinStep tree).item) first before scope right
+    → after ≡ Apply (join_kind (out-JoinStep tree).word) whole right → MakesJoin outer (join_of c tree) first before scope whole after
+tree-lateral c outer tree first before scope whole right after lateral item is =
+    subst (λ (step : JoinPart). MakesJoin outer step first before scope whole after) (sym (join-fields c tree))
+    (lateral-made outer (fields c tree) first before scope whole right after lateral item is)

@@ -1,11 +1,12 @@
 -- What FROM is made of, its parts made one after the other.
-use Rattle.std.specs.Prelude.{◌≡◌, ℕ, suc, ◌+◌, true, List, [], ◌∷◌, ◌++◌, length, map, Option, Some, None, option_map}
+use Rattle.std.specs.Prelude.{◌≡◌, ℕ, suc, ◌+◌, true, false, List, [], ◌∷◌, ◌++◌, length, map, Option, Some, None, option_map}
 use Rattle.std.specs.Option.{option_map_or}
 use Rattle.std.proofs.Common.{refl, ap, sym, subst, ◌∙◌, arith, append-nil, append_assoc, length-append}
 use Rattle.bag_algebra.specs.declared.query.JoinKind.TheVariants as join
 use Rattle.bag_algebra.specs.declared.query.Query.{Query}
-use Rattle.bag_algebra.specs.declared.query.Query.TheVariants.{Join}
+use Rattle.bag_algebra.specs.declared.query.Query.TheVariants.{Apply, Join}
 use Rattle.perm_catalog.specs.Contents.{Contents}
+use Rattle.sql_tree.specs.Regular.{is_lateral}
 use Rattle.sql_tree.specs.declared.name.Name.{Name}
 use Rattle.sql_tree.specs.declared.query.QueryTree.{QueryTree}
 use Rattle.sql_tree.specs.declared.source.FromItem.{FromItem}
@@ -16,15 +17,16 @@ use Rattle.sql_tree.specs.declared.source.JoinWord.{JoinWord}
 use Rattle.sql_tree.specs.declared.expression.ExprTree.{ExprTree}
 use Rattle.sql_tree.specs.declared.expression.ExprBody.TheViews.{roll-out-JoinStep}
 use Rattle.sql_tree.specs.declared.source.ScopeMark.{ScopeMark}
-use Rattle.name_meaning.specs.Froms.{FromMeant, FromPart, ItemMeant, JoinPart, Read, SourcePart, beside_from, both_known, first_item, from_all, from_more, in_on, item_meant, join_all, join_item, join_kind, label_of, marked, no_from, named as named_source, inner as inner_source, optional_breaks, on_meant, read_named, read_names, read_of, read_query, scope_items, scope_name, yes, joined_item, unbuilt_breaks, on_built}
-use Rattle.name_meaning.specs.Meanings.{Meant, query_means_at}
+use Rattle.name_meaning.specs.Froms.{FromMeant, FromPart, ItemMeant, JoinPart, Read, SourcePart, beside_from, both_known, first_item, from_all, from_more, in_on, item_meant, join_all, join_item, join_kind, label_of, marked, no_from, named as named_source, inner as inner_source, optional_breaks, on_meant, read_named, read_names, read_of, read_query, scope_items, scope_name, yes, joined_item, on_built, applied, beside_items, in_from}
+use Rattle.name_meaning.specs.Meanings.{Around, Meant, query_means_at}
 use Rattle.name_meaning.specs.Scopes.{ScopeItem, scope_of}
 use Rattle.name_meaning.specs.Trees.{from_item_of, from_of, join_of, part_of, query_of, source_of}
 use Rattle.name_meaning.specs.declared.scope.Scope.{Scope}
 use Rattle.name_meaning.proofs.Equations.{token, fromitem-record, fromsource-inner, fromsource-named, joinstep-record-none, joinstep-record-some}
 use Rattle.name_meaning.proofs.Opened.{opened_from}
+use Rattle.name_laws.proofs.Lateral.{join-begins, join-items, join-lateral, join-plain, lateral_item, plain_item, plainly}
 use Rattle.name_made_nodes.proofs.Parts.{none-first, none-second}
-use Rattle.name_made_parts.specs.Sources.{IsScope, JoinsMade, MakesFrom, MakesJoin, MakesOn, MakesSource, SourcesMade, StandsIn, beside_left, text_of, join_on_kept, kept_or_yes}
+use Rattle.name_made_parts.specs.Sources.{IsScope, JoinsMade, MakesBeside, MakesFrom, MakesJoin, MakesOn, MakesSource, SourcesMade, StandsIn, beside_left, text_of, join_on_kept, kept_or_yes}
 use Rattle.name_seen_parts.proofs.Scoping.{more-behind}
 use Rattle.name_made_parts.proofs.Coring.{own-whole}
 use Rattle.name_made_parts.specs.Cored.{AreKept}
@@ -98,26 +100,25 @@ one-item m items known = of-columns m.columns known where
 
 pub joins-append : (outer : List Scope) (left : FromMeant) (steps : List JoinPart) (step : JoinPart)
     → join_all outer left (steps ++ step ∷ [])
-    ≡ join_item outer (join_all outer left steps) step (joined_item outer (join_all outer left steps).names step)
+    ≡ join_item outer (join_all outer left steps) step (joined_item outer (join_all outer left steps) step)
 joins-append outer left [] step = refl
 joins-append outer left (first ∷ steps) step =
-    joins-append outer (join_item outer left first (joined_item outer left.names first)) steps step
+    joins-append outer (join_item outer left first (joined_item outer left first)) steps step
 
 -- one more join
 pub join-more : (outer : List Scope) (left : FromMeant) (step : JoinPart) (first joins : ℕ) (scope : Scope) (before after : Query)
-    → JoinsMade left first scope before joins → MakesJoin outer step first (joins + 2) scope before after
-    → JoinsMade (join_item outer left step (joined_item outer left.names step)) first scope after (suc joins)
+    → JoinsMade left first scope before joins → MakesJoin outer step first (joins + 1) scope before after
+    → JoinsMade (join_item outer left step (joined_item outer left step)) first scope after (suc joins)
 join-more outer left step first joins scope before after so_far makes =
-    let m = joined_item outer left.names step in
-    let counts = λ (items : List ScopeItem) (known : both_known left.items (scope_items m) ≡ Some items).
-    both-count left.items (scope_items m) (suc joins) 1 so_far.counts (one-item m) items known in
-    let on = on_meant outer (both_known left.items (scope_items m)) step.condition in
+    let m = joined_item outer left step in
+    let items = join-items outer left step m in
     record {
       makes = λ whole stands.
-          makes left (λ items known. let n = counts items known in omega (arith, n))
-          (so_far.makes (none-first left.breaks m.breaks (none-first (left.breaks ++ m.breaks) (optional_breaks step.condition on) whole))
-          (stands-left left.items (scope_items m) first scope stands)) whole stands;
-      counts = λ items known. let n = counts items known in omega (arith, n);
+          makes left (λ own known. let n = so_far.counts own known in omega (arith, n))
+          (so_far.makes (join-begins outer left step m whole) (stands-left left.items (scope_items m) first scope
+          (subst (λ (known : Option (List ScopeItem)). StandsIn known first scope) items stands))) whole stands;
+      counts = λ own known.
+          let n = both-count left.items (scope_items m) (suc joins) 1 so_far.counts (one-item m) own (sym items ∙ known) in omega (arith, n);
     }
 
 -- the first item alone
@@ -132,20 +133,20 @@ kept-so : (on : Option Meant) (kept : Kept) → AreKept on kept → kept_or_yes 
 kept-so None kept is = ap kept_or_yes is.condition
 kept-so (Some m) kept is = ap kept_or_yes is.condition
 
--- a join of what is made
-pub join-made : (outer : List Scope) (step : JoinPart) (first count : ℕ) (scope : Scope) (before right after : Query) (kept : Kept)
-    → MakesOn outer step.condition first count scope kept → ((earlier : List (List ℕ)) → MakesSource (step.item.means outer earlier) right)
-    → after ≡ join_on_kept (join_kind step.word) before right kept → MakesJoin outer step first count scope before after
-join-made outer step first count scope before right after kept on item is left counts same whole stands =
-    let m = joined_item outer left.names step in
+plainly-made : (outer : List Scope) (left : FromMeant) (step : JoinPart) (first count : ℕ) (scope : Scope) (before right after : Query) (kept : Kept)
+    → MakesOn outer step.condition first count scope kept → MakesSource (plain_item outer left step) right
+    → after ≡ join_on_kept (join_kind step.word) before right kept
+    → ((items : List ScopeItem) → (plainly outer left step (plain_item outer left step)).items ≡ Some items → length items ≡ count)
+    → before ≡ left.query → MakesFrom (plainly outer left step (plain_item outer left step)) first scope after
+plainly-made outer left step first count scope before right after kept on item is counts same whole stands =
+    let m = plain_item outer left step in
     let known = both_known left.items (scope_items m) in
     let sees = on_meant outer known step.condition in
     let own : known ≡ Some stands.own = stands.known in
     let breaks : optional_breaks step.condition (on_meant outer (Some stands.own) step.condition) ≡ [] =
     subst (λ (items : Option (List ScopeItem)). optional_breaks step.condition (on_meant outer items step.condition) ≡ []) own
     (none-second (left.breaks ++ m.breaks) (optional_breaks step.condition sees) whole) in
-    let made = item left.names (none-second (unbuilt_breaks step.word step.item.at) _
-    (none-second left.breaks m.breaks (none-first (left.breaks ++ m.breaks) (optional_breaks step.condition sees) whole))) in
+    let made = item (none-second left.breaks m.breaks (none-first (left.breaks ++ m.breaks) (optional_breaks step.condition sees) whole)) in
     let stands_own : StandsIn (Some stands.own) first scope =
     record { before = stands.before; own = stands.own; after = stands.after; known = refl; scope_is = stands.scope_is; at = stands.at } in
     let keeps : AreKept sees kept =
@@ -154,6 +155,40 @@ join-made outer step first count scope before right after kept on item is left c
     is ∙ ap (λ (q : Query). join_on_kept (join_kind step.word) q right kept) same
     ∙ ap (λ (q : Query). join_on_kept (join_kind step.word) left.query q kept) made
     ∙ ap (λ (k : Condition). Join (join_kind step.word) left.query m.query k.expr k.subs) (kept-so sees kept keeps)
+
+-- a join of what is made
+pub join-made : (outer : List Scope) (step : JoinPart) (first before : ℕ) (scope : Scope) (whole right after : Query) (kept : Kept)
+    → is_lateral step.word ≡ false → MakesOn outer step.condition first (suc before) scope kept
+    → ((earlier : List (List ℕ)) → MakesSource (step.item.means (in_from outer) earlier) right)
+    → after ≡ join_on_kept (join_kind step.word) whole right kept → MakesJoin outer step first before scope whole after
+join-made outer step first before scope whole right after kept plain on item is left counts same =
+    let m = plain_item outer left step in
+    subst (λ (m : FromMeant). MakesFrom m first scope after) (sym (join-plain outer left step plain))
+    (plainly-made outer left step first (suc before) scope whole right after kept on (item left.names) is
+    (λ items known. let n = both-count left.items (scope_items m) before 1 counts (one-item m) items known in omega (arith, n)) same)
+
+applied-made : (outer : List Scope) (left : FromMeant) (step : JoinPart) (first before : ℕ) (scope : Scope) (whole right after : Query)
+    → MakesBeside outer step.item first before scope right → after ≡ Apply (join_kind step.word) whole right
+    → ((items : List ScopeItem) → left.items ≡ Some items → length items ≡ before)
+    → whole ≡ left.query → MakesFrom (applied left step.word (lateral_item outer left step)) first scope after
+applied-made outer left step first before scope whole right after item is counts same none stands =
+    let m = lateral_item outer left step in
+    let own = stands-left left.items (scope_items m) first scope stands in
+    let stands_own : StandsIn (Some own.own) first scope =
+    record { before = own.before; own = own.own; after = own.after; known = refl; scope_is = own.scope_is; at = own.at } in
+    let made : MakesSource m right =
+    subst (λ (items : Option (List ScopeItem)). MakesSource (step.item.means (beside_items items outer) left.names) right) (sym own.known)
+    (item own.own stands_own (counts own.own own.known) left.names) in
+    is ∙ ap (λ (q : Query). Apply (join_kind step.word) q right) same
+    ∙ ap (Apply (join_kind step.word) left.query) (made (none-second left.breaks m.breaks none))
+
+-- a lateral subquery beside what is made
+pub lateral-made : (outer : List Scope) (step : JoinPart) (first before : ℕ) (scope : Scope) (whole right after : Query)
+    → is_lateral step.word ≡ true → MakesBeside outer step.item first before scope right → after ≡ Apply (join_kind step.word) whole right
+    → MakesJoin outer step first before scope whole after
+lateral-made outer step first before scope whole right after lateral item is left counts same =
+    subst (λ (m : FromMeant). MakesFrom m first scope after) (sym (join-lateral outer left step lateral))
+    (applied-made outer left step first before scope whole right after item is counts same)
 
 -- ---- parts before and behind commas
 
@@ -214,7 +249,7 @@ sources-made outer (part ∷ parts) scope made count query so_far is whole stand
 
 pub from-fields : (c : Contents) (tree : FromTree) (outer : List Scope) (earlier : List (List ℕ))
     → (from_of c tree).means outer earlier
-    ≡ join_all outer (first_item earlier ((from_item_of c (out-FromTree tree).first).means outer earlier)) (map (join_of c) (out-FromTree tree).joins)
+    ≡ join_all outer (first_item earlier ((from_item_of c (out-FromTree tree).first).means (in_from outer) earlier)) (map (join_of c) (out-FromTree tree).joins)
 from-fields c tree outer earlier = ap (λ (part : FromPart). part.means outer earlier) (opened_from c tree)
 
 join-record : (c : Contents) (word : JoinWord) (item : FromItem) (condition : Option ExprTree)
@@ -242,28 +277,28 @@ item-so : (at : ℕ) (mark : ScopeMark) (earlier : List (List ℕ)) (name label 
 item-so at mark earlier name label read made makes whole =
     makes (none-first read.breaks _ (none-first _ _ whole))
 
-pub item-named : (c : Contents) (outer : List Scope) (item : FromItem) (name : Name) (made : Query) → item.source ≡ source.Named name
+pub item-named : (c : Contents) (around : Around) (item : FromItem) (name : Name) (made : Query) → item.source ≡ source.Named name
     → ((read_named c name).breaks ≡ [] → made ≡ marked item.mark name.text (read_names (read_named c name)) (read_named c name))
-    → (earlier : List (List ℕ)) → MakesSource ((from_item_of c item).means outer earlier) made
+    → (earlier : List (List ℕ)) → MakesSource ((from_item_of c item).means around earlier) made
 unfolding token
-item-named c outer item name made is makes earlier =
+item-named c around item name made is makes earlier =
     let part : source_of c item.source ≡ named_source name = ap (source_of c) is ∙ fromsource-named c name in
     subst (λ (m : ItemMeant). MakesSource m made)
-    (sym (ap (λ (p : _). p.means outer earlier) (fromitem-record c item.at item.source item.alias item.mark)
-    ∙ ap (λ (s : SourcePart). item_meant item.at item.mark earlier (scope_name s item.alias) (label_of s item.alias) (read_of c outer s)) part))
+    (sym (ap (λ (p : _). p.means around earlier) (fromitem-record c item.at item.source item.alias item.mark)
+    ∙ ap (λ (s : SourcePart). item_meant item.at item.mark earlier (scope_name s item.alias) (label_of s item.alias) (read_of c around s)) part))
     (item-so item.at item.mark earlier (scope_name (named_source name) item.alias) name.text (read_named c name) made makes)
 
-pub item-inner : (c : Contents) (outer : List Scope) (item : FromItem) (query : QueryTree) (made : Query) → item.source ≡ source.Inner query
-    → ((query_means_at (query_of c query) (record { outer = outer; may_ask = true })).breaks ≡ []
+pub item-inner : (c : Contents) (around : Around) (item : FromItem) (query : QueryTree) (made : Query) → item.source ≡ source.Inner query
+    → ((query_means_at (query_of c query) around).breaks ≡ []
     → made ≡ marked item.mark (option_map_or text_of item.alias [])
-    (read_names (read_query (query_means_at (query_of c query) (record { outer = outer; may_ask = true }))))
-    (read_query (query_means_at (query_of c query) (record { outer = outer; may_ask = true }))))
-    → (earlier : List (List ℕ)) → MakesSource ((from_item_of c item).means outer earlier) made
+    (read_names (read_query (query_means_at (query_of c query) around)))
+    (read_query (query_means_at (query_of c query) around)))
+    → (earlier : List (List ℕ)) → MakesSource ((from_item_of c item).means around earlier) made
 unfolding token query_means_at
-item-inner c outer item query made is makes earlier =
+item-inner c around item query made is makes earlier =
     let part : source_of c item.source ≡ inner_source (query_of c query) = ap (source_of c) is ∙ fromsource-inner c query in
     subst (λ (m : ItemMeant). MakesSource m made)
-    (sym (ap (λ (p : _). p.means outer earlier) (fromitem-record c item.at item.source item.alias item.mark)
-    ∙ ap (λ (s : SourcePart). item_meant item.at item.mark earlier (scope_name s item.alias) (label_of s item.alias) (read_of c outer s)) part))
+    (sym (ap (λ (p : _). p.means around earlier) (fromitem-record c item.at item.source item.alias item.mark)
+    ∙ ap (λ (s : SourcePart). item_meant item.at item.mark earlier (scope_name s item.alias) (label_of s item.alias) (read_of c around s)) part))
     (item-so item.at item.mark earlier (scope_name (inner_source (query_of c query)) item.alias) (option_map_or text_of item.alias [])
-    (read_of c outer (inner_source (query_of c query))) made makes)
+    (read_of c around (inner_source (query_of c query))) made makes)

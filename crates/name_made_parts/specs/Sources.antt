@@ -9,7 +9,7 @@ use Rattle.perm_catalog.specs.Changes.{view_named}
 use Rattle.perm_catalog.specs.Contents.{Contents}
 use Rattle.sql_tree.specs.declared.name.Name.{Name}
 use Rattle.sql_tree.specs.declared.source.FromTree.{FromTree, out-FromTree}
-use Rattle.name_meaning.specs.Froms.{FromMeant, FromPart, ItemMeant, JoinPart, from_all, join_item, on_meant, Read, read_names, read_nothing, read_query, read_view, yes, joined_item}
+use Rattle.name_meaning.specs.Froms.{FromItemPart, FromMeant, FromPart, ItemMeant, JoinPart, beside_items, from_all, join_item, on_meant, Read, read_names, read_nothing, read_query, read_view, yes, joined_item}
 use Rattle.name_meaning.specs.Meanings.{Part, QueryMeant}
 use Rattle.name_meaning.specs.Scopes.{ScopeItem, scope_of}
 use Rattle.name_meaning.specs.declared.scope.Scope.{Scope}
@@ -83,11 +83,16 @@ kept_or_yes (Some condition) = condition
 abbrev pub join_on_kept : JoinKind → Query → Query → Kept → Query
 join_on_kept kind left right kept = Join kind left right (kept_or_yes kept.condition).expr (kept_or_yes kept.condition).subs
 
--- one more join made, behind as many items less one
+-- an item made whose subquery sees as many items, where it breaks nothing and they stand there in the scope
+abbrev pub MakesBeside : List Scope → FromItemPart → ℕ → ℕ → Scope → Query → Type 0
+MakesBeside outer item first before scope made = (items : List ScopeItem) → StandsIn (Some items) first scope → length items ≡ before
+    → (earlier : List (List ℕ)) → MakesSource (item.means (beside_items (Some items) outer) earlier) made
+
+-- one more join made, behind as many items
 abbrev pub MakesJoin : List Scope → JoinPart → ℕ → ℕ → Scope → Query → Query → Type 0
-MakesJoin outer step first count scope before made = (left : FromMeant) → ((items : List ScopeItem) →
-    (join_item outer left step (joined_item outer left.names step)).items ≡ Some items → length items ≡ count)
-    → before ≡ left.query → MakesFrom (join_item outer left step (joined_item outer left.names step)) first scope made
+MakesJoin outer step first before scope whole made = (left : FromMeant)
+    → ((items : List ScopeItem) → left.items ≡ Some items → length items ≡ before) → whole ≡ left.query
+    → MakesFrom (join_item outer left step (joined_item outer left step)) first scope made
 
 -- what is before a comma, if anything is
 abbrev pub left_of : List FromPart → FromMeant → Option Query

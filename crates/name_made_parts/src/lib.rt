@@ -20,7 +20,7 @@ pub use keys::keys_of;
 pub use scoping::segment;
 pub use shown::{ShownNames, column_names};
 pub use sources::{
-    behind, input_or_single, join_kind, marked_of, named_item, with_next, with_right,
+    behind, input_or_single, join_kind, marked_of, named_item, with_lateral, with_next, with_right,
 };
 pub use standing::group_count;
 pub use stars::{add_star, add_table_star};

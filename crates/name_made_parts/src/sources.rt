@@ -2,7 +2,7 @@
 ghost use Rattle.std.specs.Prelude.{◌≡◌, ◌≤◌, ℕ, ◌+◌, ◌^◌, suc, List, [], length, IfOk, IfErr, IsOkAnd};
 ghost use Rattle.std.specs.Option.{option_map_or};
 ghost use Rattle.bag_algebra.specs.Kinds.{width_of};
-ghost use Rattle.bag_algebra.specs.declared.query.Query.TheVariants.{Single};
+ghost use Rattle.bag_algebra.specs.declared.query.Query.TheVariants.{Apply, Single};
 ghost use Rattle.perm_catalog.specs.Sound.{IsSound};
 ghost use Rattle.name_meaning.specs.Froms.{external, join_kind, marked, read_named, read_names, read_query, read_table, read_view};
 ghost use Rattle.name_meaning.specs.Meanings.{QueryMeant};
@@ -200,6 +200,19 @@ pub fn with_right(
     let (whole, (right, kept)) = beside(whole, both_made)?;
     let Condition { expr, subs } = kept_or_yes(alloc, kept);
     Query::join(alloc, kind, whole, right, expr, subs)
+}
+
+/// A lateral subquery beside each row of what stands before it.
+pub fn with_lateral(
+    alloc: Global,
+    kind: JoinKind,
+    whole: Query,
+    right: Result<Query, NoMemory>,
+) -> Result<Query, NoMemory>
+    ensures { IfOk result (λ made. IsOkAnd right (λ right. made ≡ Apply kind whole right)) }
+{
+    let (whole, right) = beside(whole, right)?;
+    Query::apply(alloc, kind, whole, right)
 }
 
 /// The condition that is kept; TRUE, if there is none.

@@ -1,5 +1,5 @@
 -- What FROM means: its items with their marks, and its joins.
-use Rattle.std.specs.Prelude.{ℕ, Bool, true, false, not, List, [], ◌∷◌, ◌++◌, map, length, nat_eq, nat_lt, position, slice_index_or, Option, Some, None, option_map}
+use Rattle.std.specs.Prelude.{ℕ, Bool, true, false, cond, not, List, [], ◌∷◌, ◌++◌, map, length, nat_eq, nat_lt, position, slice_index_or, Option, Some, None, option_map}
 use Rattle.std.specs.Cmp.Lexicographic.{pointwise}
 use Rattle.std.specs.List.{list_any, count_by, range_with_len}
 use Rattle.std.specs.Option.{option_map_or}
@@ -12,7 +12,7 @@ use Rattle.bag_algebra.specs.declared.query.JoinKind.{JoinKind}
 use Rattle.bag_algebra.specs.declared.query.JoinKind.TheVariants as join
 use Rattle.bag_algebra.specs.declared.query.Label.TheVariants.{Relation, External}
 use Rattle.bag_algebra.specs.declared.query.Query.{Query}
-use Rattle.bag_algebra.specs.declared.query.Query.TheVariants.{Table, Single, Base, Join}
+use Rattle.bag_algebra.specs.declared.query.Query.TheVariants.{Table, Single, Base, Join, Apply}
 use Rattle.perm_catalog.specs.Changes.{table_named, view_named}
 use Rattle.perm_catalog.specs.Columns.{column_kinds}
 use Rattle.perm_catalog.specs.Contents.{Contents}
@@ -28,7 +28,7 @@ use Rattle.sql_tree.specs.declared.source.JoinWord.{JoinWord}
 use Rattle.sql_tree.specs.declared.source.JoinWord.TheVariants as word
 use Rattle.sql_tree.specs.declared.source.ScopeMark.{ScopeMark}
 use Rattle.sql_tree.specs.declared.source.ScopeMark.TheVariants as mark
-use Rattle.name_meaning.specs.Meanings.{Inside, nothing_inside, both_inside, Surroundings, Built, Meant, seen_kind, Part, OutColumn, QueryMeant, QueryPart, broken, broken_if, settled, unites}
+use Rattle.name_meaning.specs.Meanings.{Inside, nothing_inside, both_inside, Around, Surroundings, Built, Meant, seen_kind, Part, OutColumn, QueryMeant, QueryPart, broken, broken_if, settled, unites}
 use Rattle.name_meaning.specs.Scopes.{KnownColumn, ScopeItem, scope_of}
 use Rattle.name_meaning.specs.Sublinks.{nothing_before, built_alone}
 use Rattle.name_meaning.specs.declared.answer.Break.{Break}
@@ -168,15 +168,23 @@ pub record ItemMeant : Type 0 where
   pub query : Query
   pub inside : Inside
 
--- seen from the scopes around the core, behind items of these names
+-- where a subquery in its place stands, behind items of these names
 pub record FromItemPart : Type 0 where
   pub at : ℕ
-  pub means : List Scope → List (List ℕ) → ItemMeant
+  pub means : Around → List (List ℕ) → ItemMeant
 
-abbrev pub read_of : Contents → List Scope → SourcePart → Read
-read_of c outer (named name) = read_named c name
-read_of c outer (inner query) =
-    read_query (query.means (record { outer = outer; may_ask = true }))
+abbrev pub read_of : Contents → Around → SourcePart → Read
+read_of c around (named name) = read_named c name
+read_of c around (inner query) = read_query (query.means around)
+
+-- a subquery of FROM sees the scopes around its core, and may ask for its provenance
+abbrev pub in_from : List Scope → Around
+in_from outer = record { outer = outer; may_ask = true }
+
+-- a lateral one sees before these the items of its own `from` before its step, and may not ask; where they aren't known, what breaks
+-- them stands before it
+abbrev pub beside_items : Option (List ScopeItem) → List Scope → Around
+beside_items items outer = record { outer = scope_of (option_map_or (λ known. known) items []) ∷ outer; may_ask = false }
 
 -- the table's or view's name, or the subquery's alias
 abbrev pub label_of : SourcePart → Option Name → List ℕ
@@ -293,24 +301,31 @@ joined left word condition m on = record {
   inside = both_inside left.inside (both_inside m.inside (optional_inside on));
 }
 
+-- a lateral subquery stands beside each row of what is before it; it has no condition
+abbrev pub applied : FromMeant → JoinWord → ItemMeant → FromMeant
+applied left word m = record {
+  breaks = left.breaks ++ m.breaks;
+  names = left.names ++ m.name ∷ [];
+  items = both_known left.items (scope_items m);
+  query = Apply (join_kind word) left.query m.query;
+  inside = both_inside left.inside m.inside;
+}
+
 abbrev pub join_item : List Scope → FromMeant → JoinPart → ItemMeant → FromMeant
-join_item outer left step m =
-    joined left step.word step.condition m (on_meant outer (both_known left.items (scope_items m)) step.condition)
+join_item outer left step m = cond (is_lateral step.word) (applied left step.word m)
+    (joined left step.word step.condition m (on_meant outer (both_known left.items (scope_items m)) step.condition))
 
--- a lateral join isn't carried out yet; at its item
-abbrev pub unbuilt_breaks : JoinWord → ℕ → List Break
-unbuilt_breaks word at = broken_if (is_lateral word) rule.UnbuiltForm at
+-- where a subquery that is joined stands
+abbrev pub joined_around : JoinWord → List Scope → Option (List ScopeItem) → Around
+joined_around word outer items = cond (is_lateral word) (beside_items items outer) (in_from outer)
 
--- what a join reads, behind items of these names
-abbrev pub joined_item : List Scope → List (List ℕ) → JoinPart → ItemMeant
-joined_item outer earlier step =
-    let m = step.item.means outer earlier in
-    record m { breaks = unbuilt_breaks step.word step.item.at ++ m.breaks }
+-- what a join reads
+abbrev pub joined_item : List Scope → FromMeant → JoinPart → ItemMeant
+joined_item outer left step = step.item.means (joined_around step.word outer left.items) left.names
 
 abbrev pub join_all : List Scope → FromMeant → List JoinPart → FromMeant
 join_all outer left [] = left
-join_all outer left (step ∷ steps) =
-    join_all outer (join_item outer left step (joined_item outer left.names step)) steps
+join_all outer left (step ∷ steps) = join_all outer (join_item outer left step (joined_item outer left step)) steps
 
 -- ---- the steps
 
@@ -321,13 +336,13 @@ source_step (FromSource-F.Inner query) = inner query
 abbrev pub from_item_step : {B I S A U P C Q W G J K : Type 0} → Contents → FromItem-F B I S SourcePart A U P C Q W G J K → FromItemPart
 from_item_step c tree = record {
   at = tree.at;
-  means = λ outer earlier. item_meant tree.at tree.mark earlier (scope_name tree.source tree.alias)
-      (label_of tree.source tree.alias) (read_of c outer tree.source);
+  means = λ around earlier. item_meant tree.at tree.mark earlier (scope_name tree.source tree.alias)
+      (label_of tree.source tree.alias) (read_of c around tree.source);
 }
 
 abbrev pub from_step : {B I S F A U P C Q W J : Type 0} → FromTree-F B I S F A U P C Q W FromItemPart J JoinPart → FromPart
 from_step tree = record {
-  means = λ outer earlier. join_all outer (first_item earlier (tree.first.means outer earlier)) tree.joins;
+  means = λ outer earlier. join_all outer (first_item earlier (tree.first.means (in_from outer) earlier)) tree.joins;
 }
 
 abbrev pub join_step : {B I S F A U C Q W J K : Type 0} → JoinStep-F B I S F A U Part C Q W FromItemPart J K → JoinPart

@@ -1,14 +1,17 @@
 -- What the code finds of a source with its joins is what these mean.
-use Rattle.std.specs.Prelude.{◌≡◌, ℕ, List, [], ◌∷◌, ◌++◌, map, Option, Some, None, option_map, Result, Ok, Err, false}
+use Rattle.std.specs.Prelude.{◌≡◌, ℕ, Bool, true, false, cond, List, [], ◌∷◌, ◌++◌, map, Option, Some, None, option_map, Result, Ok, Err}
 use Rattle.std.proofs.Common.{refl, ap, sym, subst, ◌∙◌, append_assoc, append-nil}
 use Rattle.perm_catalog.specs.declared.column.Column.{Column}
-use Rattle.name_meaning.specs.Froms.{FromMeant, FromPart, ItemMeant, JoinPart, first_item, from_all, scope_items, join_all, join_item, join_kind, on_meant, optional_breaks, both_known, table_columns, joined_item, unbuilt_breaks, in_clause, optional_meant, on_built}
+use Rattle.name_meaning.specs.Froms.{FromMeant, FromPart, ItemMeant, JoinPart, first_item, from_all, scope_items, join_all, join_item, join_kind, on_meant, optional_breaks, both_known, table_columns, applied, joined_item, in_clause, optional_meant, on_built}
+use Rattle.sql_tree.specs.Regular.{is_lateral}
+use Rattle.sql_tree.specs.declared.source.JoinWord.{JoinWord}
 use Rattle.name_meaning.specs.Meanings.{Meant}
 use Rattle.name_meaning.specs.Scopes.{KnownColumn, ScopeItem, scope_of}
 use Rattle.name_meaning.specs.declared.answer.Break.{Break}
 use Rattle.name_meaning.specs.declared.scope.Scope.{Scope}
 use Rattle.name_laws.specs.Facts.{facts_of, both_facts, sub_facts}
-use Rattle.name_laws.proofs.FactsOf.{both_facts-none, facts-Join}
+use Rattle.name_laws.proofs.FactsOf.{both_facts-none, facts-Apply, facts-Join}
+use Rattle.name_laws.proofs.Lateral.{plainly}
 use Rattle.name_seen_parts.specs.Seen.{first_or}
 use Rattle.name_seen_parts.specs.declared.refusal.Refusal.{Refusal}
 use Rattle.name_seen_parts.specs.declared.refusal.Refusal.TheVariants.{Break as Broken, NoMemory}
@@ -53,7 +56,7 @@ same-subs (Some m) = refl
 join-whole : (outer : List Scope) (left : FromMeant) (step : JoinPart) (m : ItemMeant) (earlier : List (List ℕ)) (before old middle new : Gathered) (scope wider : Scope)
     → FromWhole left earlier before old scope → ItemAdded m scope old middle wider
     → ConditionWhole step.condition (on_meant outer (both_known left.items (scope_items m)) step.condition) middle new
-    → FromWhole (join_item outer left step m) earlier before new wider
+    → FromWhole (plainly outer left step m) earlier before new wider
 join-whole outer left step m earlier before old middle new scope wider first added on =
     let item : ScopeItem = one_item m added.columns in
     let sees : Option Meant = on_meant outer (both_known left.items (scope_items m)) step.condition in
@@ -70,65 +73,70 @@ join-whole outer left step m earlier before old middle new scope wider first add
           ∙ ap (both_facts (facts_in before)) (sym (facts-Join (join_kind step.word) left.query m.query (on_built sees).expr (on_built sees).subs));
     }
 
+lateral-whole : (left : FromMeant) (word : JoinWord) (m : ItemMeant) (earlier : List (List ℕ)) (before old new : Gathered) (scope wider : Scope)
+    → FromWhole left earlier before old scope → ItemAdded m scope old new wider → FromWhole (applied left word m) earlier before new wider
+lateral-whole left word m earlier before old new scope wider first added =
+    let item : ScopeItem = one_item m added.columns in
+    record {
+      whole = λ i. first.whole i ++ added.whole i;
+      items = first.items ++ item ∷ [];
+      known = beside-known left.items (scope_items m) first.items (item ∷ []) first.known (items-known m added.columns added.known);
+      scope_is = added.scope_is ∙ ap (λ (s : Scope). scope_beside s (item_scope m.name added.columns)) first.scope_is ∙ scope-beside-is first.items (item ∷ []);
+      names = ap (λ (names : List (List ℕ)). names ++ m.name ∷ []) first.names ∙ append_assoc earlier scope.items (m.name ∷ [])
+          ∙ ap (λ (s : Scope). earlier ++ s.items) (sym added.scope_is);
+      adds = both-add (facts_of left.query) (facts_of m.query) (facts_in before) (facts_in old) (facts_in new) first.adds added.adds
+          ∙ ap (both_facts (facts_in before)) (sym (facts-Apply (join_kind word) left.query m.query));
+    }
+
 -- ---- all joins so far, and one more
 
 pub joins-behind : (outer : List Scope) (left : FromMeant) (steps : List JoinPart) (step : JoinPart)
     → join_all outer left (steps ++ step ∷ [])
-    ≡ join_item outer (join_all outer left steps) step (joined_item outer (join_all outer left steps).names step)
+    ≡ join_item outer (join_all outer left steps) step (joined_item outer (join_all outer left steps) step)
 joins-behind outer left [] step = refl
-joins-behind outer left (s ∷ steps) step = joins-behind outer (join_item outer left s (joined_item outer left.names s)) steps step
+joins-behind outer left (s ∷ steps) step = joins-behind outer (join_item outer left s (joined_item outer left s)) steps step
 
 pub joins-so-far : (outer : List Scope) (left : FromMeant) (steps more : List JoinPart)
     → join_all outer left (steps ++ more) ≡ join_all outer (join_all outer left steps) more
 joins-so-far outer left [] more = refl
-joins-so-far outer left (s ∷ steps) more = joins-so-far outer (join_item outer left s (joined_item outer left.names s)) steps more
+joins-so-far outer left (s ∷ steps) more = joins-so-far outer (join_item outer left s (joined_item outer left s)) steps more
+
+join-stays : (outer : List Scope) (left : FromMeant) (step : JoinPart) (m : ItemMeant) (b : Break) → first_or left.breaks (tt {0}) ≡ Err b
+    → first_or (join_item outer left step m).breaks (tt {0}) ≡ Err b
+join-stays outer left step m b e = by_word (is_lateral step.word) where
+  by_word : (lateral : Bool) → first_or (cond lateral (applied left step.word m) (plainly outer left step m)).breaks (tt {0}) ≡ Err b
+  by_word true = first-stays left.breaks m.breaks (tt {0}) (tt {0}) b e
+  by_word false =
+      first-stays_first left.breaks m.breaks (optional_breaks step.condition (on_meant outer (both_known left.items (scope_items m)) step.condition))
+      (tt {0}) (tt {0}) b e
 
 pub joins-stay : (outer : List Scope) (left : FromMeant) (steps : List JoinPart) (b : Break) → first_or left.breaks (tt {0}) ≡ Err b
     → first_or (join_all outer left steps).breaks (tt {0}) ≡ Err b
 joins-stay outer left [] b e = e
 joins-stay outer left (s ∷ steps) b e =
-    joins-stay outer (join_item outer left s (joined_item outer left.names s)) steps b
-    (first-stays_first left.breaks (joined_item outer left.names s).breaks
-    (optional_breaks s.condition (on_meant outer (both_known left.items (scope_items (joined_item outer left.names s))) s.condition)) (tt {0}) (tt {0}) b e)
+    joins-stay outer (join_item outer left s (joined_item outer left s)) steps b (join-stays outer left s (joined_item outer left s) b e)
 
 -- ---- one more join
 
-pub join-unbuilt : (outer : List Scope) (left : FromMeant) (step : JoinPart) (earlier : List (List ℕ)) (before old : Gathered) (scope : Scope) (b : Break)
-    → FromWhole left earlier before old scope → first_or (unbuilt_breaks step.word step.item.at) (tt {0}) ≡ Err b
-    → JoinSeen (join_item outer left step (joined_item outer left.names step)) earlier before old scope (Err (Broken b))
-join-unbuilt outer left step earlier before old scope b first broken =
-    let m = joined_item outer left.names step in
-    first-stays_second left.breaks m.breaks (optional_breaks step.condition (on_meant outer (both_known left.items (scope_items m)) step.condition)) (tt {0}) (tt {0}) b first.whole
-    (first-stays (unbuilt_breaks step.word step.item.at) (step.item.means outer left.names).breaks (tt {0}) (tt {0}) b broken)
-
-module _ (outer : List Scope) (names : List (List ℕ)) (step : JoinPart) (none : unbuilt_breaks step.word step.item.at ≡ []) where
-  pub joined-refused : (scope wider : Scope) (old new : Gathered) (refusal : Refusal) → ItemSeen (step.item.means outer names) scope old new wider (Err refusal)
-      → ItemSeen (joined_item outer names step) scope old new wider (Err refusal)
-  joined-refused scope wider old new (Broken b) broken =
-      first-behind (unbuilt_breaks step.word step.item.at) (step.item.means outer names).breaks (tt {0}) none ∙ broken
-  joined-refused scope wider old new NoMemory broken = tt
-
-  pub joined-added : (scope wider : Scope) (old new : Gathered) → ItemAdded (step.item.means outer names) scope old new wider
-      → ItemAdded (joined_item outer names step) scope old new wider
-  joined-added scope wider old new added = record {
-    whole = λ i. none i ++ added.whole i;
-    columns = added.columns;
-    known = added.known;
-    scope_is = added.scope_is;
-    adds = added.adds;
-  }
-
 pub join-refused : (outer : List Scope) (left : FromMeant) (step : JoinPart) (m : ItemMeant) (earlier : List (List ℕ)) (before old new : Gathered) (scope wider : Scope)
     (refusal : Refusal) → FromWhole left earlier before old scope → ItemSeen m scope old new wider (Err refusal)
-    → JoinSeen (join_item outer left step m) earlier before new wider (Err refusal)
+    → JoinSeen (plainly outer left step m) earlier before new wider (Err refusal)
 join-refused outer left step m earlier before old new scope wider (Broken b) first broken =
     first-stays_second left.breaks m.breaks (optional_breaks step.condition (on_meant outer (both_known left.items (scope_items m)) step.condition)) (tt {0}) (tt {0}) b first.whole broken
 join-refused outer left step m earlier before old new scope wider NoMemory first broken = tt
 
+pub lateral-seen : (left : FromMeant) (word : JoinWord) (m : ItemMeant) (earlier : List (List ℕ)) (before old new : Gathered) (scope wider : Scope)
+    (result : Result Unit Refusal) → FromWhole left earlier before old scope → ItemSeen m scope old new wider result
+    → JoinSeen (applied left word m) earlier before new wider result
+lateral-seen left word m earlier before old new scope wider (Ok done) first added = lateral-whole left word m earlier before old new scope wider first added
+lateral-seen left word m earlier before old new scope wider (Err (Broken b)) first broken =
+    first-behind left.breaks m.breaks (tt {0}) first.whole ∙ broken
+lateral-seen left word m earlier before old new scope wider (Err NoMemory) first told = tt
+
 pub join-behind : (outer : List Scope) (left : FromMeant) (step : JoinPart) (m : ItemMeant) (earlier : List (List ℕ)) (before old middle new : Gathered)
     (scope wider : Scope) (result : Result Unit Refusal) → FromWhole left earlier before old scope → ItemAdded m scope old middle wider
     → ConditionSeen step.condition (optional_meant (in_clause wider outer false) step.condition) middle new result
-    → JoinSeen (join_item outer left step m) earlier before new wider result
+    → JoinSeen (plainly outer left step m) earlier before new wider result
 join-behind outer left step m earlier before old middle new scope wider result first added on =
     let item : ScopeItem = one_item m added.columns in
     let items : List ScopeItem = first.items ++ item ∷ [] in
@@ -142,7 +150,7 @@ join-behind outer left step m earlier before old middle new scope wider result f
     by-result result (subst (λ (m : Option Meant). ConditionSeen step.condition m middle new result) sees on) where
       by-result : (result : Result Unit Refusal)
           → ConditionSeen step.condition (on_meant outer (both_known left.items (scope_items m)) step.condition) middle new result
-          → JoinSeen (join_item outer left step m) earlier before new wider result
+          → JoinSeen (plainly outer left step m) earlier before new wider result
       by-result (Ok done) fine = join-whole outer left step m earlier before old middle new scope wider first added fine
       by-result (Err (Broken b)) broken =
           first-behind_two left.breaks m.breaks (optional_breaks step.condition (on_meant outer (both_known left.items (scope_items m)) step.condition)) tt first.whole added.whole
@@ -170,11 +178,11 @@ first-refused outer m steps earlier old new scope wider NoMemory broken = tt
 
 pub step-refused : (outer : List Scope) (left : FromMeant) (steps : List JoinPart) (step : JoinPart) (more : List JoinPart) (earlier : List (List ℕ))
     (old new : Gathered) (wider : Scope) (refusal : Refusal)
-    → JoinSeen (join_item outer (join_all outer left steps) step (joined_item outer (join_all outer left steps).names step)) earlier old new wider (Err refusal)
+    → JoinSeen (join_item outer (join_all outer left steps) step (joined_item outer (join_all outer left steps) step)) earlier old new wider (Err refusal)
     → FromSeen (join_all outer left (steps ++ step ∷ more)) earlier old new (Err refusal)
 step-refused outer left steps step more earlier old new wider (Broken b) broken =
     ap (λ (m : FromMeant). first_or m.breaks tt) (joins-so-far outer left steps (step ∷ more))
-    ∙ joins-stay outer (join_item outer (join_all outer left steps) step (joined_item outer (join_all outer left steps).names step)) more b broken
+    ∙ joins-stay outer (join_item outer (join_all outer left steps) step (joined_item outer (join_all outer left steps) step)) more b broken
 step-refused outer left steps step more earlier old new wider NoMemory broken = tt
 
 pub source-refused : (outer : List Scope) (parts : List FromPart) (part : FromPart) (more : List FromPart) (old middle new : Gathered) (l : Scope) (refusal : Refusal)

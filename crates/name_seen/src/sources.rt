@@ -1,11 +1,11 @@
 //! What FROM reads.
-ghost use Rattle.std.specs.Prelude.{◌++◌, [], map};
+ghost use Rattle.std.specs.Prelude.{◌∷◌, ◌++◌, [], map};
 ghost use Rattle.perm_catalog.specs.Sound.{IsSound};
-ghost use Rattle.name_meaning.specs.Froms.{FromMeant, from_all, join_item, joined_item, read_of, read_query};
+ghost use Rattle.name_meaning.specs.Froms.{FromMeant, from_all, in_from, join_item, joined_item, read_of, read_query};
 ghost use Rattle.name_meaning.specs.Meanings.{query_means_at};
 ghost use Rattle.name_meaning.specs.Trees.{from_item_of, from_of, join_of, query_of, source_of};
 ghost use Rattle.name_seen_parts.specs.Named.{scopes_of};
-ghost use Rattle.name_seen_parts.specs.Standing.{around_in_from, around_of};
+ghost use Rattle.name_seen_parts.specs.Standing.{around_beside, around_of};
 ghost use Rattle.name_seen_from.specs.Queried.{FromSeen, FromWhole};
 ghost use Rattle.name_seen_from.specs.declared.facts.Facts.{Facts as Gathered};
 ghost use Rattle.name_seen_from.specs.Readings.{ItemSeen, ReadSeen};
@@ -15,7 +15,7 @@ use crate::cores::condition_seen;
 use crate::queries::query_seen;
 use name_meaning::Scope;
 use name_seen_from::{Facts, Reading, put_item, read_named, read_shown};
-use name_seen_parts::{Around, Refusal, add_items, join_break, no_items};
+use name_seen_parts::{Around, Refusal, add_items, inside, is_lateral, no_items};
 use perm_values::Chars;
 use sql_tree::{FromItem, FromSource, FromTree, JoinStep, QueryTree, ScopeMark};
 
@@ -71,12 +71,44 @@ fn join_seen(
     ensures { (left : FromMeant) (before : Gathered) → FromWhole left earlier.now before facts.old scope.old →
         JoinSeen (join_item (scopes_of around.now.outer.now) left
         (join_of around.now.catalog.now step.now)
-        (joined_item (scopes_of around.now.outer.now) left.names (join_of around.now.catalog.now step.now)))
+        (joined_item (scopes_of around.now.outer.now) left (join_of around.now.catalog.now step.now)))
         earlier.now before facts.new scope.new result }
 {
-    join_break(step.word, step.item.at)?;
+    if is_lateral(step.word) {
+        return lateral_item(&step.item, earlier, scope, around, facts);
+    }
     from_item(&step.item, earlier, scope, around, facts)?;
     condition_seen(&step.condition, scope, false, around, facts)
+}
+
+/// One more item in scope, whose subquery sees those in scope, behind items of these names, or its first break.
+#[cycle(seen)]
+fn lateral_item(
+    item: &FromItem,
+    earlier: &[Chars],
+    scope: &mut Scope,
+    around: &Around,
+    facts: &mut Facts,
+) -> Result<(), Refusal>
+    requires { IsSound around.now.catalog.now }
+    ensures { ItemSeen ((from_item_of around.now.catalog.now item.now).means
+        (around_beside (scope.old ∷ scopes_of around.now.outer.now)) (earlier.now ++ scope.old.items))
+        scope.old facts.old facts.new scope.new result }
+{
+    let reading = read_beside(item, &*scope, around)?;
+    put_item(item, earlier, scope, around, reading, facts)
+}
+
+/// What an item reads whose subquery sees this scope, or its first break.
+#[cycle(seen)]
+fn read_beside(item: &FromItem, scope: &Scope, around: &Around) -> Result<Reading, Refusal>
+    requires { IsSound around.now.catalog.now }
+    ensures { ReadSeen (read_of around.now.catalog.now
+        (around_beside (scope.now ∷ scopes_of around.now.outer.now))
+        (source_of around.now.catalog.now item.now.source)) result }
+{
+    let scopes = inside(&*scope, false, &*around.outer)?;
+    read_source(&item.source, &(&*around).lateral(&scopes))
 }
 
 /// One more item in scope, behind items of these names and those in scope, or its first break.
@@ -89,18 +121,19 @@ fn from_item(
     facts: &mut Facts,
 ) -> Result<(), Refusal>
     requires { IsSound around.now.catalog.now }
-    ensures { ItemSeen ((from_item_of around.now.catalog.now item.now).means (scopes_of around.now.outer.now) (earlier.now ++ scope.old.items))
+    ensures { ItemSeen ((from_item_of around.now.catalog.now item.now).means
+        (in_from (scopes_of around.now.outer.now)) (earlier.now ++ scope.old.items))
         scope.old facts.old facts.new scope.new result }
 {
-    let reading = read_source(&item.source, around)?;
+    let reading = read_source(&item.source, &around.in_from())?;
     put_item(item, earlier, scope, around, reading, facts)
 }
 
-/// What an item reads, or its first break.
+/// What an item reads whose subquery stands there, or its first break.
 #[cycle(seen)]
 fn read_source(source: &FromSource, around: &Around) -> Result<Reading, Refusal>
     requires { IsSound around.now.catalog.now }
-    ensures { ReadSeen (read_of around.now.catalog.now (scopes_of around.now.outer.now)
+    ensures { ReadSeen (read_of around.now.catalog.now (around_of around.now)
         (source_of around.now.catalog.now source.now)) result }
 {
     match source {
@@ -109,15 +142,14 @@ fn read_source(source: &FromSource, around: &Around) -> Result<Reading, Refusal>
     }
 }
 
-/// What a subquery gives to FROM, or its first break: it sees the scopes around its core, and no item
-/// beside it.
+/// What a subquery gives to FROM, or its first break.
 #[cycle(seen)]
 fn read_inner(query: &QueryTree, around: &Around) -> Result<Reading, Refusal>
     requires { IsSound around.now.catalog.now }
     ensures { ReadSeen (read_query (query_means_at (query_of around.now.catalog.now query.now)
-        (around_in_from (around_of around.now)))) result }
+        (around_of around.now))) result }
 {
-    match query_seen(query, &around.in_from()) {
+    match query_seen(query, around) {
         Ok(shown) => Ok(read_shown(around.alloc, shown)?),
         Err(refusal) => Err(refusal),
     }

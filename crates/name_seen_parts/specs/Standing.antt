@@ -1,7 +1,8 @@
 -- Where an expression and where a query stand.
-use Rattle.std.specs.Prelude.{true, List}
+use Rattle.std.specs.Prelude.{false, List}
 use Rattle.perm_catalog.specs.Contents.{Contents}
 use Rattle.sql_tree.specs.declared.expression.ExprTree.{ExprTree}
+use Rattle.name_meaning.specs.Froms.{in_from}
 use Rattle.name_meaning.specs.Meanings.{Surroundings, Around, means_at}
 use Rattle.name_meaning.specs.Operands.{Operand}
 use Rattle.name_meaning.specs.Trees.{part_of}
@@ -28,7 +29,11 @@ around_of around = record { outer = scopes_of around.outer.now; may_ask = around
 
 -- where a subquery of FROM stands
 abbrev pub around_in_from : Around → Around
-around_in_from around = record { outer = around.outer; may_ask = true }
+around_in_from around = in_from around.outer
+
+-- where a lateral subquery stands that sees these scopes
+abbrev pub around_beside : List Scope → Around
+around_beside scopes = record { outer = scopes; may_ask = false }
 
 -- an operand as the definition sees it
 abbrev pub operand_at : Contents → Surroundings → Need → ExprTree → Operand

@@ -9,7 +9,7 @@ mod keys;
 mod operands;
 
 pub use aggregates::has_aggregate;
-pub use breaks::{condition_over, group_places, grouped, groups_break, join_break, word_break};
+pub use breaks::{condition_over, group_places, grouped, groups_break, word_break};
 pub use column::ShownColumn;
 pub use counted::count_break;
 pub use keys::keys_break;

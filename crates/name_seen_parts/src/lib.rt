@@ -15,7 +15,7 @@ mod stars;
 
 pub use clauses::{
     ShownColumn, condition_over, count_break, group_places, grouped, groups_break, has_aggregate,
-    join_break, keys_break, operand_break, unite, word_break,
+    keys_break, operand_break, unite, word_break,
 };
 pub use forms::{aggregated_kind, column_kind, condition_kind, count_kind};
 pub use from_columns::{
@@ -28,5 +28,5 @@ pub use needs::{gives_of, need_of};
 pub use operands::Operands;
 pub use refusal::Refusal;
 pub use scopes::{Scopes, inside, look_up, place_among, ungrouped};
-pub use standing::{Around, Here, Standing};
+pub use standing::{Around, Here, Standing, is_lateral};
 pub use stars::{is_of, star, table_star};

@@ -1,12 +1,14 @@
 //! Where expressions and queries stand.
 ghost use Rattle.std.specs.Prelude.{◌≡◌};
+ghost use Rattle.sql_tree.specs.Regular.{is_lateral};
 ghost use Rattle.name_meaning.specs.Queries.{may_not_ask};
 ghost use Rattle.name_meaning.specs.Sublinks.{around_of as below};
 ghost use Rattle.name_seen_parts.specs.Named.{scopes_of};
-ghost use Rattle.name_seen_parts.specs.Standing.{around_in_from, around_of, standing_in, surroundings};
+ghost use Rattle.name_seen_parts.specs.Standing.{around_beside, around_in_from, around_of, standing_in, surroundings};
 
 use crate::scopes::Scopes;
 use perm_catalog::Catalog;
+use sql_tree::JoinWord;
 use std::alloc::Global;
 
 /// How an expression stands: whether an aggregate and a sublink may stand here, and whether it stands in an argument of an
@@ -55,6 +57,18 @@ impl<'a> Here<'a> {
     }
 }
 
+/// Whether the subquery of a join sees the row on the left (ISO/IEC 9075-2, 'lateral derived table').
+pub fn is_lateral(word: JoinWord) -> bool
+    ensures { result ≡ is_lateral word }
+{
+    match word {
+        JoinWord::CrossLateral | JoinWord::LeftLateral => true,
+        JoinWord::Inner | JoinWord::Left | JoinWord::Right | JoinWord::Full | JoinWord::Cross => {
+            false
+        }
+    }
+}
+
 /// Where a query stands: what it is seen with, the scopes around its cores, and whether the word PROVENANCE may stand behind
 /// its first SELECT.
 #[derive(Clone, Copy)]
@@ -93,6 +107,19 @@ impl<'a> Around<'a> {
         ensures catalog { result.catalog.now ≡ self.now.catalog.now }
     {
         self.so(true)
+    }
+
+    /// Where a lateral subquery of FROM stands that sees these scopes.
+    pub fn lateral<'b>(&'b self, scopes: &'b Scopes<'b>) -> Around<'b>
+        ensures place { around_of result ≡ around_beside (scopes_of scopes.now) }
+        ensures catalog { result.catalog.now ≡ self.now.catalog.now }
+    {
+        Around {
+            alloc: self.alloc,
+            catalog: &*self.catalog,
+            outer: scopes,
+            may_ask: false,
+        }
     }
 
     /// The same place, with the word PROVENANCE or not.

@@ -37,7 +37,7 @@ use Rattle.sql_tree.specs.declared.statement.ValuesRow.{ValuesRow}
 use Rattle.name_meaning.proofs.Equations.{ExprBodyFrame, SelectItemFrame, SetTreeFrame, FromSourceFrame, CoreFrame}
 use Rattle.name_meaning.specs.Cores.{BodyPart, core_step, core_over, core_seen, has_some, group_scope, group_break, group_found, word_breaks}
 use Rattle.name_meaning.specs.Expressions.{Body, ArmPart, StepPart, body_step, first_of, second_of, negated_if, times, chain_made, step_operand, first_need, chain_gives, in_kind, arm_operands, else_operand, case_made}
-use Rattle.name_meaning.specs.Froms.{Read, SourcePart, named, inner, FromItemPart, FromMeant, FromPart, JoinPart, attribute_breaks, column_breaks, condition_breaks, first_item, from_all, from_more, beside_from, in_on, item_meant, join_all, join_item, label_of, marked, mark_breaks, named_so, names_of, optional_breaks, on_meant, both_known, scope_items, read_of, read_named, read_table, read_view, read_nothing, read_names, scope_name, source_step, joined_item, unbuilt_breaks, in_clause, optional_meant}
+use Rattle.name_meaning.specs.Froms.{Read, SourcePart, named, inner, FromItemPart, FromMeant, FromPart, ItemMeant, JoinPart, attribute_breaks, column_breaks, condition_breaks, first_item, from_all, from_more, beside_from, in_on, item_meant, join_all, join_item, label_of, marked, mark_breaks, named_so, names_of, optional_breaks, on_meant, both_known, scope_items, read_of, read_named, read_table, read_view, read_nothing, read_names, scope_name, source_step, applied, in_from, joined, joined_around, joined_item, in_clause, optional_meant}
 use Rattle.name_meaning.specs.Items.{SelectPart, columns_meant, item_step, no_columns, star_meant, table_star_meant, items_breaks, is_ungrouped}
 use Rattle.name_meaning.specs.Meanings.{Around, Meant, OutColumn, Part, QueryMeant, QueryPart, Surroundings, broken, broken_if, is_whole, means_at, query_means_at, seen_kind, unites}
 use Rattle.name_meaning.specs.Operands.{Operand, first_unfit, gives_of, need_of, node, operand, operated, parts_breaks, unfit_break}
@@ -134,7 +134,7 @@ abbrev UnspentOperand : SetStepPart → Type 0
 UnspentOperand step = UnspentCore step.operand
 
 abbrev UnspentFromItem : FromItemPart → Type 0
-UnspentFromItem item = (outer : List Scope) (earlier : List (List ℕ)) → Unspent (item.means outer earlier).breaks
+UnspentFromItem item = (around : Around) (earlier : List (List ℕ)) → Unspent (item.means around earlier).breaks
 
 abbrev UnspentFrom : FromPart → Type 0
 UnspentFrom part = (outer : List Scope) (earlier : List (List ℕ)) → Unspent (part.means outer earlier).breaks
@@ -315,9 +315,9 @@ module _ (c : Contents) where
     by_table None (Some view) = tt
     by_table None None = one rule.UnknownRelation name.at refl
 
-  unspent-read : (outer : List Scope) (source : SourcePart) → UnspentSource source → Unspent (read_of c outer source).breaks
-  unspent-read outer (named name) h = unspent-read_named name
-  unspent-read outer (inner query) h = h _
+  unspent-read : (around : Around) (source : SourcePart) → UnspentSource source → Unspent (read_of c around source).breaks
+  unspent-read around (named name) h = unspent-read_named name
+  unspent-read around (inner query) h = h around
 
 unspent-item_meant : (at : ℕ) (m : ScopeMark) (earlier : List (List ℕ)) (name label : List ℕ) (read : Read) → Unspent read.breaks →
     Unspent (item_meant at m earlier name label read).breaks
@@ -331,13 +331,23 @@ unspent-on outer None (Some part) h = tt
 unspent-on outer (Some items) None h = tt
 unspent-on outer (Some items) (Some part) h = unspent-condition part.at (part.means (in_on items outer)) (h (in_on items outer))
 
+unspent-join : (outer : List Scope) (left : FromMeant) (step : JoinPart) (m : ItemMeant) → Unspent left.breaks → Unspent m.breaks
+    → UnspentOptional step.condition → Unspent (join_item outer left step m).breaks
+unspent-join outer left step m h k condition = by_word (is_lateral step.word) where
+  items : Option (List ScopeItem)
+  items = both_known left.items (scope_items m)
+
+  by_word : (lateral : Bool)
+      → Unspent (cond lateral (applied left step.word m) (joined left step.word step.condition m (on_meant outer items step.condition))).breaks
+  by_word true = both left.breaks m.breaks h k
+  by_word false = three left.breaks m.breaks (optional_breaks step.condition (on_meant outer items step.condition)) h k (unspent-on outer items step.condition condition)
+
 unspent-joins : (outer : List Scope) (left : FromMeant) (steps : List JoinPart) → Unspent left.breaks → Every UnspentJoin steps → Unspent (join_all outer left steps).breaks
 unspent-joins outer left [] h k = h
 unspent-joins outer left (step ∷ steps) h k =
-    let m = joined_item outer left.names step in
+    let m = joined_item outer left step in
     unspent-joins outer (join_item outer left step m) steps
-    (three left.breaks m.breaks _ h
-    (both (unbuilt_breaks step.word step.item.at) _ (one_if (is_lateral step.word) rule.UnbuiltForm step.item.at refl) (k.0.0 outer left.names)) (unspent-on outer (both_known left.items (scope_items m)) step.condition k.0.1)) k.1
+    (unspent-join outer left step m h (k.0.0 (joined_around step.word outer left.items) left.names) k.0.1) k.1
 
 unspent-more : (outer : List Scope) (left : FromMeant) (parts : List FromPart) → Unspent left.breaks → Every UnspentFrom parts → Unspent (from_more outer left parts).breaks
 unspent-more outer left [] h k = h
@@ -440,9 +450,10 @@ module _ (c : Contents) where
     core = unspent-core;
     query = λ frame body around. unspent-query around frame.at frame.body frame.order frame.limit body;
     set_operand = λ frame operand. operand;
-    from_item = λ frame source outer earlier. unspent-item_meant frame.at frame.mark earlier (scope_name frame.source frame.alias) (label_of frame.source frame.alias)
-        (read_of c outer frame.source) (unspent-read c outer frame.source source);
-    from_tree = λ frame first joins outer earlier. unspent-joins outer (first_item earlier (frame.first.means outer earlier)) frame.joins (first outer earlier) joins;
+    from_item = λ frame source around earlier. unspent-item_meant frame.at frame.mark earlier (scope_name frame.source frame.alias) (label_of frame.source frame.alias)
+        (read_of c around frame.source) (unspent-read c around frame.source source);
+    from_tree = λ frame first joins outer earlier. unspent-joins outer (first_item earlier (frame.first.means (in_from outer) earlier)) frame.joins
+        (first (in_from outer) earlier) joins;
     join = λ frame item condition. (item, optional frame.condition condition);
   }
 

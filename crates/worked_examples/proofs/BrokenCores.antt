@@ -55,11 +55,23 @@ pub conditions_of_joins :
     ≡ broken rule.UnfitKind 30 ∷ broken rule.UnknownColumn 44 ∷ []
 conditions_of_joins = simp (tree_equations, name_breaks) (rw token-given refl)
 
--- a lateral join isn't carried out yet: SELECT 1 FROM r CROSS JOIN LATERAL (SELECT 1) x
-pub lateral_unbuilt :
-    name_breaks contents (st.Select (query 0 (core (select 0 (item (number 7 1) ∷ []) (from (table 14 (codes "r")) (join join_word.CrossLateral (reads 35 (source.Inner (query 36 (core (select 36 (item (number 43 1) ∷ []) [])))) (Some (name 46 (codes "x"))) mark.Plain) None ∷ []) ∷ [])))))
-    ≡ broken rule.UnbuiltForm 35 ∷ []
-lateral_unbuilt = simp (tree_equations, name_breaks) (rw token-given refl)
+-- a lateral subquery sees the items of its own part of FROM before it: SELECT 1 FROM s, r CROSS JOIN LATERAL (SELECT a, c) x
+pub lateral_sees :
+    name_breaks contents (st.Select (query 0 (core (select 0 (item (number 7 1) ∷ []) (from (table 14 (codes "s")) [] ∷ from (table 17 (codes "r")) (join join_word.CrossLateral (reads 38 (source.Inner (query 39 (core (select 39 (item (column 46 (codes "a")) ∷ item (column 49 (codes "c")) ∷ []) [])))) (Some (name 52 (codes "x"))) mark.Plain) None ∷ []) ∷ [])))))
+    ≡ broken rule.UnknownColumn 49 ∷ []
+lateral_sees = simp (tree_equations, name_breaks) (rw token-given refl)
+
+-- and none behind it: SELECT 1 FROM r CROSS JOIN LATERAL (SELECT c) x CROSS JOIN s
+pub lateral_sees_no_right :
+    name_breaks contents (st.Select (query 0 (core (select 0 (item (number 7 1) ∷ []) (from (table 14 (codes "r")) (join join_word.CrossLateral (reads 35 (source.Inner (query 36 (core (select 36 (item (column 43 (codes "c")) ∷ []) [])))) (Some (name 46 (codes "x"))) mark.Plain) None ∷ join join_word.Cross (table 59 (codes "s")) None ∷ []) ∷ [])))))
+    ≡ broken rule.UnknownColumn 43 ∷ []
+lateral_sees_no_right = simp (tree_equations, name_breaks) (rw token-given refl)
+
+-- it may not ask for provenance: SELECT 1 FROM r CROSS JOIN LATERAL (SELECT PROVENANCE a) x
+pub lateral_asks :
+    name_breaks contents (st.Select (query 0 (core (select 0 (item (number 7 1) ∷ []) (from (table 14 (codes "r")) (join join_word.CrossLateral (reads 35 (source.Inner (query 36 (core (record (select 36 (item (column 54 (codes "a")) ∷ []) []) { provenance = Some 43 })))) (Some (name 57 (codes "x"))) mark.Plain) None ∷ []) ∷ [])))))
+    ≡ broken rule.MisplacedProvenance 43 ∷ []
+lateral_asks = simp (tree_equations, name_breaks) (rw token-given refl)
 
 -- a subquery of FROM does not see its neighbours: SELECT 1 FROM r, (SELECT a) x
 pub neighbours_unseen :

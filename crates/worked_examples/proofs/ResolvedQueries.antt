@@ -6,7 +6,7 @@ use Rattle.null_logic.specs.declared.arith.Arith.TheVariants.{Add, Multiply}
 use Rattle.null_logic.specs.declared.compare.Compare.TheVariants.{Equal, NotEqual, Greater, GreaterEqual}
 use Rattle.bag_algebra.specs.declared.expr.Expr.TheVariants.{Col, Sub, Op, Chain, Case, IsNull, IsTruth, Same}
 use Rattle.bag_algebra.specs.declared.query.Label.TheVariants.{Relation, External}
-use Rattle.bag_algebra.specs.declared.query.Query.TheVariants.{Single, Base, Filter, Project, Join, Union, Except, Distinct, Aggregate, Limit, Prov}
+use Rattle.bag_algebra.specs.declared.query.Query.TheVariants.{Single, Base, Filter, Project, Join, Apply, Union, Except, Distinct, Aggregate, Limit, Prov}
 use Rattle.bag_algebra.specs.declared.query.Query.TheBlock.{shape-the_row-Query-0, hidden-the_row-Query-0, shape-the_row-Sublink-1, hidden-the_row-Sublink-1}
 use Rattle.bag_algebra.specs.declared.query.SubKind.TheVariants.{Exists, Any, All, Scalar}
 use Rattle.sql_tree.specs.declared.query.OrderKey.TheVariants.{Named as named_key, Position}
@@ -37,6 +37,18 @@ pub sublink_in_on :
     (query_meant contents (query 0 (core (select 0 (item (number 7 1) ∷ []) (from (table 14 (codes "r")) (join_step join_word.Left (table 26 (codes "s")) (Some (expr 31 (e.Exists (query 39 (core (record (select 39 (item (number 46 1) ∷ []) (from (reads 53 (source.Named (name 53 (codes "s"))) (Some (name 55 (codes "z"))) mark.Plain) [] ∷ [])) { condition = Some (expr 63 (e.Compared Greater (column_of 63 (codes "z") (codes "c")) (column_of 69 (codes "r") (codes "a")))) })))))) ∷ []) ∷ []))))).make []
     ≡ one_over (Join join.Left read_r read_s (Sub 0) (sub Exists (one_over (Filter read_s (Op (x.Compare Greater) (Col 0 0 ∷ Col 1 0 ∷ [])) [])) ∷ []))
 sublink_in_on = simp tree_equations (rw token-given refl)
+
+-- a lateral subquery is a level as a sublink is: SELECT 1 FROM r CROSS JOIN LATERAL (SELECT 1 FROM s WHERE EXISTS (SELECT 1 FROM s z WHERE z.c = a)) x
+pub lateral_levels :
+    (query_meant contents (query 0 (core (select 0 (item (number 7 1) ∷ []) (from (table 14 (codes "r")) (join_step join_word.CrossLateral (reads 35 (source.Inner (query 36 (core (record (select 36 (item (number 43 1) ∷ []) (from (table 50 (codes "s")) [] ∷ [])) { condition = Some (expr 58 (e.Exists (query 66 (core (record (select 66 (item (number 73 1) ∷ []) (from (reads 80 (source.Named (name 80 (codes "s"))) (Some (name 82 (codes "z"))) mark.Plain) [] ∷ [])) { condition = Some (expr 90 (e.Compared Equal (column_of 90 (codes "z") (codes "c")) (column 96 (codes "a")))) }))))) })))) (Some (name 100 (codes "x"))) mark.Plain) None ∷ []) ∷ []))))).make []
+    ≡ one_over (Apply join.Inner read_r (one_over (Filter read_s (Sub 0) (sub Exists (one_over (Filter read_s (Op (x.Compare Equal) (Col 0 0 ∷ Col 2 0 ∷ [])) [])) ∷ []))))
+lateral_levels = simp tree_equations (rw token-given refl)
+
+-- a left one keeps the rows beside which it gives none: SELECT 1 FROM r LEFT JOIN LATERAL (SELECT 1 FROM s) x ON TRUE
+pub lateral_left :
+    (query_meant contents (query 0 (core (select 0 (item (number 7 1) ∷ []) (from (table 14 (codes "r")) (join_step join_word.LeftLateral (reads 34 (source.Inner (query 35 (core (select 35 (item (number 42 1) ∷ []) (from (table 49 (codes "s")) [] ∷ []))))) (Some (name 52 (codes "x"))) mark.Plain) None ∷ []) ∷ []))))).make []
+    ≡ one_over (Apply join.Left read_r (one_over read_s))
+lateral_left = simp tree_equations (rw token-given refl)
 
 -- a column through two sublinks, one, and none: SELECT a FROM r WHERE EXISTS (SELECT 1 FROM s WHERE EXISTS (SELECT 1 FROM s y WHERE a = y.c AND s.c = 1))
 pub levels :

@@ -15,7 +15,8 @@ use Rattle.name_meaning.specs.Trees.{arm_of, part_of, query_of, step_of, core_of
 use Rattle.name_meaning.specs.declared.need.Gives.TheVariants.{Common}
 use Rattle.name_meaning.specs.declared.need.Need.TheVariants.{Alike, OfKind}
 use Rattle.name_seen_parts.specs.Named.{scopes_of, here_only}
-use Rattle.name_seen_parts.specs.Standing.{surroundings, around_of as standing_of}
+use Rattle.name_seen_parts.specs.Standing.{surroundings, around_beside, around_of as standing_of}
+use Rattle.sql_tree.specs.Regular.{is_lateral}
 use Rattle.name_made_nodes.specs.Makes.{IsBuilt, Links, Makes, MakesArms, MakesMore, MakesSteps, before_of, with_sub, MakesQuery}
 use Rattle.name_made_nodes.proofs.Arms.{behind-others, next-arm-made, next-step-made, of-ok, operand-one}
 use Rattle.name_made_nodes.proofs.FormsMade.{aggregate-form, arm-is, between-form, case-else-form, case-form, chain-form, coalesce-form, column-form, compared-form, count-form, distinct-form, exists-form, in-list-form, in-query-form, integer-form, like-form, logic-form, nots-form, null-form, null-of-form, null-test-form, nullif-form, paren-form, quantified-form, scalar-form, signs-form, step-is, text-form, told, truth-form, truth-test-form}
@@ -30,7 +31,7 @@ use Rattle.null_logic.specs.declared.operator.Operator.TheVariants as x
 use Rattle.perm_values.specs.declared.kind.Kind.TheVariants as kind
 use Rattle.perm_values.specs.declared.value.Value.TheVariants as v
 use Rattle.name_meaning.specs.Cores.{group_scope}
-use Rattle.name_meaning.specs.Froms.{first_item, in_clause, join_all, optional_meant, FromMeant, FromPart}
+use Rattle.name_meaning.specs.Froms.{first_item, in_clause, in_from, join_all, optional_meant, FromMeant, FromPart}
 use Rattle.name_meaning.specs.declared.scope.Scope.{Scope}
 use Rattle.bag_algebra.specs.declared.query.Aggr.{Aggr}
 use Rattle.sql_tree.specs.declared.query.Core.{out-Core}
@@ -40,11 +41,11 @@ use Rattle.sql_tree.specs.declared.source.JoinStep.{JoinStep}
 use Rattle.name_made_nodes.specs.Cored.{clauses_over}
 use Rattle.name_made_nodes.proofs.ItemLists.{value-listed}
 use Rattle.name_made_parts.specs.Cored.{Keeps, MakesClauses, MakesList, having_part, kept_of, select_parts, sources_meant}
-use Rattle.name_made_parts.specs.Sources.{JoinsMade, SourcesMade, join_count}
+use Rattle.name_made_parts.specs.Sources.{JoinsMade, MakesSource, SourcesMade, join_count}
 use Rattle.name_made_parts.proofs.Sourcing.{first-made, from-fields, item-inner, item-named, no-sources, own-stands, source-more, sources-made}
 use Rattle.bag_algebra.specs.declared.query.Query.{Query}
 use Rattle.name_made.proofs.Chaining.{ChainMade, chain-step}
-use Rattle.name_made.proofs.Standing.{from-count, items-more, of-on, step-more, tree-join}
+use Rattle.name_made.proofs.Standing.{from-count, items-more, of-on, step-more, tree-join, tree-lateral}
 use Rattle.name_made.proofs.OfResults.{from-one, of-beside, of-both, of-both-is, of-one, of-one-is, of-three-is}
 use Rattle.name_made.proofs.+made.Goals as goal
 
@@ -482,13 +483,36 @@ sources::sources_made-returns t c =
 
 pub sources::source_made-loop-place-init : goal.sources::source_made-loop-place-init
 sources::source_made-loop-place-init t c = λ earlier.
-    first-made earlier _ c.args.first c.args.scope.now c.in_ok-whole.whole (c.in_ok-whole.ensures earlier)
+    first-made earlier _ c.args.first c.args.scope.now c.in_ok-whole.whole
+    ((rw (c.in_from.ensures.place, c.in_from.ensures.catalog) at c.in_ok-whole.ensures) earlier)
+
+pub sources::join_made-returns-then-is_lateral : goal.sources::join_made-returns-then-is_lateral
+sources::join_made-returns-then-is_lateral t c =
+    let around = c.args.around.now in
+    of-one _ _ _ c.beside_made-right.result c.with_lateral.result c.beside_made-right.ensures (rw c.join_kind.ensures at c.with_lateral.ensures)
+    (λ right after of_right is. tree-lateral around.catalog.now (scopes_of around.outer.now) c.args.step.now c.args.first c.args.before c.args.scope.now c.args.whole right after
+    (sym c.is_lateral.ensures ∙ c.if-is_lateral.true) of_right is)
 
 pub sources::join_made-returns : goal.sources::join_made-returns
 sources::join_made-returns t c =
     let around = c.args.around.now in
-    of-both _ _ _ _ c.item_made-right.result c.on_made-kept.result c.with_right.result c.item_made-right.ensures c.on_made-kept.ensures (rw c.join_kind.ensures at c.with_right.ensures)
-    (λ right kept after of_right of_kept is. tree-join around.catalog.now (scopes_of around.outer.now) c.args.step.now c.args.first c.args.count c.args.scope.now c.args.whole right after kept of_kept of_right is)
+    of-both _ _ _ _ c.item_made-right.result c.on_made-kept.result c.with_right.result
+    (rw (c.in_from.ensures.place, c.in_from.ensures.catalog) at c.item_made-right.ensures) c.on_made-kept.ensures (rw c.join_kind-2.ensures at c.with_right.ensures)
+    (λ right kept after of_right of_kept is. tree-join around.catalog.now (scopes_of around.outer.now) c.args.step.now c.args.first c.args.before c.args.scope.now c.args.whole right after kept
+    (sym c.is_lateral.ensures ∙ c.if-is_lateral.false) of_kept of_right is)
+
+pub sources::beside_made-returns : goal.sources::beside_made-returns
+sources::beside_made-returns t c =
+    let around = c.args.around.now in
+    let outer = scopes_of around.outer.now in
+    of-ok _ _ c.seeing_made-made.result
+    (λ made makes items stands counted earlier.
+    subst (λ (own : Scope). MakesSource ((from_item_of around.catalog.now c.args.item.now).means (around_beside (own ∷ outer)) earlier) made)
+    (c.in_ok-own.ensures items stands counted) (makes earlier))
+    c.seeing_made-made.ensures
+
+pub sources::seeing_made-returns : goal.sources::seeing_made-returns
+sources::seeing_made-returns t c = rw (c.lateral.ensures.place, c.lateral.ensures.catalog, c.in_ok-scopes.ensures) at c.item_made.ensures
 
 pub sources::on_made-returns : goal.sources::on_made-returns
 sources::on_made-returns t c =
@@ -498,29 +522,29 @@ sources::on_made-returns t c =
     of-ok _ _ c.condition_made-kept.result
     (λ kept keeps items stands counted.
     subst (λ (own : Scope). Keeps (optional_meant (in_clause (here_only true own) outer false) condition) kept)
-    (c.in_ok-own.ensures items stands counted) keeps)
+    (c.in_ok-own.ensures items stands (counted ∙ sym c.in-Some.is)) keeps)
     c.condition_made-kept.ensures
 
 pub sources::item_made-returns-in-Named : goal.sources::item_made-returns-in-Named
 sources::item_made-returns-in-Named t c =
     let around = c.args.around.now in
     of-ok _ _ c.named_item.result
-    (λ made is. item-named around.catalog.now (scopes_of around.outer.now) c.args.item.now c.in-Named.name made c.in-Named.is is) c.named_item.ensures
+    (λ made is. item-named around.catalog.now (standing_of around) c.args.item.now c.in-Named.name made c.in-Named.is is) c.named_item.ensures
 
 pub sources::item_made-returns-in_ok-shown-in-Inner : goal.sources::item_made-returns-in_ok-shown-in-Inner
 sources::item_made-returns-in_ok-shown-in-Inner t c =
     let around = c.args.around.now in
-    let m = query_means_at (query_of around.catalog.now c.in-Inner.query) (record { outer = scopes_of around.outer.now; may_ask = true }) in
+    let m = query_means_at (query_of around.catalog.now c.in-Inner.query) (standing_of around) in
     let shown = rw c.get-tree.ensures at c.in_ok-shown-in-Inner.ensures in
     of-one _ _ _ c.query_made-query.result c.marked_of.result (rw c.get-tree.ensures at c.query_made-query.ensures) c.marked_of.ensures
-    (λ query made of_query is. item-inner around.catalog.now (scopes_of around.outer.now) c.args.item.now c.in-Inner.query made c.in-Inner.is (λ whole. is m whole shown (of_query.makes whole)))
+    (λ query made of_query is. item-inner around.catalog.now (standing_of around) c.args.item.now c.in-Inner.query made c.in-Inner.is (λ whole. is m whole shown (of_query.makes whole)))
 
 pub sources::source_made-loop-place-preserved : goal.sources::source_made-loop-place-preserved
 sources::source_made-loop-place-preserved t c = λ earlier.
     let around = c.args.around.now in
     let outer = scopes_of around.outer.now in
     let tree = c.args.source.now in
-    let first = (from_item_of around.catalog.now (out-FromTree tree).first).means outer earlier in
+    let first = (from_item_of around.catalog.now (out-FromTree tree).first).means (in_from outer) earlier in
     step-more around.catalog.now outer (first_item earlier first) (out-FromTree tree).joins c.loop-place.place c.step-item.result c.args.first c.args.scope.now c.loop-place.whole c.in_ok-whole-2.whole
     (rw c.as_slice-step-items.ensures at c.loop-place-test.true) (rw c.as_slice-step-items.ensures at c.step-item.is) (c.loop-place.invariant earlier) c.in_ok-whole-2.ensures
 
@@ -529,7 +553,7 @@ sources::source_made-returns t c = λ earlier whole stands.
     let around = c.args.around.now in
     let outer = scopes_of around.outer.now in
     let tree = c.args.source.now in
-    let first = (from_item_of around.catalog.now (out-FromTree tree).first).means outer earlier in
+    let first = (from_item_of around.catalog.now (out-FromTree tree).first).means (in_from outer) earlier in
     let all = rw c.as_slice-step-items.ensures at c.loop-place-test.false in
     let made = subst (λ (m : FromMeant). JoinsMade m c.args.first c.args.scope.now c.loop-place.whole c.loop-place.place)
     (ap (λ (steps : List JoinStep). join_all outer (first_item earlier first) (map (join_of around.catalog.now) steps)) (take_all c.loop-place.place (out-FromTree tree).joins all)

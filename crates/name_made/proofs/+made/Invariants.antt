@@ -5,7 +5,7 @@ use Rattle.name_meaning.specs.Operands.{operand}
 use Rattle.name_meaning.specs.Trees.{arm_of, part_of, step_of, from_item_of, from_of, join_of, set_step_of, item_of}
 use Rattle.name_seen_parts.specs.Standing.{surroundings, around_of}
 use Rattle.name_made_nodes.specs.Makes.{MakesArms, MakesMore, MakesSteps, MakesQuery}
-use Rattle.name_meaning.specs.Froms.{first_item, join_all}
+use Rattle.name_meaning.specs.Froms.{first_item, in_from, join_all}
 use Rattle.name_meaning.specs.Meanings.{QueryMeant}
 use Rattle.name_meaning.specs.Queries.{set_chain}
 use Rattle.sql_tree.specs.declared.source.FromTree.{out-FromTree}
@@ -48,7 +48,7 @@ invariant-sources::sources_made-loop-source l =
 abbrev pub invariant-sources::source_made-loop-place : goal.invariant-sources::source_made-loop-place
 invariant-sources::source_made-loop-place l =
     (earlier : List (List ℕ)) → JoinsMade (join_all (scopes_of l.around.outer.now)
-    (first_item earlier ((from_item_of l.around.catalog.now (out-FromTree l.source).first).means (scopes_of l.around.outer.now) earlier))
+    (first_item earlier ((from_item_of l.around.catalog.now (out-FromTree l.source).first).means (in_from (scopes_of l.around.outer.now)) earlier))
     (map (join_of l.around.catalog.now) (take l.place (out-FromTree l.source).joins))) l.first l.scope l.whole l.place
 
 -- the items so far are made

@@ -23,7 +23,7 @@ use Rattle.name_meaning.specs.declared.need.Gives.TheVariants.{Common as common}
 use Rattle.name_meaning.specs.declared.need.Need.TheVariants.{Alike as alike, OfKind as of_kind}
 use Rattle.name_meaning.proofs.Forms.{means-null, means-nullof, means-integer, means-text, means-truth, means-column, means-paren, means-nots, means-signs, means-logic, means-chain, means-compared, means-like, means-between, means-inlist, means-isnull, means-istruth, means-isdistinct, means-coalesce, means-exists, means-inquery, means-nullif, means-quantified, means-scalar}
 use Rattle.name_seen_parts.specs.Named.{scopes_of}
-use Rattle.name_seen_parts.specs.Standing.{surroundings, around_in_from}
+use Rattle.name_seen_parts.specs.Standing.{surroundings, around_beside, around_in_from}
 use Rattle.name_seen_cores.specs.Expressed.{ExpressionSeen, OperandsBehind, kind_over}
 use Rattle.name_seen_cores.specs.Inner.{exists_over, scalar_over, tested_over}
 use Rattle.name_seen_cores.proofs.Alone.{null-alone, known-alone, column-alone, told-by, told-so}
@@ -39,7 +39,7 @@ use Rattle.sql_tree.specs.declared.source.FromTree.{FromTree, out-FromTree}
 use Rattle.sql_tree.specs.declared.source.JoinStep.{JoinStep, out-JoinStep}
 use Rattle.sql_tree.specs.declared.query.SetStep.{SetStep}
 use Rattle.name_meaning.specs.Cores.{BodyPart}
-use Rattle.name_meaning.specs.Froms.{FromMeant, FromPart, ItemMeant, Read, first_item, from_all, in_clause, join_all, join_item, joined_item, label_of, optional_meant, read_of, scope_name}
+use Rattle.name_meaning.specs.Froms.{FromMeant, FromPart, ItemMeant, Read, first_item, from_all, in_clause, in_from, join_all, join_item, joined_item, label_of, optional_meant, read_of, scope_name}
 use Rattle.name_meaning.specs.Items.{SelectMeant}
 use Rattle.name_meaning.specs.Meanings.{Around, Part, QueryMeant}
 use Rattle.perm_catalog.specs.Contents.{Contents}
@@ -58,8 +58,10 @@ use Rattle.name_seen_cores.proofs.Queried.{chain-behind, chain-refused}
 use Rattle.name_seen_from.specs.Readings.{ItemAdded, ItemSeen, ReadSeen}
 use Rattle.name_seen.proofs.Conditions.{some-condition}
 use Rattle.name_seen.proofs.CoreSteps.{core-answered, from-answered, from-refused, groups-refused, has-from, having-refused, where-refused, word-refused}
-use Rattle.name_seen.proofs.FromTrees.{from-means, inner-read, item-refused, item-means, joined-condition, joined-item, named-read, read-refused, joined-breaks, joined-whole}
-use Rattle.name_seen.proofs.Joined.{first-refused, first-whole, join-refused, joins-behind, none-held, source-refused, step-refused, join-unbuilt, joined-added, joined-refused, join-behind}
+use Rattle.name_seen.proofs.FromTrees.{from-means, inner-read, item-refused, item-means, joined-condition, joined-item, joined-word, lateral-means, named-read, read-refused}
+use Rattle.name_seen.proofs.Joined.{first-refused, first-whole, join-refused, joins-behind, none-held, source-refused, step-refused, join-behind, lateral-seen}
+use Rattle.name_laws.proofs.Lateral.{join-lateral, join-plain, lateral_item, plain_item}
+use Rattle.sql_tree.specs.Regular.{is_lateral}
 use Rattle.name_seen.specs.Joining.{JoinSeen}
 use Rattle.name_seen_from.proofs.Sourced.{source-behind}
 use Rattle.name_seen.proofs.Nodes.{aggregate-alone, aggregate-means, argument-told, case-means, node-behind, none-first, rest-so, steps-so}
@@ -587,63 +589,98 @@ queries::query_seen-returns t c =
 pub sources::read_source-returns-in-Named : goal.sources::read_source-returns-in-Named
 sources::read_source-returns-in-Named t c =
     let around = c.args.around.now in
-    subst (λ (read : Read). ReadSeen read c.read_named.result) (sym (named-read around.catalog.now (scopes_of around.outer.now) c.args.source.now c.in-Named.name c.in-Named.is))
+    subst (λ (read : Read). ReadSeen read c.read_named.result) (sym (named-read around.catalog.now (around_of around) c.args.source.now c.in-Named.name c.in-Named.is))
     c.read_named.ensures
 
 pub sources::read_source-returns-in-Inner : goal.sources::read_source-returns-in-Inner
 sources::read_source-returns-in-Inner t c =
     let around = c.args.around.now in
     subst (λ (read : Read). ReadSeen read c.read_inner.result)
-    (sym (inner-read around.catalog.now (scopes_of around.outer.now) c.args.source.now c.in-Inner.query c.in-Inner.is))
+    (sym (inner-read around.catalog.now (around_of around) c.args.source.now c.in-Inner.query c.in-Inner.is))
     (rw c.get.ensures at c.read_inner.ensures)
 
 pub sources::read_inner-returns-in_ok-read_shown-in-Ok : goal.sources::read_inner-returns-in_ok-read_shown-in-Ok
 sources::read_inner-returns-in_ok-read_shown-in-Ok t c =
     let around = c.args.around.now in
-    c.in_ok-read_shown-in-Ok.ensures (query_means_at (query_of around.catalog.now c.args.query.now)
-    (around_in_from (around_of around))) (rw (c.in_from.ensures.place, c.in_from.ensures.catalog) at c.in-Ok.ensures)
+    c.in_ok-read_shown-in-Ok.ensures (query_means_at (query_of around.catalog.now c.args.query.now) (around_of around)) c.in-Ok.ensures
 
 pub sources::read_inner-returns-in-Err : goal.sources::read_inner-returns-in-Err
 sources::read_inner-returns-in-Err t c =
     let around = c.args.around.now in
-    read-refused (query_means_at (query_of around.catalog.now c.args.query.now) (around_in_from (around_of around))) c.in-Err.refusal
-    (subst (λ (place : Around). QuerySeen (query_means_at (query_of around.catalog.now c.args.query.now) place) (Err c.in-Err.refusal)) c.in_from.ensures.place
-    (subst (λ (held : Contents). QuerySeen (query_means_at (query_of held c.args.query.now) (around_of c.in_from.result)) (Err c.in-Err.refusal)) c.in_from.ensures.catalog
-    c.in-Err.ensures))
+    read-refused (query_means_at (query_of around.catalog.now c.args.query.now) (around_of around)) c.in-Err.refusal c.in-Err.ensures
 
 pub sources::from_item-returns-in_err-reading : goal.sources::from_item-returns-in_err-reading
 sources::from_item-returns-in_err-reading t c =
     let around = c.args.around.now in
     let item = c.args.item.now in
-    let outer = scopes_of around.outer.now in
+    let place = in_from (scopes_of around.outer.now) in
     let held = c.args.earlier.now ++ c.args.scope.now.items in
-    same-refused (λ result. ItemSeen ((from_item_of around.catalog.now item).means outer held) c.args.scope.now c.args.facts.now c.args.facts.now c.args.scope.now result)
+    same-refused (λ result. ItemSeen ((from_item_of around.catalog.now item).means place held) c.args.scope.now c.args.facts.now c.args.facts.now c.args.scope.now result)
     c.from_residual.result c.in_err-reading.field-0.0 c.from_residual.ensures.1
     (subst (λ (m : ItemMeant). ItemSeen m c.args.scope.now c.args.facts.now c.args.facts.now c.args.scope.now (Err c.in_err-reading.field-0.0))
-    (sym (item-means around.catalog.now item outer held))
+    (sym (item-means around.catalog.now item place held))
     (item-refused item.at item.mark held (scope_name (source_of around.catalog.now item.source) item.alias) (label_of (source_of around.catalog.now item.source) item.alias)
-    (read_of around.catalog.now outer (source_of around.catalog.now item.source)) c.args.scope.now c.args.scope.now c.args.facts.now c.args.facts.now
-    c.in_err-reading.field-0.0 c.in_err-reading.ensures))
+    (read_of around.catalog.now place (source_of around.catalog.now item.source)) c.args.scope.now c.args.scope.now c.args.facts.now c.args.facts.now
+    c.in_err-reading.field-0.0
+    (subst (λ (there : Around). ReadSeen (read_of around.catalog.now there (source_of around.catalog.now item.source)) (Err c.in_err-reading.field-0.0)) c.in_from.ensures.place
+    (subst (λ (kept : Contents). ReadSeen (read_of kept (around_of c.in_from.result) (source_of kept item.source)) (Err c.in_err-reading.field-0.0)) c.in_from.ensures.catalog
+    c.in_err-reading.ensures))))
 
 pub sources::from_item-returns : goal.sources::from_item-returns
 sources::from_item-returns t c =
     let around = c.args.around.now in
     let item = c.args.item.now in
+    let place = in_from (scopes_of around.outer.now) in
     subst (λ (m : ItemMeant). ItemSeen m c.args.scope.now c.args.facts.now c.put_item.new.facts c.put_item.new.scope c.put_item.result)
-    (sym (item-means around.catalog.now item (scopes_of around.outer.now) (c.args.earlier.now ++ c.args.scope.now.items)))
-    (c.put_item.ensures around.catalog.now (read_of around.catalog.now (scopes_of around.outer.now) (source_of around.catalog.now item.source))
-    c.in_ok-reading.ensures)
+    (sym (item-means around.catalog.now item place (c.args.earlier.now ++ c.args.scope.now.items)))
+    (c.put_item.ensures around.catalog.now (read_of around.catalog.now place (source_of around.catalog.now item.source))
+    (rw (c.in_from.ensures.place, c.in_from.ensures.catalog) at c.in_ok-reading.ensures))
 
-pub sources::join_seen-returns-in_err-join_break : goal.sources::join_seen-returns-in_err-join_break
-sources::join_seen-returns-in_err-join_break t c = λ left before first.
+pub sources::lateral_item-returns-in_err-reading : goal.sources::lateral_item-returns-in_err-reading
+sources::lateral_item-returns-in_err-reading t c =
+    let around = c.args.around.now in
+    let item = c.args.item.now in
+    let place = around_beside (c.args.scope.now ∷ scopes_of around.outer.now) in
+    let held = c.args.earlier.now ++ c.args.scope.now.items in
+    same-refused (λ result. ItemSeen ((from_item_of around.catalog.now item).means place held) c.args.scope.now c.args.facts.now c.args.facts.now c.args.scope.now result)
+    c.from_residual.result c.in_err-reading.field-0.0 c.from_residual.ensures.1
+    (subst (λ (m : ItemMeant). ItemSeen m c.args.scope.now c.args.facts.now c.args.facts.now c.args.scope.now (Err c.in_err-reading.field-0.0))
+    (sym (item-means around.catalog.now item place held))
+    (item-refused item.at item.mark held (scope_name (source_of around.catalog.now item.source) item.alias) (label_of (source_of around.catalog.now item.source) item.alias)
+    (read_of around.catalog.now place (source_of around.catalog.now item.source)) c.args.scope.now c.args.scope.now c.args.facts.now c.args.facts.now
+    c.in_err-reading.field-0.0 c.in_err-reading.ensures))
+
+pub sources::lateral_item-returns : goal.sources::lateral_item-returns
+sources::lateral_item-returns t c =
+    let around = c.args.around.now in
+    let item = c.args.item.now in
+    let place = around_beside (c.args.scope.now ∷ scopes_of around.outer.now) in
+    subst (λ (m : ItemMeant). ItemSeen m c.args.scope.now c.args.facts.now c.put_item.new.facts c.put_item.new.scope c.put_item.result)
+    (sym (item-means around.catalog.now item place (c.args.earlier.now ++ c.args.scope.now.items)))
+    (c.put_item.ensures around.catalog.now (read_of around.catalog.now place (source_of around.catalog.now item.source)) c.in_ok-reading.ensures)
+
+pub sources::read_beside-returns : goal.sources::read_beside-returns
+sources::read_beside-returns t c =
+    let around = c.args.around.now in
+    let source = c.args.item.now.source in
+    subst (λ (there : Around). ReadSeen (read_of around.catalog.now there (source_of around.catalog.now source)) c.read_source.result)
+    (c.lateral.ensures.place ∙ ap around_beside c.in_ok-scopes.ensures)
+    (subst (λ (kept : Contents). ReadSeen (read_of kept (around_of c.lateral.result) (source_of kept source)) c.read_source.result) c.lateral.ensures.catalog
+    c.read_source.ensures)
+
+pub sources::join_seen-returns-then-is_lateral : goal.sources::join_seen-returns-then-is_lateral
+sources::join_seen-returns-then-is_lateral t c = λ left before first.
     let around = c.args.around.now in
     let step = c.args.step.now in
     let outer = scopes_of around.outer.now in
     let joined = join_of around.catalog.now step in
-    same-refused (λ result. JoinSeen (join_item outer left joined (joined_item outer left.names joined)) c.args.earlier.now before c.args.facts.now
-    c.args.scope.now result) c.from_residual.result (Broken c.in_err-join_break.field-0.0) c.from_residual.ensures.1
-    (join-unbuilt outer left joined c.args.earlier.now before c.args.facts.now c.args.scope.now c.in_err-join_break.field-0.0 first
-    (ap (λ breaks. first_or breaks (tt {0})) (joined-breaks around.catalog.now step) ∙ sym c.in_err-join_break.ensures))
+    let lateral = ap is_lateral (joined-word around.catalog.now step) ∙ sym c.is_lateral.ensures ∙ c.if-is_lateral.true in
+    subst (λ (m : FromMeant). JoinSeen m c.args.earlier.now before c.lateral_item.new.facts c.lateral_item.new.scope c.lateral_item.result)
+    (sym (join-lateral outer left joined lateral))
+    (lateral-seen left joined.word (lateral_item outer left joined) c.args.earlier.now before c.args.facts.now c.lateral_item.new.facts c.args.scope.now
+    c.lateral_item.new.scope c.lateral_item.result first
+    (subst (λ (m : ItemMeant). ItemSeen m c.args.scope.now c.args.facts.now c.lateral_item.new.facts c.lateral_item.new.scope c.lateral_item.result)
+    (sym (lateral-means around.catalog.now step outer left c.args.earlier.now before c.args.facts.now c.args.scope.now first)) c.lateral_item.ensures))
 
 pub sources::join_seen-returns-in_err-from_item : goal.sources::join_seen-returns-in_err-from_item
 sources::join_seen-returns-in_err-from_item t c = λ left before first.
@@ -651,14 +688,16 @@ sources::join_seen-returns-in_err-from_item t c = λ left before first.
     let step = c.args.step.now in
     let outer = scopes_of around.outer.now in
     let joined = join_of around.catalog.now step in
-    same-refused (λ result. JoinSeen (join_item outer left joined (joined_item outer left.names joined)) c.args.earlier.now before c.from_item.new.facts
-    c.from_item.new.scope result) c.from_residual-in_err-from_item.result c.in_err-from_item.field-0.0 c.from_residual-in_err-from_item.ensures.1
-    (join-refused outer left joined (joined_item outer left.names joined) c.args.earlier.now before c.args.facts.now c.from_item.new.facts c.args.scope.now
+    let plain = ap is_lateral (joined-word around.catalog.now step) ∙ sym c.is_lateral.ensures ∙ c.if-is_lateral.false in
+    same-refused (λ result. JoinSeen (join_item outer left joined (joined_item outer left joined)) c.args.earlier.now before c.from_item.new.facts
+    c.from_item.new.scope result) c.from_residual.result c.in_err-from_item.field-0.0 c.from_residual.ensures.1
+    (subst (λ (m : FromMeant). JoinSeen m c.args.earlier.now before c.from_item.new.facts c.from_item.new.scope (Err c.in_err-from_item.field-0.0))
+    (sym (join-plain outer left joined plain))
+    (join-refused outer left joined (plain_item outer left joined) c.args.earlier.now before c.args.facts.now c.from_item.new.facts c.args.scope.now
     c.from_item.new.scope c.in_err-from_item.field-0.0 first
-    (joined-refused outer left.names joined (joined-whole around.catalog.now step c.in_ok-join_break.ensures) c.args.scope.now c.from_item.new.scope
-    c.args.facts.now c.from_item.new.facts c.in_err-from_item.field-0.0
     (subst (λ (m : ItemMeant). ItemSeen m c.args.scope.now c.args.facts.now c.from_item.new.facts c.from_item.new.scope (Err c.in_err-from_item.field-0.0))
-    (sym (joined-item around.catalog.now step outer left.names (c.args.earlier.now ++ c.args.scope.now.items) first.names)) c.in_err-from_item.ensures)))
+    (sym (joined-item around.catalog.now step (in_from outer) left.names (c.args.earlier.now ++ c.args.scope.now.items) first.names))
+    c.in_err-from_item.ensures)))
 
 pub sources::join_seen-returns : goal.sources::join_seen-returns
 sources::join_seen-returns t c = λ left before first.
@@ -666,22 +705,23 @@ sources::join_seen-returns t c = λ left before first.
     let step = c.args.step.now in
     let outer = scopes_of around.outer.now in
     let joined = join_of around.catalog.now step in
-    join-behind outer left joined (joined_item outer left.names joined) c.args.earlier.now before c.args.facts.now c.from_item.new.facts
+    let plain = ap is_lateral (joined-word around.catalog.now step) ∙ sym c.is_lateral.ensures ∙ c.if-is_lateral.false in
+    subst (λ (m : FromMeant). JoinSeen m c.args.earlier.now before c.condition_seen.new.facts c.from_item.new.scope c.condition_seen.result)
+    (sym (join-plain outer left joined plain))
+    (join-behind outer left joined (plain_item outer left joined) c.args.earlier.now before c.args.facts.now c.from_item.new.facts
     c.condition_seen.new.facts c.args.scope.now c.from_item.new.scope c.condition_seen.result first
-    (joined-added outer left.names joined (joined-whole around.catalog.now step c.in_ok-join_break.ensures) c.args.scope.now c.from_item.new.scope
-    c.args.facts.now c.from_item.new.facts
     (subst (λ (m : ItemMeant). ItemAdded m c.args.scope.now c.args.facts.now c.from_item.new.facts c.from_item.new.scope)
-    (sym (joined-item around.catalog.now step outer left.names (c.args.earlier.now ++ c.args.scope.now.items) first.names)) c.in_ok-from_item.ensures))
+    (sym (joined-item around.catalog.now step (in_from outer) left.names (c.args.earlier.now ++ c.args.scope.now.items) first.names)) c.in_ok-from_item.ensures)
     (subst (λ (part : Option Part). ConditionSeen part (optional_meant (in_clause c.from_item.new.scope outer false) part) c.from_item.new.facts
     c.condition_seen.new.facts c.condition_seen.result)
-    (sym (joined-condition around.catalog.now step (out-JoinStep step).condition refl)) c.condition_seen.ensures)
+    (sym (joined-condition around.catalog.now step (out-JoinStep step).condition refl)) c.condition_seen.ensures))
 
 pub sources::source_items-returns-in_err-from_item : goal.sources::source_items-returns-in_err-from_item
 sources::source_items-returns-in_err-from_item t c =
     let around = c.args.around.now in
     let outer = scopes_of around.outer.now in
     let tree = c.args.tree.now in
-    let first = (from_item_of around.catalog.now (out-FromTree tree).first).means outer c.args.earlier.now in
+    let first = (from_item_of around.catalog.now (out-FromTree tree).first).means (in_from outer) c.args.earlier.now in
     let joins = (out-FromTree tree).joins in
     let join = join_of around.catalog.now in
     same-refused (λ result. FromSeen ((from_of around.catalog.now tree).means outer c.args.earlier.now) c.args.earlier.now c.args.facts.now c.from_item.new.facts result)
@@ -689,7 +729,7 @@ sources::source_items-returns-in_err-from_item t c =
     (subst (λ (m : FromMeant). FromSeen m c.args.earlier.now c.args.facts.now c.from_item.new.facts (Err c.in_err-from_item.field-0.0))
     (sym (from-means around.catalog.now tree outer c.args.earlier.now))
     (first-refused outer first (map join joins) c.args.earlier.now c.args.facts.now c.from_item.new.facts c.no_items-scope.result c.from_item.new.scope c.in_err-from_item.field-0.0
-    (subst (λ (names : List (List ℕ)). ItemSeen ((from_item_of around.catalog.now (out-FromTree tree).first).means outer names) c.no_items-scope.result c.args.facts.now
+    (subst (λ (names : List (List ℕ)). ItemSeen ((from_item_of around.catalog.now (out-FromTree tree).first).means (in_from outer) names) c.no_items-scope.result c.args.facts.now
     c.from_item.new.facts c.from_item.new.scope (Err c.in_err-from_item.field-0.0))
     (none-held c.args.earlier.now c.no_items-scope.result c.no_items-scope.ensures) c.in_err-from_item.ensures)))
 
@@ -698,11 +738,11 @@ sources::source_items-loop-step-init t c =
     let around = c.args.around.now in
     let outer = scopes_of around.outer.now in
     let tree = c.args.tree.now in
-    let first = (from_item_of around.catalog.now (out-FromTree tree).first).means outer c.args.earlier.now in
+    let first = (from_item_of around.catalog.now (out-FromTree tree).first).means (in_from outer) c.args.earlier.now in
     let joins = (out-FromTree tree).joins in
     let join = join_of around.catalog.now in
     first-whole first c.args.earlier.now c.args.facts.now c.from_item.new.facts c.no_items-scope.result c.from_item.new.scope c.no_items-scope.ensures
-    (subst (λ (names : List (List ℕ)). ItemAdded ((from_item_of around.catalog.now (out-FromTree tree).first).means outer names) c.no_items-scope.result c.args.facts.now
+    (subst (λ (names : List (List ℕ)). ItemAdded ((from_item_of around.catalog.now (out-FromTree tree).first).means (in_from outer) names) c.no_items-scope.result c.args.facts.now
     c.from_item.new.facts c.from_item.new.scope)
     (none-held c.args.earlier.now c.no_items-scope.result c.no_items-scope.ensures) c.in_ok-from_item.ensures)
 
@@ -711,7 +751,7 @@ sources::source_items-returns-in_err-join_seen t c =
     let around = c.args.around.now in
     let outer = scopes_of around.outer.now in
     let tree = c.args.tree.now in
-    let first = (from_item_of around.catalog.now (out-FromTree tree).first).means outer c.args.earlier.now in
+    let first = (from_item_of around.catalog.now (out-FromTree tree).first).means (in_from outer) c.args.earlier.now in
     let joins = (out-FromTree tree).joins in
     let join = join_of around.catalog.now in
     let so_far = join_all outer (first_item c.args.earlier.now first) (map join (take c.loop-step.step-index joins)) in
@@ -731,7 +771,7 @@ sources::source_items-loop-step-preserved t c =
     let around = c.args.around.now in
     let outer = scopes_of around.outer.now in
     let tree = c.args.tree.now in
-    let first = (from_item_of around.catalog.now (out-FromTree tree).first).means outer c.args.earlier.now in
+    let first = (from_item_of around.catalog.now (out-FromTree tree).first).means (in_from outer) c.args.earlier.now in
     let joins = (out-FromTree tree).joins in
     let join = join_of around.catalog.now in
     let so_far = join_all outer (first_item c.args.earlier.now first) (map join (take c.loop-step.step-index joins)) in
@@ -747,7 +787,7 @@ sources::source_items-returns t c =
     let around = c.args.around.now in
     let outer = scopes_of around.outer.now in
     let tree = c.args.tree.now in
-    let first = (from_item_of around.catalog.now (out-FromTree tree).first).means outer c.args.earlier.now in
+    let first = (from_item_of around.catalog.now (out-FromTree tree).first).means (in_from outer) c.args.earlier.now in
     let joins = (out-FromTree tree).joins in
     let join = join_of around.catalog.now in
     let all = rw c.as_slice-step-items.ensures at c.loop-step-test.false in

@@ -6,7 +6,7 @@ use Rattle.name_meaning.specs.Trees.{part_of, step_of, arm_of}
 use Rattle.name_seen_parts.specs.Standing.{surroundings}
 use Rattle.name_seen_cores.specs.Expressed.{OperandsBehind}
 use Rattle.sql_tree.specs.declared.source.FromTree.{out-FromTree}
-use Rattle.name_meaning.specs.Froms.{first_item, from_all, join_all, in_clause}
+use Rattle.name_meaning.specs.Froms.{first_item, from_all, in_from, join_all, in_clause}
 use Rattle.name_meaning.specs.Meanings.{QueryMeant}
 use Rattle.name_meaning.specs.Queries.{set_chain}
 use Rattle.name_meaning.specs.Trees.{from_item_of, from_of, item_of, join_of, set_step_of}
@@ -39,7 +39,7 @@ invariant-sources::from_scope-loop-source l =
 abbrev pub invariant-sources::source_items-loop-step : goal.invariant-sources::source_items-loop-step
 invariant-sources::source_items-loop-step l =
     FromWhole (join_all (scopes_of l.around.outer.now)
-    (first_item l.earlier ((from_item_of l.around.catalog.now (out-FromTree l.tree).first).means (scopes_of l.around.outer.now) l.earlier))
+    (first_item l.earlier ((from_item_of l.around.catalog.now (out-FromTree l.tree).first).means (in_from (scopes_of l.around.outer.now)) l.earlier))
     (map (join_of l.around.catalog.now) (take l.step-index (out-FromTree l.tree).joins))) l.earlier l.fn.facts l.facts l.scope
 
 -- the items of the list so far

@@ -3,7 +3,7 @@ ghost use Rattle.std.specs.Prelude.{◌≡◌, [], Err, IfOk, Some, cond, filter
 ghost use Rattle.name_seen_parts.specs.Seen.{first_or, seen};
 ghost use Rattle.name_seen_parts.specs.declared.refusal.Refusal.TheVariants.{NoMemory as Short};
 ghost use Rattle.name_meaning.specs.Cores.{group_break, group_found, group_place, word_breaks};
-ghost use Rattle.name_meaning.specs.Froms.{condition_breaks, unbuilt_breaks};
+ghost use Rattle.name_meaning.specs.Froms.{condition_breaks};
 ghost use Rattle.name_meaning.specs.Meanings.{Around as Place, Meant};
 ghost use Rattle.name_seen_parts.specs.Told.{Tells};
 
@@ -12,7 +12,7 @@ use crate::refusal::Refusal;
 use crate::scopes::{Scopes, look_up};
 use name_meaning::{Break, Found, Rule, Scope};
 use perm_values::{Kind, List, NoMemory};
-use sql_tree::{ColRef, JoinWord};
+use sql_tree::ColRef;
 use std::alloc::Global;
 
 /// That the word PROVENANCE stands at this offset, where it may not.
@@ -28,21 +28,6 @@ pub fn word_break(may_ask: bool, word: Option<usize>) -> Result<(), Break>
             rule: Rule::MisplacedProvenance,
             at,
         }),
-    }
-}
-
-/// That a join, whose item stands at this offset, isn't carried out yet: a lateral one.
-pub fn join_break(word: JoinWord, at: usize) -> Result<(), Break>
-    ensures { result ≡ first_or (unbuilt_breaks word at) tt }
-{
-    match word {
-        JoinWord::CrossLateral | JoinWord::LeftLateral => Err(Break {
-            rule: Rule::UnbuiltForm,
-            at,
-        }),
-        JoinWord::Inner | JoinWord::Left | JoinWord::Right | JoinWord::Full | JoinWord::Cross => Ok(
-            (),
-        ),
     }
 }
 

@@ -1,20 +1,21 @@
-use Rattle.std.specs.Prelude.{◌≡◌, ℕ, suc, ◌+◌, List, length, map, None}
+use Rattle.std.specs.Prelude.{◌≡◌, ℕ, suc, ◌+◌, true, false, List, [], ◌∷◌, length, map, None, option_map}
 use Rattle.std.proofs.Common.{ap, refl, subst, ◌∙◌, sym, take, arith}
 use Rattle.name_meaning.specs.Items.{SelectPart}
-use Rattle.name_meaning.specs.Meanings.{query_means_at}
+use Rattle.sql_tree.specs.Regular.{is_lateral}
+use Rattle.name_meaning.specs.Meanings.{Surroundings, query_means_at}
 use Rattle.name_meaning.specs.Trees.{arm_of, from_item_of, from_of, item_of, join_of, part_of, query_of, set_step_of, step_of}
 use Rattle.name_meaning.specs.declared.scope.Scope.{Scope}
-use Rattle.name_seen_parts.specs.Standing.{around_of, standing_in, surroundings}
-use Rattle.name_inside.specs.Held.{held_arm, held_at, held_operand, held_select, held_step, JoinsAdded, SourcesAdded}
+use Rattle.name_seen_parts.specs.Standing.{around_beside, around_of, standing_in, surroundings}
+use Rattle.name_inside.specs.Held.{Adds, held_arm, held_at, held_item, held_operand, held_optional, held_select, held_step, JoinsAdded, SourcesAdded}
 use Rattle.name_inside.specs.Passed.{HasWidth}
 use Rattle.name_inside.proofs.Arms.{aggregate_adds, arm-adds, between_adds, case_adds, chain_adds, coalesce_adds, column_adds, compared_adds, exists_adds, inlist_adds, inquery_adds, integer_adds, isdistinct_adds, isnull_adds, istruth_adds, like_adds, logic_adds, nots_adds, null_adds, nullif_adds, nullof_adds, paren_adds, quantified_adds, scalar_adds, signs_adds, step-adds, text_adds, truth_adds}
-use Rattle.name_inside.proofs.Cores.{chain-stands, clauses-adds, core-adds, core-broken, core-stands, inner-adds, named-adds, operand-adds, paren-stands, query-adds, star-adds, table_star-adds, value-adds, first-added, join-tree, no-sources, source-more, step-added}
+use Rattle.name_inside.proofs.Cores.{chain-stands, clauses-adds, core-adds, core-broken, core-stands, inner-adds, named-adds, operand-adds, paren-stands, query-adds, star-adds, table_star-adds, value-adds, first-added, join-tree, lateral-tree, no-sources, source-more, step-added}
 use Rattle.name_inside.proofs.Gone.{flat-more, mapped-more}
 use Rattle.name_inside.proofs.Over.{adds-alike, adds-both, adds-over, when-ok}
 use Rattle.name_inside.proofs.gathering.+gathering.Goals as goal
 use Rattle.name_made_parts.proofs.AskedListing.{mapped}
 use Rattle.name_made_parts.proofs.Sourcing.{from-fields}
-use Rattle.name_meaning.specs.Froms.{first_item, join_all, FromMeant, FromPart}
+use Rattle.name_meaning.specs.Froms.{first_item, in_clause, in_from, join_all, FromMeant, FromPart}
 use Rattle.name_made_parts.specs.Sources.{join_count}
 use Rattle.std.proofs.lemmas.List.{take_all}
 use Rattle.sql_tree.specs.declared.source.FromTree.{out-FromTree}
@@ -197,7 +198,8 @@ sources_inside-returns t c =
 pub from_inside-loop-place-init : goal.from_inside-loop-place-init
 from_inside-loop-place-init t c = record {
   within = omega arith;
-  added = λ names. first-added names _ c.args.first c.args.scope.now _ _ (c.in_ok-source_inside.ensures names);
+  added = λ names. first-added names _ c.args.first c.args.scope.now _ _
+      ((rw (c.in_from.ensures.place, c.in_from.ensures.catalog) at c.in_ok-source_inside.ensures) names);
 }
 
 pub from_inside-loop-place-preserved : goal.from_inside-loop-place-preserved
@@ -209,7 +211,7 @@ from_inside-loop-place-preserved t c =
     record {
       within = omega (arith, more);
       added = λ names.
-          let first = (from_item_of around.catalog.now (out-FromTree tree).first).means outer names in
+          let first = (from_item_of around.catalog.now (out-FromTree tree).first).means (in_from outer) names in
           step-added around.catalog.now outer (first_item names first) (out-FromTree tree).joins c.loop-place.place c.step-item.result c.args.first c.args.scope.now
           more (rw c.as_slice-step-items.ensures at c.step-item.is) (c.loop-place.invariant.added names) c.in_ok-join_inside.ensures;
     }
@@ -219,7 +221,7 @@ from_inside-returns t c = λ names.
     let around = c.args.around.now in
     let outer = (around_of around).outer in
     let tree = c.args.tree.now in
-    let first = (from_item_of around.catalog.now (out-FromTree tree).first).means outer names in
+    let first = (from_item_of around.catalog.now (out-FromTree tree).first).means (in_from outer) names in
     let joins = (out-FromTree tree).joins in
     let all = rw c.as_slice-step-items.ensures at c.loop-place-test.false in
     let count : c.loop-place.place ≡ length (out-FromTree c.args.tree.now).joins = omega (arith, all, c.loop-place.invariant.within) in
@@ -228,13 +230,39 @@ from_inside-returns t c = λ names.
     (ap (λ (steps : List JoinStep). join_all outer (first_item names first) (map (join_of around.catalog.now) steps)) (take_all c.loop-place.place joins all)
     ∙ sym (from-fields around.catalog.now tree outer names)) (c.loop-place.invariant.added names))
 
+pub join_inside-returns-then-is_lateral : goal.join_inside-returns-then-is_lateral
+join_inside-returns-then-is_lateral t c =
+    let around = c.args.around.now in
+    when-ok c.beside_inside.result c.beside_inside.ensures (λ added.
+    lateral-tree around.catalog.now (around_of around).outer c.args.step.now c.args.first c.args.before c.args.scope.now _ _
+    (sym c.is_lateral.ensures ∙ c.if-is_lateral.true) added)
+
 pub join_inside-returns : goal.join_inside-returns
 join_inside-returns t c =
     let around = c.args.around.now in
-    join-tree around.catalog.now (around_of around).outer c.args.step.now c.args.first c.args.count c.args.scope.now c.in_ok-own.own (surroundings c.seeing-here.result)
-    c.args.found.now c.source_inside.new.found c.condition_inside.new.found c.in_ok-source_inside.ensures c.in_ok-own.ensures
+    when-ok c.on_inside.result c.on_inside.ensures (λ on.
+    join-tree around.catalog.now (around_of around).outer c.args.step.now c.args.first c.args.before c.args.scope.now _ _ _
+    (sym c.is_lateral.ensures ∙ c.if-is_lateral.false)
+    (rw (c.in_from.ensures.place, c.in_from.ensures.catalog) at c.in_ok-source_inside.ensures) on)
+
+pub beside_inside-returns : goal.beside_inside-returns
+beside_inside-returns t c = λ items stands counted names.
+    let around = c.args.around.now in
+    let outer = (around_of around).outer in
+    let item = from_item_of around.catalog.now c.args.item.now in
+    subst (λ (own : Scope). Adds (held_item (item.means (around_beside (own ∷ outer)) names) ∷ []) c.args.found.now c.source_inside.new.found)
+    (c.in_ok-own.ensures items stands counted)
+    ((rw (c.lateral.ensures.place, c.lateral.ensures.catalog, c.in_ok-scopes.ensures) at c.in_ok-source_inside.ensures) names)
+
+pub on_inside-returns : goal.on_inside-returns
+on_inside-returns t c = λ items stands counted.
+    let around = c.args.around.now in
+    let outer = (around_of around).outer in
+    let condition = option_map (part_of around.catalog.now) c.args.condition.now in
+    subst (λ (here : Surroundings). Adds (held_optional here condition) c.args.found.now c.condition_inside.new.found)
     (c.seeing-here.ensures.place ∙ ap (λ (scopes : List Scope). standing_in scopes c.in_clause.result) c.in_ok-rows.ensures
-    ∙ c.in_clause.ensures c.in_ok-own.own (around_of around).outer)
+    ∙ c.in_clause.ensures c.in_ok-own.own outer
+    ∙ ap (λ (own : Scope). in_clause own outer false) (c.in_ok-own.ensures items stands (counted ∙ sym c.in-Some.is)))
     (rw c.seeing-here.ensures.catalog at c.in_ok-condition_inside.ensures)
 
 pub item_inside-returns-in-Star : goal.item_inside-returns-in-Star
@@ -290,9 +318,9 @@ query_inside-returns-in_ok-set_inside-in-Some t c =
 
 pub source_inside-returns-in_ok-name_inside-in-Named : goal.source_inside-returns-in_ok-name_inside-in-Named
 source_inside-returns-in_ok-name_inside-in-Named t c =
-    λ names. named-adds c.args.around.now.catalog.now (around_of c.args.around.now).outer names c.args.item.now _ _ _ _ c.in-Named.is refl c.in_ok-name_inside-in-Named.ensures
+    λ names. named-adds c.args.around.now.catalog.now (around_of c.args.around.now) names c.args.item.now _ _ _ _ c.in-Named.is refl c.in_ok-name_inside-in-Named.ensures
 
 pub source_inside-returns-in_ok-query_inside-in-Inner : goal.source_inside-returns-in_ok-query_inside-in-Inner
 source_inside-returns-in_ok-query_inside-in-Inner t c =
-    λ names. inner-adds c.args.around.now.catalog.now (around_of c.args.around.now).outer names c.args.item.now _ _ _ _ c.in-Inner.is c.get.ensures
-    (rw (c.in_from.ensures.catalog, c.in_from.ensures.place) at c.in_ok-query_inside-in-Inner.ensures)
+    λ names. inner-adds c.args.around.now.catalog.now (around_of c.args.around.now) names c.args.item.now _ _ _ _ c.in-Inner.is c.get.ensures
+    c.in_ok-query_inside-in-Inner.ensures

@@ -5,7 +5,7 @@ use Rattle.name_meaning.specs.declared.scope.Scope.{Scope}
 use Rattle.name_seen_parts.specs.Standing.{around_of, surroundings}
 use Rattle.name_inside.specs.Held.{Adds, held_arm, held_at, held_items, held_operand, held_step, JoinsAdded, SourcesAdded}
 use Rattle.name_inside.proofs.gathering.+gathering.Given as goal
-use Rattle.name_meaning.specs.Froms.{first_item, join_all}
+use Rattle.name_meaning.specs.Froms.{first_item, in_from, join_all}
 use Rattle.sql_tree.specs.declared.source.FromTree.{out-FromTree}
 
 -- what stands inside those so far
@@ -25,7 +25,7 @@ abbrev pub invariant-from_inside-loop-place : goal.invariant-from_inside-loop-pl
 invariant-from_inside-loop-place l = record {
   within : l.place ≤ length (out-FromTree l.tree).joins;
   added : (names : List (List ℕ)) → JoinsAdded (join_all (around_of l.around).outer
-      (first_item names ((from_item_of l.around.catalog.now (out-FromTree l.tree).first).means (around_of l.around).outer names))
+      (first_item names ((from_item_of l.around.catalog.now (out-FromTree l.tree).first).means (in_from (around_of l.around).outer) names))
       (map (join_of l.around.catalog.now) (take l.place (out-FromTree l.tree).joins))) l.first l.scope l.fn.found l.found l.place;
 }
 
