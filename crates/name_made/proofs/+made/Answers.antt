@@ -519,10 +519,11 @@ sources::on_made-returns t c =
     let around = c.args.around.now in
     let outer = scopes_of around.outer.now in
     let condition = option_map (part_of around.catalog.now) c.args.condition.now in
+    let one = (rw c.in-Some.is at c.checked_add.ensures).1 in
     of-ok _ _ c.condition_made-kept.result
     (λ kept keeps items stands counted.
     subst (λ (own : Scope). Keeps (optional_meant (in_clause (here_only true own) outer false) condition) kept)
-    (c.in_ok-own.ensures items stands (counted ∙ sym c.in-Some.is)) keeps)
+    (c.in_ok-own.ensures items stands (omega (arith, counted, one))) keeps)
     c.condition_made-kept.ensures
 
 pub sources::item_made-returns-in-Named : goal.sources::item_made-returns-in-Named

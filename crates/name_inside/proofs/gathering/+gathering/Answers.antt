@@ -259,10 +259,11 @@ on_inside-returns t c = λ items stands counted.
     let around = c.args.around.now in
     let outer = (around_of around).outer in
     let condition = option_map (part_of around.catalog.now) c.args.condition.now in
+    let one = (rw c.in-Some.is at c.checked_add.ensures).1 in
     subst (λ (here : Surroundings). Adds (held_optional here condition) c.args.found.now c.condition_inside.new.found)
     (c.seeing-here.ensures.place ∙ ap (λ (scopes : List Scope). standing_in scopes c.in_clause.result) c.in_ok-rows.ensures
     ∙ c.in_clause.ensures c.in_ok-own.own outer
-    ∙ ap (λ (own : Scope). in_clause own outer false) (c.in_ok-own.ensures items stands (counted ∙ sym c.in-Some.is)))
+    ∙ ap (λ (own : Scope). in_clause own outer false) (c.in_ok-own.ensures items stands (omega (arith, counted, one))))
     (rw c.seeing-here.ensures.catalog at c.in_ok-condition_inside.ensures)
 
 pub item_inside-returns-in-Star : goal.item_inside-returns-in-Star
