@@ -1,5 +1,5 @@
 use Rattle.std.specs.Prelude.{◌≡◌, ℕ, suc, ◌+◌, Bool, true, false, cond, not, List, [], ◌∷◌, ◌++◌, map, Some, None, option_map, IfOk}
-use Rattle.std.proofs.Common.{refl, ap, sym, subst, ◌∙◌, take}
+use Rattle.std.proofs.Common.{refl, ap, sym, subst, ◌∙◌, take, arith}
 use Rattle.std.proofs.lemmas.List.{take_all, map-append}
 use Rattle.null_logic.specs.declared.compare.Compare.TheVariants.{Equal, NotEqual}
 use Rattle.bag_algebra.specs.declared.expr.Arm.{Arm}
