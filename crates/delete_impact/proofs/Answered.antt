@@ -1,5 +1,5 @@
 -- The query that answers is what it is to be.
-use Rattle.std.proofs.Common.{◌≡◌, ◌≢◌, ℕ, Bool, true, false, not, List, [], ◌∷◌, filter, length, Option, Some, None, Decides, Contains, IsTrue, Result, Ok, Err, IfOk, refl, sym, ap, ◌∙◌, subst, append-nil}
+use Rattle.std.proofs.Common.{◌≡◌, ◌≢◌, ℕ, Bool, true, false, not, List, [], ◌∷◌, filter, Option, Some, None, Decides, Contains, IsTrue, Result, Ok, Err, IfOk, refl, sym, ap, ◌∙◌, subst, append-nil}
 use mathlib.Core.Bool.{true≢false}
 use Rattle.perm_values.specs.declared.kind.Kind.{Kind}
 use Rattle.perm_values.specs.declared.kind.Kind.TheVariants.{Boolean}
@@ -14,23 +14,21 @@ use Rattle.bag_algebra.proofs.Truths.{both-true, left-true, right-true}
 use Rattle.bag_algebra.specs.Bags.{Row, Bag, member, once, union_of}
 use Rattle.bag_algebra.specs.Expressions.{value}
 use Rattle.bag_algebra.specs.Fits.{TablesFit}
-use Rattle.bag_algebra.specs.Kinds.{kinds_of, width_of}
+use Rattle.bag_algebra.specs.Kinds.{kinds_of}
 use Rattle.bag_algebra.specs.Meaning.{Database, denote, meaning}
 use Rattle.bag_algebra.specs.Outcome.{Good, both, each}
-use Rattle.bag_algebra.specs.Rewriting.{is_plain}
 use Rattle.bag_algebra.specs.TablesRead.{EachTable, tables_read}
 use Rattle.bag_algebra.specs.WellFormed.{WellFormed, HasKind}
 use Rattle.bag_algebra.specs.declared.expr.Expr.{Expr}
 use Rattle.bag_algebra.specs.declared.query.Query.{Query}
 use Rattle.contribution.proofs.NodeQueries.{plain-chosen, formed-chosen}
-use Rattle.contribution.proofs.QueryKinds.{rows_have-width}
 use Rattle.contribution.specs.Conjunctions.{always}
 use Rattle.monotone_queries.specs.Monotone.{is_monotone}
 use Rattle.query_laws.proofs.Once.{holds_once-once}
 use Rattle.query_laws.specs.Holding.{HoldsOnce}
 use Rattle.impact_laws.specs.Doomed.{doomed_on, after_deletion, places_over}
 use Rattle.impact_laws.specs.Vanishing.{Vanishes}
-use Rattle.impact_laws.proofs.KeptQueries.{KeptRows, all-at}
+use Rattle.impact_laws.proofs.KeptQueries.{KeptRows}
 use Rattle.impact_laws.proofs.VanishingRows.{kept-of}
 use Rattle.delete_impact.specs.Answering.{condition_or_true, never, no_row_of, vanishing, with_faults}
 use Rattle.reduced_queries.specs.Reads.{Unread, IsRead, first_kinds}
@@ -104,15 +102,14 @@ module _ (q : Query) (id : ℕ) (given : Option Expr) (kinds : List Kind) (m : i
 
   formed-answer : WellFormed [] (vanishing q id kinds test)
   formed-answer =
-      formed-missing (width_of q) rows others (ap length (sym kinds-rows)) (kinds-reduced id test q ∙ sym kinds-rows)
-      (formed-with_faults q id kinds test f condition-formed) formed-others
+      formed-missing rows q others kinds-rows (kinds-reduced id test q) (formed-with_faults q id kinds test f condition-formed) f formed-others
 
   abbrev among : ℕ → List Kind → Type 0
   among other own = Contains (tables_read q) (record { id = other; kinds = own })
 
   tables-answer : EachTable among (vanishing q id kinds test)
   tables-answer =
-      tables-missing (width_of q) rows others among (tables-with_faults q id kinds test among (reads_among-itself q) there)
+      tables-missing rows q others among (tables-with_faults q id kinds test among (reads_among-itself q) there) (reads_among-itself q)
       (tables-reduced id test among q (reads_among-itself q))
 
   -- ---- rows
@@ -135,14 +132,11 @@ module _ (q : Query) (id : ℕ) (given : Option Expr) (kinds : List Kind) (m : i
       others-good : meaning others db [] ≡ Good left.rows
       others-good = reduced-rows id test db good-on_rows q m ∙ ap (λ rest. meaning q rest []) (same-deletion id given db) ∙ left.good
 
-      wide : (u : Row) → IsIn u us → length u ≡ width_of q
-      wide u h = all-at (λ row. length row ≡ width_of q) us u (rows_have-width [] q db [] us (record { formed = f; tables = fits; outer_rows = refl }) good) h
-
       abbrev gone : Bag
       gone = filter (λ u. not (member u left.rows)) us
 
       answer-good : meaning (vanishing q id kinds test) db [] ≡ Good (once gone)
-      answer-good = missing-rows (width_of q) others formed-others db left.rows others-good us wide (λ v h. wide v (left.fewer v h)) rows rows-good
+      answer-good = missing-rows rows q others (kinds-reduced id test q) f formed-others db us left.rows rows-good good others-good
 
       decided : (t : Row) → Decides (member t gone) (Vanishes q id given db t)
       decided t = (
@@ -168,10 +162,10 @@ module _ (q : Query) (id : ℕ) (given : Option Expr) (kinds : List Kind) (m : i
 
   pub read-impact : IsRead id q → IsImpact q id given (vanishing q id kinds test)
   read-impact read = record {
-    plain = plain-missing (width_of q) rows others (plain-with_faults q id kinds test (plain-monotone q m)) (plain-reduced id test q m);
+    plain = plain-missing rows q others (plain-with_faults q id kinds test (plain-monotone q m)) (plain-monotone q m) (plain-reduced id test q m);
     closed = query_within [] (vanishing q id kinds test) 0 refl formed-answer;
     formed = formed-answer;
-    kinds = kinds-missing (width_of q) rows others ∙ kinds-rows;
+    kinds = kinds-missing rows q others kinds-rows;
     tables = tables-answer;
     nothing = λ db us fits unread good. absurd (read unread);
     own_faults = λ db faults fits unread bad. absurd (read unread);
@@ -179,7 +173,8 @@ module _ (q : Query) (id : ℕ) (given : Option Expr) (kinds : List Kind) (m : i
         let parts = good-both (meaning q db []) (each (doomed_on given) (db id)) us good in
         (once (gone db fits us parts.0 parts.1 parts.2), answer-good db fits us parts.0 parts.1 parts.2, answer-once db fits us parts.0 parts.1 parts.2);
     faults = λ db faults fits read bad.
-        missing-faults (width_of q) rows others db faults (meaning-rows db fits ∙ bad-both (meaning q db []) (each (doomed_on given) (db id)) faults bad);
+        missing-faults rows q others (kinds-reduced id test q) f formed-others db faults
+        (meaning-rows db fits ∙ bad-both (meaning q db []) (each (doomed_on given) (db id)) faults bad);
   }
 
 -- ---- both

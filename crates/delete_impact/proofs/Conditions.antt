@@ -12,8 +12,8 @@ use Rattle.bag_algebra.specs.built.Openings.{value-IsTruth}
 use Rattle.bag_algebra.specs.declared.expr.Expr.{Expr}
 use Rattle.bag_algebra.specs.declared.expr.Expr.TheVariants.{IsTruth}
 use Rattle.impact_laws.specs.Doomed.{is_doomed}
-use Rattle.reduced_queries.proofs.Tested.{is_false}
 use Rattle.reduced_queries.specs.Reduced.{not_true}
+use Rattle.delete_impact.proofs.Tested.{is_false}
 
 -- ---- faults alone
 

@@ -2,4 +2,5 @@ mod Answered
 mod Conditions
 mod LookedThrough
 mod ReducedRows
+mod Tested
 mod WithFaults

@@ -27,9 +27,9 @@ use Rattle.monotone_queries.specs.Monotone.{is_monotone, is_relation, is_whole_t
 use Rattle.monotone_queries.proofs.Nodes.{whole_table-is}
 use Rattle.impact_laws.specs.Doomed.{is_doomed, after_deletion}
 use Rattle.replaced_queries.specs.OverQueries.{over_queries, sub_over_queries}
-use Rattle.reduced_queries.proofs.Tested.{gather-tested}
 use Rattle.reduced_queries.specs.Reduced.{not_true, left_of, reduced}
 use Rattle.delete_impact.proofs.Conditions.{not_true-value}
+use Rattle.delete_impact.proofs.Tested.{gather-tested}
 
 none-over : (at : ℕ → List Kind → Query) {m : _} (subs : Row_of-Sublink m) (db : Database) → no_subs subs ≡ true → sub_denote (sub_over_queries at subs) db [] ≡ means.no_subs
 none-over at end_of-Sublink db e = refl

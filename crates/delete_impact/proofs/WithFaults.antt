@@ -1,5 +1,5 @@
 -- The rows of a query, with the faults that a condition meets on the rows of a table.
-use Rattle.std.proofs.Common.{◌≡◌, ℕ, Bool, true, false, cond, ◌&&◌, List, [], ◌∷◌, ◌++◌, Some, refl, sym, ap, ◌∙◌, subst, append-nil, true≢false}
+use Rattle.std.proofs.Common.{◌≡◌, ℕ, Bool, true, false, cond, List, [], ◌∷◌, Some, refl, sym, ap, ◌∙◌, append-nil, true≢false}
 use Rattle.perm_values.specs.declared.kind.Kind.{Kind}
 use Rattle.perm_values.specs.declared.kind.Kind.TheVariants.{Boolean}
 use Rattle.perm_values.specs.declared.value.Value.{Value}
@@ -22,6 +22,8 @@ use Rattle.bag_algebra.specs.declared.expr.Expr.{Expr}
 use Rattle.bag_algebra.specs.declared.query.Query.{Query}
 use Rattle.bag_algebra.specs.declared.query.Query.TheVariants.{Union}
 use Rattle.impact_laws.specs.Doomed.{doomed_on}
+use Rattle.reduced_queries.proofs.Behind.{by}
+use Rattle.reduced_queries.proofs.MissingRows.{either}
 use Rattle.delete_impact.specs.Answering.{looked_through, with_faults}
 use Rattle.delete_impact.proofs.Conditions.{emptied}
 use Rattle.delete_impact.proofs.LookedThrough.{meaning-looked_through, kinds-looked_through, formed-looked_through}
@@ -43,13 +45,6 @@ beside-nothing (Good us) = ap Good (sym (append-nil us))
 beside-nothing (Bad f) = refl
 
 -- ---- both ways
-
-by : {A B : Type 0} → A ≡ B → A → B
-by e a = subst (λ (X : Type 0). X) e a
-
-either : (P : Query → Type 0) (free : Bool) (q r : Query) → P q → P r → P (cond free q r)
-either P true q r h k = h
-either P false q r h k = k
 
 module _ (q : Query) (id : ℕ) (kinds : List Kind) (condition : Expr) where
   abbrev none : Query

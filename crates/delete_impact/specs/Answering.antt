@@ -4,7 +4,7 @@ use Rattle.perm_values.specs.declared.kind.Kind.{Kind}
 use Rattle.perm_values.specs.declared.kind.Kind.TheVariants as kind
 use Rattle.perm_values.specs.declared.value.Value.TheVariants.{Boolean}
 use Rattle.bag_algebra.specs.FaultFree.{faultless}
-use Rattle.bag_algebra.specs.Kinds.{kinds_of, width_of}
+use Rattle.bag_algebra.specs.Kinds.{kinds_of}
 use Rattle.bag_algebra.specs.built.Patterns.{FilterOf, ProjectOf}
 use Rattle.bag_algebra.specs.declared.expr.Expr.{Expr}
 use Rattle.bag_algebra.specs.declared.expr.Expr.TheVariants.{Lit}
@@ -38,4 +38,4 @@ with_faults q columns id kinds condition = cond (faultless condition) q (Union t
 
 -- which rows of q vanish, where it reads the table with these kinds
 abbrev pub vanishing : Query → ℕ → List Kind → Expr → Query
-vanishing q id kinds condition = missing (width_of q) (with_faults q (kinds_of q) id kinds condition) (reduced id condition q)
+vanishing q id kinds condition = missing (with_faults q (kinds_of q) id kinds condition) q (reduced id condition q)

@@ -70,11 +70,11 @@ fn vanishing(
         p ≡ vanishing query.now id kinds.now condition.now) }
 {
     let columns = columns(alloc, query)?;
-    let (rows, others) = both(
+    let (first, others) = both(
         with_faults(alloc, query, columns.as_slice(), id, kinds, condition),
         reduced(alloc, query, id, condition),
     )?;
-    missing(alloc, columns.len(), rows, others)
+    missing(alloc, first, query, others)
 }
 
 /// The query, with the faults that the condition meets on the rows of the table, where it can meet any.

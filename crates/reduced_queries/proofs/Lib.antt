@@ -1,7 +1,5 @@
-mod KeptOnce
+pub mod Behind
 pub mod MissingRows
 pub mod ReadKinds
 pub mod ReducedForms
 mod ReducedMade
-pub mod Tested
-mod Unmatched
