@@ -3,24 +3,24 @@ use Rattle.std.specs.Prelude.{Bool, true, false, ◌&&◌, ◌||◌}
 use Rattle.bag_algebra.specs.FaultFree.{faultless, items_faultless, fault_free}
 use Rattle.bag_algebra.specs.built.Patterns.{BaseOf, FilterOf, ProjectOf, JoinOf, ApplyOf, UnionOf, IntersectOf, ExceptOf, DistinctOf, AggregateOf, LimitOf, ProvOf}
 use Rattle.bag_algebra.specs.declared.query.Query.{Query}
-use Rattle.bag_algebra.specs.declared.query.Query.TheVariants.{Table, Single}
+use Rattle.bag_algebra.specs.declared.query.Query.TheVariants.{Table, Single, Base', Apply', Union', Intersect', Except', Distinct', Aggregate', Limit', Prov'}
 
 -- no fault of the inputs hides one of the topmost node
 abbrev pub own_hides_none : Query → Bool
 own_hides_none (Table id kinds) = true
 own_hides_none Single = true
-own_hides_none (BaseOf input places label) = true
+own_hides_none (Base' _ input places label) = true
 own_hides_none (FilterOf input condition _ subs) = faultless condition || fault_free input
 own_hides_none (ProjectOf input items _ subs) = items_faultless items || fault_free input
 own_hides_none (JoinOf kind left right condition _ subs) = faultless condition || (fault_free left && fault_free right)
-own_hides_none (ApplyOf kind left right) = false
-own_hides_none (UnionOf all left right) = true
-own_hides_none (IntersectOf all left right) = false
-own_hides_none (ExceptOf all left right) = false
-own_hides_none (DistinctOf input) = true
-own_hides_none (AggregateOf input groups aggregates) = false
-own_hides_none (LimitOf input keys count) = false
-own_hides_none (ProvOf input) = false
+own_hides_none (Apply' kind _ left _ right) = false
+own_hides_none (Union' all _ left _ right) = true
+own_hides_none (Intersect' all _ left _ right) = false
+own_hides_none (Except' all _ left _ right) = false
+own_hides_none (Distinct' _ input) = true
+own_hides_none (Aggregate' _ input groups aggregates) = false
+own_hides_none (Limit' _ input keys count) = false
+own_hides_none (Prov' _ input) = false
 
 abbrev pub hides_none : Query → Bool
 hides_none (Table id kinds) = true
