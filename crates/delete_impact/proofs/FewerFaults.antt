@@ -65,12 +65,12 @@ both-is f (Bad g) (Bad h) = refl
 
 -- beside something worse, what is below adds no fault
 pub bad-above : (f : Bag → Bag → Bag) (o : Outcome Bag) (g : Faults) → Below o (Bad g) → both f (Bad g) o ≡ Bad g
-bad-above f _ g (below_bad us g) = refl
+bad-above f _ g (below_bad us h) = refl
 bad-above f _ g (below_worse {f = k} s) = ap Bad (union-comm g k ∙ s.whole)
 
 calm-first : (a b : Bool) → (a || b) ≡ true → (b ≡ true → ⊥) → a ≡ true
-calm-first true b e no = refl
-calm-first false b e no = absurd (no e)
+calm-first true b e bad = refl
+calm-first false b e bad = absurd (bad e)
 
 -- ---- what can meet no fault, on any rows
 
