@@ -1,5 +1,5 @@
 -- The query that answers is what it is to be.
-use Rattle.std.proofs.Common.{◌≡◌, ◌≢◌, ℕ, Bool, true, false, cond, not, List, [], ◌∷◌, filter, Option, Some, None, Decides, Contains, IsTrue, Result, Ok, Err, IfOk, refl, sym, ap, ◌∙◌, subst, append-nil}
+use Rattle.std.proofs.Common.{◌≡◌, ℕ, Bool, true, false, cond, not, List, [], ◌∷◌, filter, Option, Some, None, Decides, Contains, IsTrue, Result, Ok, Err, IfOk, refl, sym, ap, ◌∙◌, subst, append-nil}
 use mathlib.Core.Bool.{true≢false}
 use Rattle.perm_values.specs.declared.kind.Kind.{Kind}
 use Rattle.perm_values.specs.declared.kind.Kind.TheVariants.{Boolean}
