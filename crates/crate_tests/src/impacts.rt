@@ -4,7 +4,7 @@ use perm_engine::Status;
 use std::test::Fail;
 
 /// Scripts with what they write and how they end.
-const IMPACTS: [(&str, &str, Status); 10] = [
+const IMPACTS: [(&str, &str, Status); 12] = [
     // A row vanishes where each row that it comes from is deleted; nothing is deleted.
     (
         "CREATE TABLE r (a INTEGER, b TEXT); INSERT INTO r VALUES (1, 'x'), (2, 'x'), (3, 'z'); IMPACT DELETE FROM r WHERE a > 1 OF SELECT b FROM r; IMPACT DELETE FROM r WHERE a > 0 OF SELECT b FROM r; SELECT a FROM r;",
@@ -45,6 +45,18 @@ const IMPACTS: [(&str, &str, Status); 10] = [
     (
         "CREATE TABLE r (a INTEGER); INSERT INTO r VALUES (0), (1); IMPACT DELETE FROM r WHERE a = 0 OF SELECT 1 / a FROM r;",
         "CREATE TABLE\nINSERT 2\nerror E30 at 59\n",
+        Status::RunFault,
+    ),
+    // A quotient of a sum: the one's fault could hide the other's. The sum is out of range; without that row the quotient divides by
+    // zero, which the query never comes to.
+    (
+        "CREATE TABLE r (a INTEGER); INSERT INTO r VALUES (1), (2); IMPACT DELETE FROM r WHERE a = 1 OF SELECT 6 / x AS n FROM (SELECT a + 1 AS x FROM r) y;",
+        "CREATE TABLE\nINSERT 2\n\"n\"\n3\n(1 rows)\n",
+        Status::Done,
+    ),
+    (
+        "CREATE TABLE r (a INTEGER); INSERT INTO r VALUES (1), (-9223372036854775807); IMPACT DELETE FROM r WHERE a = 1 OF SELECT 1 / x FROM (SELECT a + 9223372036854775807 AS x FROM r) y;",
+        "CREATE TABLE\nINSERT 2\nerror E31 at 78\n",
         Status::RunFault,
     ),
     // A query that may gain rows, at the query.

@@ -1,5 +1,5 @@
 -- The query that answers is what it is to be.
-use Rattle.std.proofs.Common.{◌≡◌, ◌≢◌, ℕ, Bool, true, false, not, List, [], ◌∷◌, filter, Option, Some, None, Decides, Contains, IsTrue, Result, Ok, Err, IfOk, refl, sym, ap, ◌∙◌, subst, append-nil}
+use Rattle.std.proofs.Common.{◌≡◌, ℕ, Bool, true, false, cond, not, List, [], ◌∷◌, filter, Option, Some, None, Decides, Contains, IsTrue, Result, Ok, Err, IfOk, refl, sym, ap, ◌∙◌, subst, append-nil}
 use mathlib.Core.Bool.{true≢false}
 use Rattle.perm_values.specs.declared.kind.Kind.{Kind}
 use Rattle.perm_values.specs.declared.kind.Kind.TheVariants.{Boolean}
@@ -8,20 +8,25 @@ use Rattle.perm_values.specs.declared.value.Value.{Value}
 use Rattle.bag_algebra.proofs.BagLaws.{member-filter}
 use Rattle.bag_algebra.proofs.Closing.{query_within}
 use Rattle.bag_algebra.proofs.Members.{IsIn}
+use Rattle.bag_algebra.proofs.NeverBad.{good-value}
 use Rattle.bag_algebra.proofs.Outcomes.{same_good}
 use Rattle.bag_algebra.proofs.TablesRead.{each_table-told, each_table-from_told, reads_among-itself}
 use Rattle.bag_algebra.proofs.Truths.{both-true, left-true, right-true}
-use Rattle.bag_algebra.specs.Bags.{Row, Bag, member, once, union_of}
+use Rattle.bag_algebra.specs.Bags.{Row, Bag, member, once, union_of, except_of}
 use Rattle.bag_algebra.specs.Expressions.{value}
+use Rattle.bag_algebra.specs.FaultFree.{faultless}
 use Rattle.bag_algebra.specs.Fits.{TablesFit}
 use Rattle.bag_algebra.specs.Kinds.{kinds_of}
 use Rattle.bag_algebra.specs.Meaning.{Database, denote, meaning}
-use Rattle.bag_algebra.specs.Outcome.{Good, both, each}
+use Rattle.bag_algebra.specs.Outcome.{Faults, Outcome, Good, Bad, is_good, and_then, both, each}
+use Rattle.bag_algebra.specs.Rewriting.{is_plain}
 use Rattle.bag_algebra.specs.TablesRead.{EachTable, tables_read}
 use Rattle.bag_algebra.specs.WellFormed.{WellFormed, HasKind}
 use Rattle.bag_algebra.specs.declared.expr.Expr.{Expr}
 use Rattle.bag_algebra.specs.declared.query.Query.{Query}
+use Rattle.bag_algebra.specs.declared.query.Query.TheVariants.{Union}
 use Rattle.contribution.proofs.NodeQueries.{plain-chosen, formed-chosen}
+use Rattle.contribution.proofs.SetsOfRows.{Below}
 use Rattle.contribution.specs.Conjunctions.{always}
 use Rattle.monotone_queries.specs.Monotone.{is_monotone}
 use Rattle.query_laws.proofs.Once.{holds_once-once}
@@ -30,17 +35,20 @@ use Rattle.impact_laws.specs.Doomed.{doomed_on, after_deletion, places_over}
 use Rattle.impact_laws.specs.Vanishing.{Vanishes}
 use Rattle.impact_laws.proofs.KeptQueries.{KeptRows}
 use Rattle.impact_laws.proofs.VanishingRows.{kept-of}
-use Rattle.delete_impact.specs.Answering.{condition_or_true, never, no_row_of, vanishing, with_faults}
+use Rattle.delete_impact.specs.Answering.{adds_none, condition_or_true, looked_through, never, no_row_of, vanishing, with_faults}
 use Rattle.reduced_queries.specs.Reads.{Unread, IsRead, first_kinds}
-use Rattle.reduced_queries.specs.Reduced.{reduced}
+use Rattle.reduced_queries.specs.Hiding.{hides_none}
+use Rattle.reduced_queries.specs.Reduced.{behind, missing, reduced}
 use Rattle.delete_impact.specs.Impact.{IsImpact}
 use Rattle.monotone_queries.specs.Conditions.{ConditionFits}
 use Rattle.delete_impact.proofs.Conditions.{each-item, emptied}
+use Rattle.delete_impact.proofs.FewerFaults.{bad-above, fewer-below, fewer-after}
 use Rattle.delete_impact.proofs.LookedThrough.{meaning-no_row, good-both, bad-both}
-use Rattle.delete_impact.proofs.WithFaults.{kinds-with_faults, plain-with_faults, tables-with_faults, formed-with_faults, meaning-with_faults}
-use Rattle.reduced_queries.proofs.MissingRows.{missing-rows, missing-faults, kinds-missing, plain-missing, tables-missing, formed-missing}
+use Rattle.delete_impact.proofs.WithFaults.{either, plain-with_faults, tables-with_faults, formed-with_faults, meaning-with_faults}
+use Rattle.reduced_queries.proofs.BehindRows.{meaning-behind, kinds-behind, plain-behind, tables-behind, formed-behind}
+use Rattle.reduced_queries.proofs.MissingRows.{meaning-missing, kinds-missing, plain-missing, tables-missing, formed-missing}
 use Rattle.reduced_queries.proofs.ReadKinds.{none-unread, found-contained, found-is_read}
-use Rattle.reduced_queries.proofs.ReducedForms.{plain-monotone, formed-reduced, kinds-reduced, plain-reduced, tables-reduced, OnTables}
+use Rattle.reduced_queries.proofs.ReducedForms.{plain-monotone, OnTables}
 use Rattle.delete_impact.proofs.ReducedRows.{reduced-rows}
 
 -- ---- where the table isn't read
@@ -71,6 +79,10 @@ same-deletion : (id : ℕ) (condition : Option Expr) (db : Database) → after_d
 same-deletion id None db = refl
 same-deletion id (Some condition) db = refl
 
+good-of : (o : Outcome Value) → is_good o ≡ true → (v : Value) × (o ≡ Good v)
+good-of (Good v) e = (v, refl)
+good-of (Bad faults) e = absurd (true≢false (sym e))
+
 same-looked : (condition : Option Expr) (us : Bag) → each (doomed_on (Some (condition_or_true condition))) us ≡ each (doomed_on condition) us
 same-looked None us = refl
 same-looked (Some condition) us = refl
@@ -92,27 +104,63 @@ module _ (q : Query) (id : ℕ) (given : Option Expr) (kinds : List Kind) (m : i
   condition-formed : HasKind (kinds ∷ []) [] test Boolean
   condition-formed = each_table-told (λ other own. other ≡ id → HasKind (own ∷ []) [] test Boolean) q on_tables (record { id = id; kinds = kinds }) there refl
 
-  formed-others : WellFormed [] others
-  formed-others = formed-reduced id test q on_tables f
+  abbrev gap : Query
+  gap = missing id test q
+
+  -- what EXCEPT alone and EXCEPT behind the query have in common
+  both-ways : (P : Query → Type 0) → P gap → P (behind rows gap) → P (vanishing q id kinds test)
+  both-ways P h k = either P (adds_none test q) gap (behind rows gap) h k
 
   -- ---- forms
 
-  kinds-rows : kinds_of rows ≡ kinds_of q
-  kinds-rows = kinds-with_faults q id kinds test
+  formed-gap : WellFormed [] gap
+  formed-gap = formed-missing id test q on_tables f
 
   formed-answer : WellFormed [] (vanishing q id kinds test)
-  formed-answer =
-      formed-missing rows q others kinds-rows (kinds-reduced id test q) (formed-with_faults q id kinds test f condition-formed) f formed-others
+  formed-answer = both-ways (WellFormed []) formed-gap (formed-behind rows gap (formed-with_faults q id kinds test f condition-formed) formed-gap)
+
+  kinds-answer : kinds_of (vanishing q id kinds test) ≡ kinds_of q
+  kinds-answer = both-ways (λ r. kinds_of r ≡ kinds_of q) (kinds-missing id test q) (kinds-behind rows gap ∙ kinds-missing id test q)
+
+  plain-answer : is_plain (vanishing q id kinds test) ≡ true
+  plain-answer =
+      both-ways (λ r. is_plain r ≡ true) (plain-missing id test q m) (plain-behind rows gap (plain-with_faults q id kinds test (plain-monotone q m)) (plain-missing id test q m))
 
   abbrev among : ℕ → List Kind → Type 0
   among other own = Contains (tables_read q) (record { id = other; kinds = own })
 
   tables-answer : EachTable among (vanishing q id kinds test)
   tables-answer =
-      tables-missing rows q others among (tables-with_faults q id kinds test among (reads_among-itself q) there) (reads_among-itself q)
-      (tables-reduced id test among q (reads_among-itself q))
+      let of_gap = tables-missing id test q among (reads_among-itself q) in
+      both-ways (EachTable among) of_gap (tables-behind rows gap among (tables-with_faults q id kinds test among (reads_among-itself q) there) of_gap)
 
   -- ---- rows
+
+  module _ (db : Database) where
+    meaning-answer : meaning (behind rows gap) db [] ≡ and_then (meaning rows db []) (λ us. meaning gap db [])
+    meaning-answer = meaning-behind rows gap formed-gap db
+
+    module _ (calm : adds_none test q ≡ true) where
+      free : faultless test ≡ true
+      free = left-true (faultless test) (hides_none q) calm
+
+      others-below : Below (meaning others db []) (meaning q db [])
+      others-below =
+          subst (λ o. Below o (meaning q db []))
+          (sym (reduced-rows id test db (λ u h. good-of (value test u [] []) (good-value test free u [] [])) q m))
+          (fewer-below db (after_deletion id (Some test) db) (fewer-after id (Some test) db) q m (right-true (faultless test) (hides_none q) calm))
+
+      calm-faults : (faults : Faults) → meaning rows db [] ≡ Bad faults → meaning gap db [] ≡ Bad faults
+      calm-faults faults e =
+          let bad : meaning q db [] ≡ Bad faults =
+          sym (ap (λ b. meaning (cond b q (Union true q (looked_through (kinds_of q) id kinds test))) db []) free) ∙ e in
+          meaning-missing id test q db
+          ∙ ap (λ o. both (except_of false) o (meaning others db [])) bad
+          ∙ bad-above (except_of false) (meaning others db []) faults (subst (Below (meaning others db [])) bad others-below)
+
+    faults-by : (faults : Faults) → meaning rows db [] ≡ Bad faults → (calm : Bool) → adds_none test q ≡ calm → meaning (cond calm gap (behind rows gap)) db [] ≡ Bad faults
+    faults-by faults e true is = calm-faults is faults e
+    faults-by faults e false is = meaning-answer ∙ ap (λ o. and_then o (λ us. meaning gap db [])) e
 
   module _ (db : Database) (fits : TablesFit db q) where
     meaning-rows : meaning rows db [] ≡ both (union_of true) (meaning q db []) (emptied (each (doomed_on given) (db id)))
@@ -135,8 +183,12 @@ module _ (q : Query) (id : ℕ) (given : Option Expr) (kinds : List Kind) (m : i
       abbrev gone : Bag
       gone = filter (λ u. not (member u left.rows)) us
 
+      gap-good : meaning gap db [] ≡ Good (once gone)
+      gap-good = meaning-missing id test q db ∙ (λ i. both (except_of false) (good i) (others-good i))
+
       answer-good : meaning (vanishing q id kinds test) db [] ≡ Good (once gone)
-      answer-good = missing-rows rows q others (kinds-reduced id test q) f formed-others db us left.rows rows-good good others-good
+      answer-good =
+          both-ways (λ r. meaning r db [] ≡ Good (once gone)) gap-good (meaning-answer db ∙ ap (λ o. and_then o (λ bag. meaning gap db [])) rows-good ∙ gap-good)
 
       decided : (t : Row) → Decides (member t gone) (Vanishes q id given db t)
       decided t = (
@@ -162,10 +214,10 @@ module _ (q : Query) (id : ℕ) (given : Option Expr) (kinds : List Kind) (m : i
 
   pub read-impact : IsRead id q → IsImpact q id given (vanishing q id kinds test)
   read-impact read = record {
-    plain = plain-missing rows q others (plain-with_faults q id kinds test (plain-monotone q m)) (plain-monotone q m) (plain-reduced id test q m);
+    plain = plain-answer;
     closed = query_within [] (vanishing q id kinds test) 0 refl formed-answer;
     formed = formed-answer;
-    kinds = kinds-missing rows q others kinds-rows;
+    kinds = kinds-answer;
     tables = tables-answer;
     nothing = λ db us fits unread good. absurd (read unread);
     own_faults = λ db faults fits unread bad. absurd (read unread);
@@ -173,8 +225,7 @@ module _ (q : Query) (id : ℕ) (given : Option Expr) (kinds : List Kind) (m : i
         let parts = good-both (meaning q db []) (each (doomed_on given) (db id)) us good in
         (once (gone db fits us parts.0 parts.1 parts.2), answer-good db fits us parts.0 parts.1 parts.2, answer-once db fits us parts.0 parts.1 parts.2);
     faults = λ db faults fits read bad.
-        missing-faults rows q others (kinds-reduced id test q) f formed-others db faults
-        (meaning-rows db fits ∙ bad-both (meaning q db []) (each (doomed_on given) (db id)) faults bad);
+        faults-by db faults (meaning-rows db fits ∙ bad-both (meaning q db []) (each (doomed_on given) (db id)) faults bad) (adds_none test q) refl;
   }
 
 -- ---- both

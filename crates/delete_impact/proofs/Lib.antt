@@ -1,5 +1,6 @@
 mod Answered
 mod Conditions
+mod FewerFaults
 mod LookedThrough
 mod ReducedRows
 mod Tested

@@ -35,25 +35,25 @@ none-over : (at : ℕ → List Kind → Query) {m : _} (subs : Row_of-Sublink m)
 none-over at end_of-Sublink db e = refl
 none-over at (more_of-Sublink kind tested query subs) db e = absurd (true≢false (sym e))
 
-none-denoted : {m : _} (subs : Row_of-Sublink m) (db : Database) → no_subs subs ≡ true → sub_denote subs db [] ≡ means.no_subs
+pub none-denoted : {m : _} (subs : Row_of-Sublink m) (db : Database) → no_subs subs ≡ true → sub_denote subs db [] ≡ means.no_subs
 none-denoted end_of-Sublink db e = refl
 none-denoted (more_of-Sublink kind tested query subs) db e = absurd (true≢false (sym e))
 
+-- the pairs of an inner join, whatever the widths of its sides
+abbrev pub pairs : Expr → Bag → Bag → Outcome Bag
+pairs test us vs = joined_rows Inner (condition_on test [] means.no_subs) 0 0 us vs
+
 -- nodes whose sublinks mean what none mean
 module _ (db : Database) where
-  filter-alone : (q : Query) (test : Expr) (form : Shape) (subs : Row_of-Sublink (many form)) → sub_denote subs db [] ≡ means.no_subs →
+  pub filter-alone : (q : Query) (test : Expr) (form : Shape) (subs : Row_of-Sublink (many form)) → sub_denote subs db [] ≡ means.no_subs →
       meaning (FilterOf q test form subs) db [] ≡ and_then (meaning q db []) (gather (kept (condition_on test [] means.no_subs)))
   filter-alone q test form subs e = rows-with_lists _ _ ∙ ap (λ s. and_then (meaning q db []) (gather (kept (condition_on test [] s)))) e
 
-  project-alone : (q : Query) (items : List Item) (form : Shape) (subs : Row_of-Sublink (many form)) → sub_denote subs db [] ≡ means.no_subs →
+  pub project-alone : (q : Query) (items : List Item) (form : Shape) (subs : Row_of-Sublink (many form)) → sub_denote subs db [] ≡ means.no_subs →
       meaning (ProjectOf q items form subs) db [] ≡ and_then (meaning q db []) (each (items_on items [] means.no_subs))
   project-alone q items form subs e = rows-with_lists _ _ ∙ ap (λ s. and_then (meaning q db []) (each (items_on items [] s))) e
 
-  -- the pairs of an inner join, whatever the widths of its sides
-  abbrev pairs : Expr → Bag → Bag → Outcome Bag
-  pairs test us vs = joined_rows Inner (condition_on test [] means.no_subs) 0 0 us vs
-
-  join-alone : (left right : Query) (test : Expr) (form : Shape) (subs : Row_of-Sublink (many form)) → sub_denote subs db [] ≡ means.no_subs →
+  pub join-alone : (left right : Query) (test : Expr) (form : Shape) (subs : Row_of-Sublink (many form)) → sub_denote subs db [] ≡ means.no_subs →
       meaning (JoinOf Inner left right test form subs) db [] ≡ both_then (meaning left db []) (meaning right db []) (pairs test)
   join-alone left right test form subs e =
       rows-with_lists _ _ ∙ ap (λ s. both_then (meaning left db []) (meaning right db []) (joined_rows Inner (condition_on test [] s) (width_of left) (width_of right))) e
@@ -99,7 +99,7 @@ module _ (id : ℕ) (condition : Expr) (db : Database) (good : (u : Row) → IsI
       join-alone db (reduced id condition left) (reduced id condition right) test form (sub_over_queries (left_of id condition) subs)
       (none-over (left_of id condition) subs db none)
       ∙ (λ i. both_then (reduced-rows left (left-true (is_monotone left) (is_monotone right) sides) i)
-      (reduced-rows right (right-true (is_monotone left) (is_monotone right) sides) i) (pairs db test))
+      (reduced-rows right (right-true (is_monotone left) (is_monotone right) sides) i) (pairs test))
       ∙ sym (join-alone later left right test form subs (none-denoted subs later none))
   reduced-rows (JoinOf Left left right test form subs) m = absurd (true≢false (sym m))
   reduced-rows (JoinOf Right left right test form subs) m = absurd (true≢false (sym m))

@@ -16,14 +16,13 @@ use Rattle.bag_algebra.specs.Rewriting.{is_plain}
 use Rattle.bag_algebra.specs.TablesRead.{EachTable}
 use Rattle.bag_algebra.specs.WellFormed.{WellFormed, HasKind}
 use Rattle.bag_algebra.specs.built.Forms.{WellFormed-Union, EachTable-Union}
-use Rattle.bag_algebra.specs.built.Openings.{meaning-Union, kinds_of-Union}
+use Rattle.bag_algebra.specs.built.Openings.{meaning-Union}
 use Rattle.bag_algebra.specs.built.Scopes.{is_plain-Union}
 use Rattle.bag_algebra.specs.declared.expr.Expr.{Expr}
 use Rattle.bag_algebra.specs.declared.query.Query.{Query}
 use Rattle.bag_algebra.specs.declared.query.Query.TheVariants.{Union}
 use Rattle.impact_laws.specs.Doomed.{doomed_on}
-use Rattle.reduced_queries.proofs.Behind.{by}
-use Rattle.reduced_queries.proofs.MissingRows.{either}
+use Rattle.reduced_queries.proofs.BehindRows.{by}
 use Rattle.delete_impact.specs.Answering.{looked_through, with_faults}
 use Rattle.delete_impact.proofs.Conditions.{emptied}
 use Rattle.delete_impact.proofs.LookedThrough.{meaning-looked_through, kinds-looked_through, formed-looked_through}
@@ -46,15 +45,16 @@ beside-nothing (Bad f) = refl
 
 -- ---- both ways
 
+pub either : (P : Query → Type 0) (free : Bool) (q r : Query) → P q → P r → P (cond free q r)
+either P true q r h k = h
+either P false q r h k = k
+
 module _ (q : Query) (id : ℕ) (kinds : List Kind) (condition : Expr) where
   abbrev none : Query
   none = looked_through (kinds_of q) id kinds condition
 
   abbrev rows : Query
   rows = with_faults q (kinds_of q) id kinds condition
-
-  pub kinds-with_faults : kinds_of rows ≡ kinds_of q
-  kinds-with_faults = either (λ r. kinds_of r ≡ kinds_of q) (faultless condition) q (Union true q none) refl (kinds_of-Union true q none)
 
   pub plain-with_faults : is_plain q ≡ true → is_plain rows ≡ true
   plain-with_faults e =

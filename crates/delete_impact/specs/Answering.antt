@@ -1,5 +1,5 @@
 -- The query that answers, of the query that is asked about: its rows that the query over what is left of the table doesn't have.
-use Rattle.std.specs.Prelude.{ℕ, Bool, true, cond, List, [], map, Option, Some, None}
+use Rattle.std.specs.Prelude.{ℕ, Bool, true, cond, ◌&&◌, List, [], map, Option, Some, None}
 use Rattle.perm_values.specs.declared.kind.Kind.{Kind}
 use Rattle.perm_values.specs.declared.kind.Kind.TheVariants as kind
 use Rattle.perm_values.specs.declared.value.Value.TheVariants.{Boolean}
@@ -12,7 +12,8 @@ use Rattle.bag_algebra.specs.declared.query.Query.{Query, end_of-Sublink}
 use Rattle.bag_algebra.specs.declared.query.Query.TheVariants.{Table, Union}
 use Rattle.contribution.specs.Conjunctions.{always}
 use Rattle.contribution.specs.NullItems.{null_item}
-use Rattle.reduced_queries.specs.Reduced.{reduced, missing}
+use Rattle.reduced_queries.specs.Hiding.{hides_none}
+use Rattle.reduced_queries.specs.Reduced.{behind, missing}
 
 -- every row is doomed where there is no condition
 abbrev pub condition_or_true : Option Expr → Expr
@@ -36,6 +37,11 @@ looked_through columns id kinds condition =
 abbrev pub with_faults : Query → List Kind → ℕ → List Kind → Expr → Query
 with_faults q columns id kinds condition = cond (faultless condition) q (Union true q (looked_through columns id kinds condition))
 
+-- over what is left of the table q meets no fault that it doesn't meet on the whole table
+abbrev pub adds_none : Expr → Query → Bool
+adds_none condition q = faultless condition && hides_none q
+
 -- which rows of q vanish, where it reads the table with these kinds
 abbrev pub vanishing : Query → ℕ → List Kind → Expr → Query
-vanishing q id kinds condition = missing (with_faults q (kinds_of q) id kinds condition) q (reduced id condition q)
+vanishing q id kinds condition =
+    cond (adds_none condition q) (missing id condition q) (behind (with_faults q (kinds_of q) id kinds condition) (missing id condition q))

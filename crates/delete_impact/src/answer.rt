@@ -1,16 +1,18 @@
 //! The answer to which rows vanish.
 ghost use Rattle.std.specs.Prelude.{◌≡◌, [], true, IfOk, IsTrue, option_copied};
+ghost use Rattle.bag_algebra.specs.Kinds.{kinds_of};
 ghost use Rattle.bag_algebra.specs.WellFormed.{WellFormed};
 ghost use Rattle.bag_algebra.specs.declared.query.Query.TheVariants.{Union};
-ghost use Rattle.delete_impact.specs.Answering.{condition_or_true, looked_through, never, no_row_of, vanishing, with_faults};
+ghost use Rattle.delete_impact.specs.Answering.{adds_none, condition_or_true, looked_through, never, no_row_of, vanishing, with_faults};
 ghost use Rattle.delete_impact.specs.Impact.{IsImpact};
 ghost use Rattle.monotone_queries.specs.Conditions.{ConditionFits};
 ghost use Rattle.monotone_queries.specs.Monotone.{is_monotone};
+ghost use Rattle.reduced_queries.specs.Reduced.{behind};
 
 use bag_algebra::{Expr, Query, faultless};
 use contribution::{always, kinds as columns, null_items, projection, selection};
 use perm_values::{Copyable, Kind, List, NoMemory, Value, both};
-use reduced_queries::{first_kinds, missing, reduced};
+use reduced_queries::{behind, first_kinds, hides_none, missing};
 use std::alloc::Global;
 
 /// A query that answers which rows of a monotone, closed query vanish where the rows of the table of the identity that meet the
@@ -69,12 +71,53 @@ fn vanishing(
     ensures { IfOk result (λ p. IsTrue (is_monotone query.now) →
         p ≡ vanishing query.now id kinds.now condition.now) }
 {
+    let missing = missing(alloc, query, id, condition)?;
+    if adds_none(query, condition) {
+        Ok(missing)
+    } else {
+        vanishing_behind(alloc, query, id, kinds, condition, missing)
+    }
+}
+
+/// Whether the query meets no further fault over what is left of the table.
+fn adds_none(query: &Query, condition: &Expr) -> bool
+    ensures { result ≡ adds_none condition.now query.now }
+{
+    faultless(condition) && hides_none(query)
+}
+
+/// The rows that are missing where the query and the condition are good, and else the faults of these.
+fn vanishing_behind(
+    alloc: Global,
+    query: &Query,
+    id: u64,
+    kinds: &List<Kind>,
+    condition: &Expr,
+    missing: Query,
+) -> Result<Query, NoMemory>
+    ensures { IfOk result (λ p.
+        p ≡ behind (with_faults query.now (kinds_of query.now) id kinds.now condition.now) missing) }
+{
+    let Ok(first) = all_faults(alloc, query, id, kinds, condition) else {
+        drop(missing);
+        return Err(NoMemory);
+    };
+    behind(alloc, first, missing)
+}
+
+/// The query, with the faults that the condition meets on the rows of the table beside its own.
+fn all_faults(
+    alloc: Global,
+    query: &Query,
+    id: u64,
+    kinds: &List<Kind>,
+    condition: &Expr,
+) -> Result<Query, NoMemory>
+    ensures { IfOk result (λ p.
+        p ≡ with_faults query.now (kinds_of query.now) id kinds.now condition.now) }
+{
     let columns = columns(alloc, query)?;
-    let (first, others) = both(
-        with_faults(alloc, query, columns.as_slice(), id, kinds, condition),
-        reduced(alloc, query, id, condition),
-    )?;
-    missing(alloc, first, query, others)
+    with_faults(alloc, query, columns.as_slice(), id, kinds, condition)
 }
 
 /// The query, with the faults that the condition meets on the rows of the table, where it can meet any.

@@ -1,5 +1,5 @@
 -- What a monotone query keeps after a deletion: the rows that have a witness list without a doomed row.
-use Rattle.std.proofs.Common.{◌≡◌, ◌≢◌, ℕ, inl, inr, Bool, true, false, cond, not, ◌==◌, ◌&&◌, List, [], ◌∷◌, ◌++◌, filter, length, All, Option, refl, sym, ap, ◌∙◌, subst, subst₂, append-nil}
+use Rattle.std.proofs.Common.{◌≡◌, ℕ, inl, inr, Bool, true, false, cond, not, ◌==◌, ◌&&◌, List, [], ◌∷◌, ◌++◌, filter, length, All, Option, refl, sym, ap, ◌∙◌, subst, subst₂, append-nil}
 use mathlib.Core.Bool.{true≢false}
 use Rattle.std.proofs.lemmas.List.FromFn.{fill_by_all}
 use Rattle.perm_values.specs.Rows.{picked, value_at, bag_fits, row_fits}

@@ -1,4 +1,4 @@
-mod Below
+pub mod Below
 pub mod KeptNodes
 pub mod KeptQueries
 pub mod Spared

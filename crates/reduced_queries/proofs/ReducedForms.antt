@@ -1,5 +1,5 @@
 -- A monotone query over what is left of a table: its columns, its form and the tables that it reads.
-use Rattle.std.proofs.Common.{◌≡◌, ◌≢◌, ℕ, Bool, true, false, cond, ◌==◌, ◌&&◌, List, [], ◌∷◌, refl, sym, subst}
+use Rattle.std.proofs.Common.{◌≡◌, ℕ, Bool, true, false, cond, ◌==◌, ◌&&◌, List, [], ◌∷◌, refl, sym, subst}
 use mathlib.Core.Bool.{true≢false}
 use Rattle.std.proofs.lemmas.Bool.{eqb-true}
 use Rattle.null_logic.specs.declared.truth.Truth.TheVariants.{True, False}

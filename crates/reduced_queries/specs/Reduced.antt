@@ -2,7 +2,6 @@
 use Rattle.std.specs.Prelude.{ℕ, false, cond, ◌==◌, List, []}
 use Rattle.null_logic.specs.declared.truth.Truth.TheVariants.{True, False}
 use Rattle.perm_values.specs.declared.kind.Kind.{Kind}
-use Rattle.bag_algebra.specs.FaultFree.{fault_free}
 use Rattle.bag_algebra.specs.built.Patterns.{FilterOf}
 use Rattle.bag_algebra.specs.declared.expr.Expr.{Expr}
 use Rattle.bag_algebra.specs.declared.expr.Expr.TheVariants.{IsTruth}
@@ -23,10 +22,10 @@ left_of id condition other kinds = cond (other == id) (FilterOf (Table other kin
 abbrev pub reduced : ℕ → Expr → Query → Query
 reduced id condition q = over_queries (left_of id condition) q
 
+-- the rows of the query that it doesn't have over what is left, each once
+abbrev pub missing : ℕ → Expr → Query → Query
+missing id condition q = Except false q (reduced id condition q)
+
 -- the rows of q, which is run where the first is good: it stands beside the one row, without columns, of all the first's rows
 abbrev pub behind : Query → Query → Query
 behind first q = Apply Inner (Aggregate first [] []) q
-
--- the rows of q that are none of p's, each once; the first has q's rows. Where p can meet no fault it is run beside the first
-abbrev pub missing : Query → Query → Query → Query
-missing first q p = cond (fault_free p) (Except false first p) (behind first (Except false q p))
