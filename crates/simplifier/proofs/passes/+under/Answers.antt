@@ -44,7 +44,7 @@ node-nodes-inside-requires t c =
 
 pub node-returns-in-Filter : goal.node-returns-in-Filter
 node-returns-in-Filter t c =
-    stands_where _ _ c.filter_standing.result c.in-Filter.is _ (λ p s. s) (c.filter_standing.ensures c.in-Filter.input c.in-Filter.subs (rw c.get-in-Filter.ensures at c.under-rows.ensures) (rw c.as_slice.ensures at c.nodes-inside.ensures))
+    stands_where _ _ c.filter_node.result c.in-Filter.is _ (λ p s. s) (c.filter_node.ensures c.in-Filter.input c.in-Filter.subs (rw c.get-in-Filter.ensures at c.under-rows.ensures) (rw c.as_slice.ensures at c.nodes-inside.ensures))
 
 pub node-under-rows-requires-in-Project : goal.node-under-rows-requires-in-Project
 node-under-rows-requires-in-Project t c =
@@ -56,7 +56,7 @@ node-nodes-inside-requires-in-Project t c =
 
 pub node-returns-in-Project : goal.node-returns-in-Project
 node-returns-in-Project t c =
-    stands_where _ _ c.project_standing.result c.in-Project.is _ (λ p s. s) (c.project_standing.ensures c.in-Project.input c.in-Project.subs (rw c.get-in-Project.ensures at c.under-rows-in-Project.ensures) (rw c.as_slice-in-Project.ensures at c.nodes-inside-in-Project.ensures))
+    stands_where _ _ c.project_merged.result c.in-Project.is _ (λ p s. s) (c.project_merged.ensures c.in-Project.input c.in-Project.subs (rw c.get-in-Project.ensures at c.under-rows-in-Project.ensures) (rw c.as_slice-in-Project.ensures at c.nodes-inside-in-Project.ensures))
 
 pub node-under-lefts-requires : goal.node-under-lefts-requires
 node-under-lefts-requires t c =
@@ -72,8 +72,8 @@ node-nodes-inside-requires-in-Join t c =
 
 pub node-returns-in-Join : goal.node-returns-in-Join
 node-returns-in-Join t c =
-    stands_where _ _ c.join_standing.result c.in-Join.is _ (λ p s. s)
-    (c.join_standing.ensures c.in-Join.left c.in-Join.right c.in-Join.subs (rw c.get-in-Join.ensures at c.under-lefts.ensures) (rw c.get-in-Join-2.ensures at c.under-rights.ensures) (rw c.as_slice-in-Join.ensures at c.nodes-inside-in-Join.ensures))
+    stands_where _ _ c.join_node.result c.in-Join.is _ (λ p s. s)
+    (c.join_node.ensures c.in-Join.left c.in-Join.right c.in-Join.subs (rw c.get-in-Join.ensures at c.under-lefts.ensures) (rw c.get-in-Join-2.ensures at c.under-rights.ensures) (rw c.as_slice-in-Join.ensures at c.nodes-inside-in-Join.ensures))
 
 pub node-under-lefts-requires-in-Union : goal.node-under-lefts-requires-in-Union
 node-under-lefts-requires-in-Union t c =
@@ -117,7 +117,7 @@ node-under-requires-in-Distinct t c =
 
 pub node-returns-in-Distinct : goal.node-returns-in-Distinct
 node-returns-in-Distinct t c =
-    stands_where _ _ c.distinct_standing.result c.in-Distinct.is _ (λ p s. s) (c.distinct_standing.ensures c.in-Distinct.input (rw c.get-in-Distinct.ensures at c.under-in-Distinct.ensures))
+    stands_where _ _ c.distinct_once.result c.in-Distinct.is _ (λ p s. s) (c.distinct_once.ensures c.in-Distinct.input (rw c.get-in-Distinct.ensures at c.under-in-Distinct.ensures))
 
 pub node-under-rows-requires-in-Aggregate : goal.node-under-rows-requires-in-Aggregate
 node-under-rows-requires-in-Aggregate t c =
@@ -208,10 +208,10 @@ pub under-returns-in_ok-sides-in-Join : goal.under-returns-in_ok-sides-in-Join
 under-returns-in_ok-sides-in-Join t c =
     let sides = c.in_ok-sides-in-Join.sides in
     let pairs = Join Inner (tested c.in-Join.left sides.left) (tested c.in-Join.right sides.right) (all_hold sides.both) [] in
-    where_made (λ p. Stands (tested pairs sides.around) p) _ c.tested-then-only_pairs.result (join-passes c.args.query.now c.in-Join.left c.in-Join.right c.in-Join.kind c.in-Join.condition c.in-Join.subs c.args.tests.now c.in-Join.is c.requires.0 c.requires.1 (c.only_pairs.ensures c.if-only_pairs.true).0 (sym c.as_slice-in-Join.ensures ∙ (c.only_pairs.ensures c.if-only_pairs.true).1.0) (c.only_pairs.ensures c.if-only_pairs.true).1.1 c.in_ok-sides-in-Join.sides
+    where_made (λ p. Stands (tested pairs sides.around) p) _ c.above-then-only_pairs.result (join-passes c.args.query.now c.in-Join.left c.in-Join.right c.in-Join.kind c.in-Join.condition c.in-Join.subs c.args.tests.now c.in-Join.is c.requires.0 c.requires.1 (c.only_pairs.ensures c.if-only_pairs.true).0 (sym c.as_slice-in-Join.ensures ∙ (c.only_pairs.ensures c.if-only_pairs.true).1.0) (c.only_pairs.ensures c.if-only_pairs.true).1.1 c.in_ok-sides-in-Join.sides
     (rw (c.get-then-only_pairs.ensures, c.get-then-only_pairs-2.ensures) at c.in_ok-sides-in-Join.ensures))
-    ((rw c.as_slice-then-only_pairs-4.ensures at c.tested-then-only_pairs.ensures) pairs
-    ((rw c.as_slice-then-only_pairs-3.ensures at c.inner_join-pairs.ensures) (tested c.in-Join.left sides.left) (tested c.in-Join.right sides.right)
+    ((rw c.as_slice-then-only_pairs-4.ensures at c.above-then-only_pairs.ensures) pairs
+    ((rw c.as_slice-then-only_pairs-3.ensures at c.pairs_where-pairs.ensures) (tested c.in-Join.left sides.left) (tested c.in-Join.right sides.right)
     (rw (c.get-then-only_pairs-3.ensures, c.as_slice-then-only_pairs.ensures) at c.under-lefts.ensures)
     (rw (c.get-then-only_pairs-4.ensures, c.as_slice-then-only_pairs-2.ensures) at c.under-rights.ensures)))
 
@@ -230,8 +230,8 @@ under-under-rows-requires-in-Some t c = (
 
 pub under-returns-in-Some : goal.under-returns-in-Some
 under-returns-in-Some t c =
-    where_made (λ p. Stands (Project (tested c.in-Project.input c.in-Some.below) c.in-Project.items []) p) _ c.project_standing.result (project-passes c.args.query.now c.in-Project.input c.in-Project.items c.in-Project.subs c.args.tests.now c.in-Project.is c.requires.0 c.requires.1
+    where_made (λ p. Stands (Project (tested c.in-Project.input c.in-Some.below) c.in-Project.items []) p) _ c.project_merged.result (project-passes c.args.query.now c.in-Project.input c.in-Project.items c.in-Project.subs c.args.tests.now c.in-Project.is c.requires.0 c.requires.1
     (sym c.as_slice-in-Project-2.ensures ∙ (subst (λ o. IfSome o (λ made. (c.as_slice-in-Project-2.result.now ≡ []) × IsLowered c.as_slice-in-Project.result.now c.args.tests.now made)) c.in-Some.is c.in_ok-below-in-Project.ensures).0) c.in-Some.below
     (subst (λ items. IsLowered items c.args.tests.now c.in-Some.below) c.as_slice-in-Project.ensures (subst (λ o. IfSome o (λ made. (c.as_slice-in-Project-2.result.now ≡ []) × IsLowered c.as_slice-in-Project.result.now c.args.tests.now made)) c.in-Some.is c.in_ok-below-in-Project.ensures).1))
-    (c.project_standing.ensures (tested c.in-Project.input c.in-Some.below) [] (rw (c.get-in-Some.ensures, c.as_slice-in-Some.ensures) at c.under-rows-in-Some.ensures)
+    (c.project_merged.ensures (tested c.in-Project.input c.in-Some.below) [] (rw (c.get-in-Some.ensures, c.as_slice-in-Some.ensures) at c.under-rows-in-Some.ensures)
     (subst (λ others. SubsStand [] others) (sym c.new.ensures) tt))
