@@ -125,6 +125,17 @@ stands-merged q input items made subs originals s t none m =
     (stands-Project q (Project m.under m.lower []) below items items (items-themselves items) originals [] (subst (SubsStand originals) none t))
     (stands-twice m.under m.lower items made (under-plain m.under m.lower below.plain) m.calm m.are))
 
+-- a projection without sublinks to items that can't fault, and what is made of others over it
+pub merged-items : (input under : Query) (lower items made below : List Item) (others list : List Sublink) → input ≡ Project under lower others → below ≡ lower →
+    list ≡ others → (list ≡ []) × (items_faultless below ≡ true) → ItemsSubstituted below items made → IsMerged input items made
+merged-items input under lower items made below others list is below_is list_is clear are = record {
+  under = under;
+  lower = lower;
+  is = is ∙ ap (Project under lower) (sym list_is ∙ clear.0);
+  calm = subst (λ ls. items_faultless ls ≡ true) below_is clear.1;
+  are = subst (λ ls. ItemsSubstituted ls items made) below_is are;
+}
+
 -- the input that is taken of a projection is the one that the merged items stand over
 pub stands-over : (q input below : Query) (items slice made : List Item) (subs list originals : List Sublink) → slice ≡ items → list ≡ subs →
     (list ≡ []) × IsMerged input slice made → ((under : Query) (lower : List Item) (others : List Sublink) → input ≡ Project under lower others → below ≡ under) →

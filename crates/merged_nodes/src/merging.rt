@@ -74,10 +74,14 @@ fn merged(
             subs: others,
             ..
         } => {
-            if !subs.is_empty() || !can_merge(lower.as_slice(), others.as_slice(), items) {
+            let below = lower.as_slice();
+            if !subs.is_empty() {
                 return Ok(None);
             }
-            Ok(Some(items_over(alloc, items, lower.as_slice())?))
+            if !can_merge(below, others.as_slice(), items) {
+                return Ok(None);
+            }
+            Ok(Some(items_over(alloc, items, below)?))
         }
         _ => Ok(None),
     }
@@ -88,7 +92,14 @@ fn merged(
 fn can_merge(lower: &[Item], others: &[Sublink], items: &[Item]) -> bool
     ensures { IsTrue result → (others.now ≡ []) × IsTrue (items_faultless lower.now) }
 {
-    others.is_empty() && items_faultless(lower) && (all_leaves(lower) || in_order(items))
+    is_calm(lower, others) && copies_nothing(lower, items)
+}
+
+/// Whether items over sublinks have none and can't fault.
+fn is_calm(items: &[Item], subs: &[Sublink]) -> bool
+    ensures { IsTrue result → (subs.now ≡ []) × IsTrue (items_faultless items.now) }
+{
+    subs.is_empty() && items_faultless(items)
 }
 
 fn items_faultless(items: &[Item]) -> bool
@@ -115,6 +126,11 @@ fn items_over(alloc: Global, items: &[Item], lower: &[Item]) -> Result<List<Item
     Ok(made)
 }
 
+/// Whether no item that computes is copied where the others read the lower ones.
+fn copies_nothing(lower: &[Item], items: &[Item]) -> bool {
+    all_leaves(lower) || in_order(items)
+}
+
 /// Whether the items are columns and literals.
 fn all_leaves(items: &[Item]) -> bool {
     for item in items {
@@ -136,10 +152,13 @@ fn in_order(items: &[Item]) -> bool {
         let Some(place) = own_place(&item.expr) else {
             return false;
         };
-        if place < next || place == usize::MAX {
+        let Some(after) = place.checked_add(1) else {
+            return false;
+        };
+        if place < next {
             return false;
         }
-        next = place + 1;
+        next = after;
     }
     true
 }
