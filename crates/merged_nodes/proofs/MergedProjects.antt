@@ -78,7 +78,7 @@ merged-kinds lower (item ∷ upper) (other ∷ made) m = λ i. m.0.kind i ∷ me
 module _ (kinds : List Kind) (outer : List (List Kind)) (lower : List Item) (form : ItemsForm (kinds ∷ outer) [] lower) where
   merged-formed : (upper made : List Item) → ItemsSubstituted lower upper made →
       Each (λ (item : Item). HasKind (item_kinds lower ∷ outer) [] item.expr item.kind) upper → ItemsForm (kinds ∷ outer) [] made
-  merged-formed [] [] m h = all-nothing _
+  merged-formed [] [] m h = all-nothing (λ (i : Item). HasKind (kinds ∷ outer) [] i.expr i.kind)
   merged-formed [] (other ∷ made) m h = absurd m
   merged-formed (item ∷ upper) [] m h = absurd m
   merged-formed (item ∷ upper) (other ∷ made) m h =

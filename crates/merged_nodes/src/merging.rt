@@ -75,10 +75,7 @@ fn merged(
             ..
         } => {
             let below = lower.as_slice();
-            if !subs.is_empty() {
-                return Ok(None);
-            }
-            if !can_merge(below, others.as_slice(), items) {
+            if !can_merge(subs, below, others.as_slice(), items) {
                 return Ok(None);
             }
             Ok(Some(items_over(alloc, items, below)?))
@@ -87,9 +84,17 @@ fn merged(
     }
 }
 
-/// Whether items may be put in the place of the columns that others read: they stand over no sublinks, can't fault, and none
-/// that computes is copied.
-fn can_merge(lower: &[Item], others: &[Sublink], items: &[Item]) -> bool
+/// Whether items may be put in the place of the columns that others read: neither stand over sublinks, they can't fault, and
+/// none that computes is copied.
+fn can_merge(subs: &[Sublink], lower: &[Item], others: &[Sublink], items: &[Item]) -> bool
+    ensures { IsTrue result →
+        (subs.now ≡ []) × ((others.now ≡ []) × IsTrue (items_faultless lower.now)) }
+{
+    subs.is_empty() && serves_below(lower, others, items)
+}
+
+/// Whether items may be put in the place of the columns that others without sublinks read.
+fn serves_below(lower: &[Item], others: &[Sublink], items: &[Item]) -> bool
     ensures { IsTrue result → (others.now ≡ []) × IsTrue (items_faultless lower.now) }
 {
     is_calm(lower, others) && copies_nothing(lower, items)

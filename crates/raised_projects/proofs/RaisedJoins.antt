@@ -4,10 +4,10 @@ use Rattle.std.proofs.lemmas.List.{length-map, map-append}
 use Rattle.std.proofs.lemmas.List.Elements.{All-append}
 use Rattle.perm_values.specs.Rows.{picked, value_at}
 use Rattle.perm_values.specs.declared.kind.Kind.{Kind}
-use Rattle.perm_values.specs.declared.kind.Kind.TheVariants as kind
+use Rattle.perm_values.specs.declared.kind.Kind.TheVariants.{Boolean, Text}
 use Rattle.perm_values.specs.declared.value.Value.TheVariants.{Null}
 use Rattle.bag_algebra.proofs.Truths.{and_true, both-true, left-true, right-true}
-use Rattle.bag_algebra.specs.Bags.{Row, Bag, nulls}
+use Rattle.bag_algebra.specs.Bags.{Row, nulls}
 use Rattle.bag_algebra.specs.ColumnItems.{column_items}
 use Rattle.bag_algebra.specs.Fits.{TablesFit, env_fits}
 use Rattle.bag_algebra.specs.Kinds.{kind_in, kinds_in, kinds_of, width_of}
@@ -75,7 +75,7 @@ pair-kinds : (ks ls : List Kind) (lefts rights : List ℕ) → PlacesIn (length 
     kinds_in (ks ++ ls) (pair_places lefts (length ks) rights) ≡ kinds_in ks lefts ++ kinds_in ls rights
 pair-kinds ks ls lefts rights within =
     map-append (kind_in (ks ++ ls)) lefts (map (λ place. length ks + place) rights)
-    ∙ (λ i. at-within kind.Text ks ls lefts within i ++ at-moved kind.Text ks ls rights (length ks) refl i)
+    ∙ (λ i. at-within Text ks ls lefts within i ++ at-moved Text ks ls rights (length ks) refl i)
 
 -- ---- the join
 
@@ -129,8 +129,8 @@ module _ (left right lower_left lower_right : Query) (lefts rights : List ℕ) (
           left = of_left.formed outer g.left;
           right = of_right.formed outer g.right;
           subs = tt;
-          condition = m.kind (kinds_of lower_left ++ kinds_of lower_right) outer [] kind.Boolean within-order
-              (by (λ i. HasKind (kinds-pairs i ∷ outer) [] condition kind.Boolean) g.condition);
+          condition = m.kind (kinds_of lower_left ++ kinds_of lower_right) outer [] Boolean within-order
+              (by (λ i. HasKind (kinds-pairs i ∷ outer) [] condition Boolean) g.condition);
         }
 
     widths-left : width_of left ≡ length lefts

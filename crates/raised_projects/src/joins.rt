@@ -7,7 +7,7 @@ ghost use Rattle.bag_algebra.specs.declared.query.Query.TheVariants.{Join};
 ghost use Rattle.bag_algebra.specs.declared.query.Query.{Query};
 ghost use Rattle.raised_projects.specs.Plans.{IsJoinPlan, pair_places};
 
-use crate::sides::{Side, side, under};
+use crate::sides::{Side, side_of, under};
 use bag_algebra::{Expr, JoinKind, Query};
 use contribution::{join_on, moved, regroup};
 use perm_values::{List, NoMemory, both};
@@ -68,7 +68,7 @@ fn plan_of(
     ensures { IfOk result (λ found. IfSome found (λ plan.
         IsJoinPlan (Join kind left.now right.now condition.now []) plan)) }
 {
-    let (lefts, rights) = both(side(alloc, left), side(alloc, right))?;
+    let (lefts, rights) = both(side_of(alloc, left), side_of(alloc, right))?;
     if !lefts.input && !rights.input {
         return Ok(None);
     }

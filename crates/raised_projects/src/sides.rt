@@ -22,7 +22,7 @@ pub struct Side {
 
 /// The query as columns of its input, where it is a projection without sublinks to columns that leaves out at most half of
 /// them; otherwise as its own.
-pub(crate) fn side(alloc: Global, query: &Query) -> Result<Side, NoMemory>
+pub(crate) fn side_of(alloc: Global, query: &Query) -> Result<Side, NoMemory>
     ensures { IfOk result (λ side. IsSide query.now side) }
 {
     match below(alloc, query)? {

@@ -1,6 +1,8 @@
 use Rattle.std.proofs.Common.{[], refl, ap, ◌∙◌}
 use Rattle.bag_algebra.specs.Rewriting.{Stands}
-use Rattle.bag_algebra.specs.built.Patterns.{FilterOf}
+use Rattle.bag_algebra.specs.built.Patterns.{FilterOf, ProjectOf}
+use Rattle.bag_algebra.specs.ColumnItems.{column_items}
+use Rattle.bag_algebra.specs.Kinds.{kinds_of}
 use Rattle.bag_algebra.specs.declared.query.Query.{end_of-Sublink}
 use Rattle.bag_algebra.specs.declared.query.Query.TheVariants.{Project}
 use Rattle.contribution.proofs.NodeQueries.{of_made}
@@ -16,4 +18,4 @@ returns c q s =
     (raised-filter q c.args.query (Project plan.under plan.items []) plan.under c.in_ok-kept.kept _ c.args.plan.order plan.condition c.args.plan.condition plan.is s
     (picks-columns plan.under plan.items c.args.plan.order plan.columns) plan.moved
     (c.in_ok-kept.ensures.made ∙ ap (λ under. FilterOf under c.args.plan.condition [] end_of-Sublink) rows)
-    refl)
+    (ap (λ order. ProjectOf c.in_ok-kept.kept (column_items (kinds_of c.in_ok-kept.kept) order) [] end_of-Sublink) c.as_slice.ensures))
