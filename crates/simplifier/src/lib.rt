@@ -1,8 +1,6 @@
 //! A simpler query in the place of a query without PROVENANCE.
 #![tactic(auto)]
 
-mod folding;
 mod passes;
-mod raising;
 
 pub use passes::simplify;

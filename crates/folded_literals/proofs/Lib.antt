@@ -1,2 +1,0 @@
-pub mod OverLiterals
-pub mod Rebuilt

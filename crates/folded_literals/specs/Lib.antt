@@ -1,3 +1,0 @@
-pub mod Constants
-pub mod Rebuilt
-pub mod built

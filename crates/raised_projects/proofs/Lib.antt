@@ -1,5 +1,0 @@
-pub mod Inputs
-pub mod MadeRows
-pub mod Picks
-pub mod RaisedFilters
-pub mod RaisedJoins
