@@ -1,23 +1,20 @@
 -- A projection over one to items that can't fault is one.
 use Rattle.std.proofs.Common.{◌≡◌, true, List, [], ◌∷◌, map, refl, sym, ap, ◌∙◌, subst}
-use Rattle.std.specs.Prelude.{⊤}
 use Rattle.perm_values.specs.declared.kind.Kind.{Kind}
-use Rattle.perm_values.specs.declared.value.Value.{Value}
 use Rattle.bag_algebra.proofs.Truths.{and_true}
 use Rattle.bag_algebra.specs.Bags.{Row, Bag}
 use Rattle.bag_algebra.specs.Expressions.{value}
 use Rattle.bag_algebra.specs.FaultFree.{items_faultless}
 use Rattle.bag_algebra.specs.Inputs.{inputs_of}
 use Rattle.bag_algebra.specs.Kinds.{kinds_of}
-use Rattle.bag_algebra.specs.Meaning.{Database, meaning, items_on}
+use Rattle.bag_algebra.specs.Meaning.{meaning, items_on}
 use Rattle.bag_algebra.specs.Means.{no_subs}
 use Rattle.bag_algebra.specs.Outcome.{Outcome, Good, Bad, and_then, both, each}
 use Rattle.bag_algebra.specs.Rewriting.{is_plain, Stands}
-use Rattle.bag_algebra.specs.WellFormed.{HasKind, ItemsForm, WellFormed}
+use Rattle.bag_algebra.specs.WellFormed.{HasKind, ItemsForm}
 use Rattle.bag_algebra.specs.built.Forms.{EachTable-Project, WellFormed-Project}
 use Rattle.bag_algebra.specs.built.Openings.{kinds_of-Project, meaning-Project, Project_with-is}
 use Rattle.bag_algebra.specs.built.Scopes.{is_plain-Project}
-use Rattle.bag_algebra.specs.declared.expr.Expr.{Expr}
 use Rattle.bag_algebra.specs.declared.expr.Item.{Item}
 use Rattle.bag_algebra.specs.declared.query.Query.{Query}
 use Rattle.bag_algebra.specs.declared.query.Query.TheVariants.{Project}
@@ -32,7 +29,7 @@ use Rattle.query_laws.specs.Standing.{SubsStand}
 use Rattle.rewrite_base.proofs.Itself.{stands-onward}
 use Rattle.simpler_laws.proofs.TestedQueries.{by, stands-same}
 use Rattle.merged_nodes.proofs.SubstitutedVariants.{item-value, rest-calm}
-use Rattle.merged_nodes.specs.Substituted.{row_of_items, IsSubstituted, ItemsSubstituted, IsMerged}
+use Rattle.merged_nodes.specs.Substituted.{row_of_items, ItemsSubstituted, IsMerged}
 
 -- ---- rows
 

@@ -1,19 +1,15 @@
 -- DISTINCT over what has no row twice changes nothing.
-use Rattle.std.proofs.Common.{◌≡◌, ℕ, zero, suc, ◌<◌, ◌≤◌, Bool, true, false, cond, not, List, [], ◌∷◌, ◌++◌, filter, map, Decides, refl, sym, ap, ◌∙◌, subst, true≢false, arith}
+use Rattle.std.proofs.Common.{◌≡◌, ℕ, zero, suc, ◌<◌, ◌≤◌, Bool, true, false, cond, not, List, [], ◌++◌, filter, map, Decides, refl, sym, ◌∙◌, subst, true≢false, arith}
 use Rattle.std.specs.Prelude.{⊤}
 use Rattle.perm_values.specs.Rows.{same_row}
-use Rattle.perm_values.specs.declared.kind.Kind.{Kind}
 use Rattle.bag_algebra.proofs.BagLaws.{count-once, member_decides}
 use Rattle.bag_algebra.proofs.TablesRead.{reads_among-itself}
-use Rattle.bag_algebra.specs.Bags.{Row, Bag, SameBag, count, member, once, union_of, intersect_of, except_of}
-use Rattle.bag_algebra.specs.Fits.{TablesFit, env_fits}
-use Rattle.bag_algebra.specs.Kinds.{kinds_of}
+use Rattle.bag_algebra.specs.Bags.{Row, Bag, count, member, once, union_of, intersect_of, except_of}
 use Rattle.bag_algebra.specs.Meaning.{Database, meaning, arguments_on}
 use Rattle.bag_algebra.specs.Means.{grouped}
 use Rattle.bag_algebra.specs.Outcome.{Outcome, Good, Bad, and_then, mapped, both}
 use Rattle.bag_algebra.specs.Rewriting.{is_plain, SameRows, Stands}
-use Rattle.bag_algebra.specs.TablesRead.{EachTable, tables_read}
-use Rattle.bag_algebra.specs.WellFormed.{WellFormed}
+use Rattle.bag_algebra.specs.TablesRead.{tables_read}
 use Rattle.bag_algebra.specs.built.Forms.{EachTable-Distinct, WellFormed-Distinct}
 use Rattle.bag_algebra.specs.built.Openings.{kinds_of-Distinct, Union-is, Intersect-is, Except-is, Distinct-is, Aggregate-is, meaning-Union, meaning-Intersect, meaning-Except, meaning-Distinct, meaning-Aggregate}
 use Rattle.bag_algebra.specs.built.Patterns.{BaseOf, FilterOf, ProjectOf, JoinOf, ApplyOf, UnionOf, IntersectOf, ExceptOf, DistinctOf, AggregateOf, LimitOf, ProvOf}

@@ -1,5 +1,5 @@
 //! Inner joins, also with the one row of no columns.
-ghost use Rattle.std.specs.Prelude.{◌≡◌, [], List, IfOk, IsTrue};
+ghost use Rattle.std.specs.Prelude.{◌≡◌, [], IfOk, IsTrue};
 ghost use Rattle.bag_algebra.specs.Rewriting.{Stands};
 ghost use Rattle.bag_algebra.specs.declared.expr.Expr.{Expr};
 ghost use Rattle.bag_algebra.specs.declared.query.JoinKind.TheVariants.{Inner};

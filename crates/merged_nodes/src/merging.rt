@@ -40,10 +40,18 @@ fn over(
     ensures { (q : Query) (originals : List Sublink) → Stands q input → SubsStand originals subs →
         IfOk result (λ p. Stands (Project q items originals) p) }
 {
-    match merged(alloc, &input, items.as_slice(), subs.as_slice()) {
-        Ok(Some(made)) => Query::project(alloc, input_of(input), made, subs),
-        Ok(None) => Query::project(alloc, input, items, subs),
-        Err(error) => Err(error),
+    let Ok(found) = merged(alloc, &input, items.as_slice(), subs.as_slice()) else {
+        drop(input);
+        drop(items);
+        drop(subs);
+        return Err(NoMemory);
+    };
+    match found {
+        Some(made) => {
+            drop(items);
+            Query::project(alloc, input_of(input), made, subs)
+        }
+        None => Query::project(alloc, input, items, subs),
     }
 }
 
