@@ -42,19 +42,28 @@ same_outcomes o p e = subst (SameRows o) e (itself o) where
   itself (Good us) = record { counts = λ t. refl }
   itself (Bad faults) = refl
 
+-- what stands for a query by meaning the very same, with the same kinds wherever the query is well formed
+pub stands-equal : (n m : Query) → is_plain m ≡ true → ((outer : List (List Kind)) → WellFormed outer n → kinds_of m ≡ kinds_of n) →
+    ((outer : List (List Kind)) → WellFormed outer n → WellFormed outer m) →
+    ((P : ℕ → List Kind → Type 0) → EachTable P n → EachTable P m) →
+    ((outer : List (List Kind)) (db : Database) (env : List Row) → WellFormed outer n → TablesFit db n → env_fits env outer ≡ true →
+    meaning n db env ≡ meaning m db env) →
+    Stands n m
+stands-equal n m plain kinds formed tables rows = record {
+  plain = plain;
+  kinds = kinds;
+  formed = formed;
+  tables = tables (λ id kinds. Contains (tables_read n) (record { id = id; kinds = kinds })) (reads_among-itself n);
+  rows = λ outer db env f h e. same_outcomes (meaning n db env) (meaning m db env) (rows outer db env f h e);
+}
+
 -- what stands for a query by meaning the very same
 pub stands-same : (n m : Query) → is_plain m ≡ true → kinds_of m ≡ kinds_of n → ((outer : List (List Kind)) → WellFormed outer n → WellFormed outer m) →
     ((P : ℕ → List Kind → Type 0) → EachTable P n → EachTable P m) →
     ((outer : List (List Kind)) (db : Database) (env : List Row) → WellFormed outer n → TablesFit db n → env_fits env outer ≡ true →
     meaning n db env ≡ meaning m db env) →
     Stands n m
-stands-same n m plain kinds formed tables rows = record {
-  plain = plain;
-  kinds = λ outer f. kinds;
-  formed = formed;
-  tables = tables (λ id kinds. Contains (tables_read n) (record { id = id; kinds = kinds })) (reads_among-itself n);
-  rows = λ outer db env f h e. same_outcomes (meaning n db env) (meaning m db env) (rows outer db env f h e);
-}
+stands-same n m plain kinds formed tables rows = stands-equal n m plain (λ outer f. kinds) formed tables rows
 
 -- ---- a filter without sublinks whose condition can't fault
 

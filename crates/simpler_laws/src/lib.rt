@@ -12,6 +12,6 @@ mod pairs;
 pub use columns::reads_only;
 pub use conditions::{conjunction, conjuncts, with_conjuncts};
 pub use filters::{Parts, all_fault_free, filter_parts};
-pub use lowering::lowered;
+pub use lowering::{lowered, own_place, own_places};
 pub use nodes::{filter_on, inner_join, tested};
 pub use pairs::{Sides, join_sides};

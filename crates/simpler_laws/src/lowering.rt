@@ -23,15 +23,16 @@ pub fn lowered(
     if tests.is_empty() || !subs.is_empty() {
         return Ok(None);
     }
-    let places = columns(alloc, items)?;
+    let places = own_places(alloc, items)?;
     match places {
         Some(places) => Ok(Some(all_moved(alloc, tests, places.as_slice())?)),
         None => Ok(None),
     }
 }
 
-/// The places of the columns of the node's own row that the items are, if all of them are such.
-fn columns(alloc: Global, items: &[Item]) -> Result<Option<List<usize>>, NoMemory>
+/// The places of the columns of the node's own row that the items are, if all of them are such. It fails only for want of
+/// memory.
+pub fn own_places(alloc: Global, items: &[Item]) -> Result<Option<List<usize>>, NoMemory>
     ensures { IfOk result (λ found. IfSome found (λ places. AreColumns items.now places)) }
 {
     let mut places = List::new(alloc);
@@ -44,8 +45,8 @@ fn columns(alloc: Global, items: &[Item]) -> Result<Option<List<usize>>, NoMemor
     Ok(Some(places))
 }
 
-/// The place of the column of the node's own row that the expression is, if it is one.
-fn own_place(expr: &Expr) -> Option<usize>
+/// The place of the column of the node's own row that the expression is, if it is one. It takes no memory.
+pub fn own_place(expr: &Expr) -> Option<usize>
     ensures { IfSome result (λ place. expr.now ≡ Col 0 place) }
 {
     match expr {

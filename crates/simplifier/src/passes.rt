@@ -10,15 +10,14 @@ ghost use Rattle.query_laws.specs.Standing.{SubsStand};
 ghost use Rattle.simpler_laws.specs.Tested.{tested};
 
 use bag_algebra::{Expr, JoinKind, Query, Sublink, faultless};
+use merged_nodes::{distinct_once, inner_pairs, project_merged};
 use perm_values::{List, NoMemory};
 use simpler_laws::{
-    all_fault_free, filter_on, filter_parts, inner_join, join_sides, lowered, tested,
-    with_conjuncts,
+    all_fault_free, filter_on, filter_parts, join_sides, lowered, tested, with_conjuncts,
 };
 use standing_nodes::{
-    add_standing, aggregate_standing, apply_standing, distinct_standing, except_standing,
-    filter_standing, intersect_standing, join_standing, limit_standing, project_standing, table,
-    union_standing,
+    add_standing, aggregate_standing, apply_standing, except_standing, filter_standing,
+    intersect_standing, join_standing, limit_standing, table, union_standing,
 };
 use std::alloc::Global;
 
@@ -70,7 +69,7 @@ fn under(alloc: Global, query: &Query, tests: &[Expr]) -> Result<Query, NoMemory
                 let sides = join_sides(alloc, left.get(), right.get(), condition, tests)?;
                 let lefts = under(alloc, left.get(), sides.left.as_slice());
                 let rights = under(alloc, right.get(), sides.right.as_slice());
-                let pairs = inner_join(alloc, lefts, rights, sides.both.as_slice());
+                let pairs = inner_pairs(alloc, lefts, rights, sides.both.as_slice());
                 tested(alloc, pairs, sides.around.as_slice())
             } else {
                 tested(alloc, node(alloc, query), tests)
@@ -80,7 +79,7 @@ fn under(alloc: Global, query: &Query, tests: &[Expr]) -> Result<Query, NoMemory
             match lowered(alloc, items.as_slice(), subs.as_slice(), tests)? {
                 Some(below) => {
                     let rows = under(alloc, input.get(), below.as_slice());
-                    project_standing(alloc, rows, items, Ok(List::new(alloc)))
+                    project_merged(alloc, rows, items, Ok(List::new(alloc)))
                 }
                 None => tested(alloc, node(alloc, query), tests),
             }
@@ -132,7 +131,7 @@ fn node(alloc: Global, query: &Query) -> Result<Query, NoMemory>
         Query::Project { input, items, subs } => {
             let rows = under(alloc, input.get(), &[]);
             let inside = nodes(alloc, subs.as_slice());
-            project_standing(alloc, rows, items, inside)
+            project_merged(alloc, rows, items, inside)
         }
         Query::Join {
             kind,
@@ -161,7 +160,7 @@ fn node(alloc: Global, query: &Query) -> Result<Query, NoMemory>
             let rights = under(alloc, right.get(), &[]);
             except_standing(alloc, *all, lefts, rights)
         }
-        Query::Distinct { input } => distinct_standing(alloc, under(alloc, input.get(), &[])),
+        Query::Distinct { input } => distinct_once(alloc, under(alloc, input.get(), &[])),
         Query::Aggregate {
             input,
             groups,

@@ -56,7 +56,7 @@ node-nodes-inside-requires-in-Project t c =
 
 pub node-returns-in-Project : goal.node-returns-in-Project
 node-returns-in-Project t c =
-    stands_where _ _ c.project_standing.result c.in-Project.is _ (λ p s. s) (c.project_standing.ensures c.in-Project.input c.in-Project.subs (rw c.get-in-Project.ensures at c.under-rows-in-Project.ensures) (rw c.as_slice-in-Project.ensures at c.nodes-inside-in-Project.ensures))
+    stands_where _ _ c.project_merged.result c.in-Project.is _ (λ p s. s) (c.project_merged.ensures c.in-Project.input c.in-Project.subs (rw c.get-in-Project.ensures at c.under-rows-in-Project.ensures) (rw c.as_slice-in-Project.ensures at c.nodes-inside-in-Project.ensures))
 
 pub node-under-lefts-requires : goal.node-under-lefts-requires
 node-under-lefts-requires t c =
@@ -117,7 +117,7 @@ node-under-requires-in-Distinct t c =
 
 pub node-returns-in-Distinct : goal.node-returns-in-Distinct
 node-returns-in-Distinct t c =
-    stands_where _ _ c.distinct_standing.result c.in-Distinct.is _ (λ p s. s) (c.distinct_standing.ensures c.in-Distinct.input (rw c.get-in-Distinct.ensures at c.under-in-Distinct.ensures))
+    stands_where _ _ c.distinct_once.result c.in-Distinct.is _ (λ p s. s) (c.distinct_once.ensures c.in-Distinct.input (rw c.get-in-Distinct.ensures at c.under-in-Distinct.ensures))
 
 pub node-under-rows-requires-in-Aggregate : goal.node-under-rows-requires-in-Aggregate
 node-under-rows-requires-in-Aggregate t c =
@@ -211,7 +211,7 @@ under-returns-in_ok-sides-in-Join t c =
     where_made (λ p. Stands (tested pairs sides.around) p) _ c.tested-then-only_pairs.result (join-passes c.args.query.now c.in-Join.left c.in-Join.right c.in-Join.kind c.in-Join.condition c.in-Join.subs c.args.tests.now c.in-Join.is c.requires.0 c.requires.1 (c.only_pairs.ensures c.if-only_pairs.true).0 (sym c.as_slice-in-Join.ensures ∙ (c.only_pairs.ensures c.if-only_pairs.true).1.0) (c.only_pairs.ensures c.if-only_pairs.true).1.1 c.in_ok-sides-in-Join.sides
     (rw (c.get-then-only_pairs.ensures, c.get-then-only_pairs-2.ensures) at c.in_ok-sides-in-Join.ensures))
     ((rw c.as_slice-then-only_pairs-4.ensures at c.tested-then-only_pairs.ensures) pairs
-    ((rw c.as_slice-then-only_pairs-3.ensures at c.inner_join-pairs.ensures) (tested c.in-Join.left sides.left) (tested c.in-Join.right sides.right)
+    ((rw c.as_slice-then-only_pairs-3.ensures at c.inner_pairs-pairs.ensures) (tested c.in-Join.left sides.left) (tested c.in-Join.right sides.right)
     (rw (c.get-then-only_pairs-3.ensures, c.as_slice-then-only_pairs.ensures) at c.under-lefts.ensures)
     (rw (c.get-then-only_pairs-4.ensures, c.as_slice-then-only_pairs-2.ensures) at c.under-rights.ensures)))
 
@@ -230,8 +230,8 @@ under-under-rows-requires-in-Some t c = (
 
 pub under-returns-in-Some : goal.under-returns-in-Some
 under-returns-in-Some t c =
-    where_made (λ p. Stands (Project (tested c.in-Project.input c.in-Some.below) c.in-Project.items []) p) _ c.project_standing.result (project-passes c.args.query.now c.in-Project.input c.in-Project.items c.in-Project.subs c.args.tests.now c.in-Project.is c.requires.0 c.requires.1
+    where_made (λ p. Stands (Project (tested c.in-Project.input c.in-Some.below) c.in-Project.items []) p) _ c.project_merged.result (project-passes c.args.query.now c.in-Project.input c.in-Project.items c.in-Project.subs c.args.tests.now c.in-Project.is c.requires.0 c.requires.1
     (sym c.as_slice-in-Project-2.ensures ∙ (subst (λ o. IfSome o (λ made. (c.as_slice-in-Project-2.result.now ≡ []) × IsLowered c.as_slice-in-Project.result.now c.args.tests.now made)) c.in-Some.is c.in_ok-below-in-Project.ensures).0) c.in-Some.below
     (subst (λ items. IsLowered items c.args.tests.now c.in-Some.below) c.as_slice-in-Project.ensures (subst (λ o. IfSome o (λ made. (c.as_slice-in-Project-2.result.now ≡ []) × IsLowered c.as_slice-in-Project.result.now c.args.tests.now made)) c.in-Some.is c.in_ok-below-in-Project.ensures).1))
-    (c.project_standing.ensures (tested c.in-Project.input c.in-Some.below) [] (rw (c.get-in-Some.ensures, c.as_slice-in-Some.ensures) at c.under-rows-in-Some.ensures)
+    (c.project_merged.ensures (tested c.in-Project.input c.in-Some.below) [] (rw (c.get-in-Some.ensures, c.as_slice-in-Some.ensures) at c.under-rows-in-Some.ensures)
     (subst (λ others. SubsStand [] others) (sym c.new.ensures) tt))

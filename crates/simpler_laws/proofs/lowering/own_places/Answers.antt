@@ -2,7 +2,7 @@ use Rattle.std.proofs.Common.{◌≡◌, ◌∷◌, ◌++◌, [], sym, subst, ta
 use Rattle.contribution.proofs.Added.{one_more}
 use Rattle.simpler_laws.proofs.ColumnItems.{columns-more}
 use Rattle.simpler_laws.specs.Lowered.{AreColumns}
-use Rattle.simpler_laws.proofs.lowering.columns.Goals as goal
+use Rattle.simpler_laws.proofs.lowering.own_places.Goals as goal
 
 pub loop-item-preserved : goal.loop-item-preserved
 loop-item-preserved c =

@@ -1,0 +1,4 @@
+pub mod MergedProjects
+pub mod OnceRows
+pub mod SingleJoins
+pub mod SubstitutedVariants
