@@ -7,7 +7,7 @@ use Rattle.perm_values.specs.declared.kind.Kind.{Kind}
 use Rattle.bag_algebra.specs.Bags.{Row}
 use Rattle.bag_algebra.specs.Closed.{is_closed}
 use Rattle.bag_algebra.specs.FaultFree.{faultless, items_faultless, fault_free}
-use Rattle.bag_algebra.specs.Kinds.{kinds_of}
+use Rattle.bag_algebra.specs.Kinds.{kinds_of, width_of}
 use Rattle.bag_algebra.specs.Meaning.{Database, meaning}
 use Rattle.bag_algebra.specs.Means.{keeps_left}
 use Rattle.bag_algebra.specs.Rewriting.{SameRows, is_plain}
@@ -99,3 +99,9 @@ pub record IsBeside (rows right p : Query) : Type 0 where
   pub formed : (outer : List (List Kind)) → WellFormed outer (ApplyOf Left rows right) → WellFormed outer p
   pub same : (outer : List (List Kind)) (db : Database) (env : List Row) → Fitting outer (ApplyOf Left rows right) db env →
       SameRows (meaning (ApplyOf Left rows right) db env) (meaning p db env)
+
+-- p is the dependent join of the rows with the right query that keeps left rows, or the ordinary one with the base of a spine that the right
+-- query is
+pub data IsJoined (rows right : Query) : Query → Type 0 where
+  dependent : IsJoined rows right (ApplyOf Left rows right)
+  ordinary : (spine : Spine) → IsSpine (width_of rows) right spine → IsJoined rows right (spine_join Left rows spine)
