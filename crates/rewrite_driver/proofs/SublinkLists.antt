@@ -1,5 +1,5 @@
 -- Sublinks that stand for others, and rewritings of their queries, one more at the end.
-use Rattle.std.proofs.Common.{List, [], ◌∷◌, ◌++◌, All}
+use Rattle.std.proofs.Common.{◌≡◌, List, [], ◌∷◌, ◌++◌, All, sym, subst}
 use Rattle.std.proofs.lemmas.List.Elements.{All-nil, All-cons, All-head, All-tail, All-push}
 use Rattle.bag_algebra.specs.Rewriting.{IsRewrite}
 use Rattle.bag_algebra.specs.declared.query.Query.{Query}
@@ -35,6 +35,9 @@ all-last : {X : Type 0} (P : X → Type 0) (xs : List X) (x : X) → All P (xs +
 all-last P [] x h = All-head P x [] h
 all-last P (y ∷ xs) x h = all-last P xs x (All-tail P y (xs ++ x ∷ []) h)
 
+pub kept-none : (others : List Sublink) → others ≡ [] → SubsStandClosed [] others
+kept-none others e = subst (SubsStandClosed []) (sym e) (record { stand = tt; none_open = λ h. h })
+
 pub kept-more : (subs others : List Sublink) (sub other : Sublink) → SubsStandClosed subs others → SubStands sub other →
     (NoOpenSublink sub.query → NoOpenSublink other.query) → SubsStandClosed (subs ++ sub ∷ []) (others ++ other ∷ [])
 kept-more subs others sub other s t inner = record {
@@ -44,6 +47,9 @@ kept-more subs others sub other s t inner = record {
       All-push IsClosedSublink others other (s.none_open (all-first IsClosedSublink subs (sub ∷ []) h))
       (record { closed = t.query.formed [] own.closed; inside = inner own.inside });
 }
+
+pub traced-none : (rewritings : List Query) → rewritings ≡ [] → SubsTracedClosed [] rewritings
+traced-none rewritings e = subst (SubsTracedClosed []) (sym e) (record { traced = tt; none_open = λ h. All-nil NoOpenSublink })
 
 pub traced-more : (subs : List Sublink) (rewritings : List Query) (sub : Sublink) (p : Query) → SubsTracedClosed subs rewritings → RewritesClosed (traced_of sub) p →
     SubsTracedClosed (subs ++ sub ∷ []) (rewritings ++ p ∷ [])

@@ -5,6 +5,7 @@ use Rattle.bag_algebra.specs.declared.query.SubKind.TheVariants.{Exists, Scalar}
 use Rattle.contribution.proofs.Added.{one_more}
 use Rattle.rewrite_driver.proofs.ClosedNodes.{kept-Base, kept-Single, kept-Table}
 use Rattle.rewrite_driver.proofs.MadeQueries.{stands_made, stands_where, rewrites_where, rewrites_without_places}
+use Rattle.rewrite_driver.proofs.SublinkLists.{kept-none, traced-none}
 use Rattle.rewrite_driver.proofs.TracedQueries.{kind_traced, traced_here, traced_below}
 use Rattle.rewrite_driver.proofs.driver.+stand.Goals as goal
 use Rattle.rewrite_driver.specs.KeptClosed.{StandsClosed, SubsStandClosed, SubsTracedClosed}
@@ -68,6 +69,9 @@ stand-returns-in-Apply t c =
 pub stand-returns-in-Prov : goal.stand-returns-in-Prov
 stand-returns-in-Prov t c =
     stands_where _ _ c.provenance_standing.result c.in-Prov.is _ (λ p s. s) (c.provenance_standing.ensures c.in-Prov.input (rw c.get-in-Prov.ensures at c.rewriting.ensures))
+
+pub stand_subs-loop-sub-init : goal.stand_subs-loop-sub-init
+stand_subs-loop-sub-init t c = kept-none c.new-others.result c.new-others.ensures
 
 pub stand_subs-loop-sub-preserved : goal.stand_subs-loop-sub-preserved
 stand_subs-loop-sub-preserved t c =
@@ -198,6 +202,9 @@ pub by_rule-returns-in-Limit : goal.by_rule-returns-in-Limit
 by_rule-returns-in-Limit t c =
     rewrites_where _ _ c.limit_rule.result c.in-Limit.is _ (λ p r. r)
     ((rw c.as_slice-in-Limit.ensures at c.limit_rule.ensures) c.in-Limit.input (rw c.get-in-Limit.ensures at c.stand-plain_rows-in-Limit.ensures) (rw c.get-in-Limit-2.ensures at c.rewriting-rows-in-Limit.ensures))
+
+pub rewritten_subs-loop-sub-init : goal.rewritten_subs-loop-sub-init
+rewritten_subs-loop-sub-init t c = traced-none c.new-rewritings.result c.new-rewritings.ensures
 
 pub rewritten_subs-loop-sub-preserved : goal.rewritten_subs-loop-sub-preserved
 rewritten_subs-loop-sub-preserved t c =
