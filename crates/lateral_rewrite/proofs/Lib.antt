@@ -3,6 +3,7 @@ pub mod BehindSteps
 pub mod BesideRows
 pub mod Choosing
 pub mod ChosenSteps
+pub mod ClosedContributions
 pub mod DependentSteps
 pub mod OneMore
 pub mod PlainSteps

@@ -3,6 +3,7 @@ ghost use Rattle.std.specs.Prelude.{◌≡◌, IfOk};
 ghost use Rattle.bag_algebra.specs.Kinds.{width_of};
 ghost use Rattle.bag_algebra.specs.Rewriting.{IsRewrite};
 ghost use Rattle.bag_algebra.specs.declared.query.Query.TheVariants.{Apply};
+ghost use Rattle.rewrite_base.specs.OpenSublinks.{NoOpenSublink};
 ghost use Rattle.lateral_rewrite.specs.Applied.{regrouped};
 
 use bag_algebra::{JoinKind, Query};
@@ -23,7 +24,9 @@ pub fn apply(
 ) -> Result<Query, NoMemory>
     requires left { IsRewrite left.now left_rewriting }
     requires right { IsRewrite right.now right_rewriting }
-    ensures { IfOk result (λ p. IsRewrite (Apply kind left.now right.now) p) }
+    ensures rewrites { IfOk result (λ p. IsRewrite (Apply kind left.now right.now) p) }
+    ensures none_open { IfOk result (λ p. NoOpenSublink left_rewriting → NoOpenSublink right_rewriting →
+        NoOpenSublink p) }
 {
     let Ok(order) = regrouped(alloc, left, &left_rewriting, right, &right_rewriting) else {
         drop(left_rewriting);

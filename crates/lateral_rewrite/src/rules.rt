@@ -1,9 +1,10 @@
 //! The rules of Filters and Projects with sublinks over any source.
-ghost use Rattle.std.specs.Prelude.{◌≡◌, IfOk, length};
+ghost use Rattle.std.specs.Prelude.{◌≡◌, All, IfOk, length};
 ghost use Rattle.bag_algebra.specs.Kinds.{width_of};
 ghost use Rattle.bag_algebra.specs.Rewriting.{IsRewrite};
 ghost use Rattle.bag_algebra.specs.declared.query.Query.TheVariants.{Filter, Project};
 ghost use Rattle.query_laws.specs.Standing.{SubsStand};
+ghost use Rattle.rewrite_base.specs.OpenSublinks.{IsClosedSublink, NoOpenSublink};
 ghost use Rattle.rewrite_sublink.specs.Candidates.{answer_columns, beside_row};
 ghost use Rattle.rewrite_sublink.specs.SubRewritings.{SubsRewritten};
 ghost use Rattle.lateral_rewrite.specs.Dependent.{all_contributed};
@@ -31,7 +32,9 @@ pub fn filter_lateral(
     requires input { IsRewrite input.now rewriting }
     requires standing { SubsStand subs.now standing.now }
     requires rewritten { SubsRewritten subs.now sub_rewritings }
-    ensures { IfOk result (λ p. IsRewrite (Filter input.now condition.now subs.now) p) }
+    ensures rewrites { IfOk result (λ p. IsRewrite (Filter input.now condition.now subs.now) p) }
+    ensures none_open { IfOk result (λ p. NoOpenSublink rewriting → All IsClosedSublink standing.now →
+        All NoOpenSublink sub_rewritings → NoOpenSublink p) }
 {
     let rows = own_rows(alloc, rewriting, condition, standing)?;
     with_contributions(alloc, rows, standing, sub_rewritings.as_slice())
@@ -53,7 +56,9 @@ pub fn project_lateral(
     requires input { IsRewrite input.now rewriting }
     requires standing { SubsStand subs.now standing.now }
     requires rewritten { SubsRewritten subs.now sub_rewritings }
-    ensures { IfOk result (λ p. IsRewrite (Project input.now items.now subs.now) p) }
+    ensures rewrites { IfOk result (λ p. IsRewrite (Project input.now items.now subs.now) p) }
+    ensures none_open { IfOk result (λ p. NoOpenSublink rewriting → All IsClosedSublink standing.now →
+        All NoOpenSublink sub_rewritings → NoOpenSublink p) }
 {
     let rewritings = sub_rewritings.as_slice();
     items_with(alloc, input, rewriting, items, standing, rewritings)

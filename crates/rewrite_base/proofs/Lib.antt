@@ -1,4 +1,5 @@
 pub mod BesideLists
+pub mod ClosedSublinks
 pub mod Faults
 pub mod FlatRows
 pub mod Itself

@@ -1,3 +1,4 @@
 pub mod KeptColumns
+pub mod OpenSublinks
 pub mod Rewritten
 pub mod UnionSides

@@ -1,9 +1,12 @@
 //! Each law is the contract of a function that does nothing.
-ghost use Rattle.std.specs.Prelude.{◌≡◌, [], IsTrue};
+ghost use Rattle.std.specs.Prelude.{◌≡◌, ◌↔◌, [], IsTrue, List};
+ghost use Rattle.perm_values.specs.declared.kind.Kind.{Kind};
 ghost use Rattle.bag_algebra.specs.Kinds.{shape};
 ghost use Rattle.bag_algebra.specs.Rewriting.{is_plain, IsRewrite, Stands};
+ghost use Rattle.bag_algebra.specs.WellFormed.{WellFormed};
 ghost use Rattle.bag_algebra.specs.declared.query.Query.TheVariants.{Distinct, Prov};
 ghost use Rattle.bag_algebra.specs.declared.query.Query.{Query};
+ghost use Rattle.rewrite_base.specs.OpenSublinks.{NoOpenSublink, NoSublinkReadsOut};
 
 /// A plain query stands for itself; and what stands for what stands for a query stands for that query.
 pub fn standing_is_reflexive_and_transitive()
@@ -22,4 +25,11 @@ pub fn distinct_rows_of_rewritings_stand_for_provenance()
 /// is a rewriting of it.
 pub fn queries_without_places_rewrite_as_what_stands()
     ensures { (q b : Query) → shape q ≡ [] → Stands q b → IsRewrite q b }
+{}
+
+/// A well formed query has no open sublink exactly where none of its sublinks, at any depth, has a query with a column of an outer
+/// row.
+pub fn closed_sublinks_read_no_outer_row()
+    ensures { (outer : List (List Kind)) (q : Query) → WellFormed outer q →
+        NoOpenSublink q ↔ NoSublinkReadsOut q }
 {}

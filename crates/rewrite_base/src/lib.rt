@@ -12,7 +12,7 @@ pub use kept::{
     sum,
 };
 pub use laws::{
-    distinct_rows_of_rewritings_stand_for_provenance,
+    closed_sublinks_read_no_outer_row, distinct_rows_of_rewritings_stand_for_provenance,
     queries_without_places_rewrite_as_what_stands, standing_is_reflexive_and_transitive,
 };
 pub use unions::{UnionSide, before_nulls};

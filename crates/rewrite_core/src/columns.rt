@@ -6,6 +6,7 @@ ghost use Rattle.bag_algebra.specs.Kinds.{kinds_of, width_of};
 ghost use Rattle.bag_algebra.specs.built.Patterns.{ProjectOf};
 ghost use Rattle.bag_algebra.specs.Rewriting.{IsRewrite};
 ghost use Rattle.bag_algebra.specs.declared.query.Query.{Query, end_of-Sublink};
+ghost use Rattle.rewrite_base.specs.OpenSublinks.{NoOpenSublink};
 
 use bag_algebra::Query;
 use contribution::regroup;
@@ -15,9 +16,10 @@ use std::alloc::Global;
 
 /// The query itself where those are the places of all its columns in order, else the projection to its columns there.
 pub(crate) fn with_columns(alloc: Global, query: Query, order: &[usize]) -> Result<Query, NoMemory>
-    ensures { IfOk result (λ p. (q : Query) →
+    ensures laid { IfOk result (λ p. (q : Query) →
         IsRewrite q (ProjectOf query (column_items (kinds_of query) order.now) [] end_of-Sublink) →
         IsRewrite q p) }
+    ensures none_open { IfOk result (λ p. NoOpenSublink query → NoOpenSublink p) }
 {
     let Ok(all) = is_all_columns(alloc, &query, order) else {
         drop(query);

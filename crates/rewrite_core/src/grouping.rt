@@ -6,6 +6,7 @@ ghost use Rattle.bag_algebra.specs.declared.query.JoinKind.TheVariants.{Left};
 ghost use Rattle.bag_algebra.specs.declared.query.Query.TheVariants.{Aggregate};
 ghost use Rattle.bag_algebra.specs.declared.query.Query.{Query};
 ghost use Rattle.rewrite_base.specs.KeptColumns.{pairs_of, columns_kept};
+ghost use Rattle.rewrite_base.specs.OpenSublinks.{NoOpenSublink};
 ghost use Rattle.rewrite_core.specs.SameGroups.{same_groups};
 
 use bag_algebra::{Aggr, Expr, JoinKind, Query};
@@ -24,8 +25,9 @@ pub fn aggregate(
     groups: &[usize],
     aggregates: &[Aggr],
 ) -> Result<Query, NoMemory>
-    ensures { IfOk result (λ p. (q : Query) → Stands q input → IsRewrite q rewriting →
+    ensures rewrites { IfOk result (λ p. (q : Query) → Stands q input → IsRewrite q rewriting →
         IsRewrite (Aggregate q groups.now aggregates.now) p) }
+    ensures none_open { IfOk result (λ p. NoOpenSublink input → NoOpenSublink rewriting → NoOpenSublink p) }
 {
     let Ok(plain) = plain_grouping(alloc, input, groups, aggregates) else {
         drop(rewriting);

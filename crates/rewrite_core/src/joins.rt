@@ -5,6 +5,7 @@ ghost use Rattle.bag_algebra.specs.Rewriting.{IsRewrite};
 ghost use Rattle.bag_algebra.specs.declared.query.Query.TheVariants.{Join};
 ghost use Rattle.bag_algebra.specs.declared.query.Query.{Query};
 ghost use Rattle.contribution.specs.MovedColumns.{IsMoved};
+ghost use Rattle.rewrite_base.specs.OpenSublinks.{NoOpenSublink};
 ghost use Rattle.rewrite_core.specs.JoinColumns.{own_places, added_places, IsPaired, IsLaidOut};
 
 use crate::columns::with_columns;
@@ -28,7 +29,9 @@ pub fn join(
 ) -> Result<Query, NoMemory>
     requires left { IsRewrite left.now left_rewriting }
     requires right { IsRewrite right.now right_rewriting }
-    ensures { IfOk result (λ p. IsRewrite (Join kind left.now right.now condition.now []) p) }
+    ensures rewrites { IfOk result (λ p. IsRewrite (Join kind left.now right.now condition.now []) p) }
+    ensures none_open { IfOk result (λ p. NoOpenSublink left_rewriting → NoOpenSublink right_rewriting →
+        NoOpenSublink p) }
 {
     let Ok(order) = all_columns(alloc, left, &left_rewriting, right, &right_rewriting) else {
         drop(left_rewriting);
@@ -58,9 +61,11 @@ fn laid_out(
     condition: &Expr,
     order: &[usize],
 ) -> Result<Query, NoMemory>
-    ensures { IfOk result (λ p. (q : Query) → ((whole : Query) →
+    ensures laid { IfOk result (λ p. (q : Query) → ((whole : Query) →
         IsLaidOut kind left.now left_rewriting right.now right_rewriting condition.now order.now whole →
         IsRewrite q whole) → IsRewrite q p) }
+    ensures none_open { IfOk result (λ p. NoOpenSublink left_rewriting → NoOpenSublink right_rewriting →
+        NoOpenSublink p) }
 {
     let pairs = paired(
         alloc,

@@ -2,6 +2,7 @@
 ghost use Rattle.std.specs.Prelude.{◌≡◌, ◌++◌, [], Ok, IfOk};
 ghost use Rattle.bag_algebra.specs.Rewriting.{IsRewrite};
 ghost use Rattle.bag_algebra.specs.declared.query.Query.TheVariants.{Distinct, Filter, Project};
+ghost use Rattle.rewrite_base.specs.OpenSublinks.{NoOpenSublink};
 ghost use Rattle.rewrite_core.specs.ProvenanceColumns.{provenance_items};
 
 use bag_algebra::{Expr, Item, Query};
@@ -29,7 +30,8 @@ pub fn filter(
     condition: &Expr,
 ) -> Result<Query, NoMemory>
     requires { IsRewrite input.now rewriting }
-    ensures { IfOk result (λ p. IsRewrite (Filter input.now condition.now []) p) }
+    ensures rewrites { IfOk result (λ p. IsRewrite (Filter input.now condition.now []) p) }
+    ensures none_open { IfOk result (λ p. NoOpenSublink rewriting → NoOpenSublink p) }
 {
     let Ok(condition) = condition.copy(alloc) else {
         drop(rewriting);
@@ -47,7 +49,8 @@ pub fn project(
     items: &[Item],
 ) -> Result<Query, NoMemory>
     requires { IsRewrite input.now rewriting }
-    ensures { IfOk result (λ p. IsRewrite (Project input.now items.now []) p) }
+    ensures rewrites { IfOk result (λ p. IsRewrite (Project input.now items.now []) p) }
+    ensures none_open { IfOk result (λ p. NoOpenSublink rewriting → NoOpenSublink p) }
 {
     let Ok(items) = with_provenance(alloc, input, &rewriting, items) else {
         drop(rewriting);

@@ -6,6 +6,7 @@ ghost use Rattle.bag_algebra.specs.Rewriting.{IsRewrite, Stands};
 ghost use Rattle.bag_algebra.specs.declared.query.Label.{Label};
 ghost use Rattle.bag_algebra.specs.declared.query.Query.TheVariants.{Base};
 ghost use Rattle.bag_algebra.specs.declared.query.Query.{Query};
+ghost use Rattle.rewrite_base.specs.OpenSublinks.{NoOpenSublink};
 
 use crate::columns::with_columns;
 use bag_algebra::Query;
@@ -16,8 +17,9 @@ use std::alloc::Global;
 /// A rewriting of the source with these places over a query for which the input stands: the input's columns, and then those
 /// at the places. It fails only for want of memory.
 pub fn base(alloc: Global, input: Query, places: &[usize]) -> Result<Query, NoMemory>
-    ensures { IfOk result (λ p. (q : Query) (label : Label) →
+    ensures rewrites { IfOk result (λ p. (q : Query) (label : Label) →
         Stands q input → IsRewrite (Base q places.now label) p) }
+    ensures none_open { IfOk result (λ p. NoOpenSublink input → NoOpenSublink p) }
 {
     let Ok(order) = columns_and(alloc, &input, places) else {
         drop(input);

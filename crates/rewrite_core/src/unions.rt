@@ -7,6 +7,7 @@ ghost use Rattle.bag_algebra.specs.built.Patterns.{ProjectOf, UnionOf};
 ghost use Rattle.bag_algebra.specs.Rewriting.{IsRewrite};
 ghost use Rattle.bag_algebra.specs.declared.query.Query.TheVariants.{Union};
 ghost use Rattle.bag_algebra.specs.declared.query.Query.{end_of-Sublink};
+ghost use Rattle.rewrite_base.specs.OpenSublinks.{NoOpenSublink};
 ghost use Rattle.rewrite_base.specs.UnionSides.{before_nulls};
 ghost use Rattle.rewrite_core.specs.UnionColumns.{items_behind, padded_behind, provenance_kinds};
 
@@ -28,7 +29,9 @@ pub fn union_of(
 ) -> Result<Query, NoMemory>
     requires left { IsRewrite left.now left_rewriting }
     requires right { IsRewrite right.now right_rewriting }
-    ensures { IfOk result (λ p. IsRewrite (Union all left.now right.now) p) }
+    ensures rewrites { IfOk result (λ p. IsRewrite (Union all left.now right.now) p) }
+    ensures none_open { IfOk result (λ p. NoOpenSublink left_rewriting → NoOpenSublink right_rewriting →
+        NoOpenSublink p) }
 {
     let Ok(right_added) = added_kinds(alloc, right, &right_rewriting) else {
         drop(left_rewriting);

@@ -1,3 +1,4 @@
+pub mod ClosedNodes
 pub mod MadeQueries
 pub mod NoRowLost
 pub mod SublinkLists

@@ -1,2 +1,3 @@
 pub mod FirstColumns
+pub mod KeptClosed
 pub mod Places

@@ -1,12 +1,12 @@
 //! What stands for a query, and what is a rewriting of it.
 ghost use Rattle.std.specs.Prelude.{◌≡◌, IfOk};
-ghost use Rattle.bag_algebra.specs.Rewriting.{IsRewrite, Stands};
+ghost use Rattle.bag_algebra.specs.Rewriting.{Stands};
 ghost use Rattle.bag_algebra.specs.declared.query.Query.TheVariants.{Prov};
 ghost use Rattle.bag_algebra.specs.declared.query.Query.{Query};
-ghost use Rattle.query_laws.specs.Standing.{SubsStand};
+ghost use Rattle.rewrite_base.specs.OpenSublinks.{NoOpenSublink};
 ghost use Rattle.rewrite_driver.specs.FirstColumns.{KeepsRows};
+ghost use Rattle.rewrite_driver.specs.KeptClosed.{RewritesClosed, StandsClosed, SubsStandClosed, SubsTracedClosed};
 ghost use Rattle.rewrite_driver.specs.Places.{has_places};
-ghost use Rattle.rewrite_move.specs.Moved.{SubsTraced};
 ghost use Rattle.rewrite_move.specs.Traced.{below_groups, traced_of};
 
 use crate::rules::{
@@ -27,10 +27,12 @@ use std::alloc::Global;
 /// A plain query that stands for the query, in whose place it may run: of the same kinds, well formed under all outer kinds
 /// under which the query is, reading the query's tables alone, with the same rows, as often, or the same faults, on every
 /// database and under all outer rows that fit. Where the query is the PROVENANCE of another, its first columns are, as a set,
-/// the other's rows. It fails only for want of memory.
+/// the other's rows. Where no sublink of the query is open, none of what stands for it is: no sublink is made, and what is made for
+/// one is a join. It fails only for want of memory.
 pub fn eliminate(alloc: Global, query: &Query) -> Result<Query, NoMemory>
     ensures stands { IfOk result (λ plain. Stands query.now plain) }
     ensures no_row_lost { (q : Query) → query.now ≡ Prov q → IfOk result (λ plain. KeepsRows q plain) }
+    ensures none_open { IfOk result (λ plain. NoOpenSublink query.now → NoOpenSublink plain) }
 {
     stand(alloc, query)
 }
@@ -39,7 +41,7 @@ pub fn eliminate(alloc: Global, query: &Query) -> Result<Query, NoMemory>
 /// where another call fails makes the proof far longer.
 #[cycle(stand)]
 fn stand(alloc: Global, query: &Query) -> Result<Query, NoMemory>
-    ensures { IfOk result (λ plain. Stands query.now plain) }
+    ensures { IfOk result (λ plain. StandsClosed query.now plain) }
 {
     match query {
         Query::Table { id, kinds } => table(alloc, *id, kinds),
@@ -111,7 +113,7 @@ fn stand(alloc: Global, query: &Query) -> Result<Query, NoMemory>
 /// The sublinks over what stands for their queries.
 #[cycle(stand)]
 fn stand_subs(alloc: Global, subs: &[Sublink]) -> Result<List<Sublink>, NoMemory>
-    ensures { IfOk result (λ others. SubsStand subs.now others) }
+    ensures { IfOk result (λ others. SubsStandClosed subs.now others) }
 {
     let mut others = List::new(alloc);
     for sub in subs {
@@ -125,7 +127,7 @@ fn stand_subs(alloc: Global, subs: &[Sublink]) -> Result<List<Sublink>, NoMemory
 /// that query's rewriting twice.
 #[cycle(stand)]
 fn rewriting(alloc: Global, query: &Query) -> Result<Query, NoMemory>
-    ensures { IfOk result (λ p. IsRewrite query.now p) }
+    ensures { IfOk result (λ p. RewritesClosed query.now p) }
 {
     let found = has_places(alloc, query)?;
     if found {
@@ -139,7 +141,7 @@ fn rewriting(alloc: Global, query: &Query) -> Result<Query, NoMemory>
 /// itself is rewritten by what stands for it.
 #[cycle(stand)]
 fn by_rule(alloc: Global, query: &Query) -> Result<Query, NoMemory>
-    ensures { IfOk result (λ p. IsRewrite query.now p) }
+    ensures { IfOk result (λ p. RewritesClosed query.now p) }
 {
     match query {
         Query::Table { .. } => stand(alloc, query),
@@ -257,7 +259,7 @@ fn by_rule(alloc: Global, query: &Query) -> Result<Query, NoMemory>
 /// A rewriting of what is traced of each sublink.
 #[cycle(stand)]
 fn rewritten_subs(alloc: Global, subs: &[Sublink]) -> Result<List<Query>, NoMemory>
-    ensures { IfOk result (λ rewritings. SubsTraced subs.now rewritings) }
+    ensures { IfOk result (λ rewritings. SubsTracedClosed subs.now rewritings) }
 {
     let mut rewritings = List::new(alloc);
     for sub in subs {
@@ -270,7 +272,7 @@ fn rewritten_subs(alloc: Global, subs: &[Sublink]) -> Result<List<Query>, NoMemo
 /// A rewriting of what is traced of the sublink.
 #[cycle(stand)]
 fn traced(alloc: Global, sub: &Sublink) -> Result<Query, NoMemory>
-    ensures { IfOk result (λ p. IsRewrite (traced_of sub.now) p) }
+    ensures { IfOk result (λ p. RewritesClosed (traced_of sub.now) p) }
 {
     match sub.kind {
         SubKind::Exists => below_groups(alloc, &sub.query),
@@ -284,7 +286,7 @@ fn traced(alloc: Global, sub: &Sublink) -> Result<Query, NoMemory>
 /// contribute, their witnesses are those of the rows below, and no group has to be made again to find them.
 #[cycle(stand)]
 fn below_groups(alloc: Global, query: &Query) -> Result<Query, NoMemory>
-    ensures { IfOk result (λ p. IsRewrite (below_groups query.now) p) }
+    ensures { IfOk result (λ p. RewritesClosed (below_groups query.now) p) }
 {
     match query {
         Query::Project { input, subs, .. } => {

@@ -1,8 +1,9 @@
 //! The rule of joins with sublinks in their condition.
-ghost use Rattle.std.specs.Prelude.{IfOk};
+ghost use Rattle.std.specs.Prelude.{All, IfOk};
 ghost use Rattle.bag_algebra.specs.Rewriting.{IsRewrite};
 ghost use Rattle.bag_algebra.specs.declared.query.Query.TheVariants.{Join};
 ghost use Rattle.query_laws.specs.Standing.{SubsStand};
+ghost use Rattle.rewrite_base.specs.OpenSublinks.{IsClosedSublink, NoOpenSublink};
 ghost use Rattle.rewrite_move.specs.Moved.{SubsTraced};
 
 use bag_algebra::{Expr, JoinKind, Query, Sublink};
@@ -29,7 +30,9 @@ pub(crate) fn join_moved(
     requires right { IsRewrite right.now rights }
     requires subs_stand { SubsStand subs.now standing.now }
     requires subs_rewritten { SubsTraced subs.now rewritings }
-    ensures { IfOk result (λ p. IsRewrite (Join kind left.now right.now condition.now subs.now) p) }
+    ensures rewrites { IfOk result (λ p. IsRewrite (Join kind left.now right.now condition.now subs.now) p) }
+    ensures none_open { IfOk result (λ p. NoOpenSublink lefts → NoOpenSublink rights →
+        All IsClosedSublink standing.now → All NoOpenSublink rewritings → NoOpenSublink p) }
 {
     let Ok(crossed) = every_pair(alloc, left, &lefts, right, &rights) else {
         drop(lefts);

@@ -1,11 +1,9 @@
 //! The rules of nodes over the results of the calls that make what they take.
 ghost use Rattle.std.specs.Prelude.{◌≡◌, [], Err, IfErr, IfOk, IsTrue};
-ghost use Rattle.bag_algebra.specs.Rewriting.{IsRewrite, Stands};
 ghost use Rattle.bag_algebra.specs.declared.query.Label.{Label};
 ghost use Rattle.bag_algebra.specs.declared.query.Query.TheVariants.{Base, Filter, Project, Join, Apply, Union, Intersect, Except, Distinct, Aggregate, Limit};
 ghost use Rattle.bag_algebra.specs.declared.query.Query.{Query};
-ghost use Rattle.query_laws.specs.Standing.{SubsStand};
-ghost use Rattle.rewrite_move.specs.Moved.{SubsTraced};
+ghost use Rattle.rewrite_driver.specs.KeptClosed.{RewritesClosed, StandsClosed, SubsStandClosed, SubsTracedClosed};
 
 use crate::joins::join_moved;
 use bag_algebra::{Aggr, Expr, Item, JoinKind, Query, Sublink};
@@ -23,8 +21,8 @@ pub(crate) fn base_rule(
     plain: Result<Query, NoMemory>,
     places: &[usize],
 ) -> Result<Query, NoMemory>
-    ensures { (q : Query) (label : Label) → IfOk plain (λ b. Stands q b) →
-        IfOk result (λ p. IsRewrite (Base q places.now label) p) }
+    ensures { (q : Query) (label : Label) → IfOk plain (λ b. StandsClosed q b) →
+        IfOk result (λ p. RewritesClosed (Base q places.now label) p) }
 {
     let plain = plain?;
     base(alloc, plain, places)
@@ -41,10 +39,10 @@ pub(crate) fn filter_rule(
     plain: Result<List<Sublink>, NoMemory>,
     rewritings: Result<List<Query>, NoMemory>,
 ) -> Result<Query, NoMemory>
-    requires rewritten { IfOk rewriting (λ r. IsRewrite input.now r) }
-    requires subs_stand { IfOk plain (λ others. SubsStand subs.now others) }
-    requires subs_rewritten { IfOk rewritings (λ rs. SubsTraced subs.now rs) }
-    ensures { IfOk result (λ p. IsRewrite (Filter input.now condition.now subs.now) p) }
+    requires rewritten { IfOk rewriting (λ r. RewritesClosed input.now r) }
+    requires subs_stand { IfOk plain (λ others. SubsStandClosed subs.now others) }
+    requires subs_rewritten { IfOk rewritings (λ rs. SubsTracedClosed subs.now rs) }
+    ensures { IfOk result (λ p. RewritesClosed (Filter input.now condition.now subs.now) p) }
 {
     let (rewriting, plain, rewritings) = three(rewriting, plain, rewritings)?;
     if subs.is_empty() {
@@ -72,10 +70,10 @@ pub(crate) fn project_rule(
     plain: Result<List<Sublink>, NoMemory>,
     rewritings: Result<List<Query>, NoMemory>,
 ) -> Result<Query, NoMemory>
-    requires rewritten { IfOk rewriting (λ r. IsRewrite input.now r) }
-    requires subs_stand { IfOk plain (λ others. SubsStand subs.now others) }
-    requires subs_rewritten { IfOk rewritings (λ rs. SubsTraced subs.now rs) }
-    ensures { IfOk result (λ p. IsRewrite (Project input.now items.now subs.now) p) }
+    requires rewritten { IfOk rewriting (λ r. RewritesClosed input.now r) }
+    requires subs_stand { IfOk plain (λ others. SubsStandClosed subs.now others) }
+    requires subs_rewritten { IfOk rewritings (λ rs. SubsTracedClosed subs.now rs) }
+    ensures { IfOk result (λ p. RewritesClosed (Project input.now items.now subs.now) p) }
 {
     let (rewriting, plain, rewritings) = three(rewriting, plain, rewritings)?;
     if subs.is_empty() {
@@ -106,11 +104,11 @@ pub(crate) fn join_rule(
     plain: Result<List<Sublink>, NoMemory>,
     rewritings: Result<List<Query>, NoMemory>,
 ) -> Result<Query, NoMemory>
-    requires left { IfOk lefts (λ r. IsRewrite left.now r) }
-    requires right { IfOk rights (λ r. IsRewrite right.now r) }
-    requires subs_stand { IfOk plain (λ others. SubsStand subs.now others) }
-    requires subs_rewritten { IfOk rewritings (λ rs. SubsTraced subs.now rs) }
-    ensures { IfOk result (λ p. IsRewrite (Join kind left.now right.now condition.now subs.now) p) }
+    requires left { IfOk lefts (λ r. RewritesClosed left.now r) }
+    requires right { IfOk rights (λ r. RewritesClosed right.now r) }
+    requires subs_stand { IfOk plain (λ others. SubsStandClosed subs.now others) }
+    requires subs_rewritten { IfOk rewritings (λ rs. SubsTracedClosed subs.now rs) }
+    ensures { IfOk result (λ p. RewritesClosed (Join kind left.now right.now condition.now subs.now) p) }
 {
     let (lefts, rights, plain, rewritings) = four(lefts, rights, plain, rewritings)?;
     if subs.is_empty() {
@@ -139,9 +137,9 @@ pub(crate) fn apply_rule(
     right: &Query,
     rights: Result<Query, NoMemory>,
 ) -> Result<Query, NoMemory>
-    requires left { IfOk lefts (λ r. IsRewrite left.now r) }
-    requires right { IfOk rights (λ r. IsRewrite right.now r) }
-    ensures { IfOk result (λ p. IsRewrite (Apply kind left.now right.now) p) }
+    requires left { IfOk lefts (λ r. RewritesClosed left.now r) }
+    requires right { IfOk rights (λ r. RewritesClosed right.now r) }
+    ensures { IfOk result (λ p. RewritesClosed (Apply kind left.now right.now) p) }
 {
     let (lefts, rights) = both(lefts, rights)?;
     apply(alloc, kind, left, lefts, right, rights)
@@ -156,9 +154,9 @@ pub(crate) fn union_rule(
     right: &Query,
     rights: Result<Query, NoMemory>,
 ) -> Result<Query, NoMemory>
-    requires left { IfOk lefts (λ r. IsRewrite left.now r) }
-    requires right { IfOk rights (λ r. IsRewrite right.now r) }
-    ensures { IfOk result (λ p. IsRewrite (Union all left.now right.now) p) }
+    requires left { IfOk lefts (λ r. RewritesClosed left.now r) }
+    requires right { IfOk rights (λ r. RewritesClosed right.now r) }
+    ensures { IfOk result (λ p. RewritesClosed (Union all left.now right.now) p) }
 {
     let (lefts, rights) = both(lefts, rights)?;
     union_of(alloc, all, left, lefts, right, rights)
@@ -173,8 +171,8 @@ pub(crate) fn intersect_rule(
     right: &Query,
     rights: Result<Query, NoMemory>,
 ) -> Result<Query, NoMemory>
-    ensures { IfOk lefts (λ r. IsRewrite left.now r) → IfOk rights (λ r. IsRewrite right.now r) →
-        IfOk result (λ p. IsRewrite (Intersect all left.now right.now) p) }
+    ensures { IfOk lefts (λ r. RewritesClosed left.now r) → IfOk rights (λ r. RewritesClosed right.now r) →
+        IfOk result (λ p. RewritesClosed (Intersect all left.now right.now) p) }
 {
     let (lefts, rights) = both(lefts, rights)?;
     intersect(alloc, all, left, lefts, right, rights)
@@ -190,9 +188,9 @@ pub(crate) fn except_rule(
     right: Result<Query, NoMemory>,
     rights: Result<Query, NoMemory>,
 ) -> Result<Query, NoMemory>
-    ensures { (q r : Query) → IfOk left (λ b. Stands q b) → IfOk lefts (λ p. IsRewrite q p) →
-        IfOk right (λ d. Stands r d) → IfOk rights (λ p. IsRewrite r p) →
-        IfOk result (λ p. IsRewrite (Except all q r) p) }
+    ensures { (q r : Query) → IfOk left (λ b. StandsClosed q b) → IfOk lefts (λ p. RewritesClosed q p) →
+        IfOk right (λ d. StandsClosed r d) → IfOk rights (λ p. RewritesClosed r p) →
+        IfOk result (λ p. RewritesClosed (Except all q r) p) }
 {
     let (left, lefts, right, rights) = four(left, lefts, right, rights)?;
     except(alloc, all, left, lefts, right, rights)
@@ -203,8 +201,8 @@ pub(crate) fn distinct_rule(
     input: &Query,
     rewriting: Result<Query, NoMemory>,
 ) -> Result<Query, NoMemory>
-    requires { IfOk rewriting (λ r. IsRewrite input.now r) }
-    ensures rewrites { IfOk result (λ p. IsRewrite (Distinct input.now) p) }
+    requires { IfOk rewriting (λ r. RewritesClosed input.now r) }
+    ensures rewrites { IfOk result (λ p. RewritesClosed (Distinct input.now) p) }
     ensures lacking { IfErr result (λ lack. rewriting ≡ Err lack) }
 {
     let rewriting = rewriting?;
@@ -220,8 +218,8 @@ pub(crate) fn aggregate_rule(
     groups: &[usize],
     aggregates: &[Aggr],
 ) -> Result<Query, NoMemory>
-    ensures { (q : Query) → IfOk plain (λ b. Stands q b) → IfOk rewriting (λ r. IsRewrite q r) →
-        IfOk result (λ p. IsRewrite (Aggregate q groups.now aggregates.now) p) }
+    ensures { (q : Query) → IfOk plain (λ b. StandsClosed q b) → IfOk rewriting (λ r. RewritesClosed q r) →
+        IfOk result (λ p. RewritesClosed (Aggregate q groups.now aggregates.now) p) }
 {
     let (plain, rewriting) = both(plain, rewriting)?;
     aggregate(alloc, plain, rewriting, groups, aggregates)
@@ -236,8 +234,8 @@ pub(crate) fn limit_rule(
     keys: &[Key],
     count: u64,
 ) -> Result<Query, NoMemory>
-    ensures { (q : Query) → IfOk plain (λ b. Stands q b) → IfOk rewriting (λ r. IsRewrite q r) →
-        IfOk result (λ p. IsRewrite (Limit q keys.now count) p) }
+    ensures { (q : Query) → IfOk plain (λ b. StandsClosed q b) → IfOk rewriting (λ r. RewritesClosed q r) →
+        IfOk result (λ p. RewritesClosed (Limit q keys.now count) p) }
 {
     let (plain, rewriting) = both(plain, rewriting)?;
     limit(alloc, plain, rewriting, keys, count)

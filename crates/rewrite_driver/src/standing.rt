@@ -1,11 +1,10 @@
 //! Nodes over what stands for their inputs and for their sublinks' queries. They take the results of the calls that make
 //! these, so that no query is at hand where one of those calls fails.
 ghost use Rattle.std.specs.Prelude.{◌≡◌, List, IfOk};
-ghost use Rattle.bag_algebra.specs.Rewriting.{IsRewrite, Stands};
 ghost use Rattle.bag_algebra.specs.declared.query.Query.TheVariants.{Table, Filter, Project, Join, Apply, Union, Intersect, Except, Distinct, Aggregate, Limit, Prov};
 ghost use Rattle.bag_algebra.specs.declared.query.Query.{Query};
 ghost use Rattle.bag_algebra.specs.declared.query.Sublink.{Sublink};
-ghost use Rattle.query_laws.specs.Standing.{SubsStand};
+ghost use Rattle.rewrite_driver.specs.KeptClosed.{RewritesClosed, StandsClosed, SubsStandClosed};
 
 use bag_algebra::{Aggr, Expr, Item, JoinKind, Query, Sublink};
 use perm_values::{Copyable, Key, Kind, List, NoMemory, both, four, three};
@@ -26,9 +25,9 @@ pub(crate) fn filter_standing(
     condition: &Expr,
     subs: Result<List<Sublink>, NoMemory>,
 ) -> Result<Query, NoMemory>
-    ensures { (q : Query) (originals : List Sublink) → IfOk input (λ b. Stands q b) →
-        IfOk subs (λ others. SubsStand originals others) →
-        IfOk result (λ p. Stands (Filter q condition.now originals) p) }
+    ensures { (q : Query) (originals : List Sublink) → IfOk input (λ b. StandsClosed q b) →
+        IfOk subs (λ others. SubsStandClosed originals others) →
+        IfOk result (λ p. StandsClosed (Filter q condition.now originals) p) }
 {
     let (input, condition, subs) = three(input, condition.copy(alloc), subs)?;
     Query::filter(alloc, input, condition, subs)
@@ -41,9 +40,9 @@ pub(crate) fn project_standing(
     items: &List<Item>,
     subs: Result<List<Sublink>, NoMemory>,
 ) -> Result<Query, NoMemory>
-    ensures { (q : Query) (originals : List Sublink) → IfOk input (λ b. Stands q b) →
-        IfOk subs (λ others. SubsStand originals others) →
-        IfOk result (λ p. Stands (Project q items.now originals) p) }
+    ensures { (q : Query) (originals : List Sublink) → IfOk input (λ b. StandsClosed q b) →
+        IfOk subs (λ others. SubsStandClosed originals others) →
+        IfOk result (λ p. StandsClosed (Project q items.now originals) p) }
 {
     let (input, items, subs) = three(input, items.copy(alloc), subs)?;
     Query::project(alloc, input, items, subs)
@@ -58,10 +57,10 @@ pub(crate) fn join_standing(
     condition: &Expr,
     subs: Result<List<Sublink>, NoMemory>,
 ) -> Result<Query, NoMemory>
-    ensures { (q r : Query) (originals : List Sublink) → IfOk left (λ b. Stands q b) →
-        IfOk right (λ d. Stands r d) →
-        IfOk subs (λ others. SubsStand originals others) →
-        IfOk result (λ p. Stands (Join kind q r condition.now originals) p) }
+    ensures { (q r : Query) (originals : List Sublink) → IfOk left (λ b. StandsClosed q b) →
+        IfOk right (λ d. StandsClosed r d) →
+        IfOk subs (λ others. SubsStandClosed originals others) →
+        IfOk result (λ p. StandsClosed (Join kind q r condition.now originals) p) }
 {
     let (left, right, condition, subs) = four(left, right, condition.copy(alloc), subs)?;
     Query::join(alloc, kind, left, right, condition, subs)
@@ -74,8 +73,8 @@ pub(crate) fn union_standing(
     left: Result<Query, NoMemory>,
     right: Result<Query, NoMemory>,
 ) -> Result<Query, NoMemory>
-    ensures { (q r : Query) → IfOk left (λ b. Stands q b) → IfOk right (λ d. Stands r d) →
-        IfOk result (λ p. Stands (Union all q r) p) }
+    ensures { (q r : Query) → IfOk left (λ b. StandsClosed q b) → IfOk right (λ d. StandsClosed r d) →
+        IfOk result (λ p. StandsClosed (Union all q r) p) }
 {
     let (left, right) = both(left, right)?;
     Query::union(alloc, all, left, right)
@@ -88,8 +87,8 @@ pub(crate) fn apply_standing(
     left: Result<Query, NoMemory>,
     right: Result<Query, NoMemory>,
 ) -> Result<Query, NoMemory>
-    ensures { (q r : Query) → IfOk left (λ b. Stands q b) → IfOk right (λ d. Stands r d) →
-        IfOk result (λ p. Stands (Apply kind q r) p) }
+    ensures { (q r : Query) → IfOk left (λ b. StandsClosed q b) → IfOk right (λ d. StandsClosed r d) →
+        IfOk result (λ p. StandsClosed (Apply kind q r) p) }
 {
     let (left, right) = both(left, right)?;
     Query::apply(alloc, kind, left, right)
@@ -102,8 +101,8 @@ pub(crate) fn intersect_standing(
     left: Result<Query, NoMemory>,
     right: Result<Query, NoMemory>,
 ) -> Result<Query, NoMemory>
-    ensures { (q r : Query) → IfOk left (λ b. Stands q b) → IfOk right (λ d. Stands r d) →
-        IfOk result (λ p. Stands (Intersect all q r) p) }
+    ensures { (q r : Query) → IfOk left (λ b. StandsClosed q b) → IfOk right (λ d. StandsClosed r d) →
+        IfOk result (λ p. StandsClosed (Intersect all q r) p) }
 {
     let (left, right) = both(left, right)?;
     Query::intersect(alloc, all, left, right)
@@ -116,8 +115,8 @@ pub(crate) fn except_standing(
     left: Result<Query, NoMemory>,
     right: Result<Query, NoMemory>,
 ) -> Result<Query, NoMemory>
-    ensures { (q r : Query) → IfOk left (λ b. Stands q b) → IfOk right (λ d. Stands r d) →
-        IfOk result (λ p. Stands (Except all q r) p) }
+    ensures { (q r : Query) → IfOk left (λ b. StandsClosed q b) → IfOk right (λ d. StandsClosed r d) →
+        IfOk result (λ p. StandsClosed (Except all q r) p) }
 {
     let (left, right) = both(left, right)?;
     Query::except(alloc, all, left, right)
@@ -128,7 +127,7 @@ pub(crate) fn distinct_standing(
     alloc: Global,
     input: Result<Query, NoMemory>,
 ) -> Result<Query, NoMemory>
-    ensures { (q : Query) → IfOk input (λ b. Stands q b) → IfOk result (λ p. Stands (Distinct q) p) }
+    ensures { (q : Query) → IfOk input (λ b. StandsClosed q b) → IfOk result (λ p. StandsClosed (Distinct q) p) }
 {
     let input = input?;
     Query::distinct(alloc, input)
@@ -141,8 +140,8 @@ pub(crate) fn aggregate_standing(
     groups: &List<usize>,
     aggregates: &List<Aggr>,
 ) -> Result<Query, NoMemory>
-    ensures { (q : Query) → IfOk input (λ b. Stands q b) →
-        IfOk result (λ p. Stands (Aggregate q groups.now aggregates.now) p) }
+    ensures { (q : Query) → IfOk input (λ b. StandsClosed q b) →
+        IfOk result (λ p. StandsClosed (Aggregate q groups.now aggregates.now) p) }
 {
     let (input, groups, aggregates) = three(input, groups.copy(alloc), aggregates.copy(alloc))?;
     Query::aggregate(alloc, input, groups, aggregates)
@@ -155,8 +154,8 @@ pub(crate) fn limit_standing(
     keys: &List<Key>,
     count: u64,
 ) -> Result<Query, NoMemory>
-    ensures { (q : Query) → IfOk input (λ b. Stands q b) →
-        IfOk result (λ p. Stands (Limit q keys.now count) p) }
+    ensures { (q : Query) → IfOk input (λ b. StandsClosed q b) →
+        IfOk result (λ p. StandsClosed (Limit q keys.now count) p) }
 {
     let (input, keys) = both(input, keys.copy(alloc))?;
     Query::limit(alloc, input, keys, count)
@@ -167,7 +166,7 @@ pub(crate) fn provenance_standing(
     alloc: Global,
     rewriting: Result<Query, NoMemory>,
 ) -> Result<Query, NoMemory>
-    ensures { (q : Query) → IfOk rewriting (λ r. IsRewrite q r) → IfOk result (λ p. Stands (Prov q) p) }
+    ensures { (q : Query) → IfOk rewriting (λ r. RewritesClosed q r) → IfOk result (λ p. StandsClosed (Prov q) p) }
 {
     let rewriting = rewriting?;
     Query::distinct(alloc, rewriting)

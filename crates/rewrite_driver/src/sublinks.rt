@@ -1,9 +1,7 @@
 //! Lists of sublinks and of rewritings of their queries, which grow by the results of calls.
 ghost use Rattle.std.specs.Prelude.{◌≡◌, ◌++◌, [], ◌∷◌, List, IfOk, OnOk};
-ghost use Rattle.bag_algebra.specs.Rewriting.{IsRewrite, Stands};
 ghost use Rattle.bag_algebra.specs.declared.query.Sublink.{Sublink};
-ghost use Rattle.query_laws.specs.Standing.{SubsStand};
-ghost use Rattle.rewrite_move.specs.Moved.{SubsTraced};
+ghost use Rattle.rewrite_driver.specs.KeptClosed.{RewritesClosed, StandsClosed, SubsStandClosed, SubsTracedClosed};
 ghost use Rattle.rewrite_move.specs.Traced.{traced_of};
 
 use bag_algebra::{Query, Sublink};
@@ -17,8 +15,9 @@ pub(crate) fn add_standing(
     sub: &Sublink,
     query: Result<Query, NoMemory>,
 ) -> Result<(), NoMemory>
-    ensures { (subs : List Sublink) → SubsStand subs others.old → IfOk query (λ b. Stands sub.now.query b) →
-        OnOk result (SubsStand (subs ++ sub.now ∷ []) others.new) }
+    ensures { (subs : List Sublink) → SubsStandClosed subs others.old →
+        IfOk query (λ b. StandsClosed sub.now.query b) →
+        OnOk result (SubsStandClosed (subs ++ sub.now ∷ []) others.new) }
 {
     let query = query?;
     let other = sublink_over(alloc, sub, query)?;
@@ -47,9 +46,9 @@ pub(crate) fn add_rewriting(
     rewritings: &mut List<Query>,
     query: Result<Query, NoMemory>,
 ) -> Result<(), NoMemory>
-    ensures { (subs : List Sublink) (sub : Sublink) → SubsTraced subs rewritings.old →
-        IfOk query (λ p. IsRewrite (traced_of sub) p) →
-        OnOk result (SubsTraced (subs ++ sub ∷ []) rewritings.new) }
+    ensures { (subs : List Sublink) (sub : Sublink) → SubsTracedClosed subs rewritings.old →
+        IfOk query (λ p. RewritesClosed (traced_of sub) p) →
+        OnOk result (SubsTracedClosed (subs ++ sub ∷ []) rewritings.new) }
 {
     let query = query?;
     rewritings.push(query)

@@ -7,6 +7,7 @@ ghost use Rattle.bag_algebra.specs.declared.query.JoinKind.TheVariants.{Inner, L
 ghost use Rattle.bag_algebra.specs.declared.query.Query.TheVariants.{Filter, Join};
 ghost use Rattle.bag_algebra.specs.declared.query.Sublink.{Sublink};
 ghost use Rattle.contribution.specs.Conjunctions.{always};
+ghost use Rattle.rewrite_base.specs.OpenSublinks.{NoOpenSublink};
 ghost use Rattle.rewrite_joins.specs.ByParts.{by_parts, marked, with_alone};
 
 use crate::sides::{Side, columns_of_pair, is_part, left_side, right_side};
@@ -30,9 +31,11 @@ pub fn join_by_parts(
 ) -> Result<Query, NoMemory>
     requires left { IsRewrite left.now left_rewriting }
     requires right { IsRewrite right.now right_rewriting }
-    ensures { IfOk result (λ p. (condition : Expr) (subs : List Sublink) →
+    ensures rewrites { IfOk result (λ p. (condition : Expr) (subs : List Sublink) →
         IsRewrite (Filter (Join Inner left.now right.now always []) condition subs) pairs →
         IsRewrite (Join kind left.now right.now condition subs) p) }
+    ensures none_open { IfOk result (λ p. NoOpenSublink left_rewriting → NoOpenSublink right_rewriting →
+        NoOpenSublink pairs → NoOpenSublink p) }
 {
     by_parts(
         alloc,

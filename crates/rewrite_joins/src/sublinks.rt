@@ -8,6 +8,7 @@ ghost use Rattle.bag_algebra.specs.declared.query.Query.TheVariants.{Filter, Joi
 ghost use Rattle.bag_algebra.specs.declared.query.Sublink.{Sublink};
 ghost use Rattle.contribution.specs.Conjunctions.{always};
 ghost use Rattle.query_laws.specs.Standing.{SubsStand};
+ghost use Rattle.rewrite_base.specs.OpenSublinks.{NoOpenSublink};
 ghost use Rattle.rewrite_sublink.specs.SubRewritings.{SubsRewritten};
 
 use crate::parts::join_by_parts;
@@ -82,10 +83,12 @@ pub fn over_pairs(
 ) -> Result<Query, NoMemory>
     requires left { IsRewrite left.now left_rewriting }
     requires right { IsRewrite right.now right_rewriting }
-    ensures { IfOk result (λ p. (condition : Expr) (subs : List Sublink) →
+    ensures rewrites { IfOk result (λ p. (condition : Expr) (subs : List Sublink) →
         IfOk met (λ pairs.
         IsRewrite (Filter (Join Inner left.now right.now always []) condition subs) pairs) →
         IsRewrite (Join kind left.now right.now condition subs) p) }
+    ensures none_open { IfOk result (λ p. NoOpenSublink left_rewriting → NoOpenSublink right_rewriting →
+        IfOk met (λ pairs. NoOpenSublink pairs) → NoOpenSublink p) }
 {
     let Ok(pairs) = met else {
         drop(left_rewriting);
@@ -122,6 +125,8 @@ pub fn every_pair(
     ensures pairs { IfOk result (λ crossed. crossed.pairs ≡ Join Inner left.now right.now always []) }
     ensures rewriting { IfOk result (λ crossed.
         IsRewrite (Join Inner left.now right.now always []) crossed.rewriting) }
+    ensures none_open { IfOk result (λ crossed. NoOpenSublink left_rewriting.now →
+        NoOpenSublink right_rewriting.now → NoOpenSublink crossed.rewriting) }
 {
     let pairs = all_pairs(alloc, left, right)?;
     let Ok(rewriting) = pairs_rewritten(alloc, left, left_rewriting, right, right_rewriting) else {
@@ -147,7 +152,9 @@ fn pairs_rewritten(
 ) -> Result<Query, NoMemory>
     requires left { IsRewrite left.now left_rewriting.now }
     requires right { IsRewrite right.now right_rewriting.now }
-    ensures { IfOk result (λ p. IsRewrite (Join Inner left.now right.now always []) p) }
+    ensures rewrites { IfOk result (λ p. IsRewrite (Join Inner left.now right.now always []) p) }
+    ensures none_open { IfOk result (λ p. NoOpenSublink left_rewriting.now → NoOpenSublink right_rewriting.now →
+        NoOpenSublink p) }
 {
     let (left_copy, right_copy) = both(left_rewriting.copy(alloc), right_rewriting.copy(alloc))?;
     join(

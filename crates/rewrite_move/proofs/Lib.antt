@@ -4,6 +4,7 @@ pub mod Contributed
 pub mod TracedSteps
 pub mod BuiltGroups
 pub mod BelowSizes
+pub mod ClosedMoves
 pub mod LikeQueries
 pub mod Forcing
 pub mod ForcedParts

@@ -19,14 +19,16 @@ use Rattle.bag_algebra.specs.declared.query.Sublink.{Sublink}
 use Rattle.bag_algebra.proofs.BagLaws.{member-same_bag}
 use Rattle.query_laws.proofs.SameExpressions.{items-themselves, optional-itself}
 use Rattle.query_laws.proofs.StandingNodes.{stands-Apply, stands-Project}
+use Rattle.rewrite_base.proofs.ClosedSublinks.{closed-Project, parts-Project}
 use Rattle.rewrite_base.proofs.Itself.{stands-itself, stands-onward}
 use Rattle.rewrite_base.specs.KeptColumns.{columns_kept, kept_places}
 use Rattle.rewrite_sublink.specs.Candidates.{answer_columns, answer_places, beside_row}
+use Rattle.rewrite_move.proofs.ClosedMoves.{joined-closed}
 use Rattle.rewrite_move.specs.Moved.{Like}
-use Rattle.spine_joins.specs.Spines.{IsBeside}
+use Rattle.spine_joins.specs.Spines.{IsBeside, IsJoined}
 
 pub like-itself : (q : Query) → is_plain q ≡ true → Like q q
-like-itself q plain = record { kinds = refl; stands = stands-itself q plain }
+like-itself q plain = record { kinds = refl; stands = stands-itself q plain; none_open = λ h. h }
 
 -- ---- rewritings
 
@@ -67,10 +69,11 @@ apply-stands q p right s plain =
     subst (λ n. Stands n (ApplyOf Left p right)) (Apply-is Left q right)
     (subst (Stands (Apply Left q right)) (Apply-is Left p right) (stands-Apply q p s right right (stands-itself right plain) Left))
 
-pub like-beside : (q p right o : Query) → Like q p → is_plain right ≡ true → IsBeside p right o → Like (ApplyOf Left q right) o
-like-beside q p right o l plain is = record {
+pub like-beside : (q p right o : Query) → Like q p → is_plain right ≡ true → IsBeside p right o → IsJoined p right o → Like (ApplyOf Left q right) o
+like-beside q p right o l plain is joined = record {
   kinds = is.kinds ∙ ap (λ ks. ks ++ kinds_of right) l.kinds;
   stands = stands-onward (ApplyOf Left q right) (ApplyOf Left p right) o (apply-stands q p right l.stands plain) (beside-stands p right o l.stands.plain plain is);
+  none_open = λ h. joined-closed joined (l.none_open h.0) h.1;
 }
 
 -- ---- columns
@@ -81,6 +84,7 @@ module _ (q p : Query) (l : Like q p) where
     kinds = refl;
     stands = subst (λ n. Stands n (ProjectOf p items [] end_of-Sublink)) (Project-is q items)
         (subst (Stands (Project q items [])) (Project-is p items) (stands-Project q p l.stands items items (items-themselves items) [] [] tt));
+    none_open = λ h. (l.none_open h.0, tt);
   }
 
   places-like : (places : ℕ → List ℕ) →
@@ -101,6 +105,7 @@ module _ (q p : Query) (l : Like q p) where
     kinds = kinds_of-Project p items (sub ∷ []) ∙ sym (kinds_of-Project q items (sub ∷ []));
     stands = stands-Project q p l.stands items items (items-themselves items) (sub ∷ []) (sub ∷ [])
         (record { kind = refl; tested = optional-itself sub.tested; query = stands-itself sub.query plain }, tt);
+    none_open = λ h. let parts = parts-Project q items (sub ∷ []) h in closed-Project p items (sub ∷ []) (l.none_open parts.0) parts.1;
   }
 
   pub like-beside_row : (items : List Item) (sub : Sublink) → is_plain sub.query ≡ true → Like (Project q (beside_row q items) (sub ∷ [])) (Project p (beside_row p items) (sub ∷ []))
@@ -115,4 +120,5 @@ module _ (q p : Query) (l : Like q p) where
       (sym l.kinds) (record {
         kinds = kinds_of-Project p (beside_row q items) [] ∙ sym (kinds_of-Project q (beside_row q items) []);
         stands = stands-Project q p l.stands (beside_row q items) (beside_row q items) (items-themselves (beside_row q items)) [] [] tt;
+        none_open = λ h. let parts = parts-Project q (beside_row q items) [] h in closed-Project p (beside_row q items) [] (l.none_open parts.0) parts.1;
       })

@@ -22,7 +22,7 @@ use Rattle.rewrite_move.specs.Moved.{Like, SubsTraced, all_moved, beside_nulls, 
 use Rattle.rewrite_move.specs.Shares.{share_of}
 use Rattle.rewrite_move.specs.declared.share.Share.{Share}
 use Rattle.rewrite_move.specs.Traced.{traced_of}
-use Rattle.spine_joins.specs.Spines.{IsBeside}
+use Rattle.spine_joins.specs.Spines.{IsBeside, IsJoined}
 
 -- ---- one sublink
 
@@ -35,32 +35,41 @@ plain-chosen choice place stand r plain = and_true (is_plain r && true) ∙ and_
 plain-matching : (choice : Choice) (place : ℕ) (stand : Sublink) (r : Query) → is_plain r ≡ true → is_plain (matching_provenance choice place stand r) ≡ true
 plain-matching choice place stand r plain = and_true (is_plain r && true) ∙ and_true (is_plain r) ∙ plain
 
+-- the rows stand beside the right query, by one of the two joins
+abbrev pub StandBeside : Query → Query → Query → Type 0
+StandBeside rows right p = IsBeside rows right p × IsJoined rows right p
+
+pub stand_beside : (rows right : Query) (result : Result Query NoMemory) → IfOk result (λ p. IsBeside rows right p) → IfOk result (λ p. IsJoined rows right p) →
+    IfOk result (StandBeside rows right)
+stand_beside rows right (Ok p) is joined = (is, joined)
+stand_beside rows right (Err error) is joined = tt
+
 module _ (whole rows : Query) (l : Like whole rows) (r : Query) (plain : is_plain r ≡ true) where
   -- the provenance of all rows
-  pub all-moved : (p : Query) (own : ℕ) → IsBeside rows (provenance_of r own) p → Like (beside whole (provenance_of r own)) p
-  all-moved p own is = like-beside whole rows (provenance_of r own) p l (plain-provenance r own plain) is
+  pub all-moved : (p : Query) (own : ℕ) → StandBeside rows (provenance_of r own) p → Like (beside whole (provenance_of r own)) p
+  all-moved p own is = like-beside whole rows (provenance_of r own) p l (plain-provenance r own plain) is.0 is.1
 
   -- that of the rows that a value chooses
   pub chosen-moved : (choice : Choice) (operand : Expr) (stand : Sublink) (pairs : Query) (place : ℕ) → is_plain stand.query ≡ true → place ≡ width_of rows →
-      IsBeside (valued rows stand operand) (chosen_provenance choice place stand r) pairs →
+      StandBeside (valued rows stand operand) (chosen_provenance choice place stand r) pairs →
       Like (chosen_beside choice operand whole stand r) (columns_kept pairs place 2)
   chosen-moved choice operand stand pairs place of_query at is =
       let there : place ≡ width_of whole = at ∙ ap length l.kinds in
       subst (λ n. Like (columns_kept (beside (valued whole stand operand) (chosen_provenance choice n stand r)) n 2) (columns_kept pairs place 2)) there
       (like-columns_kept (beside (valued whole stand operand) (chosen_provenance choice place stand r)) pairs
       (like-beside (valued whole stand operand) (valued rows stand operand) (chosen_provenance choice place stand r) pairs
-      (like-beside_row whole rows l (value_items stand operand) stand of_query) (plain-chosen choice place stand r plain) is) place 2)
+      (like-beside_row whole rows l (value_items stand operand) stand of_query) (plain-chosen choice place stand r plain) is.0 is.1) place 2)
 
   -- that of the rows that match
   pub matching-moved : (choice : Choice) (operand : Expr) (stand : Sublink) (pairs : Query) (place : ℕ) → place ≡ width_of rows →
-      IsBeside (with_operand rows stand operand) (matching_provenance choice place stand r) pairs →
+      StandBeside (with_operand rows stand operand) (matching_provenance choice place stand r) pairs →
       Like (matching_beside choice operand whole stand r) (columns_kept pairs place 1)
   matching-moved choice operand stand pairs place at is =
       let there : place ≡ width_of whole = at ∙ ap length l.kinds in
       subst (λ n. Like (columns_kept (beside (with_operand whole stand operand) (matching_provenance choice n stand r)) n 1) (columns_kept pairs place 1)) there
       (like-columns_kept (beside (with_operand whole stand operand) (matching_provenance choice place stand r)) pairs
       (like-beside (with_operand whole stand operand) (with_operand rows stand operand) (matching_provenance choice place stand r) pairs
-      (like-columns_and whole rows l (operand_item stand operand ∷ [])) (plain-matching choice place stand r plain) is) place 1)
+      (like-columns_and whole rows l (operand_item stand operand ∷ [])) (plain-matching choice place stand r plain) is.0 is.1) place 1)
 
 -- ---- one after another
 

@@ -15,6 +15,7 @@ use Rattle.contribution.specs.NullItems.{null_item}
 use Rattle.lateral_rewrite.specs.Dependent.{all_beside, beside, compared, contributed, provenance_of}
 use Rattle.lateral_rewrite.specs.declared.choices.Choice.{Choice}
 use Rattle.rewrite_base.specs.KeptColumns.{columns_kept}
+use Rattle.rewrite_base.specs.OpenSublinks.{NoOpenSublink}
 use Rattle.rewrite_move.specs.ForcedTruths.{forces}
 use Rattle.rewrite_move.specs.Shares.{share_of}
 use Rattle.rewrite_move.specs.declared.share.Share.{Share}
@@ -83,7 +84,8 @@ SubsTraced [] (p ∷ ps) = ⊥
 SubsTraced (sub ∷ subs) [] = ⊥
 SubsTraced (sub ∷ subs) (p ∷ ps) = IsRewrite (traced_of sub) p × SubsTraced subs ps
 
--- p stands for q, and has its columns also where q isn't well formed
+-- p stands for q, has its columns also where q isn't well formed, and no open sublink where q has none
 pub record Like (q p : Query) : Type 0 where
   pub kinds : kinds_of p ≡ kinds_of q
   pub stands : Stands q p
+  pub none_open : NoOpenSublink q → NoOpenSublink p

@@ -8,7 +8,7 @@ ghost use Rattle.lateral_rewrite.specs.Dependent.{chosen_beside, contributed, pr
 ghost use Rattle.query_laws.specs.Standing.{SubStands, SubsStand};
 ghost use Rattle.rewrite_move.specs.Moved.{Like, SubsTraced, all_moved, matched, moved};
 ghost use Rattle.rewrite_move.specs.Traced.{traced_of};
-ghost use Rattle.spine_joins.specs.Spines.{IsBeside};
+ghost use Rattle.spine_joins.specs.Spines.{IsBeside, IsJoined};
 
 use crate::below::traced;
 use crate::forced::forces;
@@ -117,7 +117,8 @@ fn beside_all(
     query: &Query,
     rewriting: &Query,
 ) -> Result<Query, NoMemory>
-    ensures { IfOk result (λ p. IsBeside rows (provenance_of rewriting.now (width_of query.now)) p) }
+    ensures beside { IfOk result (λ p. IsBeside rows (provenance_of rewriting.now (width_of query.now)) p) }
+    ensures joined { IfOk result (λ p. IsJoined rows (provenance_of rewriting.now (width_of query.now)) p) }
 {
     let Ok(right) = provenance(alloc, query, rewriting) else {
         drop(rows);

@@ -1,8 +1,9 @@
 //! The rules of Filters and Projects with sublinks, by joins with what contributes.
-ghost use Rattle.std.specs.Prelude.{IfOk};
+ghost use Rattle.std.specs.Prelude.{All, IfOk};
 ghost use Rattle.bag_algebra.specs.Rewriting.{IsRewrite};
 ghost use Rattle.bag_algebra.specs.declared.query.Query.TheVariants.{Filter, Project};
 ghost use Rattle.query_laws.specs.Standing.{SubsStand};
+ghost use Rattle.rewrite_base.specs.OpenSublinks.{IsClosedSublink, NoOpenSublink};
 ghost use Rattle.rewrite_move.specs.Moved.{SubsTraced};
 
 use crate::contributions::{with_all_contributions, with_contributions};
@@ -29,7 +30,9 @@ pub fn filter_moved(
     requires input { IsRewrite input.now rewriting }
     requires standing { SubsStand subs.now standing.now }
     requires traced { SubsTraced subs.now sub_rewritings }
-    ensures { IfOk result (λ p. IsRewrite (Filter input.now condition.now subs.now) p) }
+    ensures rewrites { IfOk result (λ p. IsRewrite (Filter input.now condition.now subs.now) p) }
+    ensures none_open { IfOk result (λ p. NoOpenSublink rewriting → All IsClosedSublink standing.now →
+        All NoOpenSublink sub_rewritings → NoOpenSublink p) }
 {
     let rows = own_rows(alloc, rewriting, condition, standing)?;
     with_contributions(
@@ -57,7 +60,9 @@ pub fn project_moved(
     requires input { IsRewrite input.now rewriting }
     requires standing { SubsStand subs.now standing.now }
     requires traced { SubsTraced subs.now sub_rewritings }
-    ensures { IfOk result (λ p. IsRewrite (Project input.now items.now subs.now) p) }
+    ensures rewrites { IfOk result (λ p. IsRewrite (Project input.now items.now subs.now) p) }
+    ensures none_open { IfOk result (λ p. NoOpenSublink rewriting → All IsClosedSublink standing.now →
+        All NoOpenSublink sub_rewritings → NoOpenSublink p) }
 {
     let Ok(own) = exact_width(input) else {
         drop(rewriting);

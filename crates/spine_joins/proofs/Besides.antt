@@ -15,7 +15,7 @@ use Rattle.bag_algebra.specs.declared.query.Query.{Query}
 use Rattle.bag_algebra.specs.declared.query.Query.TheVariants.{Apply}
 use Rattle.spine_joins.proofs.SpineForms.{kinds-spine_join, plain-spine_join, tables-spine_join, formed-spine_join}
 use Rattle.spine_joins.proofs.SpineJoins.{rows-spine_join}
-use Rattle.spine_joins.specs.Spines.{IsBeside, IsSpine, all_behind, spine_join}
+use Rattle.spine_joins.specs.Spines.{IsBeside, IsJoined, IsSpine, all_behind, dependent, ordinary, spine_join}
 use Rattle.spine_joins.specs.declared.spine.Spine.{Spine}
 
 same_rows-itself : (o : Outcome Bag) → SameRows o o
@@ -44,6 +44,14 @@ module _ (rows right : Query) where
   pub beside-spine : (kind : JoinKind) (spine : Spine) → kind ≡ Left → IsSpine (width_of rows) right spine × IsTrue (all_behind (width_of rows) spine.items) →
       IsBeside rows right (spine_join kind rows spine)
   beside-spine kind spine e found = subst (λ k. IsBeside rows right (spine_join k rows spine)) (sym e) (left-spine spine found.0 found.1)
+
+  pub joined-spine : (kind : JoinKind) (spine : Spine) → kind ≡ Left → IsSpine (width_of rows) right spine × IsTrue (all_behind (width_of rows) spine.items) →
+      IsJoined rows right (spine_join kind rows spine)
+  joined-spine kind spine e found = subst (λ k. IsJoined rows right (spine_join k rows spine)) (sym e) (ordinary spine found.0)
+
+  pub joined-itself : (kind : JoinKind) → kind ≡ Left → IsJoined rows right (Apply kind rows right)
+  joined-itself kind e =
+      subst (λ k. IsJoined rows right (Apply k rows right)) (sym e) (subst (IsJoined rows right) (sym (Apply-is Left rows right)) dependent)
 
   pub beside-itself : (kind : JoinKind) → kind ≡ Left → IsBeside rows right (Apply kind rows right)
   beside-itself kind e =

@@ -1,25 +1,27 @@
 -- Right sides of dependent joins that ordinary joins serve: a tower of selections and projections without sublinks over a
 -- query that reads no outer row and meets no fault.
-use Rattle.std.specs.Prelude.{◌≡◌, ⊤, ℕ, suc, Bool, true, false, ◌&&◌, ◌==◌, nat_le, List, [], ◌∷◌, ◌++◌, Option, Some, None}
+use Rattle.std.specs.Prelude.{◌≡◌, ⊤, ℕ, suc, Bool, true, false, not, ◌&&◌, ◌||◌, ◌==◌, nat_le, is_some, IfSome, List, [], ◌∷◌, ◌++◌, Option, Some, None}
 use Rattle.std.specs.List.{list_all}
 use Rattle.null_logic.specs.declared.operator.Operator.TheVariants.{And}
 use Rattle.perm_values.specs.declared.kind.Kind.{Kind}
 use Rattle.bag_algebra.specs.Bags.{Row}
 use Rattle.bag_algebra.specs.Closed.{is_closed}
 use Rattle.bag_algebra.specs.FaultFree.{faultless, items_faultless, fault_free}
-use Rattle.bag_algebra.specs.Kinds.{kinds_of}
+use Rattle.bag_algebra.specs.Kinds.{kinds_of, width_of}
 use Rattle.bag_algebra.specs.Meaning.{Database, meaning}
 use Rattle.bag_algebra.specs.Means.{keeps_left}
 use Rattle.bag_algebra.specs.Rewriting.{SameRows, is_plain}
+use Rattle.bag_algebra.specs.Scoped.{no_subs as has_none}
 use Rattle.bag_algebra.specs.TablesRead.{ReadsAmong}
 use Rattle.bag_algebra.specs.WellFormed.{WellFormed}
-use Rattle.bag_algebra.specs.built.Patterns.{OpOf, ChainOf, CaseOf, IsNullOf, IsTruthOf, SameOf, FilterOf, ProjectOf, JoinOf, ApplyOf}
+use Rattle.bag_algebra.specs.built.Patterns.{OpOf, ChainOf, CaseOf, IsNullOf, IsTruthOf, SameOf, BaseOf, FilterOf, ProjectOf, JoinOf, ApplyOf, UnionOf, IntersectOf, ExceptOf, DistinctOf, AggregateOf, LimitOf, ProvOf}
 use Rattle.bag_algebra.specs.declared.expr.Expr.{Expr}
 use Rattle.bag_algebra.specs.declared.expr.Expr.TheVariants.{Col, Lit, Op, Sub}
 use Rattle.bag_algebra.specs.declared.expr.Item.{Item}
 use Rattle.bag_algebra.specs.declared.query.JoinKind.{JoinKind}
 use Rattle.bag_algebra.specs.declared.query.JoinKind.TheVariants.{Left}
 use Rattle.bag_algebra.specs.declared.query.Query.{Query, end_of-Sublink}
+use Rattle.bag_algebra.specs.declared.query.Query.TheVariants.{Table, Single}
 use Rattle.contribution.specs.Conjunctions.{always}
 use Rattle.contribution.specs.Fitting.{Fitting}
 use Rattle.contribution.specs.ItemKinds.{column_of}
@@ -60,6 +62,55 @@ pub data IsSpine (width : ℕ) : Query → Spine → Type 0 where
       ItemsPlaced spine.items items placed → items_faultless items ≡ true →
       IsSpine width (ProjectOf input items [] end_of-Sublink) (spine_over spine placed)
 
+-- ---- which queries are found to be spines
+
+-- the query reads no outer row and meets no fault
+abbrev pub is_base : Query → Bool
+is_base q = is_closed q && fault_free q
+
+-- a selection stands above the base
+abbrev pub selects : Query → Bool
+selects (Table id kinds) = false
+selects Single = false
+selects (BaseOf input places label) = false
+selects (FilterOf input condition form subs) = not (is_base (FilterOf input condition form subs))
+selects (ProjectOf input items form subs) = not (is_base (ProjectOf input items form subs)) && selects input
+selects (JoinOf kind left right condition form subs) = false
+selects (ApplyOf kind left right) = false
+selects (UnionOf all left right) = false
+selects (IntersectOf all left right) = false
+selects (ExceptOf all left right) = false
+selects (DistinctOf input) = false
+selects (AggregateOf input groups aggregates) = false
+selects (LimitOf input keys count) = false
+selects (ProvOf input) = false
+
+-- Bases are, and over what is one: projections without sublinks that can't fault, and selections without sublinks, which can't fault either
+-- where a selection stands below. Above a LIMIT, and above whatever else isn't a base, there is none.
+abbrev pub is_spine : Query → Bool
+is_spine (Table id kinds) = is_base (Table id kinds)
+is_spine Single = is_base Single
+is_spine (BaseOf input places label) = is_base (BaseOf input places label)
+is_spine (FilterOf input condition form subs) =
+    is_base (FilterOf input condition form subs) || (has_none subs && (is_spine input && (not (selects input) || faultless condition)))
+is_spine (ProjectOf input items form subs) = is_base (ProjectOf input items form subs) || (has_none subs && (is_spine input && items_faultless items))
+is_spine (JoinOf kind left right condition form subs) = is_base (JoinOf kind left right condition form subs)
+is_spine (ApplyOf kind left right) = is_base (ApplyOf kind left right)
+is_spine (UnionOf all left right) = is_base (UnionOf all left right)
+is_spine (IntersectOf all left right) = is_base (IntersectOf all left right)
+is_spine (ExceptOf all left right) = is_base (ExceptOf all left right)
+is_spine (DistinctOf input) = is_base (DistinctOf input)
+is_spine (AggregateOf input groups aggregates) = is_base (AggregateOf input groups aggregates)
+is_spine (LimitOf input keys count) = is_base (LimitOf input keys count)
+is_spine (ProvOf input) = is_base (ProvOf input)
+
+-- what is found of a query beside rows of so many columns: a spine of it exactly where it is one, with a test where a selection stands
+-- above the base
+pub record IsSpineOf (width : ℕ) (q : Query) (found : Option Spine) : Type 0 where
+  pub exact : is_some found ≡ is_spine q
+  pub spine : IfSome found (λ spine. IsSpine width q spine)
+  pub test : IfSome found (λ (spine : Spine). is_some spine.test ≡ selects q)
+
 -- a column behind so many others
 abbrev pub is_behind : ℕ → Expr → Bool
 is_behind width (Col level place) = (level == 0) && nat_le width place
@@ -99,3 +150,9 @@ pub record IsBeside (rows right p : Query) : Type 0 where
   pub formed : (outer : List (List Kind)) → WellFormed outer (ApplyOf Left rows right) → WellFormed outer p
   pub same : (outer : List (List Kind)) (db : Database) (env : List Row) → Fitting outer (ApplyOf Left rows right) db env →
       SameRows (meaning (ApplyOf Left rows right) db env) (meaning p db env)
+
+-- p is the dependent join of the rows with the right query that keeps left rows, or the ordinary one with the base of a spine that the right
+-- query is
+pub data IsJoined (rows right : Query) : Query → Type 0 where
+  dependent : IsJoined rows right (ApplyOf Left rows right)
+  ordinary : (spine : Spine) → IsSpine (width_of rows) right spine → IsJoined rows right (spine_join Left rows spine)

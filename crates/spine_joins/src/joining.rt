@@ -4,7 +4,7 @@ ghost use Rattle.bag_algebra.specs.Kinds.{kinds_of, width_of};
 ghost use Rattle.bag_algebra.specs.built.Patterns.{ProjectOf};
 ghost use Rattle.bag_algebra.specs.declared.query.JoinKind.TheVariants.{Left};
 ghost use Rattle.bag_algebra.specs.declared.query.Query.{Query, end_of-Sublink};
-ghost use Rattle.spine_joins.specs.Spines.{IsBeside, IsSpine, all_behind, is_behind, items_behind};
+ghost use Rattle.spine_joins.specs.Spines.{IsBeside, IsJoined, IsSpine, all_behind, is_behind, items_behind};
 ghost use Rattle.spine_joins.specs.Spines.{spine_join, test_of};
 
 use crate::spine::{Spine, items_behind, spine_of};
@@ -17,7 +17,8 @@ use std::alloc::Global;
 /// keeps left rows, and where the right query is a spine beside the rows, of which the items are columns of its base, the ordinary
 /// join in its place. It fails only for want of memory.
 pub fn beside(alloc: Global, rows: Query, right: Query) -> Result<Query, NoMemory>
-    ensures { IfOk result (λ p. IsBeside rows right p) }
+    ensures beside { IfOk result (λ p. IsBeside rows right p) }
+    ensures joined { IfOk result (λ p. IsJoined rows right p) }
 {
     let Ok(found) = spine_beside(alloc, &rows, &right) else {
         drop(rows);

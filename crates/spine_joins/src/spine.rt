@@ -1,11 +1,10 @@
 //! Right sides of dependent joins that ordinary joins serve.
-ghost use Rattle.std.specs.Prelude.{◌≡◌, ◌&&◌, ℕ, true, [], IfOk, IfSome, IsTrue};
-ghost use Rattle.bag_algebra.specs.Closed.{is_closed};
-ghost use Rattle.bag_algebra.specs.FaultFree.{fault_free, items_faultless};
+ghost use Rattle.std.specs.Prelude.{◌≡◌, ◌||◌, ℕ, true, false, not, [], Some, is_some, IfOk};
+ghost use Rattle.bag_algebra.specs.FaultFree.{faultless, items_faultless};
 ghost use Rattle.bag_algebra.specs.declared.query.Query.{Query};
 ghost use Rattle.bag_algebra.specs.declared.query.Query.TheVariants.{Filter, Project};
 ghost use Rattle.contribution.specs.ItemKinds.{column_of};
-ghost use Rattle.spine_joins.specs.Spines.{IsSpine, MayFollow, items_behind, spine_over, spine_with, tests_with};
+ghost use Rattle.spine_joins.specs.Spines.{IsSpineOf, is_base, items_behind, spine_over, spine_with, tests_with};
 
 use crate::placing::{placed, placed_items};
 use bag_algebra::{Expr, Item, Query, fault_free, faultless};
@@ -24,17 +23,20 @@ pub struct Spine {
     pub items: List<Item>,
 }
 
-/// The spine that a query is beside rows of so many columns, where it is one: it is closed and fault-free, or a selection or a
+/// The spine that a query is beside rows of so many columns, exactly where it is one: it is closed and fault-free, or a selection or a
 /// projection without sublinks over a spine. A selection over another one has to be free of faults, and so do the items. It fails
 /// only for want of memory.
 #[cycle(spine_of)]
 pub fn spine_of(alloc: Global, query: &Query, width: usize) -> Result<Option<Spine>, NoMemory>
-    ensures { IfOk result (λ found. IfSome found (λ spine. IsSpine width query.now spine)) }
+    ensures { IfOk result (λ found. IsSpineOf width query.now found) }
 {
     if is_base(query) {
         return closed_spine(alloc, query, width);
     }
     match query {
+        Query::Table { .. } => Ok(None),
+        Query::Single => Ok(None),
+        Query::Base { .. } => Ok(None),
         Query::Filter {
             input,
             condition,
@@ -57,22 +59,29 @@ pub fn spine_of(alloc: Global, query: &Query, width: usize) -> Result<Option<Spi
                 None => Ok(None),
             }
         }
-        _ => Ok(None),
+        Query::Join { .. } => Ok(None),
+        Query::Apply { .. } => Ok(None),
+        Query::Union { .. } => Ok(None),
+        Query::Intersect { .. } => Ok(None),
+        Query::Except { .. } => Ok(None),
+        Query::Distinct { .. } => Ok(None),
+        Query::Aggregate { .. } => Ok(None),
+        Query::Limit { .. } => Ok(None),
+        Query::Prov { .. } => Ok(None),
     }
 }
 
 /// Whether the query reads no outer row and meets no fault.
 fn is_base(query: &Query) -> bool
-    ensures { result ≡ (is_closed query.now && fault_free query.now) }
+    ensures { result ≡ is_base query.now }
 {
     is_closed(query) && fault_free(query)
 }
 
 /// The whole query as the base.
 fn closed_spine(alloc: Global, query: &Query, width: usize) -> Result<Option<Spine>, NoMemory>
-    requires closed { is_closed query.now ≡ true }
-    requires fault_free { fault_free query.now ≡ true }
-    ensures { IfOk result (λ found. IfSome found (λ spine. IsSpine width query.now spine)) }
+    requires { is_base query.now ≡ true }
+    ensures { IfOk result (λ found. IsSpineOf width query.now found) }
 {
     let own = kinds(alloc, query)?;
     let items = items_behind(alloc, width, own.as_slice())?;
@@ -119,8 +128,9 @@ fn column(place: usize, kind: Kind) -> Item
 
 /// The spine with one condition more, where that may stand over its test.
 fn filtered(alloc: Global, spine: Spine, condition: &Expr) -> Result<Option<Spine>, NoMemory>
-    ensures { IfOk result (λ found. IfSome found (λ made. (width : ℕ) (input : Query) →
-        IsSpine width input spine → IsSpine width (Filter input condition.now []) made)) }
+    ensures { IfOk result (λ found. (width : ℕ) (input : Query) →
+        is_base (Filter input condition.now []) ≡ false →
+        IsSpineOf width input (Some spine) → IsSpineOf width (Filter input condition.now []) found) }
 {
     if !may_follow(&spine.test, condition) {
         drop(spine);
@@ -135,7 +145,7 @@ fn filtered(alloc: Global, spine: Spine, condition: &Expr) -> Result<Option<Spin
 
 /// Whether the condition may stand over the test: it is free of faults, or there is no test.
 fn may_follow(test: &Option<Expr>, condition: &Expr) -> bool
-    ensures { IsTrue result → MayFollow test.now condition.now }
+    ensures { result ≡ (not (is_some test.now) || faultless condition.now) }
 {
     match test {
         None => true,
@@ -178,8 +188,9 @@ fn tests_with(alloc: Global, test: Option<Expr>, other: Expr) -> Result<Expr, No
 
 /// The spine with other items over its own, where these are free of faults.
 fn projected(alloc: Global, spine: Spine, items: &[Item]) -> Result<Option<Spine>, NoMemory>
-    ensures { IfOk result (λ found. IfSome found (λ made. (width : ℕ) (input : Query) →
-        IsSpine width input spine → IsSpine width (Project input items.now []) made)) }
+    ensures { IfOk result (λ found. (width : ℕ) (input : Query) →
+        is_base (Project input items.now []) ≡ false →
+        IsSpineOf width input (Some spine) → IsSpineOf width (Project input items.now []) found) }
 {
     if !items_faultless(items) {
         drop(spine);

@@ -17,6 +17,7 @@ pub mod LongTexts
 pub mod NamedCatalog
 pub mod NamedQueries
 pub mod NamedTrees
+pub mod OpenSublinks
 pub mod Places
 pub mod PlannedTexts
 pub mod PlannedTrees

@@ -1,5 +1,6 @@
 -- Worked examples of dependent joins that ordinary joins serve, and of what is traced for sublinks.
 use Rattle.std.specs.Prelude.{◌≡◌, true, false, [], ◌∷◌, Some, None, refl}
+use Rattle.null_logic.specs.declared.arith.Arith.TheVariants.{Add}
 use Rattle.null_logic.specs.declared.compare.Compare.TheVariants as compare
 use Rattle.perm_values.specs.declared.kind.Kind.TheVariants as kind
 use Rattle.perm_values.specs.declared.value.Value.TheVariants.{Null}
@@ -12,10 +13,10 @@ use Rattle.bag_algebra.specs.declared.query.JoinKind.TheVariants.{Inner, Left}
 use Rattle.bag_algebra.specs.declared.query.Query.{Query, end_of-Sublink}
 use Rattle.bag_algebra.specs.declared.query.SubKind.TheVariants.{Any, Exists, Scalar}
 use Rattle.bag_algebra.specs.declared.query.Sublink.{Sublink}
-use Rattle.spine_joins.specs.Spines.{all_behind, spine_join}
+use Rattle.spine_joins.specs.Spines.{all_behind, is_spine, spine_join}
 use Rattle.spine_joins.specs.declared.spine.Spine.{Spine}
 use Rattle.rewrite_move.specs.Traced.{below_groups, traced_of, traced_sub}
-use Rattle.worked_examples.specs.Queries.{none, num, x, y, holding, col, number, compared, r, s, item, select, printed}
+use Rattle.worked_examples.specs.Queries.{none, num, x, y, holding, col, number, compared, r, s, item, select, printed, reckoned}
 
 -- ---- joins over spines
 
@@ -57,6 +58,28 @@ no-column_of_the_row = refl
 
 no-constant : all_behind 2 (item (number 1) ∷ []) ≡ false
 no-constant = refl
+
+-- ---- which queries are spines
+
+one_selection : is_spine same ≡ true
+one_selection = refl
+
+-- above another selection one has to be free of faults
+two_selections : is_spine (FilterOf same (compared compare.Less (col 0 0) (number 5)) none end_of-Sublink) ≡ true
+two_selections = refl
+
+a-sum_above : is_spine (FilterOf same (compared compare.Less (reckoned Add (col 0 0) (number 1)) (number 5)) none end_of-Sublink) ≡ false
+a-sum_above = refl
+
+a-sum_below : is_spine (FilterOf s (compared compare.Less (reckoned Add (col 0 0) (number 1)) (col 1 0)) none end_of-Sublink) ≡ true
+a-sum_below = refl
+
+above-limit : is_spine (LimitOf same [] 0) ≡ false
+above-limit = refl
+
+-- a LIMIT that reads no outer row is a base
+a-closed_limit : is_spine (LimitOf s [] 0) ≡ true
+a-closed_limit = refl
 
 -- ---- what is traced
 

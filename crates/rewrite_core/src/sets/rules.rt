@@ -4,6 +4,7 @@ ghost use Rattle.bag_algebra.specs.Kinds.{width_of};
 ghost use Rattle.bag_algebra.specs.Rewriting.{IsRewrite, Stands};
 ghost use Rattle.bag_algebra.specs.declared.query.Query.TheVariants.{Except, Intersect, Limit};
 ghost use Rattle.bag_algebra.specs.declared.query.Query.{Query};
+ghost use Rattle.rewrite_base.specs.OpenSublinks.{NoOpenSublink};
 
 use crate::sets::columns::columns_of;
 use crate::sets::others::{Counted, beside_others, remaining};
@@ -21,8 +22,9 @@ pub fn limit(
     keys: &[Key],
     count: u64,
 ) -> Result<Query, NoMemory>
-    ensures { IfOk result (λ p. (q : Query) → Stands q input → IsRewrite q rewriting →
+    ensures rewrites { IfOk result (λ p. (q : Query) → Stands q input → IsRewrite q rewriting →
         IsRewrite (Limit q keys.now count) p) }
+    ensures none_open { IfOk result (λ p. NoOpenSublink input → NoOpenSublink rewriting → NoOpenSublink p) }
 {
     let Ok(plain) = limited(alloc, input, keys, count) else {
         drop(rewriting);
@@ -63,8 +65,10 @@ pub fn intersect(
     right: &Query,
     right_rewriting: Query,
 ) -> Result<Query, NoMemory>
-    ensures { IfOk result (λ p. IsRewrite left.now left_rewriting → IsRewrite right.now right_rewriting →
+    ensures rewrites { IfOk result (λ p. IsRewrite left.now left_rewriting → IsRewrite right.now right_rewriting →
         IsRewrite (Intersect all left.now right.now) p) }
+    ensures none_open { IfOk result (λ p. NoOpenSublink left_rewriting → NoOpenSublink right_rewriting →
+        NoOpenSublink p) }
 {
     let Ok(columns) = columns_of(left, &left_rewriting) else {
         drop(left_rewriting);
@@ -91,8 +95,10 @@ pub fn except(
     right: Query,
     right_rewriting: Query,
 ) -> Result<Query, NoMemory>
-    ensures { IfOk result (λ p. (l r : Query) → Stands l left → IsRewrite l left_rewriting →
+    ensures rewrites { IfOk result (λ p. (l r : Query) → Stands l left → IsRewrite l left_rewriting →
         Stands r right → IsRewrite r right_rewriting → IsRewrite (Except all l r) p) }
+    ensures none_open { IfOk result (λ p. NoOpenSublink left → NoOpenSublink left_rewriting →
+        NoOpenSublink right → NoOpenSublink right_rewriting → NoOpenSublink p) }
 {
     let Ok(rest) = remaining(alloc, all, left, left_rewriting, right) else {
         drop(right_rewriting);

@@ -21,7 +21,10 @@ rewrite-laid kind left left_rewriting right right_rewriting condition order (Ok 
     (subst (λ order. IsLaidOut kind left left_rewriting right right_rewriting condition order whole) e made))
 rewrite-laid kind left left_rewriting right right_rewriting condition order (Err error) left_given right_given e laid = tt
 
-pub returns : goal.returns
-returns c =
+pub returns-clause-rewrites : goal.returns-clause-rewrites
+returns-clause-rewrites c =
     rewrite-laid c.args.kind c.args.left.now c.args.left_rewriting c.args.right.now c.args.right_rewriting c.args.condition.now _ c.laid_out.result
-    c.requires.left c.requires.right (c.as_slice.ensures ∙ c.in-Ok.ensures) c.laid_out.ensures
+    c.requires.left c.requires.right (c.as_slice.ensures ∙ c.in-Ok.ensures) c.laid_out.ensures.laid
+
+pub returns-clause-none_open : goal.returns-clause-none_open
+returns-clause-none_open c = c.laid_out.ensures.none_open

@@ -19,6 +19,9 @@ rewrite-laid input places order (Ok p) e laid = λ q label stands.
     (rewrite-Base q input places label stands))
 rewrite-laid input places order (Err error) e laid = tt
 
-pub returns : goal.returns
-returns c =
-    rewrite-laid c.args.input c.args.places.now _ c.with_columns.result (c.as_slice.ensures ∙ c.in-Ok.ensures) c.with_columns.ensures
+pub returns-clause-rewrites : goal.returns-clause-rewrites
+returns-clause-rewrites c =
+    rewrite-laid c.args.input c.args.places.now _ c.with_columns.result (c.as_slice.ensures ∙ c.in-Ok.ensures) c.with_columns.ensures.laid
+
+pub returns-clause-none_open : goal.returns-clause-none_open
+returns-clause-none_open c = c.with_columns.ensures.none_open

@@ -1,31 +1,29 @@
 use Rattle.std.proofs.Common.{true≢false, take, refl, sym, ap, ◌∙◌, subst}
 use Rattle.bag_algebra.specs.built.Openings.{shape-Prov, Base-is, Filter-is, Join-is, Apply-is, Union-is, Intersect-is, Except-is, Distinct-is, Aggregate-is, Limit-is, Prov-is}
-use Rattle.bag_algebra.specs.Rewriting.{Stands}
 use Rattle.bag_algebra.specs.declared.query.Query.TheVariants.{Single}
 use Rattle.bag_algebra.specs.declared.query.SubKind.TheVariants.{Exists, Scalar}
 use Rattle.contribution.proofs.Added.{one_more}
-use Rattle.query_laws.proofs.StandingNodes.{stands-Base}
-use Rattle.query_laws.specs.Standing.{SubsStand}
-use Rattle.rewrite_base.proofs.Itself.{stands-Table, stands-Single}
+use Rattle.rewrite_driver.proofs.ClosedNodes.{kept-Base, kept-Single, kept-Table}
 use Rattle.rewrite_driver.proofs.MadeQueries.{stands_made, stands_where, rewrites_where, rewrites_without_places}
+use Rattle.rewrite_driver.proofs.SublinkLists.{kept-none, traced-none}
 use Rattle.rewrite_driver.proofs.TracedQueries.{kind_traced, traced_here, traced_below}
 use Rattle.rewrite_driver.proofs.driver.+stand.Goals as goal
+use Rattle.rewrite_driver.specs.KeptClosed.{StandsClosed, SubsStandClosed, SubsTracedClosed}
 use Rattle.rewrite_driver.specs.Places.{is_some_place, has_places}
 use Rattle.rewrite_move.proofs.BuiltGroups.{below-no_subs, below-some_subs, stays}
-use Rattle.rewrite_move.specs.Moved.{SubsTraced}
 use Rattle.rewrite_move.specs.Traced.{below_groups}
 
 pub stand-returns-in-Table : goal.stand-returns-in-Table
 stand-returns-in-Table t c =
-    stands_made _ _ c.table.result c.in-Table.is _ c.table.ensures (stands-Table c.in-Table.id c.in-Table.kinds)
+    stands_made _ _ c.table.result c.in-Table.is _ c.table.ensures (kept-Table c.in-Table.id c.in-Table.kinds)
 
 pub stand-returns-in-Single : goal.stand-returns-in-Single
 stand-returns-in-Single t c =
-    subst (λ n. Stands n Single) (sym c.in-Single.is) stands-Single
+    subst (λ n. StandsClosed n Single) (sym c.in-Single.is) kept-Single
 
 pub stand-returns-in-Base : goal.stand-returns-in-Base
 stand-returns-in-Base t c =
-    stands_where _ _ c.stand.result c.in-Base.is _ (λ b s. stands-Base _ b s c.in-Base.places c.in-Base.label) (rw c.get.ensures at c.stand.ensures)
+    stands_where _ _ c.stand.result c.in-Base.is _ (λ b s. kept-Base _ b s c.in-Base.places c.in-Base.label) (rw c.get.ensures at c.stand.ensures)
 
 pub stand-returns-in-Filter : goal.stand-returns-in-Filter
 stand-returns-in-Filter t c =
@@ -72,9 +70,12 @@ pub stand-returns-in-Prov : goal.stand-returns-in-Prov
 stand-returns-in-Prov t c =
     stands_where _ _ c.provenance_standing.result c.in-Prov.is _ (λ p s. s) (c.provenance_standing.ensures c.in-Prov.input (rw c.get-in-Prov.ensures at c.rewriting.ensures))
 
+pub stand_subs-loop-sub-init : goal.stand_subs-loop-sub-init
+stand_subs-loop-sub-init t c = kept-none c.new-others.result c.new-others.ensures
+
 pub stand_subs-loop-sub-preserved : goal.stand_subs-loop-sub-preserved
 stand_subs-loop-sub-preserved t c =
-    subst (λ subs. SubsStand subs c.add_standing.new.others) (sym (one_more c.args.subs.now c.loop-sub.sub-index c.sub-item.result c.loop-sub-test.true c.sub-item.is))
+    subst (λ subs. SubsStandClosed subs c.add_standing.new.others) (sym (one_more c.args.subs.now c.loop-sub.sub-index c.sub-item.result c.loop-sub-test.true c.sub-item.is))
     (c.in_ok-add_standing.ensures (take c.loop-sub.sub-index c.args.subs.now) c.loop-sub.invariant c.stand-query.ensures)
 
 pub rewriting-returns-else-found : goal.rewriting-returns-else-found
@@ -202,9 +203,12 @@ by_rule-returns-in-Limit t c =
     rewrites_where _ _ c.limit_rule.result c.in-Limit.is _ (λ p r. r)
     ((rw c.as_slice-in-Limit.ensures at c.limit_rule.ensures) c.in-Limit.input (rw c.get-in-Limit.ensures at c.stand-plain_rows-in-Limit.ensures) (rw c.get-in-Limit-2.ensures at c.rewriting-rows-in-Limit.ensures))
 
+pub rewritten_subs-loop-sub-init : goal.rewritten_subs-loop-sub-init
+rewritten_subs-loop-sub-init t c = traced-none c.new-rewritings.result c.new-rewritings.ensures
+
 pub rewritten_subs-loop-sub-preserved : goal.rewritten_subs-loop-sub-preserved
 rewritten_subs-loop-sub-preserved t c =
-    subst (λ subs. SubsTraced subs c.add_rewriting.new.rewritings) (sym (one_more c.args.subs.now c.loop-sub.sub-index c.sub-item.result c.loop-sub-test.true c.sub-item.is))
+    subst (λ subs. SubsTracedClosed subs c.add_rewriting.new.rewritings) (sym (one_more c.args.subs.now c.loop-sub.sub-index c.sub-item.result c.loop-sub-test.true c.sub-item.is))
     (c.in_ok-add_rewriting.ensures (take c.loop-sub.sub-index c.args.subs.now) c.sub-item.result c.loop-sub.invariant c.traced-query.ensures)
 
 pub traced-returns-in-Exists : goal.traced-returns-in-Exists

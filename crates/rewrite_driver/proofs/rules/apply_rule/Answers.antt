@@ -1,15 +1,26 @@
-use Rattle.bag_algebra.specs.Rewriting.{IsRewrite}
+use Rattle.bag_algebra.specs.built.Openings.{Apply-is}
+use Rattle.bag_algebra.specs.declared.query.Query.{Query}
+use Rattle.bag_algebra.specs.declared.query.Query.TheVariants.{Apply}
 use Rattle.perm_values.proofs.Taken.{opened}
+use Rattle.rewrite_driver.proofs.ClosedNodes.{along}
+use Rattle.rewrite_driver.proofs.MadeQueries.{both_made}
 use Rattle.rewrite_driver.proofs.rules.apply_rule.Goals as goal
+use Rattle.rewrite_driver.specs.KeptClosed.{RewritesClosed}
 
 pub apply-requires-clause-left : goal.apply-requires-clause-left
 apply-requires-clause-left c =
-    opened (λ r. IsRewrite c.args.left.now r) c.args.lefts _ c.in_ok-lefts.ensures.first_was c.requires.left
+    (opened (λ (r : Query). RewritesClosed c.args.left.now r) c.args.lefts _ c.in_ok-lefts.ensures.first_was c.requires.left).rewrites
 
 pub apply-requires-clause-right : goal.apply-requires-clause-right
 apply-requires-clause-right c =
-    opened (λ r. IsRewrite c.args.right.now r) c.args.rights _ c.in_ok-lefts.ensures.second_was c.requires.right
+    (opened (λ (r : Query). RewritesClosed c.args.right.now r) c.args.rights _ c.in_ok-lefts.ensures.second_was c.requires.right).rewrites
 
 pub returns : goal.returns
 returns c =
-    c.apply.ensures
+    let left = opened (λ (r : Query). RewritesClosed c.args.left.now r) c.args.lefts _ c.in_ok-lefts.ensures.first_was c.requires.left in
+    let right = opened (λ (r : Query). RewritesClosed c.args.right.now r) c.args.rights _ c.in_ok-lefts.ensures.second_was c.requires.right in
+    both_made _ _ (λ p. RewritesClosed (Apply c.args.kind c.args.left.now c.args.right.now) p) c.apply.result c.apply.ensures.rewrites c.apply.ensures.none_open
+    (λ p r n. record {
+      rewrites = r;
+      none_open = λ h. let parts = along (Apply-is c.args.kind c.args.left.now c.args.right.now) h in n (left.none_open parts.0) (right.none_open parts.1);
+    })

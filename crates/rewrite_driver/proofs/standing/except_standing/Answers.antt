@@ -1,10 +1,10 @@
-use Rattle.bag_algebra.specs.Rewriting.{Stands}
 use Rattle.bag_algebra.specs.declared.query.Query.TheVariants.{Except}
-use Rattle.query_laws.proofs.StandingNodes.{stands-Except}
 use Rattle.contribution.proofs.NodeQueries.{of_made}
 use Rattle.perm_values.proofs.Taken.{opened}
+use Rattle.rewrite_driver.proofs.ClosedNodes.{kept-Except}
 use Rattle.rewrite_driver.proofs.standing.except_standing.Goals as goal
+use Rattle.rewrite_driver.specs.KeptClosed.{StandsClosed}
 
 pub returns : goal.returns
 returns c q r h i =
-    of_made (λ p. Stands (Except c.args.all q r) p) c.except.result _ c.except.ensures (stands-Except q _ (opened (λ b. Stands q b) c.args.left _ c.in_ok-left.ensures.first_was h) r _ (opened (λ b. Stands r b) c.args.right _ c.in_ok-left.ensures.second_was i) c.args.all)
+    of_made (λ p. StandsClosed (Except c.args.all q r) p) c.except.result _ c.except.ensures (kept-Except q _ (opened (λ b. StandsClosed q b) c.args.left _ c.in_ok-left.ensures.first_was h) r _ (opened (λ b. StandsClosed r b) c.args.right _ c.in_ok-left.ensures.second_was i) c.args.all)

@@ -1,10 +1,10 @@
-use Rattle.bag_algebra.specs.Rewriting.{Stands}
 use Rattle.bag_algebra.specs.declared.query.Query.TheVariants.{Intersect}
-use Rattle.query_laws.proofs.StandingNodes.{stands-Intersect}
 use Rattle.contribution.proofs.NodeQueries.{of_made}
 use Rattle.perm_values.proofs.Taken.{opened}
+use Rattle.rewrite_driver.proofs.ClosedNodes.{kept-Intersect}
 use Rattle.rewrite_driver.proofs.standing.intersect_standing.Goals as goal
+use Rattle.rewrite_driver.specs.KeptClosed.{StandsClosed}
 
 pub returns : goal.returns
 returns c q r h i =
-    of_made (λ p. Stands (Intersect c.args.all q r) p) c.intersect.result _ c.intersect.ensures (stands-Intersect q _ (opened (λ b. Stands q b) c.args.left _ c.in_ok-left.ensures.first_was h) r _ (opened (λ b. Stands r b) c.args.right _ c.in_ok-left.ensures.second_was i) c.args.all)
+    of_made (λ p. StandsClosed (Intersect c.args.all q r) p) c.intersect.result _ c.intersect.ensures (kept-Intersect q _ (opened (λ b. StandsClosed q b) c.args.left _ c.in_ok-left.ensures.first_was h) r _ (opened (λ b. StandsClosed r b) c.args.right _ c.in_ok-left.ensures.second_was i) c.args.all)

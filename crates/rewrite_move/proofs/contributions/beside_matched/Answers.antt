@@ -1,14 +1,13 @@
 use Rattle.bag_algebra.specs.Kinds.{width_of}
 use Rattle.lateral_rewrite.specs.Dependent.{provenance_of}
-use Rattle.rewrite_move.proofs.MovedRows.{all-moved, kept_ok, matched-untested}
+use Rattle.rewrite_move.proofs.MovedRows.{StandBeside, all-moved, kept_ok, matched-untested, stand_beside}
 use Rattle.rewrite_move.proofs.contributions.beside_matched.Goals as goal
 use Rattle.rewrite_move.specs.Moved.{Like, matched}
-use Rattle.spine_joins.specs.Spines.{IsBeside}
 
 pub returns-in-None : goal.returns-in-None
 returns-in-None c whole l =
-    kept_ok (IsBeside c.args.rows (provenance_of c.args.rewriting.now (width_of c.args.standing.now.query)))
+    kept_ok (StandBeside c.args.rows (provenance_of c.args.rewriting.now (width_of c.args.standing.now.query)))
     (Like (matched c.args.choice c.args.standing.now.tested whole c.args.standing.now c.args.rewriting.now)) c.beside_all.result
     (λ p is. matched-untested whole c.args.standing.now c.args.rewriting.now p c.args.choice c.in-None.is
     (all-moved whole c.args.rows l c.args.rewriting.now c.requires.plain p (width_of c.args.standing.now.query) is))
-    c.beside_all.ensures
+    (stand_beside c.args.rows (provenance_of c.args.rewriting.now (width_of c.args.standing.now.query)) c.beside_all.result c.beside_all.ensures.beside c.beside_all.ensures.joined)

@@ -2,12 +2,11 @@ use Rattle.std.proofs.Common.{◌≡◌, sym, subst, ◌∙◌}
 use Rattle.bag_algebra.specs.Kinds.{width_of}
 use Rattle.bag_algebra.specs.declared.query.Query.{Query}
 use Rattle.lateral_rewrite.specs.Dependent.{contributed, provenance_of}
-use Rattle.rewrite_move.proofs.MovedRows.{all-moved, kept_ok, moved-as, nulls-like}
+use Rattle.rewrite_move.proofs.MovedRows.{StandBeside, all-moved, kept_ok, moved-as, nulls-like, stand_beside}
 use Rattle.rewrite_move.proofs.contributions.with_contribution.Goals as goal
 use Rattle.rewrite_move.specs.Moved.{Like, beside_nulls, matched, moved, provenance_kinds}
 use Rattle.rewrite_move.specs.Traced.{traced_of}
 use Rattle.rewrite_move.specs.declared.share.Share.TheVariants.{NoRow, AllRows, MatchingRows, ByValue}
-use Rattle.spine_joins.specs.Spines.{IsBeside}
 
 pub returns-in-NoRow : goal.returns-in-NoRow
 returns-in-NoRow c whole l =
@@ -21,12 +20,13 @@ returns-in-NoRow c whole l =
 
 pub returns-in-AllRows : goal.returns-in-AllRows
 returns-in-AllRows c whole l =
-    kept_ok (IsBeside c.args.rows (provenance_of c.args.rewriting.now (width_of c.traced-in-AllRows.result.now)))
+    kept_ok (StandBeside c.args.rows (provenance_of c.args.rewriting.now (width_of c.traced-in-AllRows.result.now)))
     (Like (moved c.args.known whole c.args.sub.now c.args.standing.now c.args.rewriting.now)) c.beside_all.result
     (λ p is. moved-as c.args.sub.now c.args.standing.now c.args.rewriting.now c.args.known whole p AllRows (sym c.share_of.ensures ∙ c.in-AllRows.is)
     (all-moved whole c.args.rows l c.args.rewriting.now c.requires.traced.plain p (width_of (traced_of c.args.sub.now))
-    (subst (λ (q : Query). IsBeside c.args.rows (provenance_of c.args.rewriting.now (width_of q)) p) c.traced-in-AllRows.ensures.value is)))
-    c.beside_all.ensures
+    (subst (λ (q : Query). StandBeside c.args.rows (provenance_of c.args.rewriting.now (width_of q)) p) c.traced-in-AllRows.ensures.value is)))
+    (stand_beside c.args.rows (provenance_of c.args.rewriting.now (width_of c.traced-in-AllRows.result.now)) c.beside_all.result c.beside_all.ensures.beside
+    c.beside_all.ensures.joined)
 
 pub returns-in-MatchingRows : goal.returns-in-MatchingRows
 returns-in-MatchingRows c whole l =

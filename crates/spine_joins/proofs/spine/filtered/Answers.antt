@@ -1,10 +1,14 @@
-use Rattle.std.proofs.Common.{subst}
-use Rattle.spine_joins.proofs.BuiltSpines.{filtered-is}
+use Rattle.std.proofs.Common.{sym, ◌∙◌, subst}
+use Rattle.spine_joins.proofs.BuiltSpines.{filter-found, filter-refused}
 use Rattle.spine_joins.specs.PlacedColumns.{IsPlaced}
 use Rattle.spine_joins.proofs.spine.filtered.Goals as goal
 
+pub returns-then-not-may_follow : goal.returns-then-not-may_follow
+returns-then-not-may_follow c width input other found =
+    filter-refused width input c.args.condition.now other c.args.spine found (sym c.may_follow.ensures ∙ c.if-not-may_follow.true)
+
 pub returns : goal.returns
-returns c width input is =
-    filtered-is width input c.args.spine c.in_ok-with_test.field-0 c.args.condition.now c.in-Ok.other c.in_ok-with_test.ensures
+returns c width input other found =
+    filter-found width input c.args.condition.now other c.args.spine found c.in_ok-with_test.field-0 c.in-Ok.other c.in_ok-with_test.ensures
     (subst (λ items. IsPlaced items c.args.condition.now c.in-Ok.other) c.as_slice.ensures c.in-Ok.ensures)
-    (c.may_follow.ensures c.if-not-may_follow.false) is
+    (sym c.may_follow.ensures ∙ c.if-not-may_follow.false)
