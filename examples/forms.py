@@ -15,14 +15,7 @@ sys.path.insert(0, str(pathlib.Path(__file__).resolve().parent.parent / "tools")
 import scripts  # noqa: E402
 
 # Forms that the program refuses by name.
-UNBUILT = {
-    "statement: EXPLAIN REWRITE query",
-    "join: CROSS JOIN LATERAL ( query ) [AS] name",
-    "join: AS (in CROSS JOIN LATERAL ( query ) [AS] name)",
-    "join: LEFT [OUTER] JOIN LATERAL ( query ) [AS] name ON TRUE",
-    "join: OUTER (in LEFT [OUTER] JOIN LATERAL ( query ) [AS] name ON TRUE)",
-    "join: AS (in LEFT [OUTER] JOIN LATERAL ( query ) [AS] name ON TRUE)",
-}
+UNBUILT = {"statement: EXPLAIN REWRITE query"}
 PART = re.compile(r"'(?P<mark>[^']+)'|(?P<name>[A-Za-z]+)|(?P<sign>[][{}()|])|\s+")
 BLOCK = re.compile(r"^```(.*)\n((?:.*\n)*?)```$", re.M)
 SPELLED = {"subquery": "query"}

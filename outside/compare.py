@@ -15,30 +15,34 @@ from reference import answer
 from reference.meaning import TooMuch
 from reference.names import Refused, asks_for_provenance
 from reference.text import write_query
-from reference.tree import Aggregate, Base, Filter, Join, Project, Provenance, SetOperation, Table, children, shape, \
-    sublinks_of
+from reference.tree import Aggregate, Base, DependentJoin, Filter, Join, Project, Provenance, SetOperation, Table, children, \
+    shape, sublinks_of
 
 TOP = os.path.dirname(os.path.dirname(os.path.realpath(__file__)))
 PROGRAM = os.environ.get("PERM") or os.path.join(TOP, "crates", "perm_cli", "out", "perm_cli")
-# A run of the program may take so many seconds, a query so many places, places in sublinks, bytes and lines of its answer:
-# the program joins a sublink's query with all combinations of the rows of its tables.
+# A run of the program may take so many seconds, a query so many places, places in sublinks, bytes and lines of its answer, which
+# has a row for each combination of source rows.
 SECONDS, PLACES, SUBLINK_PLACES, BYTES, LINES = 6, 14, 6, 6000, 1500
 BATCH = 30
+# How many queries with a lateral query are made to break a rule.
+BROKEN = .25
 # What the nodes don't tell any more, by the text of a query.
 WRITTEN = {"order by": "ORDER BY", "view": r"\bv[0-9]\b", "query in from": r"(FROM|JOIN) \(+SELECT"}
 # What is decided on unknown comparisons alone is rare, so sublinks come more often than the other styles.
-ORDER = ["sublinks", "faults", "sets", "sublinks", "wide", "faults", "sublinks", "views"]
+ORDER = ["sublinks", "faults", "lateral", "sets", "sublinks", "lateral", "wide", "faults", "sublinks", "lateral", "views"]
 
 
 @dataclass
 class Case:
-    """A query with what the reference says of it: the lines of its answer, or the codes of which it names one."""
+    """A query with what the reference says of it: the lines of its answer, or the codes of which it names one, and at which place
+    of its text, if that is known."""
 
     text: str
     kinds: set
     is_traced: bool
     lines: list = None
     codes: set = None
+    at: int = 0
 
 
 @dataclass
@@ -69,14 +73,26 @@ def reach(node):
     """How many rows further out than its own a query reads."""
     own = [getattr(node, part, None) for part in ("condition", "items", "aggregates")] + [
         sublink.tested for sublink in sublinks_of(node)]
-    return max([highest_level(own)] + list(map(reach, children(node))) + [
+    return max([highest_level(own)] + [reach(child) - is_lateral(node, child) for child in children(node)] + [
         reach(sublink.query) - 1 for sublink in sublinks_of(node)])
+
+
+def is_lateral(node, child):
+    """Whether the child sees the rows of the node's left one."""
+    return isinstance(node, DependentJoin) and child is node.right
+
+
+def joins_lateral(node):
+    """Whether a lateral query is among the items that are joined here."""
+    return isinstance(node, DependentJoin) or isinstance(node, Join) and any(map(joins_lateral, children(node)))
 
 
 def kind_of(node):
     """The words for a node in the totals."""
     if isinstance(node, Join):
         return "join, " + node.kind.lower()
+    if isinstance(node, DependentJoin):
+        return "lateral join, " + node.kind.lower()
     if isinstance(node, SetOperation):
         return node.word.lower() + " all" * node.keeps_all
     if isinstance(node, Filter):
@@ -90,25 +106,50 @@ def kind_of(node):
     return "source, table" if isinstance(node.input, Table) else "source, baserelation"
 
 
-def kinds_in(node, depth=0):
-    """The kinds of node in a query, and of sublinks with where they stand and what they read."""
+def kinds_in(node, depth=0, beside=False):
+    """The kinds of node in a query, and of sublinks and lateral queries with where they stand and what they read. `depth` counts
+    sublinks around, and `beside` tells whether a lateral query is."""
     kinds = {kind_of(node)} | {f"aggregate, {function}" for function, _ in getattr(node, "aggregates", [])}
     for child in children(node):
-        kinds |= kinds_in(child, depth)
+        kinds |= kinds_in(child, depth, beside or is_lateral(node, child))
+    if isinstance(node, DependentJoin):
+        kinds |= {"lateral query, closed" if reach(node.right) < 1 else "lateral query, correlated"}
+        kinds |= {"lateral query in a sublink"} if depth else set()
+        kinds |= {"lateral query in a lateral query"} if beside else set()
+    if isinstance(node, Join) and node.sublinks and joins_lateral(node):
+        kinds |= {"sublink in on beside a lateral query"}
     for sublink in sublinks_of(node):
         further = reach(sublink.query)
         clause = "items" if isinstance(node, Project) else "on" if isinstance(node, Join) else node.clause.lower()
         kinds |= {f"sublink, {sublink.kind}", "sublink in " + clause,
-                  "sublink, closed" if further < 1 else "sublink, correlated"} | kinds_in(sublink.query, depth + 1)
+                  "sublink, closed" if further < 1 else "sublink, correlated"} | kinds_in(sublink.query, depth + 1, beside)
         kinds |= {"sublink in a sublink"} if depth else set()
+        kinds |= {"sublink in a lateral query"} if beside else set()
         kinds |= {"sublink that reads two rows out"} if further > 1 else set()
     return kinds
 
 
-def make_case(made, totals):
-    """A query with the reference's answer, or None where it is refused or too large."""
+def refused_case(made, query, at):
+    """A query that breaks a rule, with the rule's code and its place in the text, or None where it breaks none."""
     try:
-        query = made.statement()
+        made.catalog.resolve(query)
+    except Refused as refused:
+        text, traced = write_query(query), asks_for_provenance(query.body)
+        place = at if at is None else len(text[:at].encode())
+        return Case(text, {"refused " + refused.code}, traced, codes={refused.code}, at=place)
+    return None
+
+
+def make_case(made, totals):
+    """A query with the reference's answer, or None where it is too large, or no query can be made."""
+    try:
+        query, at = made.statement(), None
+        refused = refused_case(made, query, at)
+        if not refused and made.chance(BROKEN):
+            query, at = made.broken(query) or (query, at)
+            refused = refused_case(made, query, at)
+        if refused:
+            return refused
         text, is_traced = write_query(query), asks_for_provenance(query.body)
         resolved = made.catalog.resolve(query)
         node = resolved.node
@@ -140,10 +181,12 @@ def run(script):
 
 
 def is_expected(case, setup, given, status):
-    """Whether the program says of a case alone what the reference does: each line in its place, or one of its faults."""
+    """Whether the program says of a case alone what the reference does: each line in its place, its refusal, or one of its faults."""
     if case.lines is not None:
         return (given, status) == (case.lines, 0)
-    return status == 5 and given in [[f"error {code} at {len(setup.encode())}"] for code in case.codes]
+    at = "[0-9]+" if case.at is None else len(setup.encode()) + case.at
+    return len(given) == 1 and any(re.fullmatch(f"error {code} at {at}", given[0]) and status == (5 if code >= "E30" else 4)
+                                   for code in case.codes)
 
 
 def compare_alone(case, statements, totals):

@@ -1,12 +1,14 @@
 """Random tables, views and queries from a seed."""
 
+import copy
 import itertools
+import os
 import random
 from dataclasses import dataclass, replace
 
 from reference import answer
 from reference.meaning import TooMuch
-from reference.names import Catalog, Refused, Scope, has_aggregate, lookup, resolve_body, resolve_source, resolve_sources
+from reference.names import LATERAL, Catalog, Refused, Scope, has_aggregate, lookup, resolve_body, resolve_source, resolve_sources
 from reference.text import name, text_literal, write_query
 from reference.tree import GREATEST, INTEGER, LEAST, TEXT, TRUTH, Parens, Query, Select, SetChain, Source
 
@@ -18,17 +20,20 @@ DOMAINS = [[1, 2, None], [1, 2, 3, None], [0, 1, 2], [1, 2, None, None], [0, 1, 
 
 @dataclass
 class Style:
-    """What a database's queries have much of: chances of set operations, sublinks, faults, views with marks, grouping and SELECTs
-    over one table with short expressions, how deep other expressions go, and how many SELECTs stand inside each other."""
+    """What a database's queries have much of: chances of set operations, sublinks, faults, views with marks, grouping, lateral
+    queries behind an item of FROM and SELECTs over one table with short expressions, how deep other expressions go, how many
+    SELECTs stand inside each other, and how often FROM has no item, one, two and three beside the lateral queries."""
 
     sets: float = .1
     sublinks: float = .3
     faults: float = .02
     views: float = .1
     grouped: float = .2
+    lateral: float = .06
     simple: float = .4
     depths: tuple = (0, 1, 1, 2)
     nested: tuple = (1, 1, 2)
+    items: tuple = (3, 60, 32, 5)
 
 
 STYLES = {
@@ -37,20 +42,41 @@ STYLES = {
     "sets": Style(sets=.8, sublinks=.15, simple=.85),
     "faults": Style(sets=.1, faults=.4, sublinks=.2, grouped=.25, simple=.3, depths=(1, 1, 2)),
     "views": Style(views=.45, sublinks=.2),
+    "lateral": Style(views=.15, lateral=.45, sublinks=.35, simple=.15, nested=(1, 1, 1, 2), items=(2, 45, 38, 15)),
 }
+# What a reference stands as until it is known where: no name is so.
+MARK = "\0"
 
 
 @dataclass
 class Place:
     """Where an expression stands: the scopes that it sees, how deep sublinks may go from there and how many more the SELECT may
-    have, the rows before grouping, whether it sees its own rows alone, and whether PROVENANCE is traced through it."""
+    have, the rows before grouping, and whether it sees its own rows alone."""
 
     scopes: list
     nested: int = 0
     room: list = None
     ungrouped: Scope = None
     own_only: bool = False
-    traced: bool = False
+
+
+def selects_in(part):
+    """Each SELECT of a written query, outer ones first."""
+    if isinstance(part, Select):
+        yield part
+    for each in part if isinstance(part, (tuple, list)) else getattr(part, "__dict__", {}).values():
+        yield from selects_in(each)
+
+
+def laterals_in(query):
+    """Each lateral query of a written query, with the items of its FROM that it doesn't see, the first of which is its own."""
+    for select in selects_in(query):
+        for group, (_, joins) in enumerate(select.sources):
+            others = [source for at, (first, steps) in enumerate(select.sources) if at != group
+                      for source in [first] + [step[1] for step in steps]]
+            for number, (word, source, _) in enumerate(joins):
+                if word in LATERAL:
+                    yield source.of, [step[1] for step in joins[number:]] + others
 
 
 class Queries:
@@ -220,7 +246,7 @@ class Queries:
 
     def inner(self, place, kinds, **asked):
         place.room[0] -= 1
-        return self.query(place.scopes, kinds, place.nested - 1, traced=place.traced, inside=True, **asked)
+        return self.query(place.scopes, kinds, place.nested - 1, inside=True, **asked)
 
     def scalar(self, kind, place):
         if kind != TRUTH and self.chance(.6):
@@ -250,15 +276,14 @@ class Queries:
 
     # Queries
 
-    def query(self, outer, kinds, depth, provenance=False, traced=False, inside=False, unique=False, one_row=False):
+    def query(self, outer, kinds, depth, provenance=False, inside=False, unique=False, one_row=False):
         """A query that sees these outer scopes. `kinds` are its columns', where they have to be some; `unique` is for a view, the
         columns of which have different names; `one_row` is for a value, which an aggregate without GROUP BY gives."""
-        asked = dict(traced=traced or provenance, inside=inside)
         if depth > 0 and not one_row and self.chance(self.style.sets):
             kinds = kinds or self.random.choices([INTEGER, TEXT], [5, 1], k=self.choice([1, 1, 1, 2]))
-            body = self.sets(outer, kinds, depth, provenance, unique, asked)
+            body = self.sets(outer, kinds, depth, provenance, unique, inside)
         else:
-            body = self.select(outer, kinds, depth, provenance, unique, one_row, **asked)
+            body = self.select(outer, kinds, depth, provenance, unique, one_row, inside)
         query = Query(body)
         if not one_row:
             _, names, _ = resolve_body(self.catalog, body, outer)
@@ -269,55 +294,65 @@ class Queries:
                 query.limit = self.choice([0, 1, 1, 2, 2, 3, 5])
         return query
 
-    def sets(self, outer, kinds, depth, provenance, unique, asked):
+    def sets(self, outer, kinds, depth, provenance, unique, inside):
         def side():
             if self.chance(.2):
-                return Parens(self.query(outer, kinds, depth - 1, **asked))
-            return self.select(outer, kinds, depth - 1, **asked)
+                return Parens(self.query(outer, kinds, depth - 1, inside=inside))
+            return self.select(outer, kinds, depth - 1, inside=inside)
 
         def term(first):
             if self.chance(.3):
                 return SetChain(first, self.some(lambda: ("INTERSECT", self.chance(.5), side()), [1, 1, 2]))
             return first
-        first = term(self.select(outer, kinds, depth - 1, provenance, unique, **asked))
+        first = term(self.select(outer, kinds, depth - 1, provenance, unique, inside=inside))
         if isinstance(first, SetChain) and self.chance(.5):
             return first
         return SetChain(first, self.some(
             lambda: (self.choice(["UNION", "EXCEPT", "EXCEPT"]), self.chance(.5), term(side())), [1, 1, 2]))
 
-    def source(self, outer, depth, traced, inside):
-        """An item of FROM. In a sublink that is traced a mark and a PROVENANCE of its own are refused, so they are rare there."""
-        free = self.chance(.04) if traced and inside else True
+    def source(self, outer, depth, inside):
+        """An item of FROM."""
         source = Source(self.choice(self.catalog.tables), self.fresh("y") if self.chance(.5) else None)
         if self.catalog.views and self.chance(self.style.views):
             source.of = self.choice(self.catalog.views)
         elif depth > 0 and self.chance(.25):
-            own = free and self.chance(.3)
-            source = Source(self.query(outer, None, depth - 1, own, traced and not own, inside and not own), self.fresh("x"))
-        if self.chance(self.style.views + .05) and (free or isinstance(source.of, str) and source.of in self.catalog.tables):
+            source = Source(self.query(outer, None, depth - 1, self.chance(.3), inside), self.fresh("x"))
+        if self.chance(self.style.views + .05):
             names = [column for column, _ in resolve_source(self.catalog, source, outer)[2]]
             names = [column for column in names if names.count(column) == 1]
             source.mark = self.random.sample(names, self.random.randint(1, len(names))) if names and self.chance(.5) \
                 else "BASERELATION"
         return source
 
-    def sources(self, outer, depth, traced, inside):
+    def laterals(self, first, joins, outer, depth, inside):
+        """Joins with a lateral query, which sees the items before it, behind these: none in most cases."""
+        if depth < 0 or not self.chance(self.style.lateral):
+            return []
+        scopes = [resolve_sources(self.catalog, [(first, joins)], outer)[1]] + outer
+        query = self.query(scopes, [INTEGER], depth - 1, inside=inside, one_row=True) if self.chance(.25) \
+            else self.query(scopes, None, depth - 1, inside=inside)
+        word = self.choice(LATERAL)
+        return [(word, Source(query, self.fresh("x")), ("truth", True) if word == "LEFT LATERAL" else None)]
+
+    def sources(self, outer, depth, inside):
         sources, used = [], set()
-        for _ in range(self.random.choices([0, 1, 2, 3], [3, 60, 32, 5])[0]):
-            source = self.source(outer, depth, traced, inside)
+        for _ in range(self.random.choices([0, 1, 2, 3], self.style.items)[0]):
+            source = self.source(outer, depth, inside)
             if (source.alias or source.of) in used:
                 source.alias = self.fresh("z")
             used.add(source.alias or source.of)
             if not sources or self.chance(.25):
-                sources.append((source, []))
+                sources.append((source, self.laterals(source, [], outer, depth, inside)))
                 continue
             first, joins = sources[-1]
             word, condition = self.choice(["INNER", "INNER", "LEFT", "RIGHT", "FULL", "CROSS"]), None
             if word != "CROSS":
                 scope = resolve_sources(self.catalog, [(first, joins + [("CROSS", source, None)])], outer)[1]
-                place = Place([scope] + outer, depth if inside else max(depth, 1), [self.choice([0, 0, 1])], traced=traced)
+                beside = any(step[0] in LATERAL for step in joins)
+                place = Place([scope] + outer, depth if inside else max(depth, 1), [self.choice([1] if beside else [0, 0, 1])])
                 condition = self.expression(TRUTH, place, self.choice([0, 0, 0, 1, 2]))
             joins.append((word, source, condition))
+            joins += self.laterals(first, joins, outer, depth, inside)
         return sources
 
     def grouping(self, scope, one_row):
@@ -331,14 +366,14 @@ class Queries:
             groups.append(("column", item, column))
         return groups, top
 
-    def select(self, outer, kinds, depth, provenance=False, unique=False, one_row=False, traced=False, inside=False):
+    def select(self, outer, kinds, depth, provenance=False, unique=False, one_row=False, inside=False):
         simple = self.chance(self.style.simple)
         source = Source(self.choice(self.catalog.tables), self.fresh("y") if self.chance(.6) else None)
-        sources = [(source, [])] if simple else self.sources(outer, depth, traced, inside)
+        sources = [(source, [])] if simple else self.sources(outer, depth, inside)
         depths = (0,) if simple else self.style.depths
         scope = resolve_sources(self.catalog, sources, outer)[1]
         nested = depth if inside else max(depth, 1)
-        place = Place([scope] + outer, nested, [self.choice([1, 1, 2])], traced=traced)
+        place = Place([scope] + outer, nested, [self.choice([1, 1, 2])])
         select = Select([], sources, provenance=provenance, distinct=self.chance(.12))
         if self.chance(.35 if simple and inside else .5):
             select.where = self.expression(TRUTH, place, self.choice(depths))
@@ -362,3 +397,38 @@ class Queries:
     def statement(self):
         """A query of a statement."""
         return self.query([], None, self.choice(self.style.nested), provenance=self.chance(.6))
+
+    def columns_of(self, item):
+        """Names of columns that an item of FROM may have."""
+        if isinstance(item.of, Query):
+            return "ab"
+        view = self.catalog.views.get(item.of)
+        return view.names if view else [column for column, _ in self.catalog.tables[item.of]]
+
+    def broken(self, query):
+        """The query with a lateral query that asks for its provenance, or reads what it may not see: itself, what stands behind it
+        or before a comma, or a name that may mean anything; and the place in its text where it does so. None where it has no
+        lateral query that begins with SELECT."""
+        broken = copy.deepcopy(query)
+        laterals = []
+        for lateral, unseen in laterals_in(broken):
+            front = lateral.body
+            while isinstance(front, SetChain):
+                front = front.first
+            laterals += [(front, unseen)] if isinstance(front, Select) else []
+        if not laterals:
+            return None
+        front, unseen = self.choice(laterals)
+        if self.chance(.3):
+            before = write_query(broken)
+            front.provenance = True
+            return broken, len(os.path.commonprefix([before, write_query(broken)]))
+        item = self.choice(unseen[1:] if unseen[1:] and self.chance(.8) else unseen[:1])
+        table, column = (item.alias or item.of) if self.chance(.8) else None, self.choice(self.columns_of(item))
+
+        def reading(table, column):
+            front.where = "is_null", False, ("column", table, column)
+            return write_query(broken)
+        at = reading(*((MARK, column) if table else (None, MARK))).index(name(MARK))
+        reading(table, column)
+        return broken, at

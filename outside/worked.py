@@ -1,9 +1,13 @@
 #!/usr/bin/env python3
-"""Rows of dependent joins, which no statement makes, and of joins whose condition has sublinks, by the reference. Each query
-is built here as a node, and what it answers was worked out by hand; the same rows are proved of the definitions in
-`crates/worked_examples/specs/DependentRows.antt`. It prints `all as worked out`, or ends with status 1 at the first that isn't."""
+"""Rows of dependent joins and of joins whose condition has sublinks, and what lateral queries see, by the reference. What each
+query answers was worked out by hand; of those that are built as nodes the same rows are proved of the definitions in
+`crates/worked_examples/specs/DependentRows.antt`, and the others are queries as they are written, whose names are settled first. It
+prints `all as worked out`, or ends with status 1 at the first that isn't."""
 
-from reference.tree import INTEGER, TEXT, Aggregate, Base, DependentJoin, Filter, Join, Label, Project, Provenance, Sublink, Table
+from reference.names import Catalog, Refused
+from reference.text import write_query
+from reference.tree import (
+    INTEGER, TEXT, Aggregate, Base, DependentJoin, Filter, Join, Label, Project, Provenance, Query, Select, Source, Sublink, Table)
 from reference.values import Fault
 from reference.witnesses import Witnesses
 
@@ -59,6 +63,49 @@ WORKED = [
 ]
 
 
+def named(*names):
+    """An item: a column, by its name or by that of its item and its own."""
+    return "value", ("column", *(None,) * (2 - len(names)), *names), None
+
+
+def select(items, *sources, where=None, provenance=False):
+    return Query(Select(items, list(sources), where, provenance=provenance))
+
+
+def lateral(query, word="CROSS LATERAL", name="x"):
+    return word, Source(query, name), ("truth", True) if word == "LEFT LATERAL" else None
+
+
+def equal(left, right):
+    return "compare", "=", ("column", None, left), ("column", *right)
+
+
+FROM_R, FROM_S = (Source("r"), []), (Source("s"), [])
+# SELECT c FROM s WHERE c = r.a, and what it is with r of a query around it
+LIKE_R = select([named("c")], FROM_S, where=equal("c", ("r", "a")))
+# SELECT 1 AS one WHERE EXISTS (SELECT c FROM s WHERE c = a): from the sublink r is two rows away, since both are a level
+IN_SUBLINK = select([("value", ("number", 1), "one")], where=("exists", select([named("c")], FROM_S, where=equal("c", (None, "a")))))
+READS_C = select([named("c")])
+BOTH = [named("r", "a"), named("x", "c")]
+
+# What it is, the query, and the rows that it answers over r of (1, 'x') and (2, 'y') and s of 2, or the rule that it breaks.
+WRITTEN = [
+    ("it sees the item before it", select(BOTH, (Source("r"), [lateral(LIKE_R)]), provenance=True), [(2, 2, 2, "y", 2)]),
+    ("a left one keeps the rows without a partner", select(BOTH, (Source("r"), [lateral(LIKE_R, "LEFT LATERAL")]), provenance=True),
+     [(1, None, 1, "x", None), (2, 2, 2, "y", 2)]),
+    ("a sublink in it counts a level, and so does it", select([named("a")], (Source("r"), [lateral(IN_SUBLINK)])), [(2,)]),
+    ("in a sublink it sees its own items first", select([named("a")], FROM_R, where=(
+        "exists", select([named("x", "c")], (Source("s"), [lateral(select([("value", ("column", None, "c"), "c")], where=equal(
+            "c", ("r", "a"))))])))), [(2,)]),
+    ("the item behind it is unknown", select([named("a")], (Source("r"), [lateral(READS_C), ("CROSS", Source("s"), None)])), "E11"),
+    ("so is what stands before a comma", select([named("a")], FROM_S, (Source("r"), [lateral(READS_C)])), "E11"),
+    ("and its own item", select([named("a")], (Source("r"), [lateral(select([named("x", "a")]))])), "E11"),
+    ("it may not ask for its provenance", select([named("a")], (Source("r"), [lateral(select([named("a")], provenance=True))])), "E25"),
+]
+CATALOG = Catalog()
+CATALOG.tables = {"r": [("a", INTEGER), ("b", TEXT)], "s": [("c", INTEGER)]}
+
+
 def answered(node, rows_of_r, rows_of_s):
     try:
         bag = Witnesses({"r": rows_of_r, "s": rows_of_s}, STEPS).rows(node, ())
@@ -67,9 +114,21 @@ def answered(node, rows_of_r, rows_of_s):
     return sorted(bag.elements(), key=repr)
 
 
-for what, node, rows_of_r, rows_of_s, worked in WORKED:
-    found = answered(node, rows_of_r, rows_of_s)
+def answered_as_written(query):
+    try:
+        return answered(CATALOG.resolve(query).node, [(1, "x"), (2, "y")], [(2,)])
+    except Refused as refused:
+        return refused.code
+
+
+def compare(what, found, worked):
     expected = worked if isinstance(worked, str) else sorted(worked, key=repr)
     if found != expected:
         raise SystemExit(f"{what}: {found}, and not {expected}")
+
+
+for what, node, rows_of_r, rows_of_s, worked in WORKED:
+    compare(what, answered(node, rows_of_r, rows_of_s), worked)
+for what, query, worked in WRITTEN:
+    compare(f"{what}: {write_query(query)}", answered_as_written(query), worked)
 print("all as worked out")

@@ -4,6 +4,7 @@
 that these queries don't tell from the right one."""
 
 import os
+import pathlib
 import re
 import shutil
 import subprocess
@@ -18,18 +19,23 @@ HERE = os.path.dirname(os.path.realpath(__file__))
 
 @dataclass
 class WrongRule:
-    """A wrong rule: its name, the module of the reference that it goes into, and the text there whose place another takes."""
+    """A wrong rule: its name, the module of the reference that it goes into, and the text there whose place another takes. `also`
+    has more of the three, where one place isn't enough."""
 
     name: str
     module: str
     right: str
     wrong: str
+    also: tuple = ()
 
 
 DECISIVE = "            if decisive in truths.values():\n"
 SUBLINK_LISTS = "        lists = self.lists(sublink.query, inner_outer)\n"
 MEMBERS = "== row[:len(node.groups)]"
 OPERANDS = "        values = self.values(parts)\n"
+BESIDE = "            beside = [Scope(items[:])] + outer if word in LATERAL else outer\n"
+OWN_PLACES = "    return places + [place for sublink in sublinks_of(node) for place in shape(sublink.query)]\n"
+FILTERED = "        return {row: self.with_sublinks(node, row, outer, lists[row]) for row in bag}\n"
 
 
 def decisive(kind, truth, instead):
@@ -48,6 +54,14 @@ def stops(name, truth):
     """An operator that looks no further where its first operand is so."""
     return (f"        if name == '{name}' and self.value(parts[0]) is {truth}:\n"
             f"            return self.value(parts[0])\n{OPERANDS}")
+
+
+def beside(items):
+    """A lateral query sees these items too. Their columns aren't in the row that it gets: it reads one of the same kind there."""
+    return ("            places = {kind: place for _, columns in items for _, kind, place in columns}\n"
+            "            unseen = [(each, [(column, kind, places[kind]) for column, kind, *_ in columns if kind in places])\n"
+            f"                      for each, columns in {items}]\n"
+            "            beside = [Scope(items + unseen)] + outer if word in LATERAL else outer\n")
 
 
 RULES = [
@@ -85,6 +99,31 @@ RULES = [
               "        calculated(steps[0][0], self.value(first), self.value(steps[0][1]))\n        result, *others"),
     WrongRule("NULL comes first", "values", "return 3, 0", "return -1, 0"),
     WrongRule("the second place of a relation has the number 2", "names", 'f"{number}_" if', 'f"{number + 1}_" if'),
+    WrongRule("LATERAL sees the tables behind it", "names", BESIDE, beside(
+        "[(each.alias or each.of, catalog.tables[each.of]) for _, each, _ in joins[joins.index((word, source, written)) + 1:]"
+        " if isinstance(each.of, str) and each.of in catalog.tables]")),
+    WrongRule("LATERAL sees what stands before a comma", "names", BESIDE, beside("seen")),
+    WrongRule("LATERAL may ask for its provenance", "names", "beside, word not in LATERAL)", "beside)"),
+    WrongRule("a sublink in LATERAL and LATERAL are one level", "names", BESIDE, BESIDE.replace("items[:]", "items[:], None, True"), (
+        ("names", "    groups: dict = None\n", "    groups: dict = None\n    beside: bool = False\n"),
+        ("names", "return level, place, kind", "return level - (scope.beside and level > 1 and not scopes[level - 1].beside), place, kind"),
+        # Where the row is too short, it reads NULL.
+        ("values", "self.rows[level][place]", "(*self.rows[level], *[None] * 1000)[place]"))),
+    WrongRule("LEFT JOIN LATERAL keeps no row without a partner", "meaning", 'if not rights and node.kind == "LEFT"', "if False"),
+    WrongRule("a row beside LATERAL counts once", "meaning", "left[row] * times", "times"),
+    WrongRule("LATERAL adds all rows of its query", "witnesses", "self.lists(node.right, (row,) + outer)[other]",
+              "set().union(*self.lists(node.right, (row,) + outer).values())"),
+    WrongRule("the places of ON's sublinks stand behind those of WHERE", "tree", OWN_PLACES,
+              "    cut = len(places) - sum(len(shape(query)) for query in queries_in(getattr(node, 'input', None))) * on_below(node)\n"
+              f"    {OWN_PLACES.strip().replace('places +', 'places[:cut] +', 1)} + places[cut:]\n\n\n"
+              "def on_below(node):\n"
+              "    return getattr(node, 'clause', None) == 'WHERE' and isinstance(node.input, Join)\n",
+              (("witnesses", "from .tree import shape", "from .tree import on_below, queries_in, shape"),
+               ("witnesses", FILTERED, FILTERED.replace("return", "kept =") +
+                "        own = sum(len(shape(query)) for query in queries_in(node))\n"
+                "        moved = sum(len(shape(query)) for query in queries_in(node.input)) * on_below(node)\n"
+                "        cut = len(shape(node)) - own - moved\n"
+                "        return {row: {it[:cut] + it[cut + moved:] + it[cut:cut + moved] for it in kept[row]} for row in kept}\n"))),
 ]
 
 
@@ -92,13 +131,12 @@ def differences(rule, seed, queries):
     """How many differences show with a wrong rule, or what went wrong else."""
     with tempfile.TemporaryDirectory() as held:
         copy = shutil.copytree(HERE, os.path.join(held, "outside"))
-        path = os.path.join(copy, "reference", rule.module + ".py")
-        with open(path, encoding="utf-8") as module:
-            text = module.read()
-        if text.count(rule.right) < 1:
-            return "the right rule isn't found"
-        with open(path, "w", encoding="utf-8") as module:
-            module.write(text.replace(rule.right, rule.wrong))
+        for module, right, wrong in ((rule.module, rule.right, rule.wrong), *rule.also):
+            path = pathlib.Path(copy, "reference", module + ".py")
+            text = path.read_text(encoding="utf-8")
+            if right not in text:
+                return "the right rule isn't found"
+            path.write_text(text.replace(right, wrong), encoding="utf-8")
         words = [sys.executable, "compare.py", "--seed", str(seed), "--queries", str(queries)]
         ended = subprocess.run(words, cwd=copy, env={**os.environ, "PERM": os.path.realpath(PROGRAM)}, capture_output=True)
     told = re.search(r"queries, (\d+) differences\n$", ended.stdout.decode())

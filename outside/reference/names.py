@@ -3,8 +3,11 @@
 from dataclasses import dataclass
 
 from .tree import (
-    INTEGER, TEXT, TRUTH, UNTOLD, Aggregate, Base, Distinct, Filter, Join, Label, Limit, Parens, Project, Provenance, Select,
-    SetChain, SetOperation, Single, Sublink, Table, shape, with_parts)
+    INTEGER, TEXT, TRUTH, UNTOLD, Aggregate, Base, DependentJoin, Distinct, Filter, Join, Label, Limit, Parens, Project, Provenance,
+    Select, SetChain, SetOperation, Single, Sublink, Table, shape, with_parts)
+
+# The joins whose query sees the items before it, and what kind they are of.
+LATERAL = {"CROSS LATERAL": "INNER", "LEFT LATERAL": "LEFT"}
 
 
 class Refused(Exception):
@@ -218,10 +221,11 @@ def name_of(expression, number):
     return expression[1].split("_")[0] if expression[0] == "aggregate" else f"column{number}"
 
 
-def resolve_source(catalog, source, outer):
+def resolve_source(catalog, source, outer, may_ask=True):
     """An item of FROM: its node, its name and its columns. A table is a source of provenance under its own name, and a query
     or view with PROVENANCE is one by its provenance columns. BASERELATION makes all columns of what it marks one source,
-    under the name of a table or view or the alias of a query; PROVENANCE (..) makes the columns one that it lists."""
+    under the name of a table or view or the alias of a query; PROVENANCE (..) makes the columns one that it lists. `may_ask` is
+    whether PROVENANCE may stand at the front of a query."""
     base_name = source.of if isinstance(source.of, str) else source.alias
     places = None
     if base_name == source.of and base_name in catalog.tables:
@@ -230,7 +234,7 @@ def resolve_source(catalog, source, outer):
     else:
         if isinstance(source.of, str) and source.of not in catalog.views:
             raise Refused("E10")
-        inner = catalog.views[source.of] if isinstance(source.of, str) else resolve_query(catalog, source.of, outer, True)
+        inner = catalog.views[source.of] if isinstance(source.of, str) else resolve_query(catalog, source.of, outer, True, may_ask)
         columns, node, places, is_relation = list(zip(inner.names, inner.kinds)), inner.node, inner.places, False
     names, kinds = [column for column, _ in columns], [kind for _, kind in columns]
     label = Label(None, [])
@@ -249,12 +253,25 @@ def resolve_source(catalog, source, outer):
     return node, source.alias or base_name, columns
 
 
+def joined_by(catalog, word, written, left, right, scopes):
+    """A join of two nodes, whose condition sees these scopes."""
+    width = left.width + right.width
+    if word in LATERAL:
+        return DependentJoin(LATERAL[word], left, right, width)
+    condition, sublinks = ("value", True), []
+    if word != "CROSS":
+        condition = Expressions(catalog, Context(scopes, sublinks)).of_kind(TRUTH, [written])[0][0]
+    return Join("INNER" if word == "CROSS" else word, left, right, condition, sublinks, width)
+
+
 def resolve_sources(catalog, sources, outer):
-    """FROM: its node and its scope. Joins go from the left; items that a comma parts are joined by a condition that is true."""
+    """FROM: its node and its scope. Joins go from the left; items that a comma parts are joined by a condition that is true. The
+    condition of a join sees the items from the last comma up to its own. So does a lateral query, without its own; no other query
+    of FROM sees any."""
     node, seen, names = None, [], set()
 
-    def add(source):
-        inner, name, columns = resolve_source(catalog, source, outer)
+    def add(source, scopes, may_ask=True):
+        inner, name, columns = resolve_source(catalog, source, scopes, may_ask)
         if name in names:
             raise Refused("E15")
         names.add(name)
@@ -264,18 +281,14 @@ def resolve_sources(catalog, sources, outer):
         return name, [(column, kind, start + place) for place, (column, kind) in enumerate(columns)]
 
     for first, joins in sources:
-        joined, name, columns = add(first)
+        joined, name, columns = add(first, outer)
         start = node.width if node else 0
         items = [placed(name, columns, 0)]
         for word, source, written in joins:
-            right, name, columns = add(source)
+            beside = [Scope(items[:])] + outer if word in LATERAL else outer
+            right, name, columns = add(source, beside, word not in LATERAL)
             items.append(placed(name, columns, joined.width))
-            condition, sublinks = ("value", True), []
-            if word != "CROSS":
-                expressions = Expressions(catalog, Context([Scope(items[:])] + outer, sublinks))
-                condition = expressions.of_kind(TRUTH, [written])[0][0]
-            kind = "INNER" if word == "CROSS" else word
-            joined = Join(kind, joined, right, condition, sublinks, joined.width + right.width)
+            joined = joined_by(catalog, word, written, joined, right, [Scope(items[:])] + outer)
         seen += [(name, [(column, kind, start + place) for column, kind, place in columns]) for name, columns in items]
         node = Join("INNER", node, joined, ("value", True), [], node.width + joined.width) if node else joined
     return node or Single(0), Scope(seen)
@@ -376,8 +389,10 @@ def provenance_names(places):
     return names
 
 
-def resolve_query(catalog, query, outer, is_settled=False):
+def resolve_query(catalog, query, outer, is_settled=False, may_ask=False):
     """A query: its body, ORDER BY, LIMIT, then its provenance. Keys that no LIMIT needs have no effect inside a query."""
+    if asks_for_provenance(query.body) and not may_ask:
+        raise Refused("E25")
     node, names, kinds = resolve_body(catalog, query.body, outer)
     keys = []
     for key, down in query.order:
@@ -405,7 +420,7 @@ class Catalog:
 
     def resolve(self, query):
         """A query of a statement, settled."""
-        return resolve_query(self, query, [], True)
+        return resolve_query(self, query, [], True, True)
 
     def add_view(self, name, query):
         """Makes a view; two columns of one name are E14."""

@@ -7,7 +7,8 @@ from .tree import Parens, SetChain
 RESERVED = set("""all and any as asc baserelation between by case cast create cross delete desc distinct drop else end except
 exists false from full group having in inner insert intersect into is join left like limit not null on or order outer provenance
 right select some table then true union unknown values when where""".split())
-JOINS = {"INNER": "JOIN", "LEFT": "LEFT JOIN", "RIGHT": "RIGHT OUTER JOIN", "FULL": "FULL JOIN", "CROSS": "CROSS JOIN"}
+JOINS = {"INNER": "JOIN", "LEFT": "LEFT JOIN", "RIGHT": "RIGHT OUTER JOIN", "FULL": "FULL JOIN", "CROSS": "CROSS JOIN",
+         "CROSS LATERAL": "CROSS JOIN LATERAL", "LEFT LATERAL": "LEFT OUTER JOIN LATERAL"}
 
 # How strongly a form binds, by the grammar; what isn't here needs no parentheses.
 STRENGTHS = {"or": 1, "and": 2, "not": 3, "is_null": 4, "is_truth": 4, "is_distinct": 4, "compare": 5, "quantified": 5,
@@ -118,7 +119,7 @@ def write_source(source):
 def write_sources(sources):
     def write_joins(first, joins):
         return write_source(first) + "".join(
-            f" {JOINS[word]} {write_source(source)}" + (f" ON {write(condition)}" if word != "CROSS" else "")
+            f" {JOINS[word]} {write_source(source)}" + (f" ON {write(condition)}" if condition is not None else "")
             for word, source, condition in joins)
     return ", ".join(write_joins(*each) for each in sources)
 

@@ -35,7 +35,7 @@ class Query:
 @dataclass
 class Select:
     """One SELECT. Items are ("all",), ("all_of", table) and ("value", expression, alias or None); `sources` has pairs of a
-    `Source` and its joins, each a word (INNER, LEFT, RIGHT, FULL, CROSS), a `Source` and its condition."""
+    `Source` and its joins, each a word (INNER, LEFT, RIGHT, FULL, CROSS, CROSS LATERAL, LEFT LATERAL), a `Source` and its condition."""
     items: list
     sources: list = field(default_factory=list)
     where: tuple = None
