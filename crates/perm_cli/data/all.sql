@@ -64,6 +64,7 @@ SELECT n, v FROM r1 LEFT JOIN s ON r1.k = s.k AND s.v > 10;
 SELECT n, v FROM s RIGHT OUTER JOIN r1 ON r1.k = s.k AND s.v > 10;
 SELECT n, v FROM r1 FULL JOIN s ON r1.k = s.k AND s.v > 10;
 SELECT x.k, y.k, z.n FROM r1 x CROSS JOIN r1 y, r1 z WHERE x.k = y.k AND y.k = z.k;
+SELECT n, most FROM r1 CROSS JOIN LATERAL (SELECT MAX(v) AS most FROM s WHERE s.k = r1.k) x;
 
 -- set operations: with and without ALL, their order, their own ORDER BY and LIMIT
 CREATE TABLE x (e INTEGER);
@@ -100,6 +101,7 @@ SELECT PROVENANCE n, v FROM r1 JOIN s ON r1.k = s.k AND v > 10;
 SELECT PROVENANCE n, v FROM r1 LEFT JOIN s ON r1.k = s.k AND v > 10;
 SELECT PROVENANCE n, v FROM s RIGHT JOIN r1 ON r1.k = s.k AND v > 10;
 SELECT PROVENANCE x.e, y.e FROM x FULL JOIN y ON x.e = y.e;
+SELECT PROVENANCE n, x.v FROM r1 LEFT JOIN LATERAL (SELECT v FROM s WHERE s.k = r1.k AND v > 10) x ON TRUE;
 
 -- provenance: DISTINCT, groups, LIMIT, set operations
 SELECT PROVENANCE DISTINCT e FROM x;
