@@ -1,8 +1,16 @@
 -- What is kept of queries from row to row.
-use Rattle.std.proofs.Common.{◌≡◌, ℕ, ◌<◌, suc, zero, Bool, true, false, cond, Option, Some, None, List, [], ◌∷◌, ◌++◌, length, get_or, set, take, refl, sym, ap, ◌∙◌, subst, arith}
+use Rattle.std.proofs.Common.{◌≡◌, ℕ, ◌<◌, suc, zero, Bool, true, false, cond, Option, Some, None, List, [], ◌∷◌, ◌++◌, length, get_or, set, unwrap_or, Result, Ok, Err, OnOk, refl, sym, ap, ◌∙◌, subst, arith}
+use Rattle.std.specs.Borrow.{Bor}
+use Rattle.std.specs.List.{range_with_len}
+use Rattle.std.specs.Option.{option_copied}
+use Rattle.std.proofs.lemmas.List.FromFn.{get_or-map-range_with_len}
+use Rattle.perm_values.specs.Rows.{picked, same_row, value_at}
+use Rattle.perm_values.specs.declared.no_memory.NoMemory.{NoMemory}
+use Rattle.perm_values.specs.declared.value.Value.TheVariants.{Null}
 use Rattle.bag_algebra.specs.Bags.{Row, Bag}
 use Rattle.bag_algebra.specs.built.Openings.{row_of_subs, Filter-is, Project_with-is, meaning-Filter}
 use Rattle.bag_algebra.specs.FaultFree.{faultless}
+use Rattle.bag_algebra.proofs.BagLaws.{same_row-is}
 use Rattle.bag_algebra.specs.Meaning.{Database, meaning}
 use Rattle.bag_algebra.specs.Means.{kept}
 use Rattle.bag_algebra.specs.Outcome.{Good, and_then, gather}
@@ -16,9 +24,11 @@ use Rattle.bag_algebra.specs.declared.query.Sublink.{Sublink}
 use Rattle.row_joins.specs.Hashed.{on_pair, met_rows}
 use Rattle.row_joins.proofs.Hashing.{all_kept, good_on}
 use Rattle.query_reach.specs.Reach.{reach_of}
-use Rattle.query_reach.proofs.Alike.{meaning-alike}
-use Rattle.row_nodes.specs.Keeping.{kept_reach, can_key, keyed_at, Keeps}
-use Rattle.row_nodes.specs.Known.{IsWhole, IsInput, HasInput, IsKeyed, Answers, Finds, Knows, KnowsOn, KnowsSub, AllKnown, IsNew, AllNew}
+use Rattle.query_reach.proofs.Alike.{Alike, denote-alike}
+use Rattle.read_columns.proofs.Alike.{picked-alike}
+use Rattle.row_memory.specs.Memory.{Remembered, Learns, found, found_under, remembered}
+use Rattle.row_nodes.specs.Keeping.{can_key, keyed_at, Keeps, KeptBy}
+use Rattle.row_nodes.specs.Known.{IsWhole, IsInput, HasInput, IsKeyed, Answers, Finds, answer_at, gone_on, Knows, KnowsOn, KnowsSub, AllKnown, IsNew, AllNew}
 use Rattle.row_nodes.specs.Runs.{node_condition}
 use Rattle.row_nodes.specs.declared.keeping.Keeping.{Keeping}
 use Rattle.row_nodes.specs.declared.keeping.Keeping.TheVariants as of
@@ -32,9 +42,19 @@ abbrev pub keys : Expr → List Sublink → Bool
 keys condition [] = faultless condition
 keys condition (sub ∷ subs) = false
 
+value_there : (n place : ℕ) (row : Row) → place < n → get_or (picked (range_with_len 0 n) row) place Null ≡ value_at row place
+value_there n place row low = get_or-map-range_with_len (value_at row) 0 n place place Null low (omega arith)
+
+-- rows whose first columns are the same
+first_same : (n : ℕ) (row other : Row) (env : List Row) → picked (range_with_len 0 n) row ≡ picked (range_with_len 0 n) other → Alike 0 n (row ∷ env) (other ∷ env)
+first_same n row other env e zero place h = sym (value_there n place row (omega arith)) ∙ ap (λ vs. get_or vs place Null) e ∙ value_there n place other (omega arith)
+first_same n row other env e (suc own) place h = refl
+
 -- a query whose reach is n
-same_within : (q : Query) (n : ℕ) (db : Database) (row other : Row) (env : List Row) → n ≡ reach_of q → take n row ≡ take n other → meaning q db (row ∷ env) ≡ meaning q db (other ∷ env)
-same_within q n db row other env is same = meaning-alike q db [] row other env n (let e = is in omega arith) same
+same_within : (q : Query) (n : ℕ) (db : Database) (row other : Row) (env : List Row) → n ≡ reach_of q → picked (range_with_len 0 n) row ≡ picked (range_with_len 0 n) other →
+    meaning q db (row ∷ env) ≡ meaning q db (other ∷ env)
+same_within q n db row other env is same =
+    ap (λ m. m.rows) (denote-alike q 0 n db (row ∷ env) (other ∷ env) (let e = is in omega arith) (first_same n row other env same))
 
 -- ---- a filter
 
@@ -100,7 +120,7 @@ module _ (query input : Query) (items : List Item) (subs : List Sublink) (is : q
 
 -- ---- from one row to another that begins with the same columns
 
-module _ (n : ℕ) (db : Database) (env : List Row) (u v : Row) (keyed : Keyed) (same : take n u ≡ take n v) where
+module _ (n : ℕ) (db : Database) (env : List Row) (u v : Row) (keyed : Keyed) (same : picked (range_with_len 0 n) u ≡ picked (range_with_len 0 n) v) where
   input_carried : (q : Query) (depth : ℕ) → keyed_at q depth ≡ Some n → HasInput q depth db (u ∷ env) keyed → HasInput q depth db (v ∷ env) keyed
   input_carried (Table id kinds) depth f h = tt
   input_carried Single depth f h = tt
@@ -128,47 +148,88 @@ whole_answers db inner q in_cells (by.Rows rows) h = h
 whole_answers db inner q in_cells (by.Cells cells) h = h
 whole_answers db inner q in_cells (by.Keyed depth keyed) h = absurd h.has
 
-found_answers : (keeping : Keeping) (db : Database) (env : List Row) (u v : Row) (q : Query) (in_cells : Bool) (answer : Answer) → Keeps q keeping →
-    take (kept_reach keeping) u ≡ take (kept_reach keeping) v → Finds keeping db (u ∷ env) q in_cells answer → Answers db (v ∷ env) q in_cells answer
-found_answers of.Nothing db env u v q in_cells by.Nothing keeps same h = tt
-found_answers of.Nothing db env u v q in_cells (by.Rows rows) keeps same h = absurd h
-found_answers of.Nothing db env u v q in_cells (by.Cells cells) keeps same h = absurd h
-found_answers of.Nothing db env u v q in_cells (by.Keyed depth keyed) keeps same h = absurd h
-found_answers (of.Rows n) db env u v q in_cells answer keeps same h =
-    whole_answers db (v ∷ env) q in_cells answer (record { rows = h.rows; means = sym (same_within q n db u v env keeps same) ∙ h.means; has = h.has })
-found_answers (of.Input n depth) db env u v q in_cells by.Nothing keeps same h = tt
-found_answers (of.Input n depth) db env u v q in_cells (by.Rows rows) keeps same h = absurd h
-found_answers (of.Input n depth) db env u v q in_cells (by.Cells cells) keeps same h = absurd h
-found_answers (of.Input n depth) db env u v q in_cells (by.Keyed at keyed) keeps same h =
+found_answers : (keeping : Keeping) (places : List ℕ) (db : Database) (env : List Row) (u v : Row) (q : Query) (in_cells : Bool) (answer : Answer) → Keeps q keeping → KeptBy q keeping places →
+    picked places u ≡ picked places v → Finds keeping db (u ∷ env) q in_cells answer → Answers db (v ∷ env) q in_cells answer
+found_answers of.Nothing places db env u v q in_cells by.Nothing keeps kept same h = tt
+found_answers of.Nothing places db env u v q in_cells (by.Rows rows) keeps kept same h = absurd h
+found_answers of.Nothing places db env u v q in_cells (by.Cells cells) keeps kept same h = absurd h
+found_answers of.Nothing places db env u v q in_cells (by.Keyed depth keyed) keeps kept same h = absurd h
+found_answers (of.Rows n) places db env u v q in_cells answer keeps kept same h =
+    whole_answers db (v ∷ env) q in_cells answer (record { rows = h.rows; means = sym (picked-alike q places db u v env kept same) ∙ h.means; has = h.has })
+found_answers (of.Input n depth) places db env u v q in_cells by.Nothing keeps kept same h = tt
+found_answers (of.Input n depth) places db env u v q in_cells (by.Rows rows) keeps kept same h = absurd h
+found_answers (of.Input n depth) places db env u v q in_cells (by.Cells cells) keeps kept same h = absurd h
+found_answers (of.Input n depth) places db env u v q in_cells (by.Keyed at keyed) keeps kept same h =
+    let first : picked (range_with_len 0 n) u ≡ picked (range_with_len 0 n) v = subst (λ ns. picked ns u ≡ picked ns v) kept same in
     subst (λ d. IsKeyed q d db (v ∷ env) keyed) (sym h.0)
-    (record { reach = n; filter_is = keeps; input = input_carried n db env u v keyed same q depth keeps h.1 })
+    (record { reach = n; filter_is = keeps; input = input_carried n db env u v keyed first q depth keeps h.1 })
 
--- what is found on a row that begins with the columns is known of all such rows
-pub kept_known : (db : Database) (env : List Row) (u : Row) (q : Query) (in_cells : Bool) (old new : Known) → Knows db env q in_cells old → take (kept_reach old.keeping) u ≡ old.columns →
-    Finds old.keeping db (u ∷ env) q in_cells new.answer → new.keeping ≡ old.keeping → new.columns ≡ old.columns → Knows db env q in_cells new
-kept_known db env u q in_cells old new knows begins found keeping columns = record {
-  keeps = subst (Keeps q) (sym keeping) knows.keeps;
-  answers = λ v own. found_answers old.keeping db env u v q in_cells new.answer knows.keeps
-      (begins ∙ sym columns ∙ sym own ∙ ap (λ k. take (kept_reach k) v) keeping) found;
-}
+-- what is lent, or else another
+pub lent_or : {T : Type 0} (found_here : Option (Bor T)) (other : Bor T) → (unwrap_or found_here other).now ≡ unwrap_or (option_copied found_here) other.now
+lent_or None other = refl
+lent_or (Some x) other = refl
 
-pub kept_on : (db : Database) (env : List Row) (u : Row) (q : Query) (in_cells : Bool) (old new : Known) → Knows db env q in_cells old → take (kept_reach old.keeping) u ≡ old.columns →
-    Finds old.keeping db (u ∷ env) q in_cells new.answer → new.keeping ≡ old.keeping → new.columns ≡ old.columns → KnowsOn db env u q in_cells new
-kept_on db env u q in_cells old new knows begins found keeping columns =
-    let known = kept_known db env u q in_cells old new knows begins found keeping columns in
-    record { knows = known; answers = known.answers u (ap (λ k. take (kept_reach k) u) keeping ∙ begins ∙ sym columns) }
+-- nothing answers, or what was found
+answer_is : (known : Known) (answer : Answer) → found known.memory ≡ Some answer → answer_at known ≡ answer
+answer_is known answer e = ap (λ o. unwrap_or o known.nothing) e
 
--- where the row begins with the columns
-pub known_on : (db : Database) (env : List Row) (u : Row) (q : Query) (in_cells : Bool) (known : Known) → Knows db env q in_cells known → take (kept_reach known.keeping) u ≡ known.columns →
+-- what is found on the row at hand is known of all rows with the same values
+module _ (db : Database) (env : List Row) (u : Row) (q : Query) (in_cells : Bool) (old new : Known) (answer : Answer)
+    (knows : Knows db env q in_cells old) (here : picked old.memory.places u ≡ old.memory.key)
+    (finds : Finds old.keeping db (u ∷ env) q in_cells answer) (keeping : new.keeping ≡ old.keeping) (nothing : new.nothing ≡ old.nothing) (learns : Learns old.memory new.memory answer) where
+  same_answer : (v : Row) → picked old.memory.places v ≡ old.memory.key → Answers db (v ∷ env) q in_cells answer
+  same_answer v own = found_answers old.keeping old.memory.places db env u v q in_cells answer knows.keeps knows.kept_by (here ∙ sym own) finds
+
+  entry_answers : (key : Row) (other : Answer) (b : Bool) → same_row old.memory.key key ≡ b → found_under new.memory key ≡ Some other → (v : Row) → picked new.memory.places v ≡ key →
+      Answers db (v ∷ env) q in_cells other
+  entry_answers key other true e is v own =
+      let at_hand : old.memory.key ≡ key = same_row-is old.memory.key key e in
+      let one : Some answer ≡ Some other = sym learns.item_is ∙ ap (found_under new.memory) (learns.key_stays ∙ at_hand) ∙ is in
+      let as_kept : answer ≡ other = ap (λ o. unwrap_or o by.Nothing) one in
+      subst (Answers db (v ∷ env) q in_cells) as_kept (same_answer v (ap (λ places. picked places v) (sym learns.places_stay) ∙ own ∙ sym at_hand))
+  entry_answers key other false e is v own =
+      knows.answers key other (learns.others key other e is) v (ap (λ places. picked places v) (sym learns.places_stay) ∙ own)
+
+  kept_on : KnowsOn db env u q in_cells new
+  kept_on = record {
+    knows = record {
+      nothing_is = nothing ∙ knows.nothing_is;
+      keeps = subst (Keeps q) (sym keeping) knows.keeps;
+      kept_by = subst (λ places. KeptBy q new.keeping places) (sym learns.places_stay) (subst (λ k. KeptBy q k old.memory.places) (sym keeping) knows.kept_by);
+      answers = λ key other is v own. entry_answers key other (same_row old.memory.key key) refl is v own;
+    };
+    answers = subst (Answers db (u ∷ env) q in_cells) (sym (answer_is new answer learns.item_is)) (same_answer u here);
+  }
+
+-- where there was memory
+pub kept_if : (r : Result (Unit {0}) NoMemory) (db : Database) (env : List Row) (u : Row) (q : Query) (in_cells : Bool) (old new : Known) (answer : Answer) → Knows db env q in_cells old →
+    picked old.memory.places u ≡ old.memory.key → Finds old.keeping db (u ∷ env) q in_cells answer → new.keeping ≡ old.keeping → new.nothing ≡ old.nothing →
+    OnOk r (Learns old.memory new.memory answer) → OnOk r (KnowsOn db env u q in_cells new)
+kept_if (Ok x) db env u q in_cells old new answer knows here finds keeping nothing learns = kept_on db env u q in_cells old new answer knows here finds keeping nothing learns
+kept_if (Err e) db env u q in_cells old new answer knows here finds keeping nothing learns = tt
+
+-- what was found answers on the row at hand
+at_hand_answers : (db : Database) (env : List Row) (u : Row) (q : Query) (in_cells : Bool) (nothing : Answer) (found_here : Option Answer) → nothing ≡ by.Nothing →
+    ((answer : Answer) → found_here ≡ Some answer → Answers db (u ∷ env) q in_cells answer) → Answers db (u ∷ env) q in_cells (unwrap_or found_here nothing)
+at_hand_answers db env u q in_cells nothing None e h = subst (Answers db (u ∷ env) q in_cells) (sym e) tt
+at_hand_answers db env u q in_cells nothing (Some answer) e h = h answer refl
+
+pub known_on : (db : Database) (env : List Row) (u : Row) (q : Query) (in_cells : Bool) (known : Known) → Knows db env q in_cells known → picked known.memory.places u ≡ known.memory.key →
     KnowsOn db env u q in_cells known
-known_on db env u q in_cells known knows begins = record { knows = knows; answers = knows.answers u begins }
-
--- where nothing is found
-pub known_empty : (db : Database) (env : List Row) (q : Query) (in_cells : Bool) (old new : Known) → Knows db env q in_cells old → new.keeping ≡ old.keeping → new.answer ≡ by.Nothing → Knows db env q in_cells new
-known_empty db env q in_cells old new knows keeping answer = record {
-  keeps = subst (Keeps q) (sym keeping) knows.keeps;
-  answers = λ u begins. subst (Answers db (u ∷ env) q in_cells) (sym answer) tt;
+known_on db env u q in_cells known knows here = record {
+  knows = knows;
+  answers = at_hand_answers db env u q in_cells known.nothing (found known.memory) knows.nothing_is (λ answer e. knows.answers known.memory.key answer e u here);
 }
+
+-- behind a step to another row
+knows_further : (db : Database) (env : List Row) (q : Query) (in_cells : Bool) (known : Known) (u : Row) → Knows db env q in_cells known → Knows db env q in_cells (gone_on known u)
+knows_further db env q in_cells known u knows = record { nothing_is = knows.nothing_is; keeps = knows.keeps; kept_by = knows.kept_by; answers = knows.answers }
+
+pub knows_stepped : (db : Database) (env : List Row) (q : Query) (in_cells : Bool) (known : Known) (u : Row) (memory : Remembered Answer) →
+    memory ≡ remembered known.memory.places (picked known.memory.places u) known.memory.entries → Knows db env q in_cells known →
+    Knows db env q in_cells (record { keeping = known.keeping; memory = memory; nothing = known.nothing })
+knows_stepped db env q in_cells known u memory e knows =
+    subst (λ m. Knows db env q in_cells (record { keeping = known.keeping; memory = m; nothing = known.nothing })) (sym e) (knows_further db env q in_cells known u knows)
 
 -- ---- one for each sublink
 

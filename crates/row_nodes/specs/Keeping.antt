@@ -1,11 +1,13 @@
--- What of a query may be kept for as long as the rows under which it is run begin with the same columns.
-use Rattle.std.specs.Prelude.{◌≡◌, ℕ, zero, suc, ◌+◌, ◌<◌, ◌≤◌, ◌^◌, nat_lt, Bool, true, false, cond, Option, Some, None}
+-- What of a query may be kept for all rows under which it is run that have the same values in the columns that it reads.
+use Rattle.std.specs.Prelude.{◌≡◌, ℕ, zero, suc, ◌+◌, ◌<◌, ◌≤◌, ◌^◌, nat_lt, Bool, true, false, cond, List, Option, Some, None}
+use Rattle.std.specs.List.{range_with_len}
 use Rattle.bag_algebra.specs.FaultFree.{faultless}
 use Rattle.bag_algebra.specs.built.Patterns.{BaseOf, FilterOf, ProjectOf, JoinOf, ApplyOf, UnionOf, IntersectOf, ExceptOf, DistinctOf, AggregateOf, LimitOf, ProvOf}
 use Rattle.bag_algebra.specs.declared.expr.Expr.{Expr}
 use Rattle.bag_algebra.specs.declared.query.Query.{Query, Row_of-Sublink, more_of-Sublink, end_of-Sublink}
 use Rattle.bag_algebra.specs.declared.query.Query.TheVariants.{Table, Single}
 use Rattle.query_reach.specs.Reach.{reach_of}
+use Rattle.read_columns.specs.Columns.{AreNearest, columns_of}
 use Rattle.row_nodes.specs.declared.keeping.Keeping.{Keeping}
 use Rattle.row_nodes.specs.declared.keeping.Keeping.TheVariants as of
 
@@ -52,6 +54,13 @@ abbrev pub Keeps : Query → Keeping → Type 0
 Keeps q of.Nothing = Unit {0}
 Keeps q (of.Rows n) = n ≡ reach_of q
 Keeps q (of.Input n depth) = keyed_at q depth ≡ Some n
+
+-- the places of the nearest outer row's columns by whose values it is kept: for the query's rows those that the query reads, for a
+-- filter's input the first ones
+abbrev pub KeptBy : Query → Keeping → List ℕ → Type 0
+KeptBy q of.Nothing places = Unit {0}
+KeptBy q (of.Rows n) places = AreNearest (columns_of q) places
+KeptBy q (of.Input n depth) places = places ≡ range_with_len 0 n
 
 -- ---- what is kept
 

@@ -1,7 +1,7 @@
 -- What is known of a query from row to row, under which it is asked for as the query of a sublink or the right side of a
 -- dependent join.
-use Rattle.std.specs.Prelude.{◌≡◌, ℕ, zero, suc, Bool, true, false, cond, ◌&&◌, IsTrue, List, [], ◌∷◌, take, Option, Some, None, Result, Ok, Err}
-use Rattle.perm_values.specs.Rows.{same_row}
+use Rattle.std.specs.Prelude.{◌≡◌, ℕ, zero, suc, Bool, true, false, ◌&&◌, IsTrue, List, [], ◌∷◌, Option, Some, None, unwrap_or, Result, Ok, Err}
+use Rattle.perm_values.specs.Rows.{picked}
 use Rattle.null_logic.specs.Logic.{truth_not}
 use Rattle.null_logic.specs.declared.compare.Compare.{Compare}
 use Rattle.null_logic.specs.declared.compare.Compare.TheVariants.{Equal, NotEqual, Less, LessEqual, Greater, GreaterEqual}
@@ -18,9 +18,10 @@ use Rattle.bag_algebra.specs.declared.query.SubKind.TheVariants.{Exists, Any, Al
 use Rattle.bag_algebra.specs.declared.query.Sublink.{Sublink}
 use Rattle.row_values.specs.Answers.{Refuses}
 use Rattle.row_values.specs.declared.error.ExecError.{ExecError}
+use Rattle.row_memory.specs.Memory.{found, found_under, remembered}
 use Rattle.row_joins.specs.Cells.{AreCells}
 use Rattle.row_joins.specs.Equated.{is_equality}
-use Rattle.row_nodes.specs.Keeping.{Keeps, KeptOf, is_kept, kept_reach, keyed_at}
+use Rattle.row_nodes.specs.Keeping.{Keeps, KeptBy, KeptOf, is_kept, keyed_at}
 use Rattle.row_nodes.specs.Keyed.{AreKeyed}
 use Rattle.row_nodes.specs.declared.keeping.Keeping.{Keeping}
 use Rattle.row_nodes.specs.declared.keeping.Keeping.TheVariants as of
@@ -138,15 +139,21 @@ abbrev pub IsFound : Keeping → Database → List Row → Query → Bool → Re
 IsFound keeping db inner q in_cells (Ok answer) = Finds keeping db inner q in_cells answer
 IsFound keeping db inner q in_cells (Err error) = Refuses (meaning q db inner) error
 
--- what is known of the query is so on every row under which it is asked for and that begins with the columns
-pub record Knows (db : Database) (env : List Row) (q : Query) (in_cells : Bool) (known : Known) : Type 0 where
-  pub keeps : Keeps q known.keeping
-  pub answers : (u : Row) → take (kept_reach known.keeping) u ≡ known.columns → Answers db (u ∷ env) q in_cells known.answer
+-- what answers for the query under the row at hand
+abbrev pub answer_at : Known → Answer
+answer_at known = unwrap_or (found known.memory) known.nothing
 
--- and is so on this row
+-- what was found is so on every row that has the values under which it is remembered
+pub record Knows (db : Database) (env : List Row) (q : Query) (in_cells : Bool) (known : Known) : Type 0 where
+  pub nothing_is : known.nothing ≡ by.Nothing
+  pub keeps : Keeps q known.keeping
+  pub kept_by : KeptBy q known.keeping known.memory.places
+  pub answers : (key : Row) (answer : Answer) → found_under known.memory key ≡ Some answer → (u : Row) → picked known.memory.places u ≡ key → Answers db (u ∷ env) q in_cells answer
+
+-- and what answers under the row at hand is so on this row
 pub record KnowsOn (db : Database) (env : List Row) (u : Row) (q : Query) (in_cells : Bool) (known : Known) : Type 0 where
   pub knows : Knows db env q in_cells known
-  pub answers : Answers db (u ∷ env) q in_cells known.answer
+  pub answers : Answers db (u ∷ env) q in_cells (answer_at known)
 
 -- of a sublink's query; IN and NOT IN ask for a value
 abbrev pub AnswersSub : Database → List Row → Sublink → Answer → Type 0
@@ -173,8 +180,8 @@ is_nothing (by.Keyed depth keyed) = false
 -- nothing is known yet
 pub record IsNew (is_hashed : Bool) (q : Query) (known : Known) : Type 0 where
   pub keeping_is : KeptOf is_hashed q known.keeping
-  pub columns_are : known.columns ≡ []
-  pub answer_is : known.answer ≡ by.Nothing
+  pub entries_are : known.memory.entries ≡ []
+  pub nothing_is : known.nothing ≡ by.Nothing
 
 -- of each sublink's query
 abbrev pub AllNew : Bool → List Sublink → List Known → Type 0
@@ -183,14 +190,14 @@ AllNew is_hashed [] (known ∷ more) = ⊥
 AllNew is_hashed (sub ∷ subs) [] = ⊥
 AllNew is_hashed (sub ∷ subs) (known ∷ more) = IsNew is_hashed sub.query known × AllNew is_hashed subs more
 
--- whether the row begins with the columns of what is known
-abbrev pub begins : Known → Row → Bool
-begins known u = same_row (take (kept_reach known.keeping) u) known.columns
+-- the query is asked for where something is to be kept, and nothing was found for the row at hand
+abbrev pub asks : Known → Bool
+asks known = is_kept known.keeping && is_nothing (answer_at known)
 
--- it is asked for where the row begins with the columns, something is to be kept, and nothing was found
-abbrev pub asks : Known → Row → Bool
-asks known u = begins known u && (is_kept known.keeping && is_nothing known.answer)
-
--- what is known behind a step to a row: the same where the row begins with the columns, else only its own columns
+-- what is known behind a step to a row: the same, the row at hand being this one
 abbrev pub gone_on : Known → Row → Known
-gone_on known u = cond (begins known u) known (record { keeping = known.keeping; columns = take (kept_reach known.keeping) u; answer = by.Nothing })
+gone_on known u = record {
+  keeping = known.keeping;
+  memory = remembered known.memory.places (picked known.memory.places u) known.memory.entries;
+  nothing = known.nothing;
+}

@@ -1,22 +1,25 @@
 //! What of a sublink's query may be kept from row to row.
-ghost use Rattle.std.specs.Prelude.{◌≡◌, ◌↔◌, ◌^◌, ◌≤◌, [], ℕ, Some, IfNone, IsTrue};
+ghost use Rattle.std.specs.Prelude.{◌≡◌, ◌↔◌, ◌^◌, ◌≤◌, [], ℕ, Some, IfNone, IfOk, IsTrue};
 ghost use Rattle.bag_algebra.specs.FaultFree.{faultless};
 ghost use Rattle.bag_algebra.specs.declared.query.Query.{Query as SeenQuery};
 ghost use Rattle.query_reach.specs.Reach.{reach_of};
-ghost use Rattle.row_nodes.specs.Keeping.{IsBelow, KeptOf, Leads, better, is_kept, kept_reach};
+ghost use Rattle.row_nodes.specs.Keeping.{IsBelow, KeptBy, KeptOf, Leads, better, is_kept, kept_reach};
 
 use bag_algebra::{Expr, Query, Sublink, faultless};
+use perm_values::{List, NoMemory};
 use query_reach::reach;
+use read_columns::nearest_places;
+use std::alloc::Global;
 
-/// What of a query is kept for as long as the rows under which it is run begin with the same columns, so many
-/// that no more of them are read.
+/// What of a query is kept for all rows under which it is run that have the same values in the columns that it reads.
 #[derive(Clone, Copy, PartialEq, Eq)]
 pub enum Keeping {
     /// Nothing: it is run on each row.
     Nothing,
-    /// Its rows.
+    /// Its rows; it reads so many of the first columns and none behind them.
     Rows(usize),
-    /// The rows that a filter is over, which stands so many Filters and Projects down: 0 where it is the query.
+    /// The rows that a filter is over, which reads so many of the first columns and stands so many Filters and Projects down: 0
+    /// where it is the query.
     Input(usize, usize),
 }
 
@@ -56,6 +59,21 @@ pub(crate) fn kept_of(is_hashed: bool, query: &Query) -> Keeping
     match reach(query) {
         Some(whole) => least(query, 0, Keeping::Rows(whole)),
         None => Keeping::Nothing,
+    }
+}
+
+/// The places of the nearest outer row's columns by whose values what is kept is kept. It fails only for want of memory.
+pub(crate) fn kept_places(
+    alloc: Global,
+    query: &Query,
+    keeping: Keeping,
+) -> Result<List<usize>, NoMemory>
+    ensures { IfOk result (KeptBy query.now keeping) }
+{
+    match keeping {
+        Keeping::Nothing => Ok(List::new(alloc)),
+        Keeping::Rows(_) => nearest_places(alloc, query),
+        Keeping::Input(reach, _) => List::range(alloc, 0, reach),
     }
 }
 

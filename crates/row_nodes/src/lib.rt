@@ -3,7 +3,6 @@
 #![tactic(auto)]
 
 mod fault_free;
-mod first_columns;
 mod groups;
 mod input;
 mod items;

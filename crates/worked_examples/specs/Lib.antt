@@ -33,3 +33,4 @@ pub mod SourceRows
 pub mod SpineRows
 pub mod Trees
 pub mod Values
+pub mod WhichColumns

@@ -4,6 +4,8 @@ use Rattle.row_nodes.proofs.known.Known.of.Goals as goal
 
 pub returns-clause-knows : goal.returns-clause-knows
 returns-clause-knows c = λ db env in_cells. record {
-  keeps = kept_keeps c.args.is_hashed c.args.query.now c.kept_of.result c.kept_of.ensures;
-  answers = λ u begins. tt;
+  nothing_is = refl;
+  keeps = kept_keeps c.args.is_hashed c.args.query.now c.kept_of-keeping.result c.kept_of-keeping.ensures;
+  kept_by = c.in_ok-places.ensures;
+  answers = λ key answer is u own. absurd (cc is);
 }
