@@ -1,5 +1,5 @@
 //! Whether a value is among the first columns of rows.
-ghost use Rattle.std.specs.Prelude.{◌≡◌, ◌&&◌, ◌||◌, [], ◌∷◌, IfOk, length};
+ghost use Rattle.std.specs.Prelude.{◌≡◌, ◌&&◌, ◌||◌, [], ◌∷◌, IfOk};
 ghost use Rattle.std.specs.List.{list_any};
 ghost use Rattle.null_logic.specs.Comparison.{is_null};
 ghost use Rattle.null_logic.specs.declared.compare.Compare.TheVariants.{Equal};
@@ -38,13 +38,6 @@ impl Cells {
             some_null: has_null(rows),
             some_row: !rows.is_empty(),
         })
-    }
-
-    /// How many different values they have, NULL aside.
-    pub fn len(&self) -> usize
-        ensures { result ≡ length self.now.table.entries }
-    {
-        self.table.len()
     }
 
     /// Whether the value equals one of them: unknown where it equals none that is known, and it or one of them is NULL. It

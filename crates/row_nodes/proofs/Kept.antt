@@ -8,7 +8,7 @@ use Rattle.perm_values.specs.Rows.{picked, same_row, value_at}
 use Rattle.perm_values.specs.declared.no_memory.NoMemory.{NoMemory}
 use Rattle.perm_values.specs.declared.value.Value.TheVariants.{Null}
 use Rattle.bag_algebra.specs.Bags.{Row, Bag}
-use Rattle.bag_algebra.specs.built.Openings.{row_of_subs, Filter-is, Project_with-is, meaning-Filter}
+use Rattle.bag_algebra.specs.built.Openings.{row_of_subs, Aggregate-is, Filter-is, Project_with-is, meaning-Filter}
 use Rattle.bag_algebra.specs.FaultFree.{faultless}
 use Rattle.bag_algebra.proofs.BagLaws.{same_row-is}
 use Rattle.bag_algebra.specs.Meaning.{Database, meaning}
@@ -17,18 +17,20 @@ use Rattle.bag_algebra.specs.Outcome.{Good, and_then, gather}
 use Rattle.bag_algebra.specs.built.Patterns.{BaseOf, FilterOf, ProjectOf, JoinOf, ApplyOf, UnionOf, IntersectOf, ExceptOf, DistinctOf, AggregateOf, LimitOf, ProvOf}
 use Rattle.bag_algebra.specs.declared.expr.Expr.{Expr}
 use Rattle.bag_algebra.specs.declared.expr.Item.{Item}
+use Rattle.bag_algebra.specs.declared.query.Aggr.{Aggr}
 use Rattle.bag_algebra.specs.declared.query.Query.{Query}
 use Rattle.bag_algebra.specs.declared.query.Query.TheBlock.{shape-the_row-Sublink-1, hidden-the_row-Sublink-1}
-use Rattle.bag_algebra.specs.declared.query.Query.TheVariants.{Table, Single, Filter, Project}
+use Rattle.bag_algebra.specs.declared.query.Query.TheVariants.{Table, Single, Filter, Project, Aggregate}
 use Rattle.bag_algebra.specs.declared.query.Sublink.{Sublink}
 use Rattle.row_joins.specs.Hashed.{on_pair, met_rows}
 use Rattle.row_joins.proofs.Hashing.{all_kept, good_on}
 use Rattle.query_reach.specs.Reach.{reach_of}
 use Rattle.query_reach.proofs.Alike.{Alike, denote-alike}
+use Rattle.read_columns.specs.Columns.{AreNearest, columns_of}
 use Rattle.read_columns.proofs.Alike.{picked-alike}
 use Rattle.row_memory.specs.Memory.{Remembered, Learns, found, found_under, remembered}
-use Rattle.row_nodes.specs.Keeping.{can_key, keyed_at, Keeps, KeptBy}
-use Rattle.row_nodes.specs.Known.{IsWhole, IsInput, HasInput, IsKeyed, Answers, Finds, answer_at, gone_on, Knows, KnowsOn, KnowsSub, AllKnown, IsNew, AllNew}
+use Rattle.row_nodes.specs.Keeping.{can_key, input_columns, keyed_at, Keeps}
+use Rattle.row_nodes.specs.Known.{IsWhole, IsInput, IsInputOf, HasInput, Answers, answer_at, Knows, KnowsInput, KnowsOn, KnowsSub, AllKnown, IsNew, AllNew}
 use Rattle.row_nodes.specs.Runs.{node_condition}
 use Rattle.row_nodes.specs.declared.keeping.Keeping.{Keeping}
 use Rattle.row_nodes.specs.declared.keeping.Keeping.TheVariants as of
@@ -118,6 +120,21 @@ module _ (query input : Query) (items : List Item) (subs : List Sublink) (is : q
   pub deeper_project : (depth : ℕ) (db : Database) (inner : List Row) (keyed : Keyed) → HasInput query (suc depth) db inner keyed → HasInput input depth db inner keyed
   deeper_project depth db inner keyed h = subst (λ q. HasInput q (suc depth) db inner keyed) (is ∙ Project_with-is input items subs) h
 
+-- ---- groups over one
+
+module _ (query input : Query) (groups : List ℕ) (aggregates : List Aggr) (is : query ≡ Aggregate input groups aggregates) where
+  pub aggregate_top : keyed_at query 0 ≡ None
+  aggregate_top = ap (λ q. keyed_at q 0) (is ∙ Aggregate-is input groups aggregates)
+
+  pub aggregate_below : (depth : ℕ) → keyed_at query (suc depth) ≡ keyed_at input depth
+  aggregate_below depth = ap (λ q. keyed_at q (suc depth)) (is ∙ Aggregate-is input groups aggregates)
+
+  pub aggregate_deeper : (depth : ℕ) (db : Database) (inner : List Row) (keyed : Keyed) → HasInput input depth db inner keyed → HasInput query (suc depth) db inner keyed
+  aggregate_deeper depth db inner keyed h = subst (λ q. HasInput q (suc depth) db inner keyed) (sym (is ∙ Aggregate-is input groups aggregates)) h
+
+  pub deeper_aggregate : (depth : ℕ) (db : Database) (inner : List Row) (keyed : Keyed) → HasInput query (suc depth) db inner keyed → HasInput input depth db inner keyed
+  deeper_aggregate depth db inner keyed h = subst (λ q. HasInput q (suc depth) db inner keyed) (is ∙ Aggregate-is input groups aggregates) h
+
 -- ---- from one row to another that begins with the same columns
 
 module _ (n : ℕ) (db : Database) (env : List Row) (u v : Row) (keyed : Keyed) (same : picked (range_with_len 0 n) u ≡ picked (range_with_len 0 n) v) where
@@ -138,7 +155,8 @@ module _ (n : ℕ) (db : Database) (env : List Row) (u v : Row) (keyed : Keyed) 
   input_carried (IntersectOf all left right) depth f h = tt
   input_carried (ExceptOf all left right) depth f h = tt
   input_carried (DistinctOf input) depth f h = tt
-  input_carried (AggregateOf input groups aggregates) depth f h = tt
+  input_carried (AggregateOf input groups aggregates) zero f h = tt
+  input_carried (AggregateOf input groups aggregates) (suc depth) f h = input_carried input depth f h
   input_carried (LimitOf input keys count) depth f h = tt
   input_carried (ProvOf input) depth f h = tt
 
@@ -146,23 +164,20 @@ whole_answers : (db : Database) (inner : List Row) (q : Query) (in_cells : Bool)
 whole_answers db inner q in_cells by.Nothing h = tt
 whole_answers db inner q in_cells (by.Rows rows) h = h
 whole_answers db inner q in_cells (by.Cells cells) h = h
-whole_answers db inner q in_cells (by.Keyed depth keyed) h = absurd h.has
 
-found_answers : (keeping : Keeping) (places : List ℕ) (db : Database) (env : List Row) (u v : Row) (q : Query) (in_cells : Bool) (answer : Answer) → Keeps q keeping → KeptBy q keeping places →
-    picked places u ≡ picked places v → Finds keeping db (u ∷ env) q in_cells answer → Answers db (v ∷ env) q in_cells answer
-found_answers of.Nothing places db env u v q in_cells by.Nothing keeps kept same h = tt
-found_answers of.Nothing places db env u v q in_cells (by.Rows rows) keeps kept same h = absurd h
-found_answers of.Nothing places db env u v q in_cells (by.Cells cells) keeps kept same h = absurd h
-found_answers of.Nothing places db env u v q in_cells (by.Keyed depth keyed) keeps kept same h = absurd h
-found_answers (of.Rows n) places db env u v q in_cells answer keeps kept same h =
+-- rows of which a query reads the same values give it the same rows
+whole_carried : (places : List ℕ) (db : Database) (env : List Row) (u v : Row) (q : Query) (in_cells : Bool) (answer : Answer) → AreNearest (columns_of q) places → picked places u ≡ picked places v →
+    IsWhole db (u ∷ env) q in_cells answer → Answers db (v ∷ env) q in_cells answer
+whole_carried places db env u v q in_cells answer kept same h =
     whole_answers db (v ∷ env) q in_cells answer (record { rows = h.rows; means = sym (picked-alike q places db u v env kept same) ∙ h.means; has = h.has })
-found_answers (of.Input n depth) places db env u v q in_cells by.Nothing keeps kept same h = tt
-found_answers (of.Input n depth) places db env u v q in_cells (by.Rows rows) keeps kept same h = absurd h
-found_answers (of.Input n depth) places db env u v q in_cells (by.Cells cells) keeps kept same h = absurd h
-found_answers (of.Input n depth) places db env u v q in_cells (by.Keyed at keyed) keeps kept same h =
-    let first : picked (range_with_len 0 n) u ≡ picked (range_with_len 0 n) v = subst (λ ns. picked ns u ≡ picked ns v) kept same in
-    subst (λ d. IsKeyed q d db (v ∷ env) keyed) (sym h.0)
-    (record { reach = n; filter_is = keeps; input = input_carried n db env u v keyed first q depth keeps h.1 })
+
+-- rows that begin with the same columns give a filter's input the same rows
+of_carried : (keeping : Keeping) (places : List ℕ) (db : Database) (env : List Row) (u v : Row) (q : Query) (keyed : Keyed) → Keeps q keeping → places ≡ range_with_len 0 (input_columns keeping) →
+    picked places u ≡ picked places v → IsInputOf q keeping db (u ∷ env) keyed → IsInputOf q keeping db (v ∷ env) keyed
+of_carried of.Nothing places db env u v q keyed keeps kept same h = tt
+of_carried (of.Rows n) places db env u v q keyed keeps kept same h = tt
+of_carried (of.Input n depth) places db env u v q keyed keeps kept same h =
+    input_carried n db env u v keyed (subst (λ ns. picked ns u ≡ picked ns v) kept same) q depth keeps h
 
 -- what is lent, or else another
 pub lent_or : {T : Type 0} (found_here : Option (Bor T)) (other : Bor T) → (unwrap_or found_here other).now ≡ unwrap_or (option_copied found_here) other.now
@@ -175,10 +190,10 @@ answer_is known answer e = ap (λ o. unwrap_or o known.nothing) e
 
 -- what is found on the row at hand is known of all rows with the same values
 module _ (db : Database) (env : List Row) (u : Row) (q : Query) (in_cells : Bool) (old new : Known) (answer : Answer)
-    (knows : Knows db env q in_cells old) (here : picked old.memory.places u ≡ old.memory.key)
-    (finds : Finds old.keeping db (u ∷ env) q in_cells answer) (keeping : new.keeping ≡ old.keeping) (nothing : new.nothing ≡ old.nothing) (learns : Learns old.memory new.memory answer) where
+    (knows : Knows db env q in_cells old) (here : picked old.memory.places u ≡ old.memory.key) (whole : IsWhole db (u ∷ env) q in_cells answer)
+    (keeping : new.keeping ≡ old.keeping) (inputs : new.inputs ≡ old.inputs) (nothing : new.nothing ≡ old.nothing) (learns : Learns old.memory new.memory answer) where
   same_answer : (v : Row) → picked old.memory.places v ≡ old.memory.key → Answers db (v ∷ env) q in_cells answer
-  same_answer v own = found_answers old.keeping old.memory.places db env u v q in_cells answer knows.keeps knows.kept_by (here ∙ sym own) finds
+  same_answer v own = whole_carried old.memory.places db env u v q in_cells answer knows.kept_by (here ∙ sym own) whole
 
   entry_answers : (key : Row) (other : Answer) (b : Bool) → same_row old.memory.key key ≡ b → found_under new.memory key ≡ Some other → (v : Row) → picked new.memory.places v ≡ key →
       Answers db (v ∷ env) q in_cells other
@@ -195,18 +210,61 @@ module _ (db : Database) (env : List Row) (u : Row) (q : Query) (in_cells : Bool
     knows = record {
       nothing_is = nothing ∙ knows.nothing_is;
       keeps = subst (Keeps q) (sym keeping) knows.keeps;
-      kept_by = subst (λ places. KeptBy q new.keeping places) (sym learns.places_stay) (subst (λ k. KeptBy q k old.memory.places) (sym keeping) knows.kept_by);
+      kept_by = subst (AreNearest (columns_of q)) (sym learns.places_stay) knows.kept_by;
+      input_by = ap (λ memory. memory.places) inputs ∙ knows.input_by ∙ ap (λ k. range_with_len 0 (input_columns k)) (sym keeping);
       answers = λ key other is v own. entry_answers key other (same_row old.memory.key key) refl is v own;
+      inputs = λ key keyed is v own.
+          subst (λ k. IsInputOf q k db (v ∷ env) keyed) (sym keeping)
+          (knows.inputs key keyed (ap (λ memory. found_under memory key) (sym inputs) ∙ is) v (ap (λ memory. picked memory.places v) (sym inputs) ∙ own));
     };
     answers = subst (Answers db (u ∷ env) q in_cells) (sym (answer_is new answer learns.item_is)) (same_answer u here);
   }
 
 -- where there was memory
 pub kept_if : (r : Result (Unit {0}) NoMemory) (db : Database) (env : List Row) (u : Row) (q : Query) (in_cells : Bool) (old new : Known) (answer : Answer) → Knows db env q in_cells old →
-    picked old.memory.places u ≡ old.memory.key → Finds old.keeping db (u ∷ env) q in_cells answer → new.keeping ≡ old.keeping → new.nothing ≡ old.nothing →
+    picked old.memory.places u ≡ old.memory.key → IsWhole db (u ∷ env) q in_cells answer → new.keeping ≡ old.keeping → new.inputs ≡ old.inputs → new.nothing ≡ old.nothing →
     OnOk r (Learns old.memory new.memory answer) → OnOk r (KnowsOn db env u q in_cells new)
-kept_if (Ok x) db env u q in_cells old new answer knows here finds keeping nothing learns = kept_on db env u q in_cells old new answer knows here finds keeping nothing learns
-kept_if (Err e) db env u q in_cells old new answer knows here finds keeping nothing learns = tt
+kept_if (Ok x) db env u q in_cells old new answer knows here whole keeping inputs nothing learns =
+    kept_on db env u q in_cells old new answer knows here whole keeping inputs nothing learns
+kept_if (Err e) db env u q in_cells old new answer knows here whole keeping inputs nothing learns = tt
+
+-- the rows that a filter is over, found on the row at hand, are known of all rows that begin with the same columns
+module _ (db : Database) (env : List Row) (u : Row) (q : Query) (in_cells : Bool) (old new : Known) (keyed : Keyed)
+    (known : KnowsInput db env u q in_cells old) (of_input : IsInputOf q old.keeping db (u ∷ env) keyed)
+    (keeping : new.keeping ≡ old.keeping) (memory : new.memory ≡ old.memory) (nothing : new.nothing ≡ old.nothing) (learns : Learns old.inputs new.inputs keyed) where
+  same_input : (v : Row) → picked old.inputs.places v ≡ old.inputs.key → IsInputOf q old.keeping db (v ∷ env) keyed
+  same_input v own = of_carried old.keeping old.inputs.places db env u v q keyed known.knows.keeps known.knows.input_by (known.input_here ∙ sym own) of_input
+
+  entry_inputs : (key : Row) (other : Keyed) (b : Bool) → same_row old.inputs.key key ≡ b → found_under new.inputs key ≡ Some other → (v : Row) → picked new.inputs.places v ≡ key →
+      IsInputOf q old.keeping db (v ∷ env) other
+  entry_inputs key other true e is v own =
+      let at_hand : old.inputs.key ≡ key = same_row-is old.inputs.key key e in
+      let one : Some keyed ≡ Some other = sym learns.item_is ∙ ap (found_under new.inputs) (learns.key_stays ∙ at_hand) ∙ is in
+      let as_kept : keyed ≡ other = ap (λ o. unwrap_or o keyed) one in
+      subst (IsInputOf q old.keeping db (v ∷ env)) as_kept (same_input v (ap (λ places. picked places v) (sym learns.places_stay) ∙ own ∙ sym at_hand))
+  entry_inputs key other false e is v own =
+      known.knows.inputs key other (learns.others key other e is) v (ap (λ places. picked places v) (sym learns.places_stay) ∙ own)
+
+  kept_input : KnowsInput db env u q in_cells new
+  kept_input = record {
+    knows = record {
+      nothing_is = nothing ∙ known.knows.nothing_is;
+      keeps = subst (Keeps q) (sym keeping) known.knows.keeps;
+      kept_by = subst (λ m. AreNearest (columns_of q) m.places) (sym memory) known.knows.kept_by;
+      input_by = learns.places_stay ∙ known.knows.input_by ∙ ap (λ k. range_with_len 0 (input_columns k)) (sym keeping);
+      answers = λ key answer is v own.
+          known.knows.answers key answer (ap (λ m. found_under m key) (sym memory) ∙ is) v (ap (λ m. picked m.places v) (sym memory) ∙ own);
+      inputs = λ key other is v own. subst (λ k. IsInputOf q k db (v ∷ env) other) (sym keeping) (entry_inputs key other (same_row old.inputs.key key) refl is v own);
+    };
+    input_here = ap (λ places. picked places u) learns.places_stay ∙ known.input_here ∙ sym learns.key_stays;
+  }
+
+pub input_kept : (r : Result (Unit {0}) NoMemory) (db : Database) (env : List Row) (u : Row) (q : Query) (in_cells : Bool) (old new : Known) (keyed : Keyed) → KnowsInput db env u q in_cells old →
+    IsInputOf q old.keeping db (u ∷ env) keyed → new.keeping ≡ old.keeping → new.memory ≡ old.memory → new.nothing ≡ old.nothing →
+    OnOk r (Learns old.inputs new.inputs keyed) → OnOk r (KnowsInput db env u q in_cells new)
+input_kept (Ok x) db env u q in_cells old new keyed known of_input keeping memory nothing learns =
+    kept_input db env u q in_cells old new keyed known of_input keeping memory nothing learns
+input_kept (Err e) db env u q in_cells old new keyed known of_input keeping memory nothing learns = tt
 
 -- what was found answers on the row at hand
 at_hand_answers : (db : Database) (env : List Row) (u : Row) (q : Query) (in_cells : Bool) (nothing : Answer) (found_here : Option Answer) → nothing ≡ by.Nothing →
@@ -222,14 +280,22 @@ known_on db env u q in_cells known knows here = record {
 }
 
 -- behind a step to another row
-knows_further : (db : Database) (env : List Row) (q : Query) (in_cells : Bool) (known : Known) (u : Row) → Knows db env q in_cells known → Knows db env q in_cells (gone_on known u)
-knows_further db env q in_cells known u knows = record { nothing_is = knows.nothing_is; keeps = knows.keeps; kept_by = knows.kept_by; answers = knows.answers }
-
 pub knows_stepped : (db : Database) (env : List Row) (q : Query) (in_cells : Bool) (known : Known) (u : Row) (memory : Remembered Answer) →
     memory ≡ remembered known.memory.places (picked known.memory.places u) known.memory.entries → Knows db env q in_cells known →
-    Knows db env q in_cells (record { keeping = known.keeping; memory = memory; nothing = known.nothing })
+    Knows db env q in_cells (record { keeping = known.keeping; memory = memory; inputs = known.inputs; nothing = known.nothing })
 knows_stepped db env q in_cells known u memory e knows =
-    subst (λ m. Knows db env q in_cells (record { keeping = known.keeping; memory = m; nothing = known.nothing })) (sym e) (knows_further db env q in_cells known u knows)
+    subst (λ m. Knows db env q in_cells (record { keeping = known.keeping; memory = m; inputs = known.inputs; nothing = known.nothing })) (sym e)
+    (record { nothing_is = knows.nothing_is; keeps = knows.keeps; kept_by = knows.kept_by; input_by = knows.input_by; answers = knows.answers; inputs = knows.inputs })
+
+pub input_stepped : (db : Database) (env : List Row) (q : Query) (in_cells : Bool) (known : Known) (u : Row) (inputs : Remembered Keyed) →
+    inputs ≡ remembered known.inputs.places (picked known.inputs.places u) known.inputs.entries → Knows db env q in_cells known →
+    KnowsInput db env u q in_cells (record { keeping = known.keeping; memory = known.memory; inputs = inputs; nothing = known.nothing })
+input_stepped db env q in_cells known u inputs e knows =
+    subst (λ m. KnowsInput db env u q in_cells (record { keeping = known.keeping; memory = known.memory; inputs = m; nothing = known.nothing })) (sym e)
+    (record {
+      knows = record { nothing_is = knows.nothing_is; keeps = knows.keeps; kept_by = knows.kept_by; input_by = knows.input_by; answers = knows.answers; inputs = knows.inputs };
+      input_here = refl;
+    })
 
 -- ---- one for each sublink
 

@@ -1,24 +1,21 @@
 //! What of a sublink's query may be kept from row to row.
-ghost use Rattle.std.specs.Prelude.{◌≡◌, ◌↔◌, ◌^◌, ◌≤◌, [], ℕ, Some, IfNone, IfOk, IsTrue};
+ghost use Rattle.std.specs.Prelude.{◌≡◌, ◌↔◌, ◌^◌, ◌≤◌, [], ℕ, Some, IfNone, IsTrue};
 ghost use Rattle.bag_algebra.specs.FaultFree.{faultless};
 ghost use Rattle.bag_algebra.specs.declared.query.Query.{Query as SeenQuery};
 ghost use Rattle.query_reach.specs.Reach.{reach_of};
-ghost use Rattle.row_nodes.specs.Keeping.{IsBelow, KeptBy, KeptOf, Leads, better, is_kept, kept_reach};
+ghost use Rattle.row_nodes.specs.Keeping.{IsBelow, KeptOf, Leads, better, input_columns, is_kept, keeps_input, kept_reach};
 
 use bag_algebra::{Expr, Query, Sublink, faultless};
-use perm_values::{List, NoMemory};
 use query_reach::reach;
-use read_columns::nearest_places;
-use std::alloc::Global;
 
-/// What of a query is kept for all rows under which it is run that have the same values in the columns that it reads.
+/// What of a query is kept from row to row.
 #[derive(Clone, Copy, PartialEq, Eq)]
 pub enum Keeping {
     /// Nothing: it is run on each row.
     Nothing,
     /// Its rows; it reads so many of the first columns and none behind them.
     Rows(usize),
-    /// The rows that a filter is over, which reads so many of the first columns and stands so many Filters and Projects down: 0
+    /// Its rows, and the rows that a filter is over, which reads so many of the first columns and stands so many nodes down: 0
     /// where it is the query.
     Input(usize, usize),
 }
@@ -35,6 +32,28 @@ impl Keeping {
         }
     }
 
+    /// How many of the first columns the input of a filter reads, where that is kept.
+    pub(crate) fn input_columns(self) -> usize
+        ensures { result ≡ input_columns self }
+    {
+        match self {
+            Keeping::Nothing => 0,
+            Keeping::Rows(_) => 0,
+            Keeping::Input(reach, _) => reach,
+        }
+    }
+
+    /// Whether the input of a filter is kept.
+    pub(crate) fn keeps_input(self) -> bool
+        ensures { result ≡ keeps_input self }
+    {
+        match self {
+            Keeping::Nothing => false,
+            Keeping::Rows(_) => false,
+            Keeping::Input(_, _) => true,
+        }
+    }
+
     /// Whether anything is kept.
     pub(crate) fn keeps(self) -> bool
         ensures { result ≡ is_kept self }
@@ -48,8 +67,8 @@ impl Keeping {
 }
 
 /// Where there is hashing, the input of the topmost filter that a key may answer whose input reads the fewest
-/// first columns, if that reads fewer than the query, and else the query's rows. Only Filters and Projects stand
-/// above it. Nothing where no `usize` holds how many the query reads.
+/// first columns, if that reads fewer than the query, and else the query's rows. Only Filters, Projects and
+/// Aggregates stand above it. Nothing where no `usize` holds how many the query reads.
 pub(crate) fn kept_of(is_hashed: bool, query: &Query) -> Keeping
     ensures { KeptOf is_hashed query.now result }
 {
@@ -59,21 +78,6 @@ pub(crate) fn kept_of(is_hashed: bool, query: &Query) -> Keeping
     match reach(query) {
         Some(whole) => least(query, 0, Keeping::Rows(whole)),
         None => Keeping::Nothing,
-    }
-}
-
-/// The places of the nearest outer row's columns by whose values what is kept is kept. It fails only for want of memory.
-pub(crate) fn kept_places(
-    alloc: Global,
-    query: &Query,
-    keeping: Keeping,
-) -> Result<List<usize>, NoMemory>
-    ensures { IfOk result (KeptBy query.now keeping) }
-{
-    match keeping {
-        Keeping::Nothing => Ok(List::new(alloc)),
-        Keeping::Rows(_) => nearest_places(alloc, query),
-        Keeping::Input(reach, _) => List::range(alloc, 0, reach),
     }
 }
 
@@ -105,6 +109,12 @@ fn least(query: &Query, depth: usize, best: Keeping) -> Keeping
             }
             least(input.get(), depth + 1, best)
         }
+        Query::Aggregate { input, .. } => {
+            if depth == usize::MAX {
+                return best;
+            }
+            least(input.get(), depth + 1, best)
+        }
         Query::Table { .. } => best,
         Query::Single => best,
         Query::Base { .. } => best,
@@ -114,7 +124,6 @@ fn least(query: &Query, depth: usize, best: Keeping) -> Keeping
         Query::Intersect { .. } => best,
         Query::Except { .. } => best,
         Query::Distinct { .. } => best,
-        Query::Aggregate { .. } => best,
         Query::Limit { .. } => best,
         Query::Prov { .. } => best,
     }
