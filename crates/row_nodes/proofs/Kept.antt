@@ -1,11 +1,10 @@
 -- What is kept of queries from row to row.
-use Rattle.std.proofs.Common.{◌≡◌, ℕ, ◌<◌, suc, zero, Bool, true, false, cond, Option, Some, None, List, [], ◌∷◌, ◌++◌, length, get_or, set, unwrap_or, Result, Ok, Err, OnOk, refl, sym, ap, ◌∙◌, subst, arith}
+use Rattle.std.proofs.Common.{◌≡◌, ℕ, ◌<◌, suc, zero, Bool, true, false, cond, ◌&&◌, Option, Some, None, is_none, List, [], ◌∷◌, ◌++◌, length, get_or, set, unwrap_or, Result, Ok, Err, OnOk, refl, sym, ap, ◌∙◌, subst, arith}
 use Rattle.std.specs.Borrow.{Bor}
 use Rattle.std.specs.List.{range_with_len}
 use Rattle.std.specs.Option.{option_copied}
 use Rattle.std.proofs.lemmas.List.FromFn.{get_or-map-range_with_len}
 use Rattle.perm_values.specs.Rows.{picked, same_row, value_at}
-use Rattle.perm_values.specs.declared.no_memory.NoMemory.{NoMemory}
 use Rattle.perm_values.specs.declared.value.Value.TheVariants.{Null}
 use Rattle.bag_algebra.specs.Bags.{Row, Bag}
 use Rattle.bag_algebra.specs.built.Openings.{row_of_subs, Aggregate-is, Filter-is, Project_with-is, meaning-Filter}
@@ -29,8 +28,8 @@ use Rattle.query_reach.proofs.Alike.{Alike, denote-alike}
 use Rattle.read_columns.specs.Columns.{AreNearest, columns_of}
 use Rattle.read_columns.proofs.Alike.{picked-alike}
 use Rattle.row_memory.specs.Memory.{Remembered, Learns, found, found_under, remembered}
-use Rattle.row_nodes.specs.Keeping.{can_key, input_columns, keyed_at, Keeps}
-use Rattle.row_nodes.specs.Known.{IsWhole, IsInput, IsInputOf, HasInput, Answers, answer_at, Knows, KnowsInput, KnowsOn, KnowsSub, AllKnown, IsNew, AllNew}
+use Rattle.row_nodes.specs.Keeping.{can_key, input_columns, keeps_input, keyed_at, Keeps}
+use Rattle.row_nodes.specs.Known.{IsWhole, IsInput, IsInputOf, HasInput, Answers, answer_at, asks_input, Knows, KnowsInput, KnowsOn, KnowsSub, AllKnown, IsNew, AllNew}
 use Rattle.row_nodes.specs.Runs.{node_condition}
 use Rattle.row_nodes.specs.declared.keeping.Keeping.{Keeping}
 use Rattle.row_nodes.specs.declared.keeping.Keeping.TheVariants as of
@@ -49,7 +48,7 @@ value_there n place row low = get_or-map-range_with_len (value_at row) 0 n place
 
 -- rows whose first columns are the same
 first_same : (n : ℕ) (row other : Row) (env : List Row) → picked (range_with_len 0 n) row ≡ picked (range_with_len 0 n) other → Alike 0 n (row ∷ env) (other ∷ env)
-first_same n row other env e zero place h = sym (value_there n place row (omega arith)) ∙ ap (λ vs. get_or vs place Null) e ∙ value_there n place other (omega arith)
+first_same n row other env e zero place h = sym (value_there n place row h) ∙ ap (λ vs. get_or vs place Null) e ∙ value_there n place other h
 first_same n row other env e (suc own) place h = refl
 
 -- a query whose reach is n
@@ -174,15 +173,39 @@ whole_carried places db env u v q in_cells answer kept same h =
 -- rows that begin with the same columns give a filter's input the same rows
 of_carried : (keeping : Keeping) (places : List ℕ) (db : Database) (env : List Row) (u v : Row) (q : Query) (keyed : Keyed) → Keeps q keeping → places ≡ range_with_len 0 (input_columns keeping) →
     picked places u ≡ picked places v → IsInputOf q keeping db (u ∷ env) keyed → IsInputOf q keeping db (v ∷ env) keyed
-of_carried of.Nothing places db env u v q keyed keeps kept same h = tt
-of_carried (of.Rows n) places db env u v q keyed keeps kept same h = tt
+of_carried of.Nothing places db env u v q keyed keeps kept same h = absurd h
+of_carried (of.Rows n) places db env u v q keyed keeps kept same h = absurd h
 of_carried (of.Input n depth) places db env u v q keyed keeps kept same h =
     input_carried n db env u v keyed (subst (λ ns. picked ns u ≡ picked ns v) kept same) q depth keeps h
 
--- what is lent, or else another
-pub lent_or : {T : Type 0} (found_here : Option (Bor T)) (other : Bor T) → (unwrap_or found_here other).now ≡ unwrap_or (option_copied found_here) other.now
-lent_or None other = refl
-lent_or (Some x) other = refl
+-- what was found is lent, or else another
+pub lent_is : (found_here : Option (Bor Answer)) (other lent : Bor Answer) (kept : Option Answer) (nothing : Answer) → lent ≡ unwrap_or found_here other → option_copied found_here ≡ kept →
+    other.now ≡ nothing → lent.now ≡ unwrap_or kept nothing
+lent_is None other lent kept nothing is copied none = ap (λ (r : Bor Answer). r.now) is ∙ none ∙ ap (λ o. unwrap_or o nothing) copied
+lent_is (Some x) other lent kept nothing is copied none = ap (λ (r : Bor Answer). r.now) is ∙ ap (λ o. unwrap_or o nothing) copied
+
+-- the rows that a filter is over are asked for where none were found
+pub no_asks : (known : Known) (keyed : Keyed) → found known.inputs ≡ Some keyed → false ≡ asks_input known
+no_asks known keyed e = sym (ap (λ o. is_none o && keeps_input known.keeping) e)
+
+pub asks_where : (known : Known) (b : Bool) → found known.inputs ≡ None → b ≡ keeps_input known.keeping → b ≡ asks_input known
+asks_where known b e is = is ∙ sym (ap (λ o. is_none o && keeps_input known.keeping) e)
+
+-- nothing is known yet
+pub known_new : (db : Database) (env : List Row) (q : Query) (in_cells : Bool) (known : Known) (read : List ℕ) → Keeps q known.keeping → AreNearest (columns_of q) read →
+    known.memory ≡ remembered read [] [] → known.inputs ≡ remembered (range_with_len 0 (input_columns known.keeping)) [] [] → known.nothing ≡ by.Nothing → Knows db env q in_cells known
+known_new db env q in_cells known read keeps nearest memory_is inputs_are nothing_is = record {
+  nothing_is = nothing_is;
+  keeps = keeps;
+  kept_by = subst (λ (m : Remembered Answer). AreNearest (columns_of q) m.places) (sym memory_is) nearest;
+  input_by = ap (λ (m : Remembered Keyed). m.places) inputs_are;
+  answers = λ key answer is u own.
+      let e : None ≡ Some answer = ap (λ (m : Remembered Answer). found_under m key) (sym memory_is) ∙ is in
+      absurd (cc e);
+  inputs = λ key keyed is u own.
+      let e : None ≡ Some keyed = ap (λ (m : Remembered Keyed). found_under m key) (sym inputs_are) ∙ is in
+      absurd (cc e);
+}
 
 -- nothing answers, or what was found
 answer_is : (known : Known) (answer : Answer) → found known.memory ≡ Some answer → answer_at known ≡ answer
@@ -199,7 +222,7 @@ module _ (db : Database) (env : List Row) (u : Row) (q : Query) (in_cells : Bool
       Answers db (v ∷ env) q in_cells other
   entry_answers key other true e is v own =
       let at_hand : old.memory.key ≡ key = same_row-is old.memory.key key e in
-      let one : Some answer ≡ Some other = sym learns.item_is ∙ ap (found_under new.memory) (learns.key_stays ∙ at_hand) ∙ is in
+      let one : Some answer ≡ Some other = sym learns.item_is ∙ ap (λ k. found_under new.memory k) (learns.key_stays ∙ at_hand) ∙ is in
       let as_kept : answer ≡ other = ap (λ o. unwrap_or o by.Nothing) one in
       subst (Answers db (v ∷ env) q in_cells) as_kept (same_answer v (ap (λ places. picked places v) (sym learns.places_stay) ∙ own ∙ sym at_hand))
   entry_answers key other false e is v own =
@@ -221,12 +244,16 @@ module _ (db : Database) (env : List Row) (u : Row) (q : Query) (in_cells : Bool
   }
 
 -- where there was memory
-pub kept_if : (r : Result (Unit {0}) NoMemory) (db : Database) (env : List Row) (u : Row) (q : Query) (in_cells : Bool) (old new : Known) (answer : Answer) → Knows db env q in_cells old →
+pub kept_if : {X E : Type 0} (r : Result X E) (db : Database) (env : List Row) (u : Row) (q : Query) (in_cells : Bool) (old new : Known) (answer : Answer) → Knows db env q in_cells old →
     picked old.memory.places u ≡ old.memory.key → IsWhole db (u ∷ env) q in_cells answer → new.keeping ≡ old.keeping → new.inputs ≡ old.inputs → new.nothing ≡ old.nothing →
     OnOk r (Learns old.memory new.memory answer) → OnOk r (KnowsOn db env u q in_cells new)
 kept_if (Ok x) db env u q in_cells old new answer knows here whole keeping inputs nothing learns =
     kept_on db env u q in_cells old new answer knows here whole keeping inputs nothing learns
 kept_if (Err e) db env u q in_cells old new answer knows here whole keeping inputs nothing learns = tt
+
+pub answer_kept : {X E : Type 0} (r : Result X E) (old new : Remembered Answer) (nothing answer : Answer) → OnOk r (Learns old new answer) → OnOk r (unwrap_or (found new) nothing ≡ answer)
+answer_kept (Ok x) old new nothing answer learns = ap (λ o. unwrap_or o nothing) learns.item_is
+answer_kept (Err e) old new nothing answer learns = tt
 
 -- the rows that a filter is over, found on the row at hand, are known of all rows that begin with the same columns
 module _ (db : Database) (env : List Row) (u : Row) (q : Query) (in_cells : Bool) (old new : Known) (keyed : Keyed)
@@ -239,7 +266,7 @@ module _ (db : Database) (env : List Row) (u : Row) (q : Query) (in_cells : Bool
       IsInputOf q old.keeping db (v ∷ env) other
   entry_inputs key other true e is v own =
       let at_hand : old.inputs.key ≡ key = same_row-is old.inputs.key key e in
-      let one : Some keyed ≡ Some other = sym learns.item_is ∙ ap (found_under new.inputs) (learns.key_stays ∙ at_hand) ∙ is in
+      let one : Some keyed ≡ Some other = sym learns.item_is ∙ ap (λ k. found_under new.inputs k) (learns.key_stays ∙ at_hand) ∙ is in
       let as_kept : keyed ≡ other = ap (λ o. unwrap_or o keyed) one in
       subst (IsInputOf q old.keeping db (v ∷ env)) as_kept (same_input v (ap (λ places. picked places v) (sym learns.places_stay) ∙ own ∙ sym at_hand))
   entry_inputs key other false e is v own =
@@ -250,7 +277,7 @@ module _ (db : Database) (env : List Row) (u : Row) (q : Query) (in_cells : Bool
     knows = record {
       nothing_is = nothing ∙ known.knows.nothing_is;
       keeps = subst (Keeps q) (sym keeping) known.knows.keeps;
-      kept_by = subst (λ m. AreNearest (columns_of q) m.places) (sym memory) known.knows.kept_by;
+      kept_by = subst (λ (m : Remembered Answer). AreNearest (columns_of q) m.places) (sym memory) known.knows.kept_by;
       input_by = learns.places_stay ∙ known.knows.input_by ∙ ap (λ k. range_with_len 0 (input_columns k)) (sym keeping);
       answers = λ key answer is v own.
           known.knows.answers key answer (ap (λ m. found_under m key) (sym memory) ∙ is) v (ap (λ m. picked m.places v) (sym memory) ∙ own);
@@ -259,12 +286,16 @@ module _ (db : Database) (env : List Row) (u : Row) (q : Query) (in_cells : Bool
     input_here = ap (λ places. picked places u) learns.places_stay ∙ known.input_here ∙ sym learns.key_stays;
   }
 
-pub input_kept : (r : Result (Unit {0}) NoMemory) (db : Database) (env : List Row) (u : Row) (q : Query) (in_cells : Bool) (old new : Known) (keyed : Keyed) → KnowsInput db env u q in_cells old →
+pub input_kept : {X E : Type 0} (r : Result X E) (db : Database) (env : List Row) (u : Row) (q : Query) (in_cells : Bool) (old new : Known) (keyed : Keyed) → KnowsInput db env u q in_cells old →
     IsInputOf q old.keeping db (u ∷ env) keyed → new.keeping ≡ old.keeping → new.memory ≡ old.memory → new.nothing ≡ old.nothing →
     OnOk r (Learns old.inputs new.inputs keyed) → OnOk r (KnowsInput db env u q in_cells new)
 input_kept (Ok x) db env u q in_cells old new keyed known of_input keeping memory nothing learns =
     kept_input db env u q in_cells old new keyed known of_input keeping memory nothing learns
 input_kept (Err e) db env u q in_cells old new keyed known of_input keeping memory nothing learns = tt
+
+pub input_found : {X E : Type 0} (r : Result X E) (old new : Remembered Keyed) (keyed : Keyed) → OnOk r (Learns old new keyed) → OnOk r (found new ≡ Some keyed)
+input_found (Ok x) old new keyed learns = learns.item_is
+input_found (Err e) old new keyed learns = tt
 
 -- what was found answers on the row at hand
 at_hand_answers : (db : Database) (env : List Row) (u : Row) (q : Query) (in_cells : Bool) (nothing : Answer) (found_here : Option Answer) → nothing ≡ by.Nothing →

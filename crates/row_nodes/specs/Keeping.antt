@@ -9,24 +9,30 @@ use Rattle.query_reach.specs.Reach.{reach_of}
 use Rattle.row_nodes.specs.declared.keeping.Keeping.{Keeping}
 use Rattle.row_nodes.specs.declared.keeping.Keeping.TheVariants as of
 
--- the first columns of a row that have to stay the same
+-- how many of a row's first columns are read for what is kept
 abbrev pub kept_reach : Keeping → ℕ
 kept_reach of.Nothing = 0
 kept_reach (of.Rows reach) = reach
 kept_reach (of.Input reach depth) = reach
 
--- those that the input of a filter reads, where that is kept
+-- how many the input of a filter reads, where that is kept
 abbrev pub input_columns : Keeping → ℕ
 input_columns of.Nothing = 0
 input_columns (of.Rows reach) = 0
 input_columns (of.Input reach depth) = reach
+
+-- how many nodes down that filter stands; 0 where none is kept
+abbrev pub input_depth : Keeping → ℕ
+input_depth of.Nothing = 0
+input_depth (of.Rows reach) = 0
+input_depth (of.Input reach depth) = depth
 
 abbrev pub is_kept : Keeping → Bool
 is_kept of.Nothing = false
 is_kept (of.Rows reach) = true
 is_kept (of.Input reach depth) = true
 
--- whether the input of a filter is
+-- whether the input of a filter is kept
 abbrev pub keeps_input : Keeping → Bool
 keeps_input of.Nothing = false
 keeps_input (of.Rows reach) = false

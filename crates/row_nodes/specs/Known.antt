@@ -20,10 +20,10 @@ use Rattle.bag_algebra.specs.declared.query.Sublink.{Sublink}
 use Rattle.read_columns.specs.Columns.{AreNearest, columns_of}
 use Rattle.row_values.specs.Answers.{Refuses}
 use Rattle.row_values.specs.declared.error.ExecError.{ExecError}
-use Rattle.row_memory.specs.Memory.{found, found_under, remembered}
+use Rattle.row_memory.specs.Memory.{Remembered, found, found_under, remembered}
 use Rattle.row_joins.specs.Cells.{AreCells}
 use Rattle.row_joins.specs.Equated.{is_equality}
-use Rattle.row_nodes.specs.Keeping.{Keeps, KeptOf, input_columns, is_kept, keeps_input, keyed_at}
+use Rattle.row_nodes.specs.Keeping.{Keeps, KeptOf, input_columns, input_depth, is_kept, keeps_input, keyed_at}
 use Rattle.row_nodes.specs.Keyed.{AreKeyed}
 use Rattle.row_nodes.specs.declared.keeping.Keeping.{Keeping}
 use Rattle.row_nodes.specs.declared.keeping.Keeping.TheVariants as of
@@ -114,11 +114,21 @@ IsInputFound q depth db inner (Ok None) = Unit {0}
 IsInputFound q depth db inner (Ok (Some keyed)) = HasInput q depth db inner keyed
 IsInputFound q depth db inner (Err error) = Refuses (meaning q db inner) error
 
--- rows by a key are those that the query's filter is over, where its input is to be kept
+-- rows by a key are those that the query's filter is over whose input is to be kept; where none is, there are no such rows
 abbrev pub IsInputOf : Query → Keeping → Database → List Row → Keyed → Type 0
-IsInputOf q of.Nothing db inner keyed = Unit {0}
-IsInputOf q (of.Rows n) db inner keyed = Unit {0}
+IsInputOf q of.Nothing db inner keyed = ⊥
+IsInputOf q (of.Rows n) db inner keyed = ⊥
 IsInputOf q (of.Input n depth) db inner keyed = HasInput q depth db inner keyed
+
+-- the same of those that were found, if any were
+abbrev pub AreInputOf : Query → Keeping → Database → List Row → Option Keyed → Type 0
+AreInputOf q keeping db inner None = Unit {0}
+AreInputOf q keeping db inner (Some keyed) = IsInputOf q keeping db inner keyed
+
+-- if any were found, they are found again for the row at hand
+abbrev pub FindsInput : Remembered Keyed → Option Keyed → Type 0
+FindsInput inputs None = Unit {0}
+FindsInput inputs (Some keyed) = found inputs ≡ Some keyed
 
 -- what answers for the query under the row at hand
 abbrev pub answer_at : Known → Answer
@@ -144,10 +154,9 @@ pub record KnowsInput (db : Database) (env : List Row) (u : Row) (q : Query) (in
   pub knows : Knows db env q in_cells known
   pub input_here : picked known.inputs.places u ≡ known.inputs.key
 
--- such rows that are known for the row at hand are those of the query's filter under this row
-abbrev pub KeyedOn : Database → List Row → Row → Query → Known → Type 0
-KeyedOn db env u q known =
-    (keyed : Keyed) → found known.inputs ≡ Some keyed → (n depth : ℕ) → known.keeping ≡ of.Input n depth → IsKeyed q depth db (u ∷ env) keyed
+-- such rows, if any are known for the row at hand, are those of the query's filter under outer rows of which it is the nearest
+abbrev pub KeyedOn : Database → Row → List Row → Query → Known → Type 0
+KeyedOn db u inner q known = (keyed : Keyed) → found known.inputs ≡ Some keyed → KeyedUnder q (input_depth known.keeping) db u inner keyed
 
 -- of a sublink's query; IN and NOT IN ask for a value
 abbrev pub AnswersSub : Database → List Row → Sublink → Answer → Type 0

@@ -3,7 +3,7 @@ ghost use Rattle.std.specs.Prelude.{◌≡◌, ◌↔◌, ◌^◌, ◌≤◌, []
 ghost use Rattle.bag_algebra.specs.FaultFree.{faultless};
 ghost use Rattle.bag_algebra.specs.declared.query.Query.{Query as SeenQuery};
 ghost use Rattle.query_reach.specs.Reach.{reach_of};
-ghost use Rattle.row_nodes.specs.Keeping.{IsBelow, KeptOf, Leads, better, input_columns, is_kept, keeps_input, kept_reach};
+ghost use Rattle.row_nodes.specs.Keeping.{IsBelow, KeptOf, Leads, better, input_columns, input_depth, is_kept, keeps_input, kept_reach};
 
 use bag_algebra::{Expr, Query, Sublink, faultless};
 use query_reach::reach;
@@ -40,6 +40,17 @@ impl Keeping {
             Keeping::Nothing => 0,
             Keeping::Rows(_) => 0,
             Keeping::Input(reach, _) => reach,
+        }
+    }
+
+    /// How many nodes down the filter stands whose input is kept; 0 where none is kept.
+    pub(crate) fn input_depth(self) -> usize
+        ensures { result ≡ input_depth self }
+    {
+        match self {
+            Keeping::Nothing => 0,
+            Keeping::Rows(_) => 0,
+            Keeping::Input(_, depth) => depth,
         }
     }
 

@@ -1,5 +1,5 @@
 //! What is known of a query from row to row: of that of a sublink, or of the right side of a dependent join.
-ghost use Rattle.std.specs.Prelude.{◌≡◌, ◌∷◌, [], false, IsTrue, IfOk, OnOk, OnErr, Bool, List as ListOf, Some};
+ghost use Rattle.std.specs.Prelude.{◌≡◌, ◌∷◌, [], false, IsTrue, IfOk, OnOk, OnErr, Bool, List as ListOf};
 ghost use Rattle.std.specs.Option.{option_copied};
 ghost use Rattle.perm_values.specs.Rows.{picked};
 ghost use Rattle.bag_algebra.specs.Bags.{Bag, Row as SeenRow};
@@ -11,8 +11,9 @@ ghost use Rattle.bag_algebra.specs.declared.query.Query.{Query as SeenQuery};
 ghost use Rattle.row_memory.specs.Memory.{found};
 ghost use Rattle.row_joins.specs.Cells.{AreCells};
 ghost use Rattle.row_joins.specs.Hashed.{on_pair, met_rows};
+ghost use Rattle.row_nodes.specs.Keeping.{input_depth};
 ghost use Rattle.row_nodes.specs.Keyed.{AreKeyed};
-ghost use Rattle.row_nodes.specs.Known.{AllKnown, AllNew, HasRows, IsInputOf, IsNew, IsWhole, Knows, KnowsInput, KnowsOn, answer_at, asks, asks_input, gone_on, gone_on_input, is_nothing, tests_equality, turned};
+ghost use Rattle.row_nodes.specs.Known.{AllKnown, AllNew, AreInputOf, FindsInput, HasRows, IsNew, IsWhole, Knows, KnowsInput, KnowsOn, answer_at, asks, asks_input, gone_on, gone_on_input, is_nothing, tests_equality, turned};
 
 use crate::input::Input;
 use crate::keeping::{Keeping, kept_of};
@@ -67,19 +68,14 @@ impl<'a> Known<'a> {
         let read = nearest_places(alloc, query)?;
         let first = List::range(alloc, 0, keeping.input_columns())?;
         let room = room.saturating_add(LEAST_ROOM);
+        let memory = Memory::new(alloc, read, room);
+        let inputs = Memory::new(alloc, first, room);
         Ok(Known {
             keeping,
-            memory: Memory::new(alloc, read, room),
-            inputs: Memory::new(alloc, first, room),
+            memory,
+            inputs,
             nothing: Answer::Nothing,
         })
-    }
-
-    /// What is kept of the query.
-    pub fn keeping(&self) -> Keeping
-        ensures { result ≡ self.now.keeping }
-    {
-        self.keeping
     }
 
     /// What answers for the query under the row at hand.
@@ -129,6 +125,13 @@ impl<'a> Known<'a> {
         self.inputs.found()
     }
 
+    /// How many nodes down that filter stands.
+    pub fn input_depth(&self) -> usize
+        ensures { result ≡ input_depth self.now.keeping }
+    {
+        self.keeping.input_depth()
+    }
+
     /// Goes on to a row in the rows that a filter of the query is over. Where these are to be kept, and none were found under a
     /// row with the same values in the first columns, they are asked for. It fails only for want of memory, and then changes
     /// nothing.
@@ -153,17 +156,22 @@ impl<'a> Known<'a> {
         }
     }
 
-    /// Keeps the rows that a filter is over, found on the row at hand. It fails only for want of memory.
-    pub fn keep_input(&mut self, alloc: Global, keyed: Keyed<'a>) -> Result<(), NoMemory>
+    /// Keeps the rows that a filter is over, if any were found on the row at hand. It fails only for want of memory.
+    pub fn keep_input(&mut self, alloc: Global, input: Option<Keyed<'a>>) -> Result<(), NoMemory>
         ensures knows { (db : Database) (env : ListOf SeenRow) (row : SeenRow) (q : SeenQuery) (in_cells : Bool) →
-            KnowsInput db env row q in_cells self.old → IsInputOf q self.old.keeping db (row ∷ env) keyed.entry
+            KnowsInput db env row q in_cells self.old → AreInputOf q self.old.keeping db (row ∷ env) input.entry
             → OnOk result (KnowsInput db env row q in_cells self.new) }
-        ensures input { OnOk result (found self.new.inputs ≡ Some keyed.entry) }
+        ensures input { OnOk result (FindsInput self.new.inputs input.entry) }
         ensures keeping { self.new.keeping ≡ self.old.keeping }
         ensures memory { self.new.memory ≡ self.old.memory }
     {
-        let weight = keyed.rows.as_slice().len();
-        self.inputs.keep(alloc, weight.saturating_add(1), keyed)
+        match input {
+            Some(keyed) => {
+                let rows = keyed.rows.len();
+                self.inputs.keep(alloc, rows.saturating_add(1), keyed)
+            }
+            None => Ok(()),
+        }
     }
 }
 

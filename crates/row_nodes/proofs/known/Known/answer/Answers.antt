@@ -1,6 +1,6 @@
-use Rattle.std.proofs.Common.{unwrap_or, ap, ◌∙◌}
-use Rattle.row_nodes.proofs.Kept.{lent_or}
+use Rattle.std.proofs.Common.{refl}
+use Rattle.row_nodes.proofs.Kept.{lent_is}
 use Rattle.row_nodes.proofs.known.Known.answer.Goals as goal
 
 pub returns : goal.returns
-returns c = ap (λ r. r.now) c.unwrap_or.ensures ∙ lent_or _ _ ∙ ap (λ o. unwrap_or o c.args.self.now.nothing) c.found.ensures
+returns c = lent_is c.found.result _ c.unwrap_or.result _ c.args.self.now.nothing c.unwrap_or.ensures c.found.ensures refl
