@@ -1,5 +1,5 @@
 -- What a memory has after an item is put in.
-use Rattle.std.proofs.Common.{◌≡◌, ℕ, Bool, true, false, cond, List, Option, Some, None, refl, sym, ap, ◌∙◌}
+use Rattle.std.proofs.Common.{◌≡◌, ℕ, Bool, true, false, cond, List, Option, Some, refl, sym, ap, ◌∙◌}
 use Rattle.std.specs.Map.{lookup}
 use Rattle.perm_values.specs.Rows.{same_row}
 use Rattle.perm_values.specs.declared.value.Value.{Value}

@@ -3,15 +3,14 @@ use Rattle.std.proofs.Common.{◌≡◌, ℕ, suc, zero, ◌+◌, ◌-◌, ◌<�
 use Rattle.std.proofs.lemmas.Bool.Decides.{nat_tests}
 use Rattle.bag_algebra.specs.FaultFree.{faultless}
 use Rattle.bag_algebra.specs.declared.expr.Expr.{Expr}
-use Rattle.bag_algebra.specs.declared.expr.Item.{Item}
 use Rattle.bag_algebra.specs.declared.query.Query.{Query}
-use Rattle.bag_algebra.specs.declared.query.Query.TheVariants.{Filter, Project}
+use Rattle.bag_algebra.specs.declared.query.Query.TheVariants.{Filter}
 use Rattle.bag_algebra.specs.declared.query.Sublink.{Sublink}
 use Rattle.query_reach.specs.Reach.{reach_of}
 use Rattle.row_nodes.specs.Keeping.{kept_reach, keyed_at, Keeps, RowsLead, InputLeads, Leads, IsKept, KeptOf, IsBelow, better}
 use Rattle.row_nodes.specs.declared.keeping.Keeping.{Keeping}
 use Rattle.row_nodes.specs.declared.keeping.Keeping.TheVariants as of
-use Rattle.row_nodes.proofs.Kept.{keys, filter_top, filter_below, filter_of, project_top, project_below}
+use Rattle.row_nodes.proofs.Kept.{keys, filter_top, filter_below, filter_of}
 
 same_reach : (n m : ℕ) → ◌≡◌ {A = Option ℕ} (Some n) (Some m) → n ≤ m
 same_reach n m e = let k : n ≡ m = cc in omega arith
@@ -95,7 +94,7 @@ module _ (top query : Query) (depth : ℕ) (below : IsBelow top depth query) (be
   pub nothing_leads : kept_reach best ≡ 0 → Leads top (2 ^ 64) best
   nothing_leads e = all_lead top depth (2 ^ 64) best leads (λ d m low f. omega arith)
 
-  -- below a query that is no Filter and no Project there is none
+  -- below a query that is no Filter, no Project and no Aggregate there is none
   pub leaf_leads : ((d : ℕ) → keyed_at query d ≡ None) → Leads top (2 ^ 64) best
   leaf_leads none = all_lead top depth (2 ^ 64) best leads (λ d m low f. absurd (no_such d m low f))
     where
@@ -122,14 +121,15 @@ module _ (top query : Query) (depth : ℕ) (below : IsBelow top depth query) (be
         (here ∙ filter_top query input condition subs is ∙ (λ i. cond (keys condition (f.1 i)) (Some (reach_of input)) None)
         ∙ (λ i. cond (f.0 i) (Some (sym f.2 i)) None))
 
-  module _ (input : Query) (items : List Item) (subs : List Sublink) (is : query ≡ Project input items subs) where
-    pub below_project : IsBelow top (depth + 1) input
-    below_project d =
+  -- over one that no filter is
+  module _ (input : Query) (no_filter : keyed_at query 0 ≡ None) (deeper : (d : ℕ) → keyed_at query (suc d) ≡ keyed_at input d) where
+    pub below_over : IsBelow top (depth + 1) input
+    below_over d =
         let e : (depth + 1) + d ≡ depth + suc d = omega arith in
-        ap (keyed_at top) e ∙ below (suc d) ∙ project_below query input items subs is d
+        ap (keyed_at top) e ∙ below (suc d) ∙ deeper d
 
-    pub project_leads : Leads top (depth + 1) best
-    project_leads = none_more top depth best leads (λ m e. let f : None ≡ Some m = sym (project_top query input items subs is) ∙ sym here ∙ e in absurd (cc f))
+    pub over_leads : Leads top (depth + 1) best
+    over_leads = none_more top depth best leads (λ m e. let f : None ≡ Some m = sym no_filter ∙ sym here ∙ e in absurd (cc f))
 
 -- ---- what leads among all is kept
 

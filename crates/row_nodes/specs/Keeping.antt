@@ -1,4 +1,4 @@
--- What of a query may be kept for as long as the rows under which it is run begin with the same columns.
+-- What of a query may be kept for all rows under which it is run that have the same values in the columns that it reads.
 use Rattle.std.specs.Prelude.{◌≡◌, ℕ, zero, suc, ◌+◌, ◌<◌, ◌≤◌, ◌^◌, nat_lt, Bool, true, false, cond, Option, Some, None}
 use Rattle.bag_algebra.specs.FaultFree.{faultless}
 use Rattle.bag_algebra.specs.built.Patterns.{BaseOf, FilterOf, ProjectOf, JoinOf, ApplyOf, UnionOf, IntersectOf, ExceptOf, DistinctOf, AggregateOf, LimitOf, ProvOf}
@@ -9,24 +9,42 @@ use Rattle.query_reach.specs.Reach.{reach_of}
 use Rattle.row_nodes.specs.declared.keeping.Keeping.{Keeping}
 use Rattle.row_nodes.specs.declared.keeping.Keeping.TheVariants as of
 
--- the first columns of a row that have to stay the same
+-- how many of a row's first columns are read for what is kept
 abbrev pub kept_reach : Keeping → ℕ
 kept_reach of.Nothing = 0
 kept_reach (of.Rows reach) = reach
 kept_reach (of.Input reach depth) = reach
+
+-- how many the input of a filter reads, where that is kept
+abbrev pub input_columns : Keeping → ℕ
+input_columns of.Nothing = 0
+input_columns (of.Rows reach) = 0
+input_columns (of.Input reach depth) = reach
+
+-- how many nodes down that filter stands; 0 where none is kept
+abbrev pub input_depth : Keeping → ℕ
+input_depth of.Nothing = 0
+input_depth (of.Rows reach) = 0
+input_depth (of.Input reach depth) = depth
 
 abbrev pub is_kept : Keeping → Bool
 is_kept of.Nothing = false
 is_kept (of.Rows reach) = true
 is_kept (of.Input reach depth) = true
 
+-- whether the input of a filter is kept
+abbrev pub keeps_input : Keeping → Bool
+keeps_input of.Nothing = false
+keeps_input (of.Rows reach) = false
+keeps_input (of.Input reach depth) = true
+
 -- whether a key may answer a filter: its condition can meet no fault, and it has no sublinks
 abbrev pub can_key : {m : _} → Expr → Row_of-Sublink m → Bool
 can_key condition end_of-Sublink = faultless condition
 can_key condition (more_of-Sublink kind tested query subs) = false
 
--- where so many Filters and Projects down a filter stands that a key may answer: how many of the nearest outer row's first
--- columns its input reads
+-- where so many Filters, Projects and Aggregates down a filter stands that a key may answer: how many of the nearest outer row's
+-- first columns its input reads
 abbrev pub keyed_at : Query → ℕ → Option ℕ
 keyed_at (Table id kinds) depth = None
 keyed_at Single depth = None
@@ -41,7 +59,8 @@ keyed_at (UnionOf all left right) depth = None
 keyed_at (IntersectOf all left right) depth = None
 keyed_at (ExceptOf all left right) depth = None
 keyed_at (DistinctOf input) depth = None
-keyed_at (AggregateOf input groups aggregates) depth = None
+keyed_at (AggregateOf input groups aggregates) zero = None
+keyed_at (AggregateOf input groups aggregates) (suc depth) = keyed_at input depth
 keyed_at (LimitOf input keys count) depth = None
 keyed_at (ProvOf input) depth = None
 
@@ -87,7 +106,7 @@ KeptOf false q keeping = keeping ≡ of.Nothing
 
 -- ---- as code finds it
 
--- a query stands so many Filters and Projects below another
+-- a query stands so many Filters, Projects and Aggregates below another
 abbrev pub IsBelow : Query → ℕ → Query → Type 0
 IsBelow top depth q = (d : ℕ) → keyed_at top (depth + d) ≡ keyed_at q d
 

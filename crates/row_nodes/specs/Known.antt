@@ -1,7 +1,8 @@
 -- What is known of a query from row to row, under which it is asked for as the query of a sublink or the right side of a
 -- dependent join.
-use Rattle.std.specs.Prelude.{◌≡◌, ℕ, zero, suc, Bool, true, false, cond, ◌&&◌, IsTrue, List, [], ◌∷◌, take, Option, Some, None, Result, Ok, Err}
-use Rattle.perm_values.specs.Rows.{same_row}
+use Rattle.std.specs.Prelude.{◌≡◌, ℕ, zero, suc, Bool, true, false, ◌&&◌, IsTrue, List, [], ◌∷◌, Option, Some, None, is_none, unwrap_or, Result, Ok, Err}
+use Rattle.std.specs.List.{range_with_len}
+use Rattle.perm_values.specs.Rows.{picked}
 use Rattle.null_logic.specs.Logic.{truth_not}
 use Rattle.null_logic.specs.declared.compare.Compare.{Compare}
 use Rattle.null_logic.specs.declared.compare.Compare.TheVariants.{Equal, NotEqual, Less, LessEqual, Greater, GreaterEqual}
@@ -16,11 +17,13 @@ use Rattle.bag_algebra.specs.declared.query.Query.TheVariants.{Table, Single}
 use Rattle.bag_algebra.specs.declared.query.SubKind.{SubKind}
 use Rattle.bag_algebra.specs.declared.query.SubKind.TheVariants.{Exists, Any, All, Scalar}
 use Rattle.bag_algebra.specs.declared.query.Sublink.{Sublink}
+use Rattle.read_columns.specs.Columns.{AreNearest, columns_of}
 use Rattle.row_values.specs.Answers.{Refuses}
 use Rattle.row_values.specs.declared.error.ExecError.{ExecError}
+use Rattle.row_memory.specs.Memory.{Remembered, found, found_under, remembered}
 use Rattle.row_joins.specs.Cells.{AreCells}
 use Rattle.row_joins.specs.Equated.{is_equality}
-use Rattle.row_nodes.specs.Keeping.{Keeps, KeptOf, is_kept, kept_reach, keyed_at}
+use Rattle.row_nodes.specs.Keeping.{Keeps, KeptOf, input_columns, input_depth, is_kept, keeps_input, keyed_at}
 use Rattle.row_nodes.specs.Keyed.{AreKeyed}
 use Rattle.row_nodes.specs.declared.keeping.Keeping.{Keeping}
 use Rattle.row_nodes.specs.declared.keeping.Keeping.TheVariants as of
@@ -55,7 +58,6 @@ abbrev pub HasRows : Bool → Bag → Answer → Type 0
 HasRows in_cells vs by.Nothing = Unit {0}
 HasRows in_cells vs (by.Rows rows) = rows ≡ vs
 HasRows in_cells vs (by.Cells cells) = IsTrue in_cells × AreCells cells vs
-HasRows in_cells vs (by.Keyed depth keyed) = ⊥
 
 -- the query has rows under the outer rows, and these are they
 pub record IsWhole (db : Database) (inner : List Row) (q : Query) (in_cells : Bool) (answer : Answer) : Type 0 where
@@ -68,7 +70,7 @@ pub record IsInput (input : Query) (condition : Expr) (db : Database) (inner : L
   pub means : meaning input db inner ≡ Good keyed.rows
   pub keyed_are : AreKeyed condition keyed.rows keyed
 
--- the same of the filter so many Filters and Projects down
+-- the same of the filter so many Filters, Projects and Aggregates down
 abbrev pub HasInput : Query → ℕ → Database → List Row → Keyed → Type 0
 HasInput (Table id kinds) depth db inner keyed = Unit {0}
 HasInput Single depth db inner keyed = Unit {0}
@@ -83,7 +85,8 @@ HasInput (UnionOf all left right) depth db inner keyed = Unit {0}
 HasInput (IntersectOf all left right) depth db inner keyed = Unit {0}
 HasInput (ExceptOf all left right) depth db inner keyed = Unit {0}
 HasInput (DistinctOf input) depth db inner keyed = Unit {0}
-HasInput (AggregateOf input groups aggregates) depth db inner keyed = Unit {0}
+HasInput (AggregateOf input groups aggregates) zero db inner keyed = Unit {0}
+HasInput (AggregateOf input groups aggregates) (suc depth) db inner keyed = HasInput input depth db inner keyed
 HasInput (LimitOf input keys count) depth db inner keyed = Unit {0}
 HasInput (ProvOf input) depth db inner keyed = Unit {0}
 
@@ -104,49 +107,56 @@ abbrev pub Answers : Database → List Row → Query → Bool → Answer → Typ
 Answers db inner q in_cells by.Nothing = Unit {0}
 Answers db inner q in_cells (by.Rows rows) = IsWhole db inner q in_cells (by.Rows rows)
 Answers db inner q in_cells (by.Cells cells) = IsWhole db inner q in_cells (by.Cells cells)
-Answers db inner q in_cells (by.Keyed depth keyed) = IsKeyed q depth db inner keyed
 
--- what may be found of the query's filter so many nodes down
-abbrev pub FindsInput : Query → ℕ → Database → List Row → Answer → Type 0
-FindsInput q depth db inner by.Nothing = Unit {0}
-FindsInput q depth db inner (by.Rows rows) = ⊥
-FindsInput q depth db inner (by.Cells cells) = ⊥
-FindsInput q depth db inner (by.Keyed at keyed) = (at ≡ depth) × HasInput q depth db inner keyed
-
+-- what is found of the query's filter so many nodes down
 abbrev pub IsInputFound : Query → ℕ → Database → List Row → Result (Option Keyed) ExecError → Type 0
 IsInputFound q depth db inner (Ok None) = Unit {0}
 IsInputFound q depth db inner (Ok (Some keyed)) = HasInput q depth db inner keyed
 IsInputFound q depth db inner (Err error) = Refuses (meaning q db inner) error
 
-abbrev pub keyed_answer : ℕ → Option Keyed → Answer
-keyed_answer depth None = by.Nothing
-keyed_answer depth (Some keyed) = by.Keyed depth keyed
+-- rows by a key are those that the query's filter is over whose input is to be kept; where none is, there are no such rows
+abbrev pub IsInputOf : Query → Keeping → Database → List Row → Keyed → Type 0
+IsInputOf q of.Nothing db inner keyed = ⊥
+IsInputOf q (of.Rows n) db inner keyed = ⊥
+IsInputOf q (of.Input n depth) db inner keyed = HasInput q depth db inner keyed
 
--- what may be found under the outer rows, where this is to be kept
-abbrev pub FindsNothing : Answer → Type 0
-FindsNothing by.Nothing = Unit {0}
-FindsNothing (by.Rows rows) = ⊥
-FindsNothing (by.Cells cells) = ⊥
-FindsNothing (by.Keyed depth keyed) = ⊥
+-- the same of those that were found, if any were
+abbrev pub AreInputOf : Query → Keeping → Database → List Row → Option Keyed → Type 0
+AreInputOf q keeping db inner None = Unit {0}
+AreInputOf q keeping db inner (Some keyed) = IsInputOf q keeping db inner keyed
 
-abbrev pub Finds : Keeping → Database → List Row → Query → Bool → Answer → Type 0
-Finds of.Nothing db inner q in_cells answer = FindsNothing answer
-Finds (of.Rows n) db inner q in_cells answer = IsWhole db inner q in_cells answer
-Finds (of.Input n depth) db inner q in_cells answer = FindsInput q depth db inner answer
+-- if any were found, they are found again for the row at hand
+abbrev pub FindsInput : Remembered Keyed → Option Keyed → Type 0
+FindsInput inputs None = Unit {0}
+FindsInput inputs (Some keyed) = found inputs ≡ Some keyed
 
-abbrev pub IsFound : Keeping → Database → List Row → Query → Bool → Result Answer ExecError → Type 0
-IsFound keeping db inner q in_cells (Ok answer) = Finds keeping db inner q in_cells answer
-IsFound keeping db inner q in_cells (Err error) = Refuses (meaning q db inner) error
+-- what answers for the query under the row at hand
+abbrev pub answer_at : Known → Answer
+answer_at known = unwrap_or (found known.memory) known.nothing
 
--- what is known of the query is so on every row under which it is asked for and that begins with the columns
+-- what was found is so on every row that has the values under which it is remembered: of the query those of the columns that it
+-- reads, of the rows that a filter in it is over those of the first ones
 pub record Knows (db : Database) (env : List Row) (q : Query) (in_cells : Bool) (known : Known) : Type 0 where
+  pub nothing_is : known.nothing ≡ by.Nothing
   pub keeps : Keeps q known.keeping
-  pub answers : (u : Row) → take (kept_reach known.keeping) u ≡ known.columns → Answers db (u ∷ env) q in_cells known.answer
+  pub kept_by : AreNearest (columns_of q) known.memory.places
+  pub input_by : known.inputs.places ≡ range_with_len 0 (input_columns known.keeping)
+  pub answers : (key : Row) (answer : Answer) → found_under known.memory key ≡ Some answer → (u : Row) → picked known.memory.places u ≡ key → Answers db (u ∷ env) q in_cells answer
+  pub inputs : (key : Row) (keyed : Keyed) → found_under known.inputs key ≡ Some keyed → (u : Row) → picked known.inputs.places u ≡ key → IsInputOf q known.keeping db (u ∷ env) keyed
 
--- and is so on this row
+-- and what answers under the row at hand is so on this row
 pub record KnowsOn (db : Database) (env : List Row) (u : Row) (q : Query) (in_cells : Bool) (known : Known) : Type 0 where
   pub knows : Knows db env q in_cells known
-  pub answers : Answers db (u ∷ env) q in_cells known.answer
+  pub answers : Answers db (u ∷ env) q in_cells (answer_at known)
+
+-- and the rows that a filter in it is over are known under this row, if any are
+pub record KnowsInput (db : Database) (env : List Row) (u : Row) (q : Query) (in_cells : Bool) (known : Known) : Type 0 where
+  pub knows : Knows db env q in_cells known
+  pub input_here : picked known.inputs.places u ≡ known.inputs.key
+
+-- such rows, if any are known for the row at hand, are those of the query's filter under outer rows of which it is the nearest
+abbrev pub KeyedOn : Database → Row → List Row → Query → Known → Type 0
+KeyedOn db u inner q known = (keyed : Keyed) → found known.inputs ≡ Some keyed → KeyedUnder q (input_depth known.keeping) db u inner keyed
 
 -- of a sublink's query; IN and NOT IN ask for a value
 abbrev pub AnswersSub : Database → List Row → Sublink → Answer → Type 0
@@ -168,13 +178,13 @@ abbrev pub is_nothing : Answer → Bool
 is_nothing by.Nothing = true
 is_nothing (by.Rows rows) = false
 is_nothing (by.Cells cells) = false
-is_nothing (by.Keyed depth keyed) = false
 
 -- nothing is known yet
 pub record IsNew (is_hashed : Bool) (q : Query) (known : Known) : Type 0 where
   pub keeping_is : KeptOf is_hashed q known.keeping
-  pub columns_are : known.columns ≡ []
-  pub answer_is : known.answer ≡ by.Nothing
+  pub entries_are : known.memory.entries ≡ []
+  pub inputs_are : known.inputs.entries ≡ []
+  pub nothing_is : known.nothing ≡ by.Nothing
 
 -- of each sublink's query
 abbrev pub AllNew : Bool → List Sublink → List Known → Type 0
@@ -183,14 +193,28 @@ AllNew is_hashed [] (known ∷ more) = ⊥
 AllNew is_hashed (sub ∷ subs) [] = ⊥
 AllNew is_hashed (sub ∷ subs) (known ∷ more) = IsNew is_hashed sub.query known × AllNew is_hashed subs more
 
--- whether the row begins with the columns of what is known
-abbrev pub begins : Known → Row → Bool
-begins known u = same_row (take (kept_reach known.keeping) u) known.columns
+-- the query is asked for where something is to be kept, and nothing was found for the row at hand
+abbrev pub asks : Known → Bool
+asks known = is_kept known.keeping && is_nothing (answer_at known)
 
--- it is asked for where the row begins with the columns, something is to be kept, and nothing was found
-abbrev pub asks : Known → Row → Bool
-asks known u = begins known u && (is_kept known.keeping && is_nothing known.answer)
-
--- what is known behind a step to a row: the same where the row begins with the columns, else only its own columns
+-- what is known behind a step to a row: the same, the row at hand being this one
 abbrev pub gone_on : Known → Row → Known
-gone_on known u = cond (begins known u) known (record { keeping = known.keeping; columns = take (kept_reach known.keeping) u; answer = by.Nothing })
+gone_on known u = record {
+  keeping = known.keeping;
+  memory = remembered known.memory.places (picked known.memory.places u) known.memory.entries;
+  inputs = known.inputs;
+  nothing = known.nothing;
+}
+
+-- the rows that a filter is over are asked for where they are to be kept, and none were found for the row at hand
+abbrev pub asks_input : Known → Bool
+asks_input known = is_none (found known.inputs) && keeps_input known.keeping
+
+-- what is known behind a step to a row in these
+abbrev pub gone_on_input : Known → Row → Known
+gone_on_input known u = record {
+  keeping = known.keeping;
+  memory = known.memory;
+  inputs = remembered known.inputs.places (picked known.inputs.places u) known.inputs.entries;
+  nothing = known.nothing;
+}

@@ -63,6 +63,13 @@ impl<'a> Input<'a> {
         }
     }
 
+    /// How many rows there are.
+    pub fn len(&self) -> usize
+        ensures { result ≡ length self.now }
+    {
+        self.as_slice().len()
+    }
+
     /// The rows: made ones themselves, of stored ones copies. It fails only for want of memory.
     pub fn into_rows(self, alloc: Global) -> Result<Rows, NoMemory>
         ensures { IfOk result (λ rows. rows ≡ self.entry) }

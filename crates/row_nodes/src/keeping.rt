@@ -3,20 +3,20 @@ ghost use Rattle.std.specs.Prelude.{◌≡◌, ◌↔◌, ◌^◌, ◌≤◌, []
 ghost use Rattle.bag_algebra.specs.FaultFree.{faultless};
 ghost use Rattle.bag_algebra.specs.declared.query.Query.{Query as SeenQuery};
 ghost use Rattle.query_reach.specs.Reach.{reach_of};
-ghost use Rattle.row_nodes.specs.Keeping.{IsBelow, KeptOf, Leads, better, is_kept, kept_reach};
+ghost use Rattle.row_nodes.specs.Keeping.{IsBelow, KeptOf, Leads, better, input_columns, input_depth, is_kept, keeps_input, kept_reach};
 
 use bag_algebra::{Expr, Query, Sublink, faultless};
 use query_reach::reach;
 
-/// What of a query is kept for as long as the rows under which it is run begin with the same columns, so many
-/// that no more of them are read.
+/// What of a query is kept from row to row.
 #[derive(Clone, Copy, PartialEq, Eq)]
 pub enum Keeping {
     /// Nothing: it is run on each row.
     Nothing,
-    /// Its rows.
+    /// Its rows; it reads so many of the first columns and none behind them.
     Rows(usize),
-    /// The rows that a filter is over, which stands so many Filters and Projects down: 0 where it is the query.
+    /// Its rows, and the rows that a filter is over, which reads so many of the first columns and stands so many nodes down: 0
+    /// where it is the query.
     Input(usize, usize),
 }
 
@@ -29,6 +29,39 @@ impl Keeping {
             Keeping::Nothing => 0,
             Keeping::Rows(reach) => reach,
             Keeping::Input(reach, _) => reach,
+        }
+    }
+
+    /// How many of the first columns the input of a filter reads, where that is kept.
+    pub(crate) fn input_columns(self) -> usize
+        ensures { result ≡ input_columns self }
+    {
+        match self {
+            Keeping::Nothing => 0,
+            Keeping::Rows(_) => 0,
+            Keeping::Input(reach, _) => reach,
+        }
+    }
+
+    /// How many nodes down the filter stands whose input is kept; 0 where none is kept.
+    pub(crate) fn input_depth(self) -> usize
+        ensures { result ≡ input_depth self }
+    {
+        match self {
+            Keeping::Nothing => 0,
+            Keeping::Rows(_) => 0,
+            Keeping::Input(_, depth) => depth,
+        }
+    }
+
+    /// Whether the input of a filter is kept.
+    pub(crate) fn keeps_input(self) -> bool
+        ensures { result ≡ keeps_input self }
+    {
+        match self {
+            Keeping::Nothing => false,
+            Keeping::Rows(_) => false,
+            Keeping::Input(_, _) => true,
         }
     }
 
@@ -45,8 +78,8 @@ impl Keeping {
 }
 
 /// Where there is hashing, the input of the topmost filter that a key may answer whose input reads the fewest
-/// first columns, if that reads fewer than the query, and else the query's rows. Only Filters and Projects stand
-/// above it. Nothing where no `usize` holds how many the query reads.
+/// first columns, if that reads fewer than the query, and else the query's rows. Only Filters, Projects and
+/// Aggregates stand above it. Nothing where no `usize` holds how many the query reads.
 pub(crate) fn kept_of(is_hashed: bool, query: &Query) -> Keeping
     ensures { KeptOf is_hashed query.now result }
 {
@@ -87,6 +120,12 @@ fn least(query: &Query, depth: usize, best: Keeping) -> Keeping
             }
             least(input.get(), depth + 1, best)
         }
+        Query::Aggregate { input, .. } => {
+            if depth == usize::MAX {
+                return best;
+            }
+            least(input.get(), depth + 1, best)
+        }
         Query::Table { .. } => best,
         Query::Single => best,
         Query::Base { .. } => best,
@@ -96,7 +135,6 @@ fn least(query: &Query, depth: usize, best: Keeping) -> Keeping
         Query::Intersect { .. } => best,
         Query::Except { .. } => best,
         Query::Distinct { .. } => best,
-        Query::Aggregate { .. } => best,
         Query::Limit { .. } => best,
         Query::Prov { .. } => best,
     }

@@ -1,25 +1,29 @@
 //! What is known of a query from row to row: of that of a sublink, or of the right side of a dependent join.
-ghost use Rattle.std.specs.Prelude.{◌≡◌, ◌∷◌, [], false, IsTrue, IfOk, OnOk, OnErr, Bool, List as ListOf, take};
+ghost use Rattle.std.specs.Prelude.{◌≡◌, ◌∷◌, [], false, IsTrue, IfOk, OnOk, OnErr, Bool, List as ListOf};
+ghost use Rattle.std.specs.Option.{option_copied};
+ghost use Rattle.perm_values.specs.Rows.{picked};
 ghost use Rattle.bag_algebra.specs.Bags.{Bag, Row as SeenRow};
 ghost use Rattle.bag_algebra.specs.FaultFree.{faultless};
 ghost use Rattle.bag_algebra.specs.Meaning.{Database};
 ghost use Rattle.bag_algebra.specs.Means.{sub_value};
 ghost use Rattle.bag_algebra.specs.Outcome.{Good};
 ghost use Rattle.bag_algebra.specs.declared.query.Query.{Query as SeenQuery};
+ghost use Rattle.row_memory.specs.Memory.{found};
 ghost use Rattle.row_joins.specs.Cells.{AreCells};
 ghost use Rattle.row_joins.specs.Hashed.{on_pair, met_rows};
-ghost use Rattle.row_nodes.specs.Keeping.{kept_reach};
+ghost use Rattle.row_nodes.specs.Keeping.{input_depth};
 ghost use Rattle.row_nodes.specs.Keyed.{AreKeyed};
-ghost use Rattle.row_nodes.specs.Known.{AllKnown, AllNew, Finds, HasRows, IsNew, Knows, KnowsOn, asks, gone_on, is_nothing, keyed_answer, tests_equality, turned};
+ghost use Rattle.row_nodes.specs.Known.{AllKnown, AllNew, AreInputOf, FindsInput, HasRows, IsNew, IsWhole, Knows, KnowsInput, KnowsOn, answer_at, asks, asks_input, gone_on, gone_on_input, is_nothing, tests_equality, turned};
 
-use crate::first_columns::{first_columns, row_of, same_values};
 use crate::input::Input;
 use crate::keeping::{Keeping, kept_of};
 use bag_algebra::{Env, Expr, Query, SubKind, Sublink};
 use indexmap::IndexMap;
 use null_logic::{Compare, Truth};
 use perm_values::{List, NoMemory, Row, Rows, Value};
+use read_columns::nearest_places;
 use row_joins::{Cells, ColumnPair, key_table, keyed_columns, rows_around};
+use row_memory::Memory;
 use std::alloc::Global;
 
 /// What answers for a query.
@@ -31,77 +35,143 @@ pub enum Answer<'a> {
     Rows(Input<'a>),
     /// The first columns of these.
     Cells(Cells),
-    /// The rows that the filter is over which stands so many Filters and Projects down.
-    Keyed(usize, Keyed<'a>),
 }
 
-/// What is known of a query: what was found of it under a row, for as long as the rows begin with the same columns.
+/// So many rows are kept of a query however few those are under which it is asked for.
+const LEAST_ROOM: usize = 65_536;
+
+/// What is known of a query: what it gave under rows, by the values of the columns that it reads of them, and the rows that a
+/// filter in it is over, by those of the first columns.
 #[derive(Drop)]
 pub struct Known<'a> {
     keeping: Keeping,
-    columns: Row,
-    answer: Answer<'a>,
+    memory: Memory<Answer<'a>>,
+    inputs: Memory<Keyed<'a>>,
+    /// What answers where nothing was found.
+    nothing: Answer<'a>,
 }
 
 impl<'a> Known<'a> {
-    /// Nothing yet; where there is no hashing, nothing for good. It takes no memory.
-    pub fn of(alloc: Global, is_hashed: bool, query: &Query) -> Known<'a>
+    /// Nothing yet; where there is no hashing, nothing for good. Where what is found has more rows in all than these and the
+    /// least room, what was found before is forgotten. It fails only for want of memory.
+    pub fn of(
+        alloc: Global,
+        is_hashed: bool,
+        query: &Query,
+        room: usize,
+    ) -> Result<Known<'a>, NoMemory>
         ensures knows { (db : Database) (env : ListOf SeenRow) (in_cells : Bool)
-            → Knows db env query.now in_cells result }
-        ensures fresh { IsNew is_hashed query.now result }
+            → IfOk result (Knows db env query.now in_cells) }
+        ensures fresh { IfOk result (IsNew is_hashed query.now) }
     {
-        Known {
-            keeping: kept_of(is_hashed, query),
-            columns: Row::new(alloc),
-            answer: Answer::Nothing,
-        }
+        let keeping = kept_of(is_hashed, query);
+        let read = nearest_places(alloc, query)?;
+        let first = List::range(alloc, 0, keeping.input_columns())?;
+        let room = room.saturating_add(LEAST_ROOM);
+        let memory = Memory::new(alloc, read, room);
+        let inputs = Memory::new(alloc, first, room);
+        Ok(Known {
+            keeping,
+            memory,
+            inputs,
+            nothing: Answer::Nothing,
+        })
     }
 
-    /// What is kept of the query.
-    pub fn keeping(&self) -> Keeping
-        ensures { result ≡ self.now.keeping }
-    {
-        self.keeping
-    }
-
-    /// What answers for the query under a row that begins with the columns.
+    /// What answers for the query under the row at hand.
     pub fn answer(&self) -> &Answer<'a>
-        ensures { result.now ≡ self.now.answer }
+        ensures { result.now ≡ answer_at self.now }
     {
-        &self.answer
+        self.memory.found().unwrap_or(&self.nothing)
     }
 
-    /// Goes on to a row. What was found is dropped where the row begins with other columns than the one before; where it
-    /// begins with the same, something is to be kept and nothing was found, it is asked for. It fails only for want of
-    /// memory, and then changes nothing.
+    /// Goes on to a row. Where something is to be kept of the query and nothing was found under a row with the same values
+    /// in the columns that are read, it is asked for. It fails only for want of memory, and then changes nothing.
     pub fn asks(&mut self, alloc: Global, row: &Row) -> Result<bool, NoMemory>
         ensures knows { (db : Database) (env : ListOf SeenRow) (q : SeenQuery) (in_cells : Bool) →
             Knows db env q in_cells self.old → OnOk result (Knows db env q in_cells self.new) }
-        ensures begins { OnOk result (take (kept_reach self.new.keeping) row.now ≡ self.new.columns) }
-        ensures asks { IfOk result (λ asked. asked ≡ asks self.old row.now) }
+        ensures here { OnOk result (picked self.new.memory.places row.now ≡ self.new.memory.key) }
+        ensures asks { IfOk result (λ asked. asked ≡ asks self.new) }
         ensures leaves { OnOk result (self.new ≡ gone_on self.old row.now) }
         ensures unchanged { OnErr result (self.new ≡ self.old) }
     {
-        let columns = first_columns(row, self.keeping.reach());
-        if !same_values(columns, self.columns.as_slice()) {
-            self.columns = row_of(alloc, columns)?;
-            self.answer = Answer::Nothing;
-            return Ok(false);
-        }
-        Ok(self.keeping.keeps() && is_nothing(&self.answer))
+        self.memory.go_on(alloc, row)?;
+        Ok(self.lacks())
     }
 
-    /// Keeps what was found on a row that begins with the columns. It takes no memory.
-    pub fn keep(&mut self, answer: Answer<'a>)
-        ensures knows { (db : Database) (env : ListOf SeenRow) (row : SeenRow) (q : SeenQuery) (in_cells : Bool) →
-            Knows db env q in_cells self.old → take (kept_reach self.old.keeping) row ≡ self.old.columns →
-            Finds self.old.keeping db (row ∷ env) q in_cells answer.entry
-            → KnowsOn db env row q in_cells self.new }
-        ensures answer { self.new.answer ≡ answer.entry }
-        ensures keeping { self.new.keeping ≡ self.old.keeping }
-        ensures columns { self.new.columns ≡ self.old.columns }
+    /// Whether something is to be kept and nothing was found for the row at hand.
+    fn lacks(&self) -> bool
+        ensures { result ≡ asks self.now }
     {
-        self.answer = answer;
+        self.keeping.keeps() && is_nothing(self.answer())
+    }
+
+    /// Keeps what was found on the row at hand, which is of so many rows. It fails only for want of memory.
+    pub fn keep(&mut self, alloc: Global, rows: usize, answer: Answer<'a>) -> Result<(), NoMemory>
+        ensures knows { (db : Database) (env : ListOf SeenRow) (row : SeenRow) (q : SeenQuery) (in_cells : Bool) →
+            Knows db env q in_cells self.old → picked self.old.memory.places row ≡ self.old.memory.key →
+            IsWhole db (row ∷ env) q in_cells answer.entry
+            → OnOk result (KnowsOn db env row q in_cells self.new) }
+        ensures answer { OnOk result (answer_at self.new ≡ answer.entry) }
+        ensures keeping { self.new.keeping ≡ self.old.keeping }
+    {
+        self.memory.keep(alloc, rows.saturating_add(1), answer)
+    }
+
+    /// The rows that a filter of the query is over, by a key, where they are known for the row at hand.
+    pub fn input(&self) -> Option<&Keyed<'a>>
+        ensures { option_copied result ≡ found self.now.inputs }
+    {
+        self.inputs.found()
+    }
+
+    /// How many nodes down that filter stands.
+    pub fn input_depth(&self) -> usize
+        ensures { result ≡ input_depth self.now.keeping }
+    {
+        self.keeping.input_depth()
+    }
+
+    /// Goes on to a row in the rows that a filter of the query is over. Where these are to be kept, and none were found under a
+    /// row with the same values in the first columns, they are asked for. It fails only for want of memory, and then changes
+    /// nothing.
+    pub fn asks_input(&mut self, alloc: Global, row: &Row) -> Result<bool, NoMemory>
+        ensures knows { (db : Database) (env : ListOf SeenRow) (q : SeenQuery) (in_cells : Bool) →
+            Knows db env q in_cells self.old → OnOk result (KnowsInput db env row.now q in_cells self.new) }
+        ensures asks { IfOk result (λ asked. asked ≡ asks_input self.new) }
+        ensures leaves { OnOk result (self.new ≡ gone_on_input self.old row.now) }
+        ensures unchanged { OnErr result (self.new ≡ self.old) }
+    {
+        self.inputs.go_on(alloc, row)?;
+        Ok(self.lacks_input())
+    }
+
+    /// Whether the rows that a filter is over are to be kept and none were found for the row at hand.
+    fn lacks_input(&self) -> bool
+        ensures { result ≡ asks_input self.now }
+    {
+        match self.inputs.found() {
+            Some(_) => false,
+            None => self.keeping.keeps_input(),
+        }
+    }
+
+    /// Keeps the rows that a filter is over, if any were found on the row at hand. It fails only for want of memory.
+    pub fn keep_input(&mut self, alloc: Global, input: Option<Keyed<'a>>) -> Result<(), NoMemory>
+        ensures knows { (db : Database) (env : ListOf SeenRow) (row : SeenRow) (q : SeenQuery) (in_cells : Bool) →
+            KnowsInput db env row q in_cells self.old → AreInputOf q self.old.keeping db (row ∷ env) input.entry
+            → OnOk result (KnowsInput db env row q in_cells self.new) }
+        ensures input { OnOk result (FindsInput self.new.inputs input.entry) }
+        ensures keeping { self.new.keeping ≡ self.old.keeping }
+        ensures memory { self.new.memory ≡ self.old.memory }
+    {
+        match input {
+            Some(keyed) => {
+                let rows = keyed.rows.len();
+                self.inputs.keep(alloc, rows.saturating_add(1), keyed)
+            }
+            None => Ok(()),
+        }
     }
 }
 
@@ -112,15 +182,16 @@ fn is_nothing(answer: &Answer) -> bool
         Answer::Nothing => true,
         Answer::Rows(_) => false,
         Answer::Cells(_) => false,
-        Answer::Keyed(_, _) => false,
     }
 }
 
-/// What is known of each sublink before a row is looked at: nothing. It fails only for want of memory.
+/// What is known of each sublink before a row is looked at: nothing. The room is that of `Known::of`. It fails only for want of
+/// memory.
 pub fn known_subs<'a>(
     alloc: Global,
     is_hashed: bool,
     subs: &[Sublink],
+    room: usize,
 ) -> Result<Vec<Known<'a>>, NoMemory>
     ensures knows { (db : Database) (env : ListOf SeenRow)
         → IfOk result (λ known. AllKnown db env subs.now known.items) }
@@ -128,7 +199,7 @@ pub fn known_subs<'a>(
 {
     let mut known = Vec::new(alloc);
     for sub in subs {
-        known.push(Known::of(alloc, is_hashed, &sub.query))?;
+        known.push(Known::of(alloc, is_hashed, &sub.query, room)?)?;
     }
     Ok(known)
 }
@@ -143,16 +214,6 @@ pub fn same_rows<'a>(alloc: Global, in_cells: bool, rows: Input<'a>) -> Result<A
         return Ok(Answer::Cells(Cells::new(alloc, rows.as_slice())?));
     }
     Ok(Answer::Rows(rows))
-}
-
-/// What answers for a query by the rows that its filter so many nodes down is over. It takes no memory.
-pub fn keyed_answer<'a>(depth: usize, keyed: Option<Keyed<'a>>) -> Answer<'a>
-    ensures { result ≡ keyed_answer depth keyed.entry }
-{
-    match keyed {
-        Some(keyed) => Answer::Keyed(depth, keyed),
-        None => Answer::Nothing,
-    }
 }
 
 /// Whether the sublink is IN or NOT IN.

@@ -3,7 +3,6 @@
 #![tactic(auto)]
 
 mod fault_free;
-mod first_columns;
 mod groups;
 mod input;
 mod items;
@@ -19,8 +18,6 @@ pub use input::{Input, made, single_row, table_rows};
 pub use items::item_values;
 pub use join::{hashed_pairs, meets_by_keys, more_met, tries_by_keys};
 pub use keeping::Keeping;
-pub use known::{
-    Answer, Keyed, Known, cells_value, keyed_answer, known_subs, same_rows, tests_equality,
-};
+pub use known::{Answer, Keyed, Known, cells_value, known_subs, same_rows, tests_equality};
 pub use limit::limited;
 pub use set_operation::{distinct, excepted, intersected, united};

@@ -8,7 +8,7 @@ use Rattle.null_logic.specs.declared.operator.Operator.TheVariants as op
 use Rattle.null_logic.specs.declared.truth.Truth.TheVariants as truth
 use Rattle.perm_values.specs.declared.value.Value.TheVariants.{Null, Boolean}
 use Rattle.bag_algebra.specs.Bags.{Row, Bag}
-use Rattle.bag_algebra.specs.built.Patterns.{DistinctOf, FilterOf, IsTruthOf, OpOf, ProjectOf, SameOf}
+use Rattle.bag_algebra.specs.built.Patterns.{AggregateOf, DistinctOf, FilterOf, IsTruthOf, OpOf, ProjectOf, SameOf}
 use Rattle.bag_algebra.specs.declared.expr.Expr.{Expr, more_of-Expr, end_of-Expr}
 use Rattle.bag_algebra.specs.declared.expr.Expr.TheVariants.{Sub}
 use Rattle.bag_algebra.specs.declared.query.Query.{Query, more_of-Sublink, end_of-Sublink}
@@ -56,6 +56,9 @@ lower-filter = refl
 
 below-both : keyed_at nested 4 ≡ None
 below-both = refl
+
+below-groups : keyed_at (AggregateOf (filter s equation) [] []) 1 ≡ Some 0
+below-groups = refl
 
 below-distinct : keyed_at (DistinctOf (filter s equation)) 1 ≡ None
 below-distinct = refl

@@ -36,3 +36,4 @@ pub mod SourceRows
 pub mod SpineRows
 pub mod Trees
 pub mod Values
+pub mod WhichColumns

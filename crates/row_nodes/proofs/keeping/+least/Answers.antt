@@ -1,7 +1,8 @@
 use Rattle.std.proofs.Common.{◌≡◌, ℕ, ◌+◌, ◌^◌, sym, ap, ◌∙◌, subst, arith}
-use Rattle.bag_algebra.specs.built.Openings.{Base-is, Join-is, Apply-is, Union-is, Intersect-is, Except-is, Distinct-is, Aggregate-is, Limit-is, Prov-is}
+use Rattle.bag_algebra.specs.built.Openings.{Base-is, Join-is, Apply-is, Union-is, Intersect-is, Except-is, Distinct-is, Limit-is, Prov-is}
 use Rattle.row_nodes.specs.Keeping.{Leads, better, keyed_at}
-use Rattle.row_nodes.proofs.Leading.{leaf_leads, below_filter, filter_leads, below_project, project_leads}
+use Rattle.row_nodes.proofs.Leading.{leaf_leads, below_filter, filter_leads, below_over, over_leads}
+use Rattle.row_nodes.proofs.Kept.{project_top, project_below, aggregate_top, aggregate_below}
 use Rattle.row_nodes.proofs.keeping.+least.Goals as goal
 
 last : (depth : ℕ) → depth ≡ 18446744073709551615 → depth + 1 ≡ 18446744073709551616
@@ -27,13 +28,24 @@ returns-else-depth-eq18446744073709551615 t c = λ top below leads.
 pub returns-then-depth-eq18446744073709551615-2 : goal.returns-then-depth-eq18446744073709551615-2
 returns-then-depth-eq18446744073709551615-2 t c = λ top below leads.
     subst (λ k. Leads top k c.args.best) (last c.args.depth c.if-depth-eq18446744073709551615-2.true)
-    (project_leads top c.args.query.now c.args.depth below c.args.best leads c.in-Project.input c.in-Project.items c.in-Project.subs c.in-Project.is)
+    (over_leads top c.args.query.now c.args.depth below c.args.best leads c.in-Project.input (project_top c.args.query.now c.in-Project.input c.in-Project.items c.in-Project.subs c.in-Project.is) (project_below c.args.query.now c.in-Project.input c.in-Project.items c.in-Project.subs c.in-Project.is))
 
 pub returns-else-depth-eq18446744073709551615-2 : goal.returns-else-depth-eq18446744073709551615-2
 returns-else-depth-eq18446744073709551615-2 t c = λ top below leads.
     c.least-in-Project.ensures top
-    (λ d. below_project top c.args.query.now c.args.depth below c.args.best leads c.in-Project.input c.in-Project.items c.in-Project.subs c.in-Project.is d ∙ ap (λ q. keyed_at q d) (sym c.get-in-Project.ensures))
-    (project_leads top c.args.query.now c.args.depth below c.args.best leads c.in-Project.input c.in-Project.items c.in-Project.subs c.in-Project.is)
+    (λ d. below_over top c.args.query.now c.args.depth below c.args.best leads c.in-Project.input (project_top c.args.query.now c.in-Project.input c.in-Project.items c.in-Project.subs c.in-Project.is) (project_below c.args.query.now c.in-Project.input c.in-Project.items c.in-Project.subs c.in-Project.is) d ∙ ap (λ q. keyed_at q d) (sym c.get-in-Project.ensures))
+    (over_leads top c.args.query.now c.args.depth below c.args.best leads c.in-Project.input (project_top c.args.query.now c.in-Project.input c.in-Project.items c.in-Project.subs c.in-Project.is) (project_below c.args.query.now c.in-Project.input c.in-Project.items c.in-Project.subs c.in-Project.is))
+
+pub returns-then-depth-eq18446744073709551615-3 : goal.returns-then-depth-eq18446744073709551615-3
+returns-then-depth-eq18446744073709551615-3 t c = λ top below leads.
+    subst (λ k. Leads top k c.args.best) (last c.args.depth c.if-depth-eq18446744073709551615-3.true)
+    (over_leads top c.args.query.now c.args.depth below c.args.best leads c.in-Aggregate.input (aggregate_top c.args.query.now c.in-Aggregate.input c.in-Aggregate.groups c.in-Aggregate.aggregates c.in-Aggregate.is) (aggregate_below c.args.query.now c.in-Aggregate.input c.in-Aggregate.groups c.in-Aggregate.aggregates c.in-Aggregate.is))
+
+pub returns-else-depth-eq18446744073709551615-3 : goal.returns-else-depth-eq18446744073709551615-3
+returns-else-depth-eq18446744073709551615-3 t c = λ top below leads.
+    c.least-in-Aggregate.ensures top
+    (λ d. below_over top c.args.query.now c.args.depth below c.args.best leads c.in-Aggregate.input (aggregate_top c.args.query.now c.in-Aggregate.input c.in-Aggregate.groups c.in-Aggregate.aggregates c.in-Aggregate.is) (aggregate_below c.args.query.now c.in-Aggregate.input c.in-Aggregate.groups c.in-Aggregate.aggregates c.in-Aggregate.is) d ∙ ap (λ q. keyed_at q d) (sym c.get-in-Aggregate.ensures))
+    (over_leads top c.args.query.now c.args.depth below c.args.best leads c.in-Aggregate.input (aggregate_top c.args.query.now c.in-Aggregate.input c.in-Aggregate.groups c.in-Aggregate.aggregates c.in-Aggregate.is) (aggregate_below c.args.query.now c.in-Aggregate.input c.in-Aggregate.groups c.in-Aggregate.aggregates c.in-Aggregate.is))
 
 pub returns-in-Table : goal.returns-in-Table
 returns-in-Table t c = λ top below leads.
@@ -70,10 +82,6 @@ returns-in-Except t c = λ top below leads.
 pub returns-in-Distinct : goal.returns-in-Distinct
 returns-in-Distinct t c = λ top below leads.
     leaf_leads top c.args.query.now c.args.depth below c.args.best leads (λ d. ap (λ q. keyed_at q d) (c.in-Distinct.is ∙ Distinct-is c.in-Distinct.input))
-
-pub returns-in-Aggregate : goal.returns-in-Aggregate
-returns-in-Aggregate t c = λ top below leads.
-    leaf_leads top c.args.query.now c.args.depth below c.args.best leads (λ d. ap (λ q. keyed_at q d) (c.in-Aggregate.is ∙ Aggregate-is c.in-Aggregate.input c.in-Aggregate.groups c.in-Aggregate.aggregates))
 
 pub returns-in-Limit : goal.returns-in-Limit
 returns-in-Limit t c = λ top below leads.

@@ -8,7 +8,7 @@ pub loop-sub-preserved : goal.loop-sub-preserved
 loop-sub-preserved c = (
   λ db env.
       rw (taken c.args.subs.now c.loop-sub.sub-index c.sub-item.result c.loop-sub-test.true c.sub-item.is, c.in_ok-push.ensures.items)
-      (known_more db env (take c.loop-sub.sub-index c.args.subs.now) c.loop-sub.known.items c.sub-item.result c.of.result (c.loop-sub.invariant.0 db env) (c.of.ensures.knows db env (tests_equality c.sub-item.result.kind))),
+      (known_more db env (take c.loop-sub.sub-index c.args.subs.now) c.loop-sub.known.items c.sub-item.result c.in_ok-of.field-0 (c.loop-sub.invariant.0 db env) (c.in_ok-of.ensures.knows db env (tests_equality c.sub-item.result.kind))),
   rw (taken c.args.subs.now c.loop-sub.sub-index c.sub-item.result c.loop-sub-test.true c.sub-item.is, c.in_ok-push.ensures.items)
-      (new_more c.args.is_hashed (take c.loop-sub.sub-index c.args.subs.now) c.loop-sub.known.items c.sub-item.result c.of.result c.loop-sub.invariant.1 c.of.ensures.fresh),
+      (new_more c.args.is_hashed (take c.loop-sub.sub-index c.args.subs.now) c.loop-sub.known.items c.sub-item.result c.in_ok-of.field-0 c.loop-sub.invariant.1 c.in_ok-of.ensures.fresh),
 )

@@ -1,9 +1,12 @@
-use Rattle.std.proofs.Common.{take, sym, ap, ◌∙◌}
-use Rattle.bag_algebra.proofs.BagLaws.{same_row-is}
+use Rattle.std.proofs.Common.{◌≡◌, refl, sym, subst}
+use Rattle.perm_values.specs.Rows.{picked}
+use Rattle.row_memory.specs.Memory.{Remembered}
+use Rattle.row_nodes.specs.declared.known.Answer.{Answer}
+use Rattle.row_nodes.proofs.Kept.{knows_stepped}
 use Rattle.row_nodes.proofs.known.Known.asks.Goals as goal
 
-pub returns-then-keeps-clause-begins : goal.returns-then-keeps-clause-begins
-returns-then-keeps-clause-begins c =
-    sym (c.first_columns-columns.ensures ∙ ap (λ n. take n c.args.row.now) c.reach.ensures)
-    ∙ same_row-is _ _ (sym c.same_values.ensures ∙ c.if-not-same_values.false)
-    ∙ c.as_slice.ensures
+pub returns-clause-knows : goal.returns-clause-knows
+returns-clause-knows c = λ db env q in_cells knows. knows_stepped db env q in_cells c.args.self.now c.args.row.now c.go_on.new.self c.in_ok-go_on.ensures.ok knows
+
+pub returns-clause-here : goal.returns-clause-here
+returns-clause-here c = subst (λ (m : Remembered Answer). picked m.places c.args.row.now ≡ m.key) (sym c.in_ok-go_on.ensures.ok) refl
