@@ -1,5 +1,6 @@
 pub mod Equality
 pub mod Flags
+pub mod Foremost
 pub mod FreeConditions
 pub mod Joining
 pub mod Kept
