@@ -1,5 +1,5 @@
 -- What one more value at the end makes of the truth of all values so far.
-use Rattle.std.proofs.Common.{◌≡◌, List, [], ◌∷◌, ◌++◌, refl, ap, ◌∙◌}
+use Rattle.std.proofs.Common.{◌≡◌, Bool, true, false, List, [], ◌∷◌, ◌++◌, refl, ap, ◌∙◌}
 use Rattle.null_logic.specs.Comparison.{compare_values, in_list}
 use Rattle.null_logic.specs.Logic.{truth_and, truth_or, truth_of}
 use Rattle.null_logic.specs.declared.compare.Compare.TheVariants.{Equal}
@@ -7,6 +7,7 @@ use Rattle.null_logic.specs.declared.truth.Truth.{Truth}
 use Rattle.null_logic.specs.declared.truth.Truth.TheVariants.{True, False, Unknown}
 use Rattle.perm_values.specs.declared.value.Value.{Value}
 use Rattle.bag_algebra.specs.Expressions.{all_true, some_true}
+use Rattle.row_values.specs.Parts.{truth_of_all, joined}
 
 pub and_turned : (a : Truth) → truth_and a True ≡ truth_and True a
 and_turned True = refl
@@ -76,13 +77,17 @@ or_associates Unknown Unknown True = refl
 or_associates Unknown Unknown False = refl
 or_associates Unknown Unknown Unknown = refl
 
-pub all_true_more : (vs : List Value) (v : Value) → all_true (vs ++ v ∷ []) ≡ truth_and (all_true vs) (truth_of v)
+all_true_more : (vs : List Value) (v : Value) → all_true (vs ++ v ∷ []) ≡ truth_and (all_true vs) (truth_of v)
 all_true_more [] v = and_turned (truth_of v)
 all_true_more (u ∷ vs) v = ap (truth_and (truth_of u)) (all_true_more vs v) ∙ and_associates _ _ _
 
-pub some_true_more : (vs : List Value) (v : Value) → some_true (vs ++ v ∷ []) ≡ truth_or (some_true vs) (truth_of v)
+some_true_more : (vs : List Value) (v : Value) → some_true (vs ++ v ∷ []) ≡ truth_or (some_true vs) (truth_of v)
 some_true_more [] v = or_turned (truth_of v)
 some_true_more (u ∷ vs) v = ap (truth_or (truth_of u)) (some_true_more vs v) ∙ or_associates _ _ _
+
+pub together_more : (all : Bool) (vs : List Value) (v : Value) → truth_of_all all (vs ++ v ∷ []) ≡ joined all (truth_of_all all vs) v
+together_more true vs v = all_true_more vs v
+together_more false vs v = some_true_more vs v
 
 pub in_list_more : (a : Value) (vs : List Value) (v : Value) → in_list a (vs ++ v ∷ []) ≡ truth_or (in_list a vs) (compare_values Equal a v)
 in_list_more a [] v = or_turned (compare_values Equal a v)

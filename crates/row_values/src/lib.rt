@@ -5,8 +5,8 @@
 mod error;
 mod expression;
 mod groups;
+mod operand;
 mod operate;
-mod step;
 mod sublink;
 
 pub use error::ExecError;

@@ -1,36 +1,43 @@
 //! Operators on the values of their parts.
-ghost use Rattle.std.specs.Prelude.{◌≡◌, IfOk};
-ghost use Rattle.null_logic.specs.Comparison.{is_null, between, in_list};
-ghost use Rattle.bag_algebra.specs.Expressions.{with_one, with_two, with_three, all_true, some_true, coalesce, null_if, arith_values, negate_value, like_values, has_truth, operate};
+ghost use Rattle.std.specs.Prelude.{◌≡◌, cond, false};
+ghost use Rattle.null_logic.specs.Comparison.{is_null, in_list};
+ghost use Rattle.bag_algebra.specs.Expressions.{arith_values, negate_value, like_values, has_truth, operate};
 ghost use Rattle.bag_algebra.specs.Means.{holds_of};
 ghost use Rattle.bag_algebra.specs.Outcome.{Good, of_result};
 ghost use Rattle.row_values.specs.Answers.{Gives};
+ghost use Rattle.row_values.specs.Parts.{gone_on, is_connective, joined};
 
 use crate::ExecError;
+use crate::operand::Operand;
 use null_logic::{
     Arith, Compare, Operator, RunFault, Truth, calculate, compare_values, like, negate,
 };
-use perm_values::{Copyable, NoMemory, Value};
+use perm_values::{Copyable, Value};
 use std::alloc::Global;
 
-/// The operator on the values of its parts; NULL where there are too few.
+/// An operator other than AND and OR on the values of its parts; NULL where there are too few.
 ///
 /// A fault comes only where the operator meets it.
-pub(crate) fn operate(alloc: Global, op: Operator, values: &[Value]) -> Result<Value, ExecError>
+pub(crate) fn operate(
+    alloc: Global,
+    op: Operator,
+    values: &[Operand<'_>],
+) -> Result<Value, ExecError>
+    requires { is_connective op ≡ false }
     ensures { Gives (operate op values.now) result }
 {
     match op {
-        Operator::And => Ok(all_true(values).value()),
-        Operator::Or => Ok(some_true(values).value()),
+        Operator::And => unreachable!(),
+        Operator::Or => unreachable!(),
         Operator::Not => Ok(negated_truth(values)),
-        Operator::Negate => Ok(negated(values)?),
+        Operator::Negate => negated(values),
         Operator::Compare(compare) => Ok(compared(compare, values)),
-        Operator::Arith(arith) => Ok(calculated(arith, values)?),
+        Operator::Arith(arith) => calculated(arith, values),
         Operator::Like => Ok(matched(values)),
         Operator::Between => Ok(bounded(values)),
         Operator::InList => Ok(listed(values)),
-        Operator::Coalesce => Ok(coalesce(alloc, values)?),
-        Operator::NullIf => Ok(null_if(alloc, values)?),
+        Operator::Coalesce => coalesce(alloc, values),
+        Operator::NullIf => null_if(alloc, values),
     }
 }
 
@@ -58,64 +65,85 @@ pub(crate) fn has_truth(truth: Truth, value: &Value) -> bool
     Truth::of(value) == truth
 }
 
-fn all_true(values: &[Value]) -> Truth
-    ensures { result ≡ all_true values.now }
+/// The truth that changes no other by AND, or by OR.
+pub(crate) fn neutral(all: bool) -> Truth
+    ensures { result ≡ cond all Truth.True Truth.False }
 {
-    let mut truth = Truth::True;
-    for value in values {
-        truth = truth.and(Truth::of(value));
-    }
-    truth
+    if all { Truth::True } else { Truth::False }
 }
 
-fn some_true(values: &[Value]) -> Truth
-    ensures { result ≡ some_true values.now }
+/// The truth together with that of one more value, by AND or by OR.
+pub(crate) fn joined(all: bool, truth: Truth, value: &Value) -> Truth
+    ensures { result ≡ joined all truth value.now }
 {
-    let mut truth = Truth::False;
-    for value in values {
-        truth = truth.or(Truth::of(value));
+    if all {
+        truth.and(Truth::of(value))
+    } else {
+        truth.or(Truth::of(value))
     }
-    truth
 }
 
-fn negated_truth(values: &[Value]) -> Value
+/// What a chain comes to by one more step; a fault stays.
+pub(crate) fn stepped(
+    value: Result<Value, RunFault>,
+    op: Arith,
+    operand: &Value,
+) -> Result<Value, RunFault>
+    ensures { gone_on (of_result value) op operand.now ≡ of_result result }
+{
+    match value {
+        Ok(value) => arith_values(op, &value, operand),
+        Err(fault) => Err(fault),
+    }
+}
+
+fn negated_truth(values: &[Operand<'_>]) -> Value
     ensures { operate Operator.Not values.now ≡ Good result }
 {
     match values {
-        [value, ..] => Truth::of(value).not().value(),
+        [value, ..] => Truth::of(value.get()).not().value(),
         [] => Value::Null,
     }
 }
 
-fn negated(values: &[Value]) -> Result<Value, RunFault>
-    ensures { with_one values.now negate_value ≡ of_result result }
+fn negated(values: &[Operand<'_>]) -> Result<Value, ExecError>
+    ensures { Gives (operate Operator.Negate values.now) result }
 {
     match values {
-        [Value::Integer(number), ..] => Ok(Value::Integer(negate(*number)?)),
-        _ => Ok(Value::Null),
+        [value, ..] => Ok(negate_value(value.get())?),
+        [] => Ok(Value::Null),
     }
 }
 
-fn compared(op: Compare, values: &[Value]) -> Value
+fn negate_value(value: &Value) -> Result<Value, RunFault>
+    ensures { negate_value value.now ≡ of_result result }
+{
+    match value {
+        Value::Integer(number) => Ok(Value::Integer(negate(*number)?)),
+        Value::Null | Value::Text(_) | Value::Boolean(_) => Ok(Value::Null),
+    }
+}
+
+fn compared(op: Compare, values: &[Operand<'_>]) -> Value
     ensures { operate (Operator.Compare op) values.now ≡ Good result }
 {
     match values {
-        [left, right, ..] => compare_values(op, left, right).value(),
+        [left, right, ..] => compare_values(op, left.get(), right.get()).value(),
         _ => Value::Null,
     }
 }
 
-fn calculated(op: Arith, values: &[Value]) -> Result<Value, RunFault>
-    ensures { with_two values.now (arith_values op) ≡ of_result result }
+fn calculated(op: Arith, values: &[Operand<'_>]) -> Result<Value, ExecError>
+    ensures { Gives (operate (Operator.Arith op) values.now) result }
 {
     match values {
-        [left, right, ..] => arith_values(op, left, right),
+        [left, right, ..] => Ok(arith_values(op, left.get(), right.get())?),
         _ => Ok(Value::Null),
     }
 }
 
 /// Arithmetic of two values: NULL beside NULL, also where the divisor is 0.
-pub(crate) fn arith_values(op: Arith, left: &Value, right: &Value) -> Result<Value, RunFault>
+fn arith_values(op: Arith, left: &Value, right: &Value) -> Result<Value, RunFault>
     ensures { arith_values op left.now right.now ≡ of_result result }
 {
     match (left, right) {
@@ -124,64 +152,73 @@ pub(crate) fn arith_values(op: Arith, left: &Value, right: &Value) -> Result<Val
     }
 }
 
-fn matched(values: &[Value]) -> Value
+fn matched(values: &[Operand<'_>]) -> Value
     ensures { operate Operator.Like values.now ≡ Good result }
 {
     match values {
-        [Value::Text(text), Value::Text(pattern), ..] => Value::Boolean(like(text, pattern)),
+        [text, pattern, ..] => like_values(text.get(), pattern.get()),
         _ => Value::Null,
     }
 }
 
-fn bounded(values: &[Value]) -> Value
+fn like_values(text: &Value, pattern: &Value) -> Value
+    ensures { result ≡ like_values text.now pattern.now }
+{
+    match (text, pattern) {
+        (Value::Text(text), Value::Text(pattern)) => Value::Boolean(like(text, pattern)),
+        _ => Value::Null,
+    }
+}
+
+fn bounded(values: &[Operand<'_>]) -> Value
     ensures { operate Operator.Between values.now ≡ Good result }
 {
     match values {
         [value, low, high, ..] => {
-            let above = compare_values(Compare::GreaterEqual, value, low);
-            let below = compare_values(Compare::LessEqual, value, high);
+            let above = compare_values(Compare::GreaterEqual, value.get(), low.get());
+            let below = compare_values(Compare::LessEqual, value.get(), high.get());
             above.and(below).value()
         }
         _ => Value::Null,
     }
 }
 
-fn listed(values: &[Value]) -> Value
+fn listed(values: &[Operand<'_>]) -> Value
     ensures { operate Operator.InList values.now ≡ Good result }
 {
     match values {
-        [value, list @ ..] => in_list(value, list).value(),
+        [value, list @ ..] => in_list(value.get(), list).value(),
         [] => Value::Null,
     }
 }
 
-fn in_list(value: &Value, list: &[Value]) -> Truth
+fn in_list(value: &Value, list: &[Operand<'_>]) -> Truth
     ensures { result ≡ in_list value.now list.now }
 {
     let mut truth = Truth::False;
     for other in list {
-        truth = truth.or(compare_values(Compare::Equal, value, other));
+        truth = truth.or(compare_values(Compare::Equal, value, other.get()));
     }
     truth
 }
 
-fn coalesce(alloc: Global, values: &[Value]) -> Result<Value, NoMemory>
-    ensures { IfOk result (λ value. value ≡ coalesce values.now) }
+fn coalesce(alloc: Global, values: &[Operand<'_>]) -> Result<Value, ExecError>
+    ensures { Gives (operate Operator.Coalesce values.now) result }
 {
     for value in values {
-        if !is_null(value) {
-            return value.copy(alloc);
+        if !is_null(value.get()) {
+            return Ok(value.get().copy(alloc)?);
         }
     }
     Ok(Value::Null)
 }
 
-fn null_if(alloc: Global, values: &[Value]) -> Result<Value, NoMemory>
-    ensures { IfOk result (λ value. operate Operator.NullIf values.now ≡ Good value) }
+fn null_if(alloc: Global, values: &[Operand<'_>]) -> Result<Value, ExecError>
+    ensures { Gives (operate Operator.NullIf values.now) result }
 {
     match values {
-        [left, right, ..] if !compare_values(Compare::Equal, left, right).is_true() => {
-            left.copy(alloc)
+        [left, right, ..] if !compare_values(Compare::Equal, left.get(), right.get()).is_true() => {
+            Ok(left.get().copy(alloc)?)
         }
         _ => Ok(Value::Null),
     }
