@@ -29,12 +29,13 @@ module _ {X : Type 0} (cmp : X → X → Ordering) where
   sorted-with us x i rises last more k d low high = by (cases_lt (k + 1) (length us)) where
     inside : (j : ℕ) → j < length us → get_or (us ++ x ∷ []) j d ≡ get_or us j d
     inside j = get_or_append_left us (x ∷ []) d j
+
     by : ((k + 1 < length us) ⊎ (length us ≤ k + 1)) → is_lt (cmp (get_or (us ++ x ∷ []) (k + 1) d) (get_or (us ++ x ∷ []) k d)) ≡ false
     by (inl below) = rw (inside (k + 1) below, inside k (omega arith)) (rises k d low below)
     by (inr past) =
-      let here : length us ≡ k + 1 = omega (arith, length_push us x) in
-      let at : i ≡ k = omega arith in
-      rw (get_or_push us x d (k + 1) here, inside k (omega arith), get_or_default us k d x (omega arith), sym at) more
+        let here : length us ≡ k + 1 = omega (arith, length_push us x) in
+        let at : i ≡ k = omega arith in
+        rw (get_or_push us x d (k + 1) here, inside k (omega arith), get_or_default us k d x (omega arith), sym at) more
 
 module _ {X : Type 0} (cmp : X → X → Ordering) (o : IsExactOrder cmp) where
   sorted-appended : (us : List X) (x : X) → sorted cmp (us ++ x ∷ []) ≡ placed cmp x (sorted cmp us)
