@@ -13,7 +13,7 @@ use Rattle.perm_catalog.specs.declared.column.Column.{Column}
 use Rattle.sql_tree.specs.declared.expression.ExprTree.{ExprTree}
 use Rattle.sql_tree.specs.declared.statement.ColumnDef.{ColumnDef}
 use Rattle.name_meaning.specs.Froms.{condition_breaks, named_so, names_of, settled_columns}
-use Rattle.name_meaning.specs.Meanings.{Meant, Surroundings, broken_if, is_same_kind, means_at, seen_kind, settled, unites}
+use Rattle.name_meaning.specs.Meanings.{Meant, Surroundings, broken, broken_if, is_same_kind, means_at, seen_kind, settled, unites}
 use Rattle.name_meaning.specs.Statements.{bare, has_boolean, repeated_columns, repeats, value_breaks, values_breaks}
 use Rattle.name_meaning.specs.Trees.{part_of}
 use Rattle.name_meaning.specs.declared.answer.Break.{Break}
@@ -28,6 +28,7 @@ use Rattle.std.proofs.Math.ListN.{drop_of_length-le}
 use Rattle.name_seen_parts.specs.Columns.{columns_of}
 use Rattle.name_seen_parts.specs.declared.clauses.column.ShownColumn.{ShownColumn}
 use Rattle.name_seen_parts.proofs.Firsts.{dropped, first-stays, flat-first}
+use Rattle.name_sets.specs.Named.{is_named}
 use Rattle.name_statements.specs.Earlier.{column_break, is_defined, is_shown, texts_of}
 use Rattle.name_meaning.specs.declared.rule.Rule.TheVariants as rule
 
@@ -72,6 +73,41 @@ columns-first columns at column first within e broken =
     (column-found (take at columns) column)
     ∙ first-stays (column_break (take at columns) column)
     (repeated_columns (column.name.text ∷ reverse (texts_of (take at columns))) (drop (at + 1) columns)) (tt {0}) (tt {0}) first broken
+
+-- the same of the names so far in a set
+pub texts-behind : (columns : List ColumnDef) (at : ℕ) (column : ColumnDef) (keys : List (List ℕ)) → at < length columns → column ≡ get_or columns at column
+    → keys ≡ texts_of (take at columns) → keys ++ column.name.text ∷ [] ≡ texts_of (take (at + 1) columns)
+texts-behind columns at column keys within e are =
+    ap (λ (names : List (List ℕ)). names ++ column.name.text ∷ []) are
+    ∙ sym (map_more (λ (column : ColumnDef). column.name.text) columns at column within e
+    ∙ ap (λ (column : ColumnDef). texts_of (take at columns) ++ column.name.text ∷ []) (sym e))
+
+column-told : (earlier : List ColumnDef) (column : ColumnDef) (keys : List (List ℕ)) (is_new : Bool) → keys ≡ texts_of earlier
+    → is_new ≡ not (is_named keys column.name.text) → is_new ≡ not (is_defined earlier column.name.text)
+column-told earlier column keys is_new are told =
+    told ∙ ap (λ (names : List (List ℕ)). not (is_named names column.name.text)) are
+    ∙ ap not (sym (any-texts (named_so column.name.text) earlier))
+
+not-true : (b : Bool) → not b ≡ true → b ≡ false
+not-true true e = cc
+not-true false e = refl
+
+not-false : (b : Bool) → not b ≡ false → b ≡ true
+not-false true e = refl
+not-false false e = cc
+
+pub column-new : (earlier : List ColumnDef) (column : ColumnDef) (keys : List (List ℕ)) (is_new : Bool) → keys ≡ texts_of earlier
+    → is_new ≡ not (is_named keys column.name.text) → is_new ≡ true → column_break earlier column ≡ []
+column-new earlier column keys is_new are told new =
+    ap (λ (b : Bool). broken_if b rule.RepeatedColumn column.name.at)
+    (not-true (is_defined earlier column.name.text) (sym (column-told earlier column keys is_new are told) ∙ new))
+
+pub column-repeated : (earlier : List ColumnDef) (column : ColumnDef) (keys : List (List ℕ)) (is_new : Bool) → keys ≡ texts_of earlier
+    → is_new ≡ not (is_named keys column.name.text) → is_new ≡ false
+    → first_or (column_break earlier column) (tt {0}) ≡ Err (broken rule.RepeatedColumn column.name.at)
+column-repeated earlier column keys is_new are told old =
+    ap (λ (b : Bool). first_or (broken_if b rule.RepeatedColumn column.name.at) (tt {0}))
+    (not-false (is_defined earlier column.name.text) (sym (column-told earlier column keys is_new are told) ∙ old))
 
 -- ---- the columns of a query
 
