@@ -139,7 +139,7 @@ fn from_item(
 
 /// What an item reads whose subquery stands there, or its first break.
 #[cycle(seen)]
-fn read_source(source: &FromSource, around: &Around) -> Result<Reading, Refusal>
+pub fn read_source(source: &FromSource, around: &Around) -> Result<Reading, Refusal>
     requires { IsSound around.now.catalog.now }
     ensures { ReadSeen (read_of around.now.catalog.now (around_of around.now)
         (source_of around.now.catalog.now source.now)) result }
