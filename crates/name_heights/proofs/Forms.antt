@@ -20,9 +20,9 @@ use Rattle.sql_tree.specs.declared.name.Name.{Name}
 use Rattle.sql_tree.specs.declared.query.QueryTree.{QueryTree}
 use Rattle.sql_tree.specs.declared.query.SelectItem.{SelectItem}
 use Rattle.sql_tree.specs.declared.query.SelectItem.TheVariants as i
-use Rattle.name_meaning.proofs.Equations.{token, armtree-record, exprstep-record, selectitem-value}
+use Rattle.name_meaning.proofs.Equations.{ExprBodyFrame, token, armtree-record, exprstep-record, selectitem-value}
 use Rattle.name_meaning.proofs.Forms.{means-paren, means-nots, means-signs, means-logic, means-chain, means-compared, means-like, means-between, means-inlist, means-inquery, means-quantified, means-isnull, means-istruth, means-isdistinct, means-case-none, means-case-some, means-coalesce, means-nullif, means-exists, means-scalar}
-use Rattle.name_meaning.specs.Expressions.{ArmPart, Body, StepPart, arm_operands, body_step, case_made, chain_gives, chain_made, else_operand, first_need, first_of, in_kind, negated_if, null_meant, second_of, step_operand, times}
+use Rattle.name_meaning.specs.Expressions.{ArmPart, StepPart, arm_operands, body_step, case_made, chain_gives, chain_made, else_operand, first_need, first_of, in_kind, negated_if, null_meant, second_of, step_operand, times}
 use Rattle.name_meaning.specs.Items.{SelectMeant, SelectPart, first_wanted}
 use Rattle.name_meaning.specs.Meanings.{Meant, Part, QueryMeant, QueryPart, Surroundings, broken_if, means_at, query_means_at, seen_kind, settled}
 use Rattle.name_meaning.specs.Operands.{gives_of, need_of, operand}
@@ -84,42 +84,40 @@ module _ (c : Contents) (here : Surroundings) where
   TreesHigh n need trees = OperandsHigh n (map (operand here need) (map (part_of c) trees))
 
   module _ (tree : ExprTree) (n : ℕ) where
-    abbrev Form : Body → Type 0
-    Form body = means_at (part_of c tree) here ≡ body.means tree.at here
-
-    of-form : (body : Body) → Form body → SubsHigh n (body.means tree.at here) → PartHigh n tree
-    of-form body is high = subst (SubsHigh n) (sym is) high
+    of-form : (frame : ExprBodyFrame) → means_at (part_of c tree) here ≡ (body_step frame).means tree.at here
+        → SubsHigh n ((body_step frame).means tree.at here) → PartHigh n tree
+    of-form frame is high = subst (SubsHigh n) (sym is) high
 
     pub paren-high : (p : ExprTree) → tree.body ≡ e.Paren p → PartHigh n p → PartHigh n tree
     unfolding means_at
-    paren-high p is high = of-form (body_step (ExprBody-F.«ExprBody::Paren» (part_of c p))) (means-paren c here tree p is) high
+    paren-high p is high = of-form (ExprBody-F.«ExprBody::Paren» (part_of c p)) (means-paren c here tree p is) high
 
     pub nots-high : (count : ℕ) (p : ExprTree) → tree.body ≡ e.Nots count p → PartHigh n p → PartHigh n tree
-    nots-high count p is high = of-form (body_step (ExprBody-F.Nots count (part_of c p))) (means-nots c here tree count p is)
+    nots-high count p is high = of-form (ExprBody-F.Nots count (part_of c p)) (means-nots c here tree count p is)
         (node-high n (gives_of x.Not true) (λ es. times x.Not count (first_of es)) (operand here (need_of x.Not true) (part_of c p) ∷ [])
         (operand-at n here (need_of x.Not true) (part_of c p) high))
 
     pub signs-high : (count : ℕ) (p : ExprTree) → tree.body ≡ e.Signs count p → PartHigh n p → PartHigh n tree
-    signs-high count p is high = of-form (body_step (ExprBody-F.Signs count (part_of c p))) (means-signs c here tree count p is)
+    signs-high count p is high = of-form (ExprBody-F.Signs count (part_of c p)) (means-signs c here tree count p is)
         (node-high n (gives_of x.Negate true) (λ es. times x.Negate count (first_of es)) (operand here (need_of x.Negate true) (part_of c p) ∷ [])
         (operand-at n here (need_of x.Negate true) (part_of c p) high))
 
     pub isnull-high : (b : Bool) (p : ExprTree) → tree.body ≡ e.IsNull b p → PartHigh n p → PartHigh n tree
-    isnull-high b p is high = of-form (body_step (ExprBody-F.IsNull b (part_of c p))) (means-isnull c here tree b p is)
+    isnull-high b p is high = of-form (ExprBody-F.IsNull b (part_of c p)) (means-isnull c here tree b p is)
         (node-high n (always kind.Boolean) (λ es. negated_if b (IsNull (first_of es))) (operand here free (part_of c p) ∷ [])
         (operand-at n here free (part_of c p) high))
 
     pub istruth-high : (b : Bool) (t : Truth) (p : ExprTree) → tree.body ≡ e.IsTruth b t p → PartHigh n p → PartHigh n tree
-    istruth-high b t p is high = of-form (body_step (ExprBody-F.IsTruth b t (part_of c p))) (means-istruth c here tree b t p is)
+    istruth-high b t p is high = of-form (ExprBody-F.IsTruth b t (part_of c p)) (means-istruth c here tree b t p is)
         (node-high n (always kind.Boolean) (λ es. negated_if b (IsTruth t (first_of es))) (operand here (of_kind kind.Boolean) (part_of c p) ∷ [])
         (operand-at n here (of_kind kind.Boolean) (part_of c p) high))
 
     pub logic-high : (op : Operator) (ps : List ExprTree) → tree.body ≡ e.Logic op ps → ((need : Need) → TreesHigh n need ps) → PartHigh n tree
-    logic-high op ps is high = of-form (body_step (ExprBody-F.Logic op (map (part_of c) ps))) (means-logic c here tree op ps is)
+    logic-high op ps is high = of-form (ExprBody-F.Logic op (map (part_of c) ps)) (means-logic c here tree op ps is)
         (node-high n (gives_of op false) (Op op) (map (operand here (need_of op false)) (map (part_of c) ps)) (high (need_of op false)))
 
     pub coalesce-high : (ps : List ExprTree) → tree.body ≡ e.Coalesce ps → ((need : Need) → TreesHigh n need ps) → PartHigh n tree
-    coalesce-high ps is high = of-form (body_step (ExprBody-F.Coalesce (map (part_of c) ps))) (means-coalesce c here tree ps is)
+    coalesce-high ps is high = of-form (ExprBody-F.Coalesce (map (part_of c) ps)) (means-coalesce c here tree ps is)
         (node-high n common (Op x.Coalesce) (map (operand here alike) (map (part_of c) ps)) (high alike))
 
     -- two operands, whatever each needs
@@ -127,41 +125,41 @@ module _ (c : Contents) (here : Surroundings) where
     PairHigh p q = (need more : Need) → OperandsHigh n (operand here need (part_of c p) ∷ operand here more (part_of c q) ∷ [])
 
     pub compared-high : (op : Compare) (p q : ExprTree) → tree.body ≡ e.Compared op p q → PairHigh p q → PartHigh n tree
-    compared-high op p q is high = of-form (body_step (ExprBody-F.Compared op (part_of c p) (part_of c q))) (means-compared c here tree op p q is)
+    compared-high op p q is high = of-form (ExprBody-F.Compared op (part_of c p) (part_of c q)) (means-compared c here tree op p q is)
         (node-high n (gives_of (x.Compare op) false) (Op (x.Compare op))
         (operand here (need_of (x.Compare op) false) (part_of c p) ∷ operand here (need_of (x.Compare op) false) (part_of c q) ∷ [])
         (high (need_of (x.Compare op) false) (need_of (x.Compare op) false)))
 
     pub like-high : (b : Bool) (p q : ExprTree) → tree.body ≡ e.Like b p q → PairHigh p q → PartHigh n tree
-    like-high b p q is high = of-form (body_step (ExprBody-F.Like b (part_of c p) (part_of c q))) (means-like c here tree b p q is)
+    like-high b p q is high = of-form (ExprBody-F.Like b (part_of c p) (part_of c q)) (means-like c here tree b p q is)
         (node-high n (gives_of x.Like false) (λ es. negated_if b (Op x.Like es))
         (operand here (need_of x.Like false) (part_of c p) ∷ operand here (need_of x.Like false) (part_of c q) ∷ [])
         (high (need_of x.Like false) (need_of x.Like false)))
 
     pub isdistinct-high : (b : Bool) (p q : ExprTree) → tree.body ≡ e.IsDistinct b p q → PairHigh p q → PartHigh n tree
-    isdistinct-high b p q is high = of-form (body_step (ExprBody-F.IsDistinct b (part_of c p) (part_of c q))) (means-isdistinct c here tree b p q is)
+    isdistinct-high b p q is high = of-form (ExprBody-F.IsDistinct b (part_of c p) (part_of c q)) (means-isdistinct c here tree b p q is)
         (node-high n (always kind.Boolean) (λ es. negated_if (not b) (Same (first_of es) (second_of es)))
         (operand here alike (part_of c p) ∷ operand here alike (part_of c q) ∷ []) (high alike alike))
 
     pub nullif-high : (p q : ExprTree) → tree.body ≡ e.NullIf p q → PairHigh p q → PartHigh n tree
-    nullif-high p q is high = of-form (body_step (ExprBody-F.NullIf (part_of c p) (part_of c q))) (means-nullif c here tree p q is)
+    nullif-high p q is high = of-form (ExprBody-F.NullIf (part_of c p) (part_of c q)) (means-nullif c here tree p q is)
         (node-high n common (Op x.NullIf) (operand here alike (part_of c p) ∷ operand here alike (part_of c q) ∷ []) (high alike alike))
 
     pub inquery-high : (b : Bool) (p : ExprTree) (q : QueryTree) → tree.body ≡ e.InQuery b p q → InnerHigh n q → PartHigh n tree
     unfolding query_means_at
-    inquery-high b p q is high = of-form (body_step (ExprBody-F.InQuery b (part_of c p) (query_of c q))) (means-inquery c here tree b p q is)
+    inquery-high b p q is high = of-form (ExprBody-F.InQuery b (part_of c p) (query_of c q)) (means-inquery c here tree b p q is)
         (tested-high n here tree.at (in_kind b (cond b NotEqual Equal)) (part_of c p) (query_of c q) high)
 
     pub quantified-high : (b : Bool) (op : Compare) (p : ExprTree) (q : QueryTree) → tree.body ≡ e.Quantified b op p q → InnerHigh n q → PartHigh n tree
     unfolding query_means_at
-    quantified-high b op p q is high = of-form (body_step (ExprBody-F.Quantified b op (part_of c p) (query_of c q))) (means-quantified c here tree b op p q is)
+    quantified-high b op p q is high = of-form (ExprBody-F.Quantified b op (part_of c p) (query_of c q)) (means-quantified c here tree b op p q is)
         (tested-high n here tree.at (in_kind b op) (part_of c p) (query_of c q) high)
 
     pub exists_tree-high : (q : QueryTree) → tree.body ≡ e.Exists q → InnerHigh n q → PartHigh n tree
     unfolding query_means_at
     exists_tree-high q is high =
         let query = query_of c q in
-        of-form (body_step (ExprBody-F.Exists query)) (means-exists c here tree q is)
+        of-form (ExprBody-F.Exists query) (means-exists c here tree q is)
         (standing-high n here tree.at (Some kind.Boolean) (exists_meant here query.at (query.means (around_of here)))
         (exists-high n here query.at (query.means (around_of here)) high))
 
@@ -169,7 +167,7 @@ module _ (c : Contents) (here : Surroundings) where
     unfolding query_means_at
     scalar_tree-high q is high =
         let query = query_of c q in
-        of-form (body_step (ExprBody-F.Scalar query)) (means-scalar c here tree q is)
+        of-form (ExprBody-F.Scalar query) (means-scalar c here tree q is)
         (standing-high n here tree.at None (scalar_meant here query.at (query.means (around_of here)))
         (scalar-high n here query.at (query.means (around_of here)) high))
 
@@ -177,7 +175,7 @@ module _ (c : Contents) (here : Surroundings) where
     pub between-high : (negated : Bool) (p q r : ExprTree) → tree.body ≡ e.Between negated p q r → PartHigh a p → PairHigh tree b q r → PartHigh (max a b) tree
     between-high negated p q r is first more =
         let need = need_of x.Between false in
-        of-form tree (max a b) (body_step (ExprBody-F.Between negated (part_of c p) (part_of c q) (part_of c r))) (means-between c here tree negated p q r is)
+        of-form tree (max a b) (ExprBody-F.Between negated (part_of c p) (part_of c q) (part_of c r)) (means-between c here tree negated p q r is)
         (node-high (max a b) (gives_of x.Between false) (λ es. negated_if negated (Op x.Between es))
         (operand here need (part_of c p) ∷ operand here need (part_of c q) ∷ operand here need (part_of c r) ∷ [])
         (operands-both a b (operand here need (part_of c p) ∷ []) (operand here need (part_of c q) ∷ operand here need (part_of c r) ∷ [])
@@ -187,7 +185,7 @@ module _ (c : Contents) (here : Surroundings) where
         → ((need : Need) → TreesHigh b need ps) → PartHigh (max a b) tree
     inlist-high negated p ps is first more =
         let need = need_of x.InList false in
-        of-form tree (max a b) (body_step (ExprBody-F.InList negated (part_of c p) (map (part_of c) ps))) (means-inlist c here tree negated p ps is)
+        of-form tree (max a b) (ExprBody-F.InList negated (part_of c p) (map (part_of c) ps)) (means-inlist c here tree negated p ps is)
         (node-high (max a b) (gives_of x.InList false) (λ es. negated_if negated (Op x.InList es))
         (operand here need (part_of c p) ∷ map (operand here need) (map (part_of c) ps))
         (operands-both a b (operand here need (part_of c p) ∷ []) (map (operand here need) (map (part_of c) ps))
@@ -197,7 +195,7 @@ module _ (c : Contents) (here : Surroundings) where
         → OperandsHigh b (map (step_operand here) (map (step_of c) ss)) → PartHigh (max a b) tree
     chain-high p ss is first more =
         let steps = map (step_of c) ss in
-        of-form tree (max a b) (body_step (ExprBody-F.«ExprBody::Chain» (part_of c p) steps)) (means-chain c here tree p ss is)
+        of-form tree (max a b) (ExprBody-F.«ExprBody::Chain» (part_of c p) steps) (means-chain c here tree p ss is)
         (node-high (max a b) (chain_gives steps) (chain_made steps) (operand here (first_need steps) (part_of c p) ∷ map (step_operand here) steps)
         (operands-both a b (operand here (first_need steps) (part_of c p) ∷ []) (map (step_operand here) steps)
         (operand-at a here (first_need steps) (part_of c p) first) more))
@@ -207,12 +205,12 @@ module _ (c : Contents) (here : Surroundings) where
         → PartHigh (max a b) tree
     case-high arms None is first last =
         let parts = map (arm_of c) arms in
-        of-form tree (max a b) (body_step (ExprBody-F.Case parts None)) (means-case-none c here tree arms is)
+        of-form tree (max a b) (ExprBody-F.Case parts None) (means-case-none c here tree arms is)
         (node-high (max a b) common (case_made parts) (flat_map (arm_operands here) parts ++ else_operand here None ∷ [])
         (operands-both a b (flat_map (arm_operands here) parts) (else_operand here None ∷ []) first last))
     case-high arms (Some part) is first last =
         let parts = map (arm_of c) arms in
-        of-form tree (max a b) (body_step (ExprBody-F.Case parts (Some (part_of c part)))) (means-case-some c here tree arms part is)
+        of-form tree (max a b) (ExprBody-F.Case parts (Some (part_of c part))) (means-case-some c here tree arms part is)
         (node-high (max a b) common (case_made parts) (flat_map (arm_operands here) parts ++ else_operand here (Some (part_of c part)) ∷ [])
         (operands-both a b (flat_map (arm_operands here) parts) (else_operand here (Some (part_of c part)) ∷ []) first last))
 

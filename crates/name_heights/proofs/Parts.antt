@@ -23,9 +23,10 @@ use Rattle.sql_tree.specs.declared.source.FromSource.TheVariants as source
 use Rattle.sql_tree.specs.declared.source.FromTree.{FromTree}
 use Rattle.sql_tree.specs.declared.source.JoinStep.{JoinStep, out-JoinStep}
 use Rattle.sql_tree.specs.declared.source.ScopeMark.{ScopeMark}
-use Rattle.name_meaning.proofs.Opened.{core-is}
+use Rattle.name_meaning.proofs.Equations.{token, fromsource-inner}
+use Rattle.name_meaning.proofs.Opened.{core-is, opened_from_item}
 use Rattle.name_meaning.specs.Cores.{BodyPart, Clauses, before_list, clause_breaks, core_clauses, core_over, core_seen, core_unlooked, group_break, group_scope, has_some, list_columns, optional_built, settle_known, word_breaks}
-use Rattle.name_meaning.specs.Froms.{FromMeant, FromPart, ItemMeant, JoinPart, Read, applied, beside_from, both_known, first_item, from_all, in_clause, in_from, in_on, item_meant, join_all, join_item, join_kind, joined_item, label_of, names_of, on_built, on_meant, optional_breaks, optional_meant, read_names, read_of, read_query, scope_items, scope_name, settled_columns, yes}
+use Rattle.name_meaning.specs.Froms.{FromItemPart, FromMeant, FromPart, ItemMeant, JoinPart, SourcePart, applied, beside_from, both_known, first_item, from_all, in_clause, in_from, in_on, item_meant, join_all, join_item, join_kind, joined_item, label_of, names_of, on_built, on_meant, optional_breaks, optional_meant, read_names, read_of, read_query, scope_items, scope_name, settled_columns, yes}
 use Rattle.name_meaning.specs.Items.{SelectPart, items_breaks, made_items}
 use Rattle.name_meaning.specs.Meanings.{Around, Meant, OutColumn, Part, QueryMeant, is_whole, query_means_at}
 use Rattle.name_meaning.specs.Queries.{SetStepPart, asks_provenance, columns_so_far, keys_breaks, keys_of, limited, may_not_ask, operand_breaks, plain_query, query_seen, query_with_provenance, set_chain, set_joined}
@@ -39,7 +40,6 @@ use Rattle.name_laws.specs.Known.{ItemIsKnown}
 use Rattle.name_made_parts.proofs.AskedListing.{mapped}
 use Rattle.name_made_parts.proofs.Sourcing.{join-fields, joins-append}
 use Rattle.name_made_parts.specs.Cored.{items_meant}
-use Rattle.name_seen.proofs.FromTrees.{inner-read, item-means}
 use Rattle.name_seen_cores.proofs.Opened.{chain-means, paren-means, query-means, set-is, step-operand}
 use Rattle.name_seen_cores.proofs.Queried.{chain-behind}
 use Rattle.name_seen_parts.proofs.Scoping.{all-behind}
@@ -178,12 +178,13 @@ read-high n m at mark earlier name label high none =
 
 pub inner-item : (c : Contents) (around : Around) (earlier : List (List ℕ)) (item : FromItem) (query : QueryTree) (n : ℕ) → item.source ≡ source.Inner query
     → QueryHigh n (query_means_at (query_of c query) around) → ItemHigh n ((from_item_of c item).means around earlier)
+unfolding token query_means_at
 inner-item c around earlier item query n is high =
     let name = scope_name (source_of c item.source) item.alias in
     let label = label_of (source_of c item.source) item.alias in
-    subst (ItemHigh n) (sym (item-means c item around earlier
-    ∙ ap (λ (read : Read). item_meant item.at item.mark earlier name label read) (inner-read c around item.source query is)))
-    (read-high n (query_means_at (query_of c query) around) item.at item.mark earlier name label high)
+    subst (ItemHigh n) (sym (ap (λ (part : FromItemPart). part.means around earlier) (opened_from_item c item)
+    ∙ ap (λ (part : SourcePart). item_meant item.at item.mark earlier name label (read_of c around part)) (ap (source_of c) is ∙ fromsource-inner c query)))
+    (read-high n ((query_of c query).means around) item.at item.mark earlier name label high)
 
 pub any-item : (m : ItemMeant) → ItemHigh 0 m
 any-item m none = omega arith

@@ -4,12 +4,12 @@ use Rattle.std.proofs.Common.{ap, sym, subst, ◌∙◌}
 use Rattle.perm_catalog.specs.Contents.{Contents}
 use Rattle.perm_catalog.specs.declared.column.Column.{Column}
 use Rattle.sql_tree.specs.declared.source.FromItem.{FromItem}
-use Rattle.name_meaning.specs.Froms.{ItemMeant, Read, item_meant, label_of, read_of, scope_name, table_columns}
+use Rattle.name_meaning.proofs.Opened.{opened_from_item}
+use Rattle.name_meaning.specs.Froms.{FromItemPart, ItemMeant, Read, item_meant, label_of, read_of, scope_name, table_columns}
 use Rattle.name_meaning.specs.Meanings.{Around}
 use Rattle.name_meaning.specs.Trees.{from_item_of, source_of}
 use Rattle.name_meaning.specs.declared.answer.Break.{Break}
 use Rattle.name_laws.proofs.Every.{front-none}
-use Rattle.name_seen.proofs.FromTrees.{item-means}
 use Rattle.name_seen_from.specs.Readings.{IsRead}
 use Rattle.name_seen_from.specs.declared.reading.Reading.{Reading}
 use Rattle.name_seen_parts.specs.Seen.{first_or}
@@ -27,7 +27,7 @@ module _ (c : Contents) (item : FromItem) (around : Around) (names : List (List 
   meant = (from_item_of c item).means around names
 
   as-item : meant ≡ item_meant item.at item.mark names (scope_name (source_of c item.source) item.alias) (label_of (source_of c item.source) item.alias) read
-  as-item = item-means c item around names
+  as-item = ap (λ (part : FromItemPart). part.means around names) (opened_from_item c item)
 
   pub read-known : (reading : Reading) (found : List ℕ × List Column) → IsRead read reading → found.0 ≡ scope_name (source_of c item.source) item.alias
       → found.1 ≡ reading.columns → IsReadAs meant (Some found)

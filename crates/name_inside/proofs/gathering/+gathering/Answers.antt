@@ -11,12 +11,11 @@ use Rattle.name_inside.specs.Passed.{HasWidth, IsReadAs}
 use Rattle.name_inside.proofs.Arms.{aggregate_adds, arm-adds, between_adds, case_adds, chain_adds, coalesce_adds, column_adds, compared_adds, exists_adds, inlist_adds, inquery_adds, integer_adds, isdistinct_adds, isnull_adds, istruth_adds, like_adds, logic_adds, nots_adds, null_adds, nullif_adds, nullof_adds, paren_adds, quantified_adds, scalar_adds, signs_adds, step-adds, text_adds, truth_adds}
 use Rattle.name_inside.proofs.Cores.{chain-stands, clauses-adds, core-adds, core-broken, core-stands, inner-adds, named-adds, operand-adds, paren-stands, query-adds, star-adds, table_star-adds, value-adds, first-added, join-tree, lateral-tree, no-sources, source-more, step-added}
 use Rattle.name_inside.proofs.Gone.{flat-more, mapped-more}
-use Rattle.name_inside.proofs.Over.{adds-alike, adds-both, adds-over, when-ok}
+use Rattle.name_inside.proofs.Over.{adds-alike, adds-both, adds-over, ok-anyway, when-ok}
 use Rattle.name_inside.proofs.gathering.+gathering.Goals as goal
 use Rattle.name_made_parts.proofs.AskedListing.{mapped}
 use Rattle.name_made_parts.proofs.Sourcing.{from-fields}
 use Rattle.name_meaning.specs.Froms.{first_item, from_all, in_clause, in_from, join_all, FromMeant, FromPart}
-use Rattle.name_seen.proofs.Joined.{whatever-ok}
 use Rattle.std.proofs.lemmas.List.{take_all}
 use Rattle.sql_tree.specs.declared.source.FromTree.{out-FromTree}
 use Rattle.sql_tree.specs.declared.source.JoinStep.{JoinStep}
@@ -249,7 +248,7 @@ pub seeing_inside-returns-clause-adds : goal.seeing_inside-returns-clause-adds
 seeing_inside-returns-clause-adds t c =
     let around = c.args.around.now in
     let item = from_item_of around.catalog.now c.args.item.now in
-    whatever-ok c.item_read.result (λ names.
+    ok-anyway c.item_read.result (λ names.
     subst (λ (place : Around). Adds (held_item (item.means place names) ∷ []) c.args.found.now c.source_inside.new.found)
     (c.lateral-place.ensures.place ∙ ap around_beside c.in_ok-scopes.ensures)
     ((rw c.lateral-place.ensures.catalog at c.in_ok-source_inside.ensures) names))
