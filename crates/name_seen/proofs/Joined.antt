@@ -197,13 +197,13 @@ none-held earlier scope is = ap (λ (s : Scope). earlier ++ s.items) is ∙ appe
 
 -- ---- what is said of answers alone
 
-pub never-ok : {X E P : Type 0} (result : Result X E) (Q : E → Type 0) → IsErrAnd result Q → OnOk result P
-never-ok (Ok x) Q is = absurd is
-never-ok (Err e) Q is = tt
+pub never-ok : {X E : Type 0} (P : Type 0) (result : Result X E) (Q : E → Type 0) → IsErrAnd result Q → OnOk result P
+never-ok P (Ok x) Q is = absurd is
+never-ok P (Err e) Q is = tt
 
-pub never-if_ok : {X E : Type 0} {P : X → Type 0} (result : Result X E) (Q : E → Type 0) → IsErrAnd result Q → IfOk result P
-never-if_ok (Ok x) Q is = absurd is
-never-if_ok (Err e) Q is = tt
+pub never-if_ok : {X E : Type 0} (P : X → Type 0) (result : Result X E) (Q : E → Type 0) → IsErrAnd result Q → IfOk result P
+never-if_ok P (Ok x) Q is = absurd is
+never-if_ok P (Err e) Q is = tt
 
 pub whatever-ok : {X E P : Type 0} (result : Result X E) → P → OnOk result P
 whatever-ok (Ok x) holds = holds

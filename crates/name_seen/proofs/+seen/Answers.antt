@@ -661,13 +661,13 @@ sources::lateral_item-returns-clause-seen t c =
     (c.put_item.ensures.seen around.catalog.now (read_of around.catalog.now place (source_of around.catalog.now item.source)) c.in_ok-reading.ensures)
 
 pub sources::from_item-returns-in_err-reading-clause-named : goal.sources::from_item-returns-in_err-reading-clause-named
-sources::from_item-returns-in_err-reading-clause-named t c = never-ok c.from_residual.result _ c.from_residual.ensures.1
+sources::from_item-returns-in_err-reading-clause-named t c = never-ok _ c.from_residual.result _ c.from_residual.ensures.1
 
 pub sources::from_item-returns-clause-named : goal.sources::from_item-returns-clause-named
 sources::from_item-returns-clause-named t c = c.put_item.ensures.named
 
 pub sources::lateral_item-returns-in_err-reading-clause-named : goal.sources::lateral_item-returns-in_err-reading-clause-named
-sources::lateral_item-returns-in_err-reading-clause-named t c = never-ok c.from_residual.result _ c.from_residual.ensures.1
+sources::lateral_item-returns-in_err-reading-clause-named t c = never-ok _ c.from_residual.result _ c.from_residual.ensures.1
 
 pub sources::lateral_item-returns-clause-named : goal.sources::lateral_item-returns-clause-named
 sources::lateral_item-returns-clause-named t c = c.put_item.ensures.named
@@ -733,7 +733,7 @@ pub sources::join_seen-returns-then-is_lateral-clause-named : goal.sources::join
 sources::join_seen-returns-then-is_lateral-clause-named t c = c.lateral_item.ensures.named
 
 pub sources::join_seen-returns-in_err-from_item-clause-named : goal.sources::join_seen-returns-in_err-from_item-clause-named
-sources::join_seen-returns-in_err-from_item-clause-named t c = never-ok c.from_residual.result _ c.from_residual.ensures.1
+sources::join_seen-returns-in_err-from_item-clause-named t c = never-ok _ c.from_residual.result _ c.from_residual.ensures.1
 
 pub sources::join_seen-returns-clause-named : goal.sources::join_seen-returns-clause-named
 sources::join_seen-returns-clause-named t c = whatever-ok c.condition_seen.result c.in_ok-from_item.ensures.named
@@ -755,7 +755,7 @@ sources::source_items-returns-in_err-from_item-clause-seen t c =
     c.in_err-from_item.ensures.seen))
 
 pub sources::source_items-returns-in_err-from_item-clause-named : goal.sources::source_items-returns-in_err-from_item-clause-named
-sources::source_items-returns-in_err-from_item-clause-named t c = never-if_ok c.from_residual.result _ c.from_residual.ensures.1
+sources::source_items-returns-in_err-from_item-clause-named t c = never-if_ok _ c.from_residual.result _ c.from_residual.ensures.1
 
 pub sources::source_items-loop-step-init : goal.sources::source_items-loop-step-init
 sources::source_items-loop-step-init t c =
@@ -793,7 +793,7 @@ sources::source_items-returns-in_err-join_seen-clause-seen t c =
 
 pub sources::source_items-returns-in_err-join_seen-clause-named : goal.sources::source_items-returns-in_err-join_seen-clause-named
 sources::source_items-returns-in_err-join_seen-clause-named t c =
-    never-if_ok c.from_residual-in_err-join_seen.result _ c.from_residual-in_err-join_seen.ensures.1
+    never-if_ok _ c.from_residual-in_err-join_seen.result _ c.from_residual-in_err-join_seen.ensures.1
 
 pub sources::source_items-loop-step-preserved : goal.sources::source_items-loop-step-preserved
 sources::source_items-loop-step-preserved t c =
