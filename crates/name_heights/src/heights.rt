@@ -202,8 +202,14 @@ fn expression_height(tree: &ExprTree) -> u64
             let front = expression_height(first.get());
             front.max(steps_height(steps.as_slice()))
         }
-        ExprBody::Compared { first, second, .. } => pair_height(first.get(), second.get()),
-        ExprBody::Like { text, pattern, .. } => pair_height(text.get(), pattern.get()),
+        ExprBody::Compared { first, second, .. } => {
+            let front = expression_height(first.get());
+            front.max(expression_height(second.get()))
+        }
+        ExprBody::Like { text, pattern, .. } => {
+            let front = expression_height(text.get());
+            front.max(expression_height(pattern.get()))
+        }
         ExprBody::Between {
             part,
             low,
@@ -211,7 +217,8 @@ fn expression_height(tree: &ExprTree) -> u64
             ..
         } => {
             let front = expression_height(part.get());
-            front.max(pair_height(low.get(), high.get()))
+            let lowest = expression_height(low.get());
+            front.max(lowest.max(expression_height(high.get())))
         }
         ExprBody::InList { part, list, .. } => {
             let front = expression_height(part.get());
@@ -221,28 +228,23 @@ fn expression_height(tree: &ExprTree) -> u64
         ExprBody::Quantified { query, .. } => query_height(query.get()),
         ExprBody::IsNull { part, .. } => expression_height(part.get()),
         ExprBody::IsTruth { part, .. } => expression_height(part.get()),
-        ExprBody::IsDistinct { first, second, .. } => pair_height(first.get(), second.get()),
+        ExprBody::IsDistinct { first, second, .. } => {
+            let front = expression_height(first.get());
+            front.max(expression_height(second.get()))
+        }
         ExprBody::Case { arms, otherwise } => {
             let front = arms_height(arms.as_slice());
             front.max(otherwise_height(otherwise))
         }
         ExprBody::Coalesce(list) => expressions_height(list.as_slice()),
-        ExprBody::NullIf { first, second } => pair_height(first.get(), second.get()),
+        ExprBody::NullIf { first, second } => {
+            let front = expression_height(first.get());
+            front.max(expression_height(second.get()))
+        }
         ExprBody::Aggregate { .. } => 0,
         ExprBody::Exists(query) => query_height(query.get()),
         ExprBody::Scalar(query) => query_height(query.get()),
     }
-}
-
-/// Two operands, whatever each needs.
-#[cycle(height)]
-fn pair_height(first: &ExprTree, second: &ExprTree) -> u64
-    ensures { (c : Contents) (here : Surroundings) (need more : Needs) → IsSound c
-        → OperandsHigh result (operand here need (part_of c first.now)
-        ∷ operand here more (part_of c second.now) ∷ []) }
-{
-    let front = expression_height(first);
-    front.max(expression_height(second))
 }
 
 #[cycle(height)]
@@ -276,7 +278,9 @@ fn arms_height(arms: &[ArmTree]) -> u64
 {
     let mut height = 0;
     for arm in arms {
-        height = height.max(pair_height(&arm.condition, &arm.value));
+        let front = expression_height(&arm.condition);
+        let both = front.max(expression_height(&arm.value));
+        height = height.max(both);
     }
     height
 }

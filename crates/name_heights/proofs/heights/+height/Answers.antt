@@ -1,5 +1,5 @@
-use Rattle.std.specs.Prelude.{true, List, map, flat_map, ◌∷◌, [], Option, option_map}
-use Rattle.std.proofs.Common.{ap, subst, sym, take, ◌∙◌}
+use Rattle.std.specs.Prelude.{max, true, List, map, flat_map, ◌∷◌, [], Option, option_map}
+use Rattle.std.proofs.Common.{ap, arith, subst, sym, take, ◌∙◌}
 use Rattle.std.proofs.lemmas.List.{take_all}
 use Rattle.sql_tree.specs.declared.expression.ArmTree.{ArmTree}
 use Rattle.sql_tree.specs.declared.expression.ExprStep.{ExprStep}
@@ -50,7 +50,8 @@ chain_height-loop-step-init t c = λ held around left sound first. first
 
 pub chain_height-loop-step-preserved : goal.chain_height-loop-step-preserved
 chain_height-loop-step-preserved t c = λ held around left sound first.
-    chain-high held around left c.args.steps.now c.loop-step.step-index c.step-item.result _ _ _ c.loop-step-test.true c.step-item.is c.above-height.ensures
+    chain-high held around left c.args.steps.now c.loop-step.step-index c.step-item.result c.above-height.result c.loop-step.height c.set_height.result
+    c.loop-step-test.true c.step-item.is (omega (arith, c.above-height.ensures, c.max.ensures))
     (c.loop-step.invariant held around left sound first) (c.set_height.ensures held (may_not_ask around) sound)
 
 pub chain_height-returns : goal.chain_height-returns
@@ -60,7 +61,8 @@ chain_height-returns t c = λ held around left sound first.
 
 pub core_height-returns : goal.core_height-returns
 core_height-returns t c = λ held around sound.
-    core-tree held around c.args.core.now c.above.result _ _ _ _ c.above.ensures
+    core-tree held around c.args.core.now c.above.result c.sources_height-input.result c.condition_height-kept.result c.condition_height-chosen.result
+    c.items_height-listed.result (omega (arith, c.above.ensures, c.max.ensures, c.max-2.ensures, c.max-3.ensures))
     (rw c.as_slice.ensures at (c.sources_height-input.ensures held around.outer sound))
     (c.condition_height-kept.ensures held sound) (c.condition_height-chosen.ensures held sound)
     (λ has_from scope. rw c.as_slice-2.ensures at (c.items_height-listed.ensures held has_from scope (in_clause scope around.outer true) sound))
@@ -107,12 +109,14 @@ source_height-returns t c = λ held outer earlier sound.
 
 pub join_height-returns-then-is_lateral : goal.join_height-returns-then-is_lateral
 join_height-returns-then-is_lateral t c = λ held outer left sound before.
-    lateral-tree held sound outer left c.args.step.now _ _ _ (sym c.is_lateral.ensures ∙ c.if-is_lateral.true) c.above.ensures before
+    lateral-tree held sound outer left c.args.step.now c.above.result c.args.before c.item_height-right.result
+    (sym c.is_lateral.ensures ∙ c.if-is_lateral.true) (omega (arith, c.above.ensures, c.max.ensures)) before
     (λ around earlier. c.item_height-right.ensures held around earlier sound)
 
 pub join_height-returns : goal.join_height-returns
 join_height-returns t c = λ held outer left sound before.
-    plain-tree held sound outer left c.args.step.now _ _ _ _ (sym c.is_lateral.ensures ∙ c.if-is_lateral.false) c.above-2.ensures before
+    plain-tree held sound outer left c.args.step.now c.above-2.result c.args.before c.item_height-right.result c.condition_height-on.result
+    (sym c.is_lateral.ensures ∙ c.if-is_lateral.false) (omega (arith, c.above-2.ensures, c.max-2.ensures, c.max-3.ensures)) before
     (λ around earlier. c.item_height-right.ensures held around earlier sound) (c.condition_height-on.ensures held sound)
 
 pub item_height-returns-in-Named : goal.item_height-returns-in-Named
@@ -138,8 +142,9 @@ items_height-loop-item-init t c = λ held has_from scope here sound. no-items
 
 pub items_height-loop-item-preserved : goal.items_height-loop-item-preserved
 items_height-loop-item-preserved t c = λ held has_from scope here sound.
-    listed-high (λ (item : SelectPart). item.means has_from scope here) (item_of held) c.args.items.now c.loop-item.item-index c.item-item.result _ _
-    c.loop-item-test.true c.item-item.is (c.loop-item.invariant held has_from scope here sound) (c.listed_height.ensures held has_from scope here sound)
+    rw c.max-height.ensures (listed-high (λ (item : SelectPart). item.means has_from scope here) (item_of held) c.args.items.now c.loop-item.item-index
+    c.item-item.result c.loop-item.height c.listed_height.result c.loop-item-test.true c.item-item.is (c.loop-item.invariant held has_from scope here sound)
+    (c.listed_height.ensures held has_from scope here sound))
 
 pub items_height-returns : goal.items_height-returns
 items_height-returns t c = λ held has_from scope here sound.
@@ -197,28 +202,38 @@ expression_height-returns-in-Logic t c = λ held here sound.
 
 pub expression_height-returns-in-Chain : goal.expression_height-returns-in-Chain
 expression_height-returns-in-Chain t c = λ held here sound.
-    chained-high held here c.args.tree.now _ _ _ _ c.in-Chain.is (rw c.get-in-Chain.ensures at (c.expression_height-front.ensures held here sound))
-    (rw c.as_slice-in-Chain.ensures at (c.steps_height.ensures held here sound))
+    rw c.max.ensures (chained-high held here c.args.tree.now c.expression_height-front.result c.steps_height.result _ _ c.in-Chain.is
+    (rw c.get-in-Chain.ensures at (c.expression_height-front.ensures held here sound))
+    (rw c.as_slice-in-Chain.ensures at (c.steps_height.ensures held here sound)))
 
 pub expression_height-returns-in-Compared : goal.expression_height-returns-in-Compared
 expression_height-returns-in-Compared t c = λ held here sound.
-    compared-high held here c.args.tree.now _ _ _ _ c.in-Compared.is
-    (λ need more. rw (c.get-in-Compared.ensures, c.get-in-Compared-2.ensures) at (c.pair_height.ensures held here need more sound))
+    rw c.max-in-Compared.ensures (compared-high held here c.args.tree.now (max c.expression_height-front-in-Compared.result c.expression_height-in-Compared.result) _ _ _ c.in-Compared.is
+    (λ need more. operand-pair c.expression_height-front-in-Compared.result c.expression_height-in-Compared.result here need more (part_of held c.in-Compared.first) (part_of held c.in-Compared.second)
+    (rw c.get-in-Compared.ensures at (c.expression_height-front-in-Compared.ensures held here sound))
+    (rw c.get-in-Compared-2.ensures at (c.expression_height-in-Compared.ensures held here sound))))
 
 pub expression_height-returns-in-Like : goal.expression_height-returns-in-Like
 expression_height-returns-in-Like t c = λ held here sound.
-    like-high held here c.args.tree.now _ _ _ _ c.in-Like.is
-    (λ need more. rw (c.get-in-Like.ensures, c.get-in-Like-2.ensures) at (c.pair_height-in-Like.ensures held here need more sound))
+    rw c.max-in-Like.ensures (like-high held here c.args.tree.now (max c.expression_height-front-in-Like.result c.expression_height-in-Like.result) _ _ _ c.in-Like.is
+    (λ need more. operand-pair c.expression_height-front-in-Like.result c.expression_height-in-Like.result here need more (part_of held c.in-Like.text) (part_of held c.in-Like.pattern)
+    (rw c.get-in-Like.ensures at (c.expression_height-front-in-Like.ensures held here sound))
+    (rw c.get-in-Like-2.ensures at (c.expression_height-in-Like.ensures held here sound))))
 
 pub expression_height-returns-in-Between : goal.expression_height-returns-in-Between
 expression_height-returns-in-Between t c = λ held here sound.
-    between-high held here c.args.tree.now _ _ _ _ _ _ c.in-Between.is (rw c.get-in-Between.ensures at (c.expression_height-front-in-Between.ensures held here sound))
-    (λ need more. rw (c.get-in-Between-2.ensures, c.get-in-Between-3.ensures) at (c.pair_height-in-Between.ensures held here need more sound))
+    rw (c.max-in-Between-2.ensures, c.max-in-Between.ensures) (between-high held here c.args.tree.now c.expression_height-front-in-Between.result
+    (max c.expression_height-lowest.result c.expression_height-in-Between.result) _ _ _ _ c.in-Between.is
+    (rw c.get-in-Between.ensures at (c.expression_height-front-in-Between.ensures held here sound))
+    (λ need more. operand-pair c.expression_height-lowest.result c.expression_height-in-Between.result here need more (part_of held c.in-Between.low)
+    (part_of held c.in-Between.high) (rw c.get-in-Between-2.ensures at (c.expression_height-lowest.ensures held here sound))
+    (rw c.get-in-Between-3.ensures at (c.expression_height-in-Between.ensures held here sound))))
 
 pub expression_height-returns-in-InList : goal.expression_height-returns-in-InList
 expression_height-returns-in-InList t c = λ held here sound.
-    inlist-high held here c.args.tree.now _ _ _ _ _ c.in-InList.is (rw c.get-in-InList.ensures at (c.expression_height-front-in-InList.ensures held here sound))
-    (λ need. rw c.as_slice-in-InList.ensures at (c.expressions_height-in-InList.ensures held here need sound))
+    rw c.max-in-InList.ensures (inlist-high held here c.args.tree.now c.expression_height-front-in-InList.result c.expressions_height-in-InList.result
+    _ _ _ c.in-InList.is (rw c.get-in-InList.ensures at (c.expression_height-front-in-InList.ensures held here sound))
+    (λ need. rw c.as_slice-in-InList.ensures at (c.expressions_height-in-InList.ensures held here need sound)))
 
 pub expression_height-returns-in-InQuery : goal.expression_height-returns-in-InQuery
 expression_height-returns-in-InQuery t c = λ held here sound.
@@ -238,13 +253,15 @@ expression_height-returns-in-IsTruth t c = λ held here sound.
 
 pub expression_height-returns-in-IsDistinct : goal.expression_height-returns-in-IsDistinct
 expression_height-returns-in-IsDistinct t c = λ held here sound.
-    isdistinct-high held here c.args.tree.now _ _ _ _ c.in-IsDistinct.is
-    (λ need more. rw (c.get-in-IsDistinct.ensures, c.get-in-IsDistinct-2.ensures) at (c.pair_height-in-IsDistinct.ensures held here need more sound))
+    rw c.max-in-IsDistinct.ensures (isdistinct-high held here c.args.tree.now (max c.expression_height-front-in-IsDistinct.result c.expression_height-in-IsDistinct.result) _ _ _ c.in-IsDistinct.is
+    (λ need more. operand-pair c.expression_height-front-in-IsDistinct.result c.expression_height-in-IsDistinct.result here need more (part_of held c.in-IsDistinct.first) (part_of held c.in-IsDistinct.second)
+    (rw c.get-in-IsDistinct.ensures at (c.expression_height-front-in-IsDistinct.ensures held here sound))
+    (rw c.get-in-IsDistinct-2.ensures at (c.expression_height-in-IsDistinct.ensures held here sound))))
 
 pub expression_height-returns-in-Case : goal.expression_height-returns-in-Case
 expression_height-returns-in-Case t c = λ held here sound.
-    case-high held here c.args.tree.now _ _ _ c.in-Case.otherwise c.in-Case.is (rw c.as_slice-in-Case.ensures at (c.arms_height-front.ensures held here sound))
-    (c.otherwise_height.ensures held here sound)
+    rw c.max-in-Case.ensures (case-high held here c.args.tree.now c.arms_height-front.result c.otherwise_height.result _ c.in-Case.otherwise c.in-Case.is
+    (rw c.as_slice-in-Case.ensures at (c.arms_height-front.ensures held here sound)) (c.otherwise_height.ensures held here sound))
 
 pub expression_height-returns-in-Coalesce : goal.expression_height-returns-in-Coalesce
 expression_height-returns-in-Coalesce t c = λ held here sound.
@@ -252,8 +269,10 @@ expression_height-returns-in-Coalesce t c = λ held here sound.
 
 pub expression_height-returns-in-NullIf : goal.expression_height-returns-in-NullIf
 expression_height-returns-in-NullIf t c = λ held here sound.
-    nullif-high held here c.args.tree.now _ _ _ c.in-NullIf.is
-    (λ need more. rw (c.get-in-NullIf.ensures, c.get-in-NullIf-2.ensures) at (c.pair_height-in-NullIf.ensures held here need more sound))
+    rw c.max-in-NullIf.ensures (nullif-high held here c.args.tree.now (max c.expression_height-front-in-NullIf.result c.expression_height-in-NullIf.result) _ _ c.in-NullIf.is
+    (λ need more. operand-pair c.expression_height-front-in-NullIf.result c.expression_height-in-NullIf.result here need more (part_of held c.in-NullIf.first) (part_of held c.in-NullIf.second)
+    (rw c.get-in-NullIf.ensures at (c.expression_height-front-in-NullIf.ensures held here sound))
+    (rw c.get-in-NullIf-2.ensures at (c.expression_height-in-NullIf.ensures held here sound))))
 
 pub expression_height-returns-in-Exists : goal.expression_height-returns-in-Exists
 expression_height-returns-in-Exists t c = λ held here sound.
@@ -265,18 +284,14 @@ expression_height-returns-in-Scalar t c = λ held here sound.
 
 -- ---- operands
 
-pub pair_height-returns : goal.pair_height-returns
-pair_height-returns t c = λ held here need more sound.
-    operand-pair _ _ here need more (part_of held c.args.first.now) (part_of held c.args.second.now) (c.expression_height-front.ensures held here sound)
-    (c.expression_height.ensures held here sound)
-
 pub expressions_height-loop-tree-init : goal.expressions_height-loop-tree-init
 expressions_height-loop-tree-init t c = λ held here need sound. no-operands
 
 pub expressions_height-loop-tree-preserved : goal.expressions_height-loop-tree-preserved
 expressions_height-loop-tree-preserved t c = λ held here need sound.
-    mapped-high (operand here need) (part_of held) c.args.trees.now c.loop-tree.tree-index c.tree-item.result _ _ c.loop-tree-test.true c.tree-item.is
-    (c.loop-tree.invariant held here need sound) (operand-at _ here need (part_of held c.tree-item.result) (c.expression_height.ensures held here sound))
+    rw c.max-height.ensures (mapped-high (operand here need) (part_of held) c.args.trees.now c.loop-tree.tree-index c.tree-item.result c.loop-tree.height
+    c.expression_height.result c.loop-tree-test.true c.tree-item.is (c.loop-tree.invariant held here need sound)
+    (operand-at c.expression_height.result here need (part_of held c.tree-item.result) (c.expression_height.ensures held here sound)))
 
 pub expressions_height-returns : goal.expressions_height-returns
 expressions_height-returns t c = λ held here need sound.
@@ -288,8 +303,9 @@ steps_height-loop-step-init t c = λ held here sound. no-operands
 
 pub steps_height-loop-step-preserved : goal.steps_height-loop-step-preserved
 steps_height-loop-step-preserved t c = λ held here sound.
-    mapped-high (step_operand here) (step_of held) c.args.steps.now c.loop-step.step-index c.step-item.result _ _ c.loop-step-test.true c.step-item.is
-    (c.loop-step.invariant held here sound) (step-high held here c.step-item.result _ (c.expression_height.ensures held here sound))
+    rw c.max-height.ensures (mapped-high (step_operand here) (step_of held) c.args.steps.now c.loop-step.step-index c.step-item.result c.loop-step.height
+    c.expression_height.result c.loop-step-test.true c.step-item.is (c.loop-step.invariant held here sound)
+    (step-high held here c.step-item.result c.expression_height.result (c.expression_height.ensures held here sound)))
 
 pub steps_height-returns : goal.steps_height-returns
 steps_height-returns t c = λ held here sound.
@@ -301,8 +317,12 @@ arms_height-loop-arm-init t c = λ held here sound. no-operands
 
 pub arms_height-loop-arm-preserved : goal.arms_height-loop-arm-preserved
 arms_height-loop-arm-preserved t c = λ held here sound.
-    flat-high (arm_operands here) (arm_of held) c.args.arms.now c.loop-arm.arm-index c.arm-item.result _ _ c.loop-arm-test.true c.arm-item.is
-    (c.loop-arm.invariant held here sound) (arm-high held here c.arm-item.result _ (λ need more. c.pair_height.ensures held here need more sound))
+    let arm = c.arm-item.result in
+    rw (c.max-height.ensures, c.max-both.ensures) (flat-high (arm_operands here) (arm_of held) c.args.arms.now c.loop-arm.arm-index arm c.loop-arm.height
+    (max c.expression_height-front.result c.expression_height.result) c.loop-arm-test.true c.arm-item.is (c.loop-arm.invariant held here sound)
+    (arm-high held here arm (max c.expression_height-front.result c.expression_height.result)
+    (λ need more. operand-pair c.expression_height-front.result c.expression_height.result here need more (part_of held arm.condition)
+    (part_of held arm.value) (c.expression_height-front.ensures held here sound) (c.expression_height.ensures held here sound))))
 
 pub arms_height-returns : goal.arms_height-returns
 arms_height-returns t c = λ held here sound.
