@@ -1,5 +1,5 @@
 use Rattle.name_seen_parts.specs.Standing.{around_of}
-use Rattle.name_inside.proofs.Reads.{read-broken, read-known}
+use Rattle.name_inside.proofs.ReadItems.{read-broken, read-known}
 use Rattle.name_inside.proofs.first_pass.item_read.Goals as goal
 
 pub returns-in_ok-named_columns-in-Ok : goal.returns-in_ok-named_columns-in-Ok
