@@ -24,7 +24,7 @@ pub fn resolve(alloc: Global, catalog: &Catalog, statement: Statement) -> Result
     ensures resolves { Resolves (breaks catalog.now statement) (resolved catalog.now statement) result }
     ensures due { TellsFirst (own_breaks catalog.now statement.body) result }
 {
-    match own_break(catalog, &statement.body) {
+    match own_break(alloc, catalog, &statement.body) {
         Ok(()) => behind_names(alloc, catalog, statement),
         Err(first) => {
             let_statement_go(statement);

@@ -104,7 +104,7 @@ fn view_made(alloc: Global, catalog: &Catalog, query: &QueryTree) -> Result<View
     let outermost = Scopes::Outermost;
     let around = around_alone(alloc, catalog, &outermost);
     let shown = query_seen(query, &around)?;
-    let repeats = repeats_break(query.at, shown.columns.as_slice());
+    let repeats = repeats_break(alloc, query.at, shown.columns.as_slice());
     let named = within(shown, repeats)?;
     let whole = whole_of(query, &around, named)?;
     let entry = entry_of(alloc, whole)?;
@@ -142,7 +142,7 @@ fn table_made(
     let outermost = Scopes::Outermost;
     let around = around_alone(alloc, catalog, &outermost);
     let shown = query_seen(query, &around)?;
-    let stored = stored_break(table, query.at, shown.columns.as_slice());
+    let stored = stored_break(alloc, table, query.at, shown.columns.as_slice());
     let fitting = within(shown, stored)?;
     whole_of(query, &around, fitting)
 }

@@ -22,27 +22,30 @@ use Rattle.sql_tree.specs.declared.source.JoinStep.{JoinStep, out-JoinStep}
 use Rattle.sql_tree.specs.declared.source.ScopeMark.{ScopeMark}
 use Rattle.name_meaning.proofs.Equations.{token, selectitem-star, selectitem-tablestar, selectitem-value, fromsource-named, fromsource-inner}
 use Rattle.name_meaning.specs.Cores.{BodyPart, Clauses, clause_breaks, core_clauses, core_over, core_seen, core_unlooked, group_break, group_scope, has_some, word_breaks}
-use Rattle.name_meaning.specs.Froms.{FromMeant, FromPart, ItemMeant, JoinPart, Read, SourcePart, beside_from, both_known, first_item, from_all, from_more, in_on, item_meant, join_all, join_item, label_of, optional_breaks, on_meant, read_named, read_of, scope_items, scope_name, applied, beside_items, in_from, joined_item, in_clause, optional_inside, optional_meant, no_from}
-use Rattle.name_laws.proofs.Lateral.{join-items, join-lateral, join-plain, lateral_item, plain_item, plainly}
+use Rattle.name_meaning.specs.Froms.{FromMeant, FromPart, ItemMeant, JoinPart, Read, SourcePart, beside_from, both_known, first_item, from_all, from_more, in_on, item_meant, join_all, join_item, label_of, optional_breaks, on_meant, read_named, read_of, scope_items, scope_name, table_columns, applied, beside_items, in_from, joined_item, in_clause, optional_inside, optional_meant, no_from}
+use Rattle.name_laws.proofs.Lateral.{join-lateral, join-plain, lateral_item, plain_item, plainly}
 use Rattle.sql_tree.specs.Regular.{is_lateral}
 use Rattle.sql_tree.specs.declared.source.JoinWord.{JoinWord}
 use Rattle.name_meaning.specs.Items.{SelectPart, columns_meant, items_breaks, items_inside, no_columns, star_meant, table_star_meant}
 use Rattle.name_meaning.specs.Meanings.{Around, Inside, Meant, Part, QueryMeant, Surroundings, both_inside, is_whole, means_at, query_means_at}
 use Rattle.name_meaning.specs.Queries.{SetStepPart, count_columns, asks_provenance, keys_breaks, keys_of, limited, operand_breaks, plain_query, query_with_provenance, query_seen, set_chain, set_joined, may_not_ask}
-use Rattle.name_meaning.specs.Scopes.{Placed, ScopeItem, item_columns, scope_of}
+use Rattle.name_meaning.specs.Scopes.{KnownColumn, Placed, ScopeItem, item_columns, scope_of}
 use Rattle.name_meaning.specs.Trees.{core_of, from_item_of, from_of, item_of, join_of, part_of, query_of, set_of_tree, set_step_of, source_of}
 use Rattle.name_meaning.specs.declared.answer.Break.{Break}
 use Rattle.name_meaning.specs.declared.scope.Scope.{Scope}
 use Rattle.name_laws.proofs.Every.{front-none, back-none, whole-none, none-whole}
 use Rattle.name_meaning.proofs.Opened.{core-is, opened_from_item}
-use Rattle.name_inside.specs.Held.{Adds, Held, all_breaks, all_inside, clauses_of, condition_of, having_of, held_at, held_clauses, held_from, held_item, held_items, held_operand, held_optional, held_query, held_read, held_select, inside_in, items_of, query_alone, sources_of, AddsBeside, AddsFrom, AddsJoin, AddsOn, JoinsAdded, SourcesAdded, StandsThere}
-use Rattle.name_inside.specs.Passed.{HasScope, HasWidth}
+use Rattle.name_inside.specs.Held.{Adds, Held, all_breaks, all_inside, clauses_of, condition_of, having_of, held_at, held_clauses, held_from, held_item, held_items, held_operand, held_optional, held_query, held_read, held_select, inside_in, items_of, query_alone, sources_of, AddsItem, AddsJoin, FromAdded, IsOwn}
+use Rattle.name_inside.specs.Passed.{HasScope, HasWidth, IsReadAs, PutsRead}
 use Rattle.name_inside.specs.declared.gathered.Gathered.{Gathered}
 use Rattle.name_inside.proofs.Over.{IsOver, adds-alike, adds-both, adds-broken, adds-nothing, adds-over, adds-this, breaks-append, breaks-one, inside-append, inside-one, over-alike, over-front, over-pair, over-self}
 use Rattle.name_seen_cores.proofs.Opened.{set-is, paren-means, chain-means, step-operand, query-means}
-use Rattle.name_made_parts.specs.Sources.{IsScope, StandsIn}
-use Rattle.name_made_parts.proofs.Sourcing.{both-count, join-fields, joins-append, one-item, own-stands, stands-left, stands-right}
-use Rattle.name_seen_parts.proofs.Scoping.{more-behind}
+use Rattle.name_made_parts.specs.Sources.{IsScope}
+use Rattle.name_made_parts.proofs.Sourcing.{join-fields, joins-append}
+use Rattle.name_seen_parts.proofs.Scoping.{more-behind, scope-beside-is}
+use Rattle.name_seen_parts.specs.Scopes.{item_scope, scope_beside}
+use Rattle.name_seen_parts.specs.Standing.{around_beside}
+use Rattle.perm_catalog.specs.declared.column.Column.{Column}
 use Rattle.name_made_parts.proofs.AskedListing.{mapped}
 
 -- ---- set operations
@@ -158,117 +161,136 @@ join-over outer left step m items known =
       inside = λ none. ap (both_inside left.inside) (ap (both_inside m.inside) (ap optional_inside same ∙ optional-inside here step.condition));
     }
 
+-- what an item reads comes in scope behind the items before it
+record Wider (left : FromMeant) (m : ItemMeant) (wider : Scope) : Type 0 where
+  items : List ScopeItem
+  known : both_known left.items (scope_items m) ≡ Some items
+  is : wider ≡ scope_of items
+
+abbrev one_item : List ℕ → List Column → ScopeItem
+one_item name columns = record { name = name; columns = table_columns columns }
+
+wider-by : (left : FromMeant) (m : ItemMeant) (read : Option (List ℕ × List Column)) (own wider : Scope) → IsOwn left own → m.breaks ≡ [] → IsReadAs m read
+    → PutsRead read own wider → Wider left m wider
+wider-by left m None own wider before none reads puts = absurd (reads none)
+wider-by left m (Some read) own wider before none reads puts =
+    let is = reads none in
+    let item = one_item m.name read.1 in
+    let fits : scope_items m ≡ Some (item ∷ []) =
+    ap (λ (cs : Option (List KnownColumn)). option_map (λ (columns : List KnownColumn). record { name = m.name; columns = columns } ∷ []) cs) is.known in
+    record {
+      items = before.items ++ item ∷ [];
+      known = λ i. both_known (before.known i) (fits i);
+      is = puts ∙ (λ i. scope_beside (before.is i) (item_scope (sym is.name_is i) read.1)) ∙ scope-beside-is before.items (item ∷ []);
+    }
+
+pub first-added : (earlier : List (List ℕ)) (m : ItemMeant) (read : Option (List ℕ × List Column)) (own wider : Scope) (old new : Gathered) → own ≡ scope_of []
+    → Adds (held_item m ∷ []) old new → IsReadAs m read → PutsRead read own wider → FromAdded (first_item earlier m) old new wider
+first-added earlier m read own wider old new nothing added reads puts = record { adds = added; own_is = by-read read reads puts } where
+  by-read : (read : Option (List ℕ × List Column)) → IsReadAs m read → PutsRead read own wider → m.breaks ≡ [] → IsOwn (first_item earlier m) wider
+  by-read None reads puts none = absurd (reads none)
+  by-read (Some read) reads puts none =
+      let is = reads none in
+      let item = one_item m.name read.1 in
+      record {
+        items = item ∷ [];
+        known = ap (λ (cs : Option (List KnownColumn)). option_map (λ (columns : List KnownColumn). record { name = m.name; columns = columns } ∷ []) cs) is.known;
+        is = puts ∙ (λ i. scope_beside (nothing i) (item_scope (sym is.name_is i) read.1)) ∙ scope-beside-is [] (item ∷ []);
+      }
+
 -- one more join, whose condition sees the items up to its own
-join-added : (outer : List Scope) (step : JoinPart) (first before : ℕ) (scope : Scope) (middle items_in new : Gathered) → is_lateral step.word ≡ false
-    → ((names : List (List ℕ)) → Adds (held_item (step.item.means (in_from outer) names) ∷ []) middle items_in)
-    → AddsOn outer step.condition first (suc before) scope items_in new → AddsJoin outer step first before scope middle new
-join-added outer step first before scope middle items_in new plain item on left old counts so_far =
-    subst (λ (m : FromMeant). AddsFrom m first scope old new) (sym (join-plain outer left step plain)) added where
+join-added : (outer : List Scope) (step : JoinPart) (read : Option (List ℕ × List Column)) (own wider : Scope) (middle items_in new : Gathered)
+    → is_lateral step.word ≡ false → ((names : List (List ℕ)) → Adds (held_item (step.item.means (in_from outer) names) ∷ []) middle items_in)
+    → ((names : List (List ℕ)) → IsReadAs (step.item.means (in_from outer) names) read) → PutsRead read own wider
+    → Adds (held_optional (in_clause wider outer false) step.condition) items_in new → AddsJoin outer step own wider middle new
+join-added outer step read own wider middle items_in new plain item reads puts on left old so_far =
+    subst (λ (m : FromMeant). FromAdded m old new wider) (sym (join-plain outer left step plain)) (record { adds = added; own_is = own-is }) where
       m : ItemMeant
       m = plain_item outer left step
 
-      added : AddsFrom (plainly outer left step m) first scope old new
-      added stands =
-          let stands_own : StandsIn (Some stands.own) first scope =
-          record { before = stands.before; own = stands.own; after = stands.after; known = refl; scope_is = stands.scope_is; at = stands.at } in
-          let n = both-count left.items (scope_items m) before 1 counts (one-item m) stands.own stands.known in
-          adds-over (join-over outer left step m stands.own stands.known)
-          (adds-both (so_far (stands-left left.items (scope_items m) first scope stands))
-          (adds-both (item left.names) (on stands.own stands_own (omega (arith, n)))))
+      whole : FromMeant
+      whole = plainly outer left step m
+
+      operands : whole.breaks ≡ [] → left.breaks ++ m.breaks ≡ []
+      operands none =
+          front-none (left.breaks ++ m.breaks) (optional_breaks step.condition (on_meant outer (both_known left.items (scope_items m)) step.condition)) none
+
+      is-wider : whole.breaks ≡ [] → Wider left m wider
+      is-wider none =
+          wider-by left m read own wider (so_far.own_is (front-none left.breaks m.breaks (operands none))) (back-none left.breaks m.breaks (operands none))
+          (reads left.names) puts
+
+      own-is : whole.breaks ≡ [] → IsOwn whole wider
+      own-is none = let w = is-wider none in record { items = w.items; known = w.known; is = w.is }
+
+      added : Adds (held_from whole ∷ []) old new
+      added = record {
+        adds = λ none.
+            let w = is-wider (sym (breaks-one (held_from whole)) ∙ none) in
+            (adds-over (join-over outer left step m w.items w.known)
+            (adds-both so_far.adds (adds-both (item left.names)
+            (subst (λ (s : Scope). Adds (held_optional (in_clause s outer false) step.condition) items_in new) w.is on)))).adds none;
+      }
 
 -- a lateral subquery, which sees the items before it
-lateral-added : (outer : List Scope) (step : JoinPart) (first before : ℕ) (scope : Scope) (middle new : Gathered) → is_lateral step.word ≡ true
-    → AddsBeside outer step.item first before scope middle new → AddsJoin outer step first before scope middle new
-lateral-added outer step first before scope middle new lateral item left old counts so_far =
-    subst (λ (m : FromMeant). AddsFrom m first scope old new) (sym (join-lateral outer left step lateral)) added where
+lateral-added : (outer : List Scope) (step : JoinPart) (own wider : Scope) (middle new : Gathered) → is_lateral step.word ≡ true
+    → AddsItem (around_beside (own ∷ outer)) step.item own wider middle new → AddsJoin outer step own wider middle new
+lateral-added outer step own wider middle new lateral item left old so_far =
+    subst (λ (m : FromMeant). FromAdded m old new wider) (sym (join-lateral outer left step lateral)) (record { adds = added; own_is = own-is }) where
       m : ItemMeant
       m = lateral_item outer left step
 
-      added : AddsFrom (applied left step.word m) first scope old new
-      added stands =
-          let own = stands-left left.items (scope_items m) first scope stands in
-          let stands_own : StandsIn (Some own.own) first scope =
-          record { before = own.before; own = own.own; after = own.after; known = refl; scope_is = own.scope_is; at = own.at } in
-          adds-over (lateral-over left step.word m)
-          (adds-both (so_far own)
-          (subst (λ (items : Option (List ScopeItem)). Adds (held_item (step.item.means (beside_items items outer) left.names) ∷ []) middle new) (sym own.known)
-          (item own.own stands_own (counts own.own own.known) left.names)))
+      whole : FromMeant
+      whole = applied left step.word m
 
-pub first-added : (earlier : List (List ℕ)) (m : ItemMeant) (first : ℕ) (scope : Scope) (old new : Gathered) → Adds (held_item m ∷ []) old new
-    → JoinsAdded (first_item earlier m) first scope old new 0
-first-added earlier m first scope old new added = record { adds = λ stands. added; counts = one-item m }
+      -- where the items before it are known, these are in scope
+      place-is : left.breaks ≡ [] → around_beside (own ∷ outer) ≡ beside_items left.items outer
+      place-is none =
+          let before = so_far.own_is none in
+          ap (λ (s : Scope). around_beside (s ∷ outer)) before.is ∙ ap (λ (known : Option (List ScopeItem)). beside_items known outer) (sym before.known)
 
-pub join-more : (outer : List Scope) (left : FromMeant) (step : JoinPart) (first joins : ℕ) (scope : Scope) (old middle new : Gathered)
-    → JoinsAdded left first scope old middle joins → AddsJoin outer step first (joins + 1) scope middle new
-    → JoinsAdded (join_item outer left step (joined_item outer left step)) first scope old new (suc joins)
-join-more outer left step first joins scope old middle new so_far adds =
-    let m = joined_item outer left step in
-    record {
-      adds = adds left old (λ items known. let n = so_far.counts items known in omega (arith, n)) so_far.adds;
-      counts = λ items known.
-          let n = both-count left.items (scope_items m) (suc joins) 1 so_far.counts (one-item m) items (sym (join-items outer left step m) ∙ known) in omega (arith, n);
-    }
+      own-is : whole.breaks ≡ [] → IsOwn whole wider
+      own-is none =
+          let first = front-none left.breaks m.breaks none in
+          let w = wider-by left m item.read own wider (so_far.own_is first) (back-none left.breaks m.breaks none)
+          (subst (λ (place : Around). IsReadAs (step.item.means place left.names) item.read) (place-is first) (item.reads left.names)) item.puts in
+          record { items = w.items; known = w.known; is = w.is }
 
-module _ (c : Contents) (outer : List Scope) (left : FromMeant) (joins : List JoinStep) (i : ℕ) (step : JoinStep) (first : ℕ) (scope : Scope)
+      added : Adds (held_from whole ∷ []) old new
+      added = record {
+        adds = λ none.
+            let first = front-none left.breaks m.breaks (sym (breaks-one (held_from whole)) ∙ none) in
+            (adds-over (lateral-over left step.word m)
+            (adds-both so_far.adds
+            (subst (λ (place : Around). Adds (held_item (step.item.means place left.names) ∷ []) middle new) (place-is first) (item.adds left.names)))).adds none;
+      }
+
+module _ (c : Contents) (outer : List Scope) (left : FromMeant) (joins : List JoinStep) (i : ℕ) (step : JoinStep) (own wider : Scope)
     {old middle new : Gathered} where
-  pub step-added : i < length joins → step ≡ get_or joins i step → JoinsAdded (join_all outer left (map (join_of c) (take i joins))) first scope old middle i
-      → AddsJoin outer (join_of c step) first (i + 1) scope middle new
-      → JoinsAdded (join_all outer left (map (join_of c) (take (i + 1) joins))) first scope old new (i + 1)
+  pub step-added : i < length joins → step ≡ get_or joins i step → FromAdded (join_all outer left (map (join_of c) (take i joins))) old middle own
+      → AddsJoin outer (join_of c step) own wider middle new → FromAdded (join_all outer left (map (join_of c) (take (i + 1) joins))) old new wider
   step-added within is so_far adds =
-      let next : suc i ≡ i + 1 = omega arith in
-      subst (λ (n : ℕ). JoinsAdded (join_all outer left (map (join_of c) (take (i + 1) joins))) first scope old new n) next
-      (subst (λ (m : FromMeant). JoinsAdded m first scope old new (suc i))
+      subst (λ (m : FromMeant). FromAdded m old new wider)
       (sym (ap (join_all outer left) (mapped (join_of c) joins i step within is) ∙ joins-append outer left (map (join_of c) (take i joins)) (join_of c step)))
-      (join-more outer (join_all outer left (map (join_of c) (take i joins))) (join_of c step) first i scope old middle new so_far adds))
+      (adds (join_all outer left (map (join_of c) (take i joins))) old so_far)
 
 -- ---- parts before and behind commas
 
-pub no-sources : (outer : List Scope) (scope : Scope) (old : Gathered) → SourcesAdded outer [] scope old old 0
-no-sources outer scope old = record {
-  adds = λ stands. adds-nothing old (record { breaks = λ none. refl; inside = λ none. refl });
-  counts = λ items known. let none : items ≡ [] = cc known in ap length none;
-}
+pub no-sources : (outer : List Scope) (old : Gathered) → Adds (held_from (from_all outer []) ∷ []) old old
+no-sources outer old = adds-nothing old (record { breaks = λ none. refl; inside = λ none. refl })
 
 alone-over : (m : FromMeant) → IsOver (held_from m) (held_from no_from ∷ held_from m ∷ [])
 alone-over m = over-pair (held_from m) (held_from no_from) (held_from m) (λ none. none) (λ none. refl)
 
-pub source-more : (outer : List Scope) (parts : List FromPart) (part : FromPart) (scope : Scope) (old middle new : Gathered) (count joins : ℕ)
-    → SourcesAdded outer parts scope old middle count → ((names : List (List ℕ)) → JoinsAdded (part.means outer names) count scope middle new joins)
-    → SourcesAdded outer (parts ++ part ∷ []) scope old new (count + suc joins)
-source-more outer [] part scope old middle new count joins so_far added =
-    let m = part.means outer [] in
-    let none : count ≡ 0 = sym (so_far.counts [] refl) in
-    let counts = (added []).counts in
-    record {
-      adds = λ stands.
-          let nothing : StandsIn (Some []) 0 scope = record {
-            before = stands.before;
-            own = [];
-            after = stands.own ++ stands.after;
-            known = refl;
-            scope_is = stands.scope_is;
-            at = stands.at;
-          } in
-          adds-over (alone-over m) (adds-both (so_far.adds nothing)
-          ((added []).adds (subst (λ (n : ℕ). StandsIn m.items n scope) (sym none) stands)));
-      counts = λ items known. let n = counts items known in omega (arith, n, none);
-    }
-source-more outer (first ∷ parts) part scope old middle new count joins so_far added =
+pub source-more : (outer : List Scope) (parts : List FromPart) (part : FromPart) (old middle new : Gathered)
+    → Adds (held_from (from_all outer parts) ∷ []) old middle → ((names : List (List ℕ)) → Adds (held_from (part.means outer names) ∷ []) middle new)
+    → Adds (held_from (from_all outer (parts ++ part ∷ [])) ∷ []) old new
+source-more outer [] part old middle new so_far added = adds-over (alone-over (part.means outer [])) (adds-both so_far (added []))
+source-more outer (first ∷ parts) part old middle new so_far added =
     let left = from_more outer (first.means outer []) parts in
     let right = part.means outer left.names in
-    let start : 0 + count ≡ count = omega arith in
-    let is_beside : from_more outer (first.means outer []) (parts ++ part ∷ []) ≡ beside_from left right =
-    more-behind outer (first.means outer []) parts part in
-    record {
-      adds = λ stands.
-          let both : StandsIn (both_known left.items right.items) 0 scope = subst (λ (m : FromMeant). StandsIn m.items 0 scope) is_beside stands in
-          adds-alike (ap held_from is_beside)
-          (adds-over (beside-over left right) (adds-both (so_far.adds (stands-left left.items right.items 0 scope both))
-          ((added left.names).adds (subst (λ (n : ℕ). StandsIn right.items n scope) start (stands-right left.items right.items 0 count scope so_far.counts both)))));
-      counts = λ items known.
-          both-count left.items right.items count (suc joins) so_far.counts (added left.names).counts items
-          (ap (λ (m : FromMeant). m.items) (sym is_beside) ∙ known);
-    }
+    adds-alike (ap held_from (more-behind outer (first.means outer []) parts part))
+    (adds-over (beside-over left right) (adds-both so_far (added left.names)))
 
 module _ (c : Contents) where
   abbrev fields : JoinStep → JoinPart
@@ -278,21 +300,21 @@ module _ (c : Contents) where
     condition = option_map (part_of c) (out-JoinStep step).condition;
   }
 
-  pub join-tree : (outer : List Scope) (step : JoinStep) (first before : ℕ) (scope : Scope) (middle items_in new : Gathered)
+  pub join-tree : (outer : List Scope) (step : JoinStep) (read : Option (List ℕ × List Column)) (own wider : Scope) (middle items_in new : Gathered)
       → is_lateral (out-JoinStep step).word ≡ false
       → ((names : List (List ℕ)) → Adds (held_item ((from_item_of c (out-JoinStep step).item).means (in_from outer) names) ∷ []) middle items_in)
-      → AddsOn outer (option_map (part_of c) (out-JoinStep step).condition) first (suc before) scope items_in new
-      → AddsJoin outer (join_of c step) first before scope middle new
-  join-tree outer step first before scope middle items_in new plain item on =
-      subst (λ (part : JoinPart). AddsJoin outer part first before scope middle new) (sym (join-fields c step))
-      (join-added outer (fields step) first before scope middle items_in new plain item on)
+      → ((names : List (List ℕ)) → IsReadAs ((from_item_of c (out-JoinStep step).item).means (in_from outer) names) read) → PutsRead read own wider
+      → Adds (held_optional (in_clause wider outer false) (option_map (part_of c) (out-JoinStep step).condition)) items_in new
+      → AddsJoin outer (join_of c step) own wider middle new
+  join-tree outer step read own wider middle items_in new plain item reads puts on =
+      subst (λ (part : JoinPart). AddsJoin outer part own wider middle new) (sym (join-fields c step))
+      (join-added outer (fields step) read own wider middle items_in new plain item reads puts on)
 
-  pub lateral-tree : (outer : List Scope) (step : JoinStep) (first before : ℕ) (scope : Scope) (middle new : Gathered)
-      → is_lateral (out-JoinStep step).word ≡ true → AddsBeside outer (from_item_of c (out-JoinStep step).item) first before scope middle new
-      → AddsJoin outer (join_of c step) first before scope middle new
-  lateral-tree outer step first before scope middle new lateral item =
-      subst (λ (part : JoinPart). AddsJoin outer part first before scope middle new) (sym (join-fields c step))
-      (lateral-added outer (fields step) first before scope middle new lateral item)
+  pub lateral-tree : (outer : List Scope) (step : JoinStep) (own wider : Scope) (middle new : Gathered) → is_lateral (out-JoinStep step).word ≡ true
+      → AddsItem (around_beside (own ∷ outer)) (from_item_of c (out-JoinStep step).item) own wider middle new → AddsJoin outer (join_of c step) own wider middle new
+  lateral-tree outer step own wider middle new lateral item =
+      subst (λ (part : JoinPart). AddsJoin outer part own wider middle new) (sym (join-fields c step))
+      (lateral-added outer (fields step) own wider middle new lateral item)
 
   item-over : (at : ℕ) (mark : ScopeMark) (earlier : List (List ℕ)) (name label : List ℕ) (read : Read)
       → IsOver (held_item (item_meant at mark earlier name label read)) (held_read read ∷ [])
@@ -438,7 +460,7 @@ module _ (around : Around) (word : Option ℕ) (has_from is_distinct : Bool) (it
     chosen true e =
         let from_none : input.breaks ≡ [] = whole-none input.breaks e in
         subst (λ (s : Scope). IsOver (held_query (core_over around.outer (word_breaks around word) input has_from is_distinct items condition groups having known_items))
-        (held_clauses around s has_from items sources condition having)) (sym (is from_none).is) (looked-over from_none)
+        (held_clauses around s has_from items sources condition having)) (sym (is from_none)) (looked-over from_none)
     chosen false e = record {
       breaks = λ none. absurd (true≢false (sym (none-whole input.breaks (back-none (word_breaks around word) input.breaks none)) ∙ e));
       inside = λ none. absurd (true≢false (sym (none-whole input.breaks (back-none (word_breaks around word) input.breaks none)) ∙ e));
@@ -466,13 +488,11 @@ module _ (c : Contents) (around : Around) (core : Core) where
   Found found = HasScope (from_all around.outer (sources_of c core)) (out-Core core).groups (having_of c core) (items_of c core) found
 
   pub core-adds : (found : Option Scope) (scope : Scope) (old new : Gathered) → Found found → found ≡ Some scope
-      → (StandsThere (from_all around.outer (sources_of c core)) scope → Adds (clauses_of c around scope core) old new)
-      → Adds (held_query ((core_of c core).means around) ∷ []) old new
+      → Adds (clauses_of c around scope core) old new → Adds (held_query ((core_of c core).means around) ∷ []) old new
   core-adds found scope old new is some added = adds-over
       (over-alike (ap held_query core-stands-so)
       (core_seen-over around (out-Core core).provenance (has_some (sources_of c core)) (out-Core core).distinct (items_of c core) (sources_of c core)
-      (condition_of c core) (out-Core core).groups (having_of c core) scope (subst Found some is)))
-      (added (λ whole. (subst Found some is whole).stands))
+      (condition_of c core) (out-Core core).groups (having_of c core) scope (subst Found some is))) added
 
   pub core-broken : (found : Option Scope) (old : Gathered) → Found found → found ≡ None → Adds (held_query ((core_of c core).means around) ∷ []) old old
   core-broken found old is none = adds-broken old
@@ -482,16 +502,9 @@ module _ (c : Contents) (around : Around) (core : Core) where
 -- what the scope of FROM is behind GROUP BY
 pub scope-found : (input : FromMeant) (groups : List ColRef) (having : Option Part) (items : List SelectPart) (own scope : Scope) → IsScope input own
     → scope ≡ group_scope own groups having items → HasScope input groups having items (Some scope)
-scope-found input groups having items own scope found is whole = record {
-  is = is ∙ ap (λ (own : Scope). group_scope own groups having items)
-      (found.scope_is ∙ ap (λ (known : Option (List ScopeItem)). scope_of (option_map_or (λ known. known) known [])) (sym found.known));
-  stands = own-stands input own scope (group_scope own groups having items).groups found is;
-}
-
-there-adds : (m : FromMeant) (scope : Scope) (old new : Gathered) → StandsThere m scope → AddsFrom m 0 scope old new → Adds (held_from m ∷ []) old new
-there-adds m scope old new there added = record {
-  adds = λ none. (added (there (sym (breaks-one (held_from m)) ∙ none))).adds none;
-}
+scope-found input groups having items own scope found is whole =
+    is ∙ ap (λ (own : Scope). group_scope own groups having items)
+    (found.scope_is ∙ ap (λ (known : Option (List ScopeItem)). scope_of (option_map_or (λ known. known) known [])) (sym found.known))
 
 -- the clauses of a core one after the other
 pub clauses-adds : (c : Contents) (around : Around) (scope : Scope) (core : Core) (in_list in_where : Surroundings) (items : List SelectItem) (sources : List FromTree)
@@ -499,15 +512,14 @@ pub clauses-adds : (c : Contents) (around : Around) (scope : Scope) (core : Core
     → in_where ≡ in_clause (record scope { groups = None }) around.outer false
     → items ≡ (out-Core core).items → sources ≡ (out-Core core).sources
     → ((has_from : Bool) (sight : Scope) → Adds (held_items has_from sight in_list (map (item_of c) items)) old first)
-    → AddsFrom (from_all around.outer (map (from_of c) sources)) 0 scope first second → StandsThere (from_all around.outer (sources_of c core)) scope
+    → Adds (held_from (from_all around.outer (map (from_of c) sources)) ∷ []) first second
     → Adds (held_optional in_where (condition_of c core)) second third → Adds (held_optional in_list (having_of c core)) third new
     → Adds (clauses_of c around scope core) old new
-clauses-adds c around scope core in_list in_where items sources old first second third new list_is where_is same same_too listed from there condition having =
+clauses-adds c around scope core in_list in_where items sources old first second third new list_is where_is same same_too listed from condition having =
     adds-both
     (subst (λ (here : Surroundings). Adds (held_items (has_some (sources_of c core)) scope here (items_of c core)) old first) list_is
     (subst (λ (items : List SelectItem). Adds (held_items (has_some (sources_of c core)) scope in_list (map (item_of c) items)) old first) same
     (listed (has_some (sources_of c core)) scope)))
-    (adds-both (there-adds (from_all around.outer (sources_of c core)) scope first second there
-    (subst (λ (sources : List FromTree). AddsFrom (from_all around.outer (map (from_of c) sources)) 0 scope first second) same_too from))
+    (adds-both (subst (λ (sources : List FromTree). Adds (held_from (from_all around.outer (map (from_of c) sources)) ∷ []) first second) same_too from)
     (adds-both (subst (λ (here : Surroundings). Adds (held_optional here (condition_of c core)) second third) where_is condition)
     (subst (λ (here : Surroundings). Adds (held_optional here (having_of c core)) third new) list_is having)))

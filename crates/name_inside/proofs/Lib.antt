@@ -4,5 +4,6 @@ pub mod Cores
 pub mod Forms
 pub mod Gone
 pub mod Over
+pub mod ReadItems
 pub mod Sorted
 pub mod Widths

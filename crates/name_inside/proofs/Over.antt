@@ -107,3 +107,7 @@ adds-alike {old = old} {new = new} e added = subst (λ (h : Held). Adds (h ∷ [
 pub when-ok : {X E P Q : Type 0} (result : Result X E) → OnOk result P → (P → Q) → OnOk result Q
 when-ok (Ok x) holds f = f holds
 when-ok (Err e) holds f = tt
+
+pub ok-anyway : {X E P : Type 0} (result : Result X E) → P → OnOk result P
+ok-anyway (Ok x) holds = holds
+ok-anyway (Err e) holds = tt

@@ -1,10 +1,10 @@
 -- What stands inside parts that may break.
-use Rattle.std.specs.Prelude.{◌≡◌, ℕ, Bool, true, false, List, [], ◌∷◌, ◌++◌, map, Option, Some, None, option_map, nat_lt, suc, length}
+use Rattle.std.specs.Prelude.{◌≡◌, ℕ, Bool, true, false, List, [], ◌∷◌, ◌++◌, map, Option, Some, None, option_map, nat_lt}
 use Rattle.perm_catalog.specs.Contents.{Contents}
 use Rattle.sql_tree.specs.declared.query.Core.{Core, out-Core}
 use Rattle.name_meaning.specs.Cores.{has_some}
 use Rattle.name_meaning.specs.Expressions.{ArmPart, StepPart}
-use Rattle.name_meaning.specs.Froms.{FromItemPart, FromMeant, FromPart, ItemMeant, JoinPart, Read, beside_items, in_clause, in_on, from_all, join_item, joined_item}
+use Rattle.name_meaning.specs.Froms.{FromItemPart, FromMeant, FromPart, ItemMeant, JoinPart, Read, from_all, in_clause, join_item, joined_item}
 use Rattle.name_meaning.specs.Items.{SelectMeant, SelectPart}
 use Rattle.name_meaning.specs.Meanings.{Around, Inside, Meant, Part, QueryMeant, Surroundings, both_inside, nothing_inside, means_at}
 use Rattle.name_meaning.specs.Queries.{SetStepPart, may_not_ask}
@@ -13,8 +13,9 @@ use Rattle.name_meaning.specs.Trees.{from_of, item_of, part_of}
 use Rattle.name_meaning.specs.declared.answer.Break.{Break}
 use Rattle.name_meaning.specs.declared.scope.Scope.{Scope}
 use Rattle.name_inside.specs.declared.gathered.Gathered.{Gathered}
-use Rattle.name_meaning.specs.Scopes.{ScopeItem}
-use Rattle.name_made_parts.specs.Sources.{StandsIn}
+use Rattle.name_meaning.specs.Scopes.{ScopeItem, scope_of}
+use Rattle.name_inside.specs.Passed.{IsReadAs, PutsRead}
+use Rattle.perm_catalog.specs.declared.column.Column.{Column}
 
 abbrev pub inside_in : Gathered → Inside
 inside_in found = record { queries = found.queries; names = found.names }
@@ -115,36 +116,25 @@ clauses_of c around scope core =
 
 -- ---- FROM, gone through from the left
 
--- where the items of a part of FROM stand there in the scope
-abbrev pub AddsFrom : FromMeant → ℕ → Scope → Gathered → Gathered → Type 0
-AddsFrom m first scope old new = StandsIn m.items first scope → Adds (held_from m ∷ []) old new
+-- the scope of its items
+pub record IsOwn (m : FromMeant) (own : Scope) : Type 0 where
+  pub items : List ScopeItem
+  pub known : m.items ≡ Some items
+  pub is : own ≡ scope_of items
 
--- all items of FROM stand there in the scope, where it breaks nothing
-abbrev pub StandsThere : FromMeant → Scope → Type 0
-StandsThere m scope = m.breaks ≡ [] → StandsIn m.items 0 scope
+-- a part of FROM with its joins so far, and the scope of its items where it breaks nothing
+pub record FromAdded (m : FromMeant) (old new : Gathered) (own : Scope) : Type 0 where
+  pub adds : Adds (held_from m ∷ []) old new
+  pub own_is : m.breaks ≡ [] → IsOwn m own
 
--- the parts so far, and how many items they have
-pub record SourcesAdded (outer : List Scope) (parts : List FromPart) (scope : Scope) (old new : Gathered) (count : ℕ) : Type 0 where
-  pub adds : AddsFrom (from_all outer parts) 0 scope old new
-  pub counts : (items : List ScopeItem) → (from_all outer parts).items ≡ Some items → length items ≡ count
+-- an item whose subquery stands there, and which comes in scope
+pub record AddsItem (around : Around) (item : FromItemPart) (own wider : Scope) (old new : Gathered) : Type 0 where
+  pub adds : (names : List (List ℕ)) → Adds (held_item (item.means around names) ∷ []) old new
+  pub read : Option (List ℕ × List Column)
+  pub reads : (names : List (List ℕ)) → IsReadAs (item.means around names) read
+  pub puts : PutsRead read own wider
 
--- a part with its joins so far
-pub record JoinsAdded (m : FromMeant) (first : ℕ) (scope : Scope) (old new : Gathered) (joins : ℕ) : Type 0 where
-  pub adds : AddsFrom m first scope old new
-  pub counts : (items : List ScopeItem) → m.items ≡ Some items → length items ≡ suc joins
-
--- an item whose subquery sees as many items, which stand there in the scope
-abbrev pub AddsBeside : List Scope → FromItemPart → ℕ → ℕ → Scope → Gathered → Gathered → Type 0
-AddsBeside outer item first before scope old new = (items : List ScopeItem) → StandsIn (Some items) first scope → length items ≡ before
-    → (names : List (List ℕ)) → Adds (held_item (item.means (beside_items (Some items) outer) names) ∷ []) old new
-
--- a condition of ON, which sees as many
-abbrev pub AddsOn : List Scope → Option Part → ℕ → ℕ → Scope → Gathered → Gathered → Type 0
-AddsOn outer condition first count scope old new = (items : List ScopeItem) → StandsIn (Some items) first scope → length items ≡ count
-    → Adds (held_optional (in_on items outer) condition) old new
-
--- one more join, behind as many items
-abbrev pub AddsJoin : List Scope → JoinPart → ℕ → ℕ → Scope → Gathered → Gathered → Type 0
-AddsJoin outer step first before scope middle new = (left : FromMeant) (old : Gathered)
-    → ((items : List ScopeItem) → left.items ≡ Some items → length items ≡ before)
-    → AddsFrom left first scope old middle → AddsFrom (join_item outer left step (joined_item outer left step)) first scope old new
+-- one more join of what is in scope
+abbrev pub AddsJoin : List Scope → JoinPart → Scope → Scope → Gathered → Gathered → Type 0
+AddsJoin outer step own wider middle new = (left : FromMeant) (old : Gathered) → FromAdded left old middle own
+    → FromAdded (join_item outer left step (joined_item outer left step)) old new wider

@@ -1,22 +1,22 @@
 //! The queries and the names of tables and views that stand inside the parts of a query, in the order of the definition.
-ghost use Rattle.std.specs.Prelude.{ℕ, suc, Bool, List as Items, ◌∷◌, [], OnOk, Some, map, flat_map, option_map};
+ghost use Rattle.std.specs.Prelude.{ℕ, Bool, List as Items, ◌∷◌, [], IfOk, OnOk, Some, map, flat_map, option_map};
 ghost use Rattle.name_meaning.specs.Meanings.{means_at, query_means_at};
 ghost use Rattle.name_meaning.specs.Trees.{arm_of, core_of, from_item_of, from_of, item_of, join_of, part_of, query_of, set_of_tree, set_step_of, step_of};
 ghost use Rattle.name_meaning.specs.declared.scope.Scope.{Scope as Sight};
-ghost use Rattle.name_seen_parts.specs.Standing.{around_of, surroundings};
+ghost use Rattle.name_seen_parts.specs.Standing.{around_beside, around_of, surroundings};
 ghost use Rattle.perm_catalog.specs.Sound.{IsSound};
-ghost use Rattle.name_inside.specs.Held.{Adds, AddsBeside, AddsFrom, AddsJoin, AddsOn, JoinsAdded, StandsThere, clauses_of, held_arm, held_at, held_item, held_items, held_operand, held_optional, held_query, held_read, held_step, sources_of};
-ghost use Rattle.name_meaning.specs.Froms.{from_all, read_named};
-ghost use Rattle.name_made_parts.specs.Sources.{join_count};
+ghost use Rattle.name_inside.specs.Held.{Adds, AddsItem, AddsJoin, clauses_of, held_arm, held_at, held_from, held_item, held_items, held_operand, held_optional, held_query, held_read, held_step};
+ghost use Rattle.name_inside.specs.Passed.{IsReadAs};
+ghost use Rattle.name_meaning.specs.Froms.{from_all, in_clause, read_named};
 ghost use Rattle.name_meaning.specs.Sublinks.{around_of as below};
 
-use crate::first_pass::{scope_of, width_of};
+use crate::first_pass::{item_read, put_read, scope_of, width_of};
 use crate::gathered::Gathered;
-use name_made_parts::{behind, segment};
 use name_meaning::Scope;
 use name_seen_cores::in_clause;
-use name_seen_parts::{Around, Here, inside, is_lateral};
-use perm_values::{Boxed, NoMemory};
+use name_seen_parts::{Around, Here, inside, is_lateral, no_items};
+use perm_catalog::Column;
+use perm_values::{Boxed, Chars, List, NoMemory};
 use sql_tree::{
     ArmTree, Core, ExprBody, ExprStep, ExprTree, FromItem, FromSource, FromTree, JoinStep, Name,
     QueryTree, SelectItem, SetStep, SetTree,
@@ -100,14 +100,13 @@ fn clauses_inside(
     found: &mut Gathered,
 ) -> Result<(), NoMemory>
     requires { IsSound around.now.catalog.now }
-    ensures { OnOk result (StandsThere (from_all (around_of around.now).outer
-        (sources_of around.now.catalog.now core.now)) scope.now
-        → Adds (clauses_of around.now.catalog.now (around_of around.now) scope.now core.now) found.old found.new) }
+    ensures { OnOk result (Adds (clauses_of around.now.catalog.now (around_of around.now) scope.now core.now)
+        found.old found.new) }
 {
     let grouped = inside(&*scope, false, &*around.outer)?;
     let in_list = (&*around).seeing(&grouped, in_clause(true));
     items_inside(core.items.as_slice(), &in_list, found)?;
-    sources_inside(core.sources.as_slice(), &*scope, around, found)?;
+    sources_inside(core.sources.as_slice(), around, found)?;
     let rows = inside(&*scope, true, &*around.outer)?;
     let in_where = (&*around).seeing(&rows, in_clause(false));
     condition_inside(&core.condition, &in_where, found)?;
@@ -164,108 +163,109 @@ fn condition_inside(
     }
 }
 
-/// The items of all sources are in scope.
 #[cycle(gathering)]
-fn sources_inside(
-    trees: &[FromTree],
-    scope: &Scope,
-    around: &Around,
-    found: &mut Gathered,
-) -> Result<(), NoMemory>
+fn sources_inside(trees: &[FromTree], around: &Around, found: &mut Gathered) -> Result<(), NoMemory>
     requires { IsSound around.now.catalog.now }
-    ensures { OnOk result (AddsFrom (from_all (around_of around.now).outer
-        (map (from_of around.now.catalog.now) trees.now)) 0 scope.now found.old found.new) }
+    ensures { OnOk result (Adds (held_from (from_all (around_of around.now).outer
+        (map (from_of around.now.catalog.now) trees.now)) ∷ []) found.old found.new) }
 {
-    let mut first = 0;
     for tree in trees {
-        from_inside(tree, first, scope, around, found)?;
-        first = behind(first, tree)?;
+        from_inside(tree, around, found)?;
     }
     Ok(())
 }
 
-/// The items of a source with its joins are in scope behind the first ones.
+/// A source with its joins. Its items come in scope one after the other: no scope is copied for a join.
 #[cycle(gathering)]
-fn from_inside(
-    tree: &FromTree,
-    first: usize,
-    scope: &Scope,
-    around: &Around,
-    found: &mut Gathered,
-) -> Result<(), NoMemory>
+fn from_inside(tree: &FromTree, around: &Around, found: &mut Gathered) -> Result<(), NoMemory>
     requires { IsSound around.now.catalog.now }
     ensures { OnOk result ((names : Items (Items ℕ))
-        → JoinsAdded ((from_of around.now.catalog.now tree.now).means (around_of around.now).outer names) first
-        scope.now found.old found.new (join_count tree.now)) }
+        → Adds (held_from ((from_of around.now.catalog.now tree.now).means (around_of around.now).outer names)
+        ∷ []) found.old found.new) }
 {
+    let mut own = no_items(around.alloc);
     source_inside(&tree.first, &around.in_from(), found)?;
-    for (place, step) in tree.joins.as_slice().iter().enumerate() {
-        join_inside(step, first, place + 1, scope, around, found)?;
+    let read = item_read(&tree.first, &around.in_from())?;
+    put_read(around.alloc, &mut own, read)?;
+    for step in tree.joins.as_slice() {
+        join_inside(step, &mut own, around, found)?;
     }
     Ok(())
 }
 
-/// One more join, behind as many items: its condition sees these and its own, and a lateral subquery these alone.
+/// One more join of a source, whose items so far are in scope: its condition sees these and its own, and a lateral subquery
+/// these alone.
 #[cycle(gathering)]
 fn join_inside(
     step: &JoinStep,
-    first: usize,
-    before: usize,
-    scope: &Scope,
+    own: &mut Scope,
     around: &Around,
     found: &mut Gathered,
 ) -> Result<(), NoMemory>
     requires { IsSound around.now.catalog.now }
-    ensures { OnOk result (AddsJoin (around_of around.now).outer (join_of around.now.catalog.now step.now) first
-        before scope.now found.old found.new) }
+    ensures { OnOk result (AddsJoin (around_of around.now).outer (join_of around.now.catalog.now step.now)
+        own.old own.new found.old found.new) }
 {
     if is_lateral(step.word) {
-        return beside_inside(&step.item, first, before, scope, around, found);
+        return beside_inside(&step.item, own, around, found);
     }
     source_inside(&step.item, &around.in_from(), found)?;
-    on_inside(&step.condition, first, before, scope, around, found)
+    let read = item_read(&step.item, &around.in_from())?;
+    put_read(around.alloc, own, read)?;
+    on_inside(&step.condition, &*own, around, found)
 }
 
-/// An item whose subquery sees as many items behind the first ones.
+/// An item whose subquery sees those in scope, to which it comes.
 #[cycle(gathering)]
 fn beside_inside(
     item: &FromItem,
-    first: usize,
-    before: usize,
-    scope: &Scope,
+    own: &mut Scope,
     around: &Around,
     found: &mut Gathered,
 ) -> Result<(), NoMemory>
     requires { IsSound around.now.catalog.now }
-    ensures { OnOk result (AddsBeside (around_of around.now).outer (from_item_of around.now.catalog.now item.now)
-        first before scope.now found.old found.new) }
+    ensures { OnOk result (AddsItem (around_beside (own.old ∷ (around_of around.now).outer))
+        (from_item_of around.now.catalog.now item.now) own.old own.new found.old found.new) }
 {
-    let own = segment(around.alloc, scope, first, before)?;
-    let scopes = inside(&own, false, &*around.outer)?;
-    source_inside(item, &(&*around).lateral(&scopes), found)?;
-    Ok(())
+    let read = seeing_inside(item, &*own, around, found)?;
+    put_read(around.alloc, own, read)
 }
 
-/// A condition of ON, which sees as many items behind the first ones, and one more.
+/// An item whose subquery sees this scope, and what it reads.
+#[cycle(gathering)]
+fn seeing_inside(
+    item: &FromItem,
+    own: &Scope,
+    around: &Around,
+    found: &mut Gathered,
+) -> Result<Option<(Chars, List<Column>)>, NoMemory>
+    requires { IsSound around.now.catalog.now }
+    ensures adds { OnOk result ((names : Items (Items ℕ))
+        → Adds (held_item ((from_item_of around.now.catalog.now item.now).means
+        (around_beside (own.now ∷ (around_of around.now).outer)) names) ∷ []) found.old found.new) }
+    ensures reads { IfOk result (λ read. (names : Items (Items ℕ))
+        → IsReadAs ((from_item_of around.now.catalog.now item.now).means
+        (around_beside (own.now ∷ (around_of around.now).outer)) names) read) }
+{
+    let scopes = inside(own, false, &*around.outer)?;
+    let place = (&*around).lateral(&scopes);
+    source_inside(item, &place, found)?;
+    item_read(item, &place)
+}
+
+/// A condition of ON, which sees the items in scope.
 #[cycle(gathering)]
 fn on_inside(
     condition: &Option<ExprTree>,
-    first: usize,
-    before: usize,
-    scope: &Scope,
+    own: &Scope,
     around: &Around,
     found: &mut Gathered,
 ) -> Result<(), NoMemory>
     requires { IsSound around.now.catalog.now }
-    ensures { OnOk result (AddsOn (around_of around.now).outer
-        (option_map (part_of around.now.catalog.now) condition.now)
-        first (suc before) scope.now found.old found.new) }
+    ensures { OnOk result (Adds (held_optional (in_clause own.now (around_of around.now).outer false)
+        (option_map (part_of around.now.catalog.now) condition.now)) found.old found.new) }
 {
-    let Some(count) = before.checked_add(1) else {
-        return Err(NoMemory);
-    };
-    let own = segment(around.alloc, scope, first, count)?;
-    let rows = inside(&own, false, &*around.outer)?;
+    let rows = inside(own, false, &*around.outer)?;
     let here = (&*around).seeing(&rows, in_clause(false));
     condition_inside(condition, &here, found)?;
     Ok(())

@@ -86,9 +86,9 @@ item-refused at mark earlier name label read scope wider old new NoMemory broken
 
 -- the item of a lateral join, whose subquery sees the items in scope
 pub lateral-means : (c : Contents) (step : JoinStep) (outer : List Scope) (left : FromMeant) (earlier : List (List ℕ)) (before old : Gathered) (scope : Scope)
-    → FromWhole left earlier before old scope
-    → lateral_item outer left (join_of c step) ≡ (from_item_of c (out-JoinStep step).item).means (around_beside (scope ∷ outer)) (earlier ++ scope.items)
-lateral-means c step outer left earlier before old scope first =
-    joined-item c step (beside_items left.items outer) left.names (earlier ++ scope.items) first.names
-    ∙ ap (λ (around : Around). (from_item_of c (out-JoinStep step).item).means around (earlier ++ scope.items))
+    (names : List (List ℕ)) → names ≡ earlier ++ scope.items → FromWhole left earlier before old scope
+    → lateral_item outer left (join_of c step) ≡ (from_item_of c (out-JoinStep step).item).means (around_beside (scope ∷ outer)) names
+lateral-means c step outer left earlier before old scope names held first =
+    joined-item c step (beside_items left.items outer) left.names names (first.names ∙ sym held)
+    ∙ ap (λ (around : Around). (from_item_of c (out-JoinStep step).item).means around names)
     (ap (λ (known : Option (List ScopeItem)). beside_items known outer) first.known ∙ ap (λ (s : Scope). around_beside (s ∷ outer)) (sym first.scope_is))

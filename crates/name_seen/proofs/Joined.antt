@@ -1,5 +1,5 @@
 -- What the code finds of a source with its joins is what these mean.
-use Rattle.std.specs.Prelude.{◌≡◌, ℕ, Bool, true, false, cond, List, [], ◌∷◌, ◌++◌, map, Option, Some, None, option_map, Result, Ok, Err}
+use Rattle.std.specs.Prelude.{◌≡◌, ℕ, Bool, true, false, cond, List, [], ◌∷◌, ◌++◌, map, Option, Some, None, option_map, IfOk, IsErrAnd, OnOk, Result, Ok, Err}
 use Rattle.std.proofs.Common.{refl, ap, sym, subst, ◌∙◌, append_assoc, append-nil}
 use Rattle.perm_catalog.specs.declared.column.Column.{Column}
 use Rattle.name_meaning.specs.Froms.{FromMeant, FromPart, ItemMeant, JoinPart, first_item, from_all, scope_items, join_all, join_item, join_kind, on_meant, optional_breaks, both_known, table_columns, applied, joined_item, in_clause, optional_meant, on_built}
@@ -194,3 +194,17 @@ source-refused outer parts part more old middle new l NoMemory first broken = tt
 -- before the first item, none is held
 pub none-held : (earlier : List (List ℕ)) (scope : Scope) → scope ≡ scope_of [] → earlier ++ scope.items ≡ earlier
 none-held earlier scope is = ap (λ (s : Scope). earlier ++ s.items) is ∙ append-nil earlier
+
+-- ---- what is said of answers alone
+
+pub never-ok : {X E : Type 0} (P : Type 0) (result : Result X E) (Q : E → Type 0) → IsErrAnd result Q → OnOk result P
+never-ok P (Ok x) Q is = absurd is
+never-ok P (Err e) Q is = tt
+
+pub never-if_ok : {X E : Type 0} (P : X → Type 0) (result : Result X E) (Q : E → Type 0) → IsErrAnd result Q → IfOk result P
+never-if_ok P (Ok x) Q is = absurd is
+never-if_ok P (Err e) Q is = tt
+
+pub whatever-ok : {X E P : Type 0} (result : Result X E) → P → OnOk result P
+whatever-ok (Ok x) holds = holds
+whatever-ok (Err e) holds = tt

@@ -13,4 +13,4 @@ pub use expressions::{
 };
 pub use queries::query_seen;
 pub use sets::set_seen;
-pub use sources::from_scope;
+pub use sources::{from_scope, read_source};

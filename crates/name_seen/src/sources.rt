@@ -1,5 +1,5 @@
 //! What FROM reads.
-ghost use Rattle.std.specs.Prelude.{◌∷◌, ◌++◌, [], map};
+ghost use Rattle.std.specs.Prelude.{◌≡◌, ℕ, List as Items, ◌∷◌, ◌++◌, [], map, IfOk, OnOk};
 ghost use Rattle.perm_catalog.specs.Sound.{IsSound};
 ghost use Rattle.name_meaning.specs.Froms.{FromMeant, from_all, in_from, join_item, joined_item, read_of, read_query};
 ghost use Rattle.name_meaning.specs.Meanings.{query_means_at};
@@ -8,7 +8,7 @@ ghost use Rattle.name_seen_parts.specs.Named.{scopes_of};
 ghost use Rattle.name_seen_parts.specs.Standing.{around_beside, around_of};
 ghost use Rattle.name_seen_from.specs.Queried.{FromSeen, FromWhole};
 ghost use Rattle.name_seen_from.specs.declared.facts.Facts.{Facts as Gathered};
-ghost use Rattle.name_seen_from.specs.Readings.{ItemSeen, ReadSeen};
+ghost use Rattle.name_seen_from.specs.Readings.{ItemSeen, KeepsNames, ReadSeen};
 ghost use Rattle.name_seen.specs.Joining.{JoinSeen};
 
 use crate::cores::condition_seen;
@@ -16,7 +16,7 @@ use crate::queries::query_seen;
 use name_meaning::Scope;
 use name_seen_from::{Facts, Reading, put_item, read_named, read_shown};
 use name_seen_parts::{Around, Refusal, add_items, inside, is_lateral, no_items};
-use perm_values::Chars;
+use name_sets::Names;
 use sql_tree::{FromItem, FromSource, FromTree, JoinStep, QueryTree, ScopeMark};
 
 /// The scope of all items of FROM, whose rows aren't grouped, or its first break. The facts of what is read come behind
@@ -32,28 +32,32 @@ pub fn from_scope(
         (map (from_of around.now.catalog.now) sources.now)) [] facts.old facts.new result }
 {
     let mut scope = no_items(around.alloc);
+    let mut names = Names::none(around.alloc);
     for source in sources {
-        let own = source_items(source, scope.items.as_slice(), around, facts)?;
+        let own = source_items(source, &mut names, around, facts)?;
         add_items(around.alloc, &mut scope, own)?;
     }
     Ok(scope)
 }
 
-/// The items of one source with its joins, behind items of these names.
+/// The items of one source with its joins, behind items of these names, to which theirs come.
 #[cycle(seen)]
 fn source_items(
     tree: &FromTree,
-    earlier: &[Chars],
+    names: &mut Names,
     around: &Around,
     facts: &mut Facts,
 ) -> Result<Scope, Refusal>
     requires { IsSound around.now.catalog.now }
-    ensures { FromSeen ((from_of around.now.catalog.now tree.now).means (scopes_of around.now.outer.now) earlier.now) earlier.now facts.old facts.new result }
+    ensures seen { FromSeen ((from_of around.now.catalog.now tree.now).means
+        (scopes_of around.now.outer.now) names.old.known.keys) names.old.known.keys facts.old facts.new
+        result }
+    ensures named { IfOk result (λ scope. names.new.known.keys ≡ names.old.known.keys ++ scope.items) }
 {
     let mut scope = no_items(around.alloc);
-    from_item(&tree.first, earlier, &mut scope, around, facts)?;
+    from_item(&tree.first, names, &mut scope, around, facts)?;
     for step in tree.joins.as_slice() {
-        join_seen(step, earlier, &mut scope, around, facts)?;
+        join_seen(step, names, &mut scope, around, facts)?;
     }
     Ok(scope)
 }
@@ -62,22 +66,24 @@ fn source_items(
 #[cycle(seen)]
 fn join_seen(
     step: &JoinStep,
-    earlier: &[Chars],
+    names: &mut Names,
     scope: &mut Scope,
     around: &Around,
     facts: &mut Facts,
 ) -> Result<(), Refusal>
     requires { IsSound around.now.catalog.now }
-    ensures { (left : FromMeant) (before : Gathered) → FromWhole left earlier.now before facts.old scope.old →
+    ensures seen { (left : FromMeant) (earlier : Items (Items ℕ)) (before : Gathered)
+        → names.old.known.keys ≡ earlier ++ scope.old.items → FromWhole left earlier before facts.old scope.old →
         JoinSeen (join_item (scopes_of around.now.outer.now) left
         (join_of around.now.catalog.now step.now)
         (joined_item (scopes_of around.now.outer.now) left (join_of around.now.catalog.now step.now)))
-        earlier.now before facts.new scope.new result }
+        earlier before facts.new scope.new result }
+    ensures named { OnOk result (KeepsNames names.old.known.keys names.new.known.keys scope.old scope.new) }
 {
     if is_lateral(step.word) {
-        return lateral_item(&step.item, earlier, scope, around, facts);
+        return lateral_item(&step.item, names, scope, around, facts);
     }
-    from_item(&step.item, earlier, scope, around, facts)?;
+    from_item(&step.item, names, scope, around, facts)?;
     condition_seen(&step.condition, scope, false, around, facts)
 }
 
@@ -85,18 +91,19 @@ fn join_seen(
 #[cycle(seen)]
 fn lateral_item(
     item: &FromItem,
-    earlier: &[Chars],
+    names: &mut Names,
     scope: &mut Scope,
     around: &Around,
     facts: &mut Facts,
 ) -> Result<(), Refusal>
     requires { IsSound around.now.catalog.now }
-    ensures { ItemSeen ((from_item_of around.now.catalog.now item.now).means
-        (around_beside (scope.old ∷ scopes_of around.now.outer.now)) (earlier.now ++ scope.old.items))
+    ensures seen { ItemSeen ((from_item_of around.now.catalog.now item.now).means
+        (around_beside (scope.old ∷ scopes_of around.now.outer.now)) names.old.known.keys)
         scope.old facts.old facts.new scope.new result }
+    ensures named { OnOk result (KeepsNames names.old.known.keys names.new.known.keys scope.old scope.new) }
 {
     let reading = read_beside(item, &*scope, around)?;
-    put_item(item, earlier, scope, around, reading, facts)
+    put_item(item, names, scope, around, reading, facts)
 }
 
 /// What an item reads whose subquery sees this scope, or its first break.
@@ -111,27 +118,28 @@ fn read_beside(item: &FromItem, scope: &Scope, around: &Around) -> Result<Readin
     read_source(&item.source, &(&*around).lateral(&scopes))
 }
 
-/// One more item in scope, behind items of these names and those in scope, or its first break.
+/// One more item in scope, behind items of these names, or its first break.
 #[cycle(seen)]
 fn from_item(
     item: &FromItem,
-    earlier: &[Chars],
+    names: &mut Names,
     scope: &mut Scope,
     around: &Around,
     facts: &mut Facts,
 ) -> Result<(), Refusal>
     requires { IsSound around.now.catalog.now }
-    ensures { ItemSeen ((from_item_of around.now.catalog.now item.now).means
-        (in_from (scopes_of around.now.outer.now)) (earlier.now ++ scope.old.items))
+    ensures seen { ItemSeen ((from_item_of around.now.catalog.now item.now).means
+        (in_from (scopes_of around.now.outer.now)) names.old.known.keys)
         scope.old facts.old facts.new scope.new result }
+    ensures named { OnOk result (KeepsNames names.old.known.keys names.new.known.keys scope.old scope.new) }
 {
     let reading = read_source(&item.source, &around.in_from())?;
-    put_item(item, earlier, scope, around, reading, facts)
+    put_item(item, names, scope, around, reading, facts)
 }
 
 /// What an item reads whose subquery stands there, or its first break.
 #[cycle(seen)]
-fn read_source(source: &FromSource, around: &Around) -> Result<Reading, Refusal>
+pub fn read_source(source: &FromSource, around: &Around) -> Result<Reading, Refusal>
     requires { IsSound around.now.catalog.now }
     ensures { ReadSeen (read_of around.now.catalog.now (around_of around.now)
         (source_of around.now.catalog.now source.now)) result }

@@ -1,5 +1,5 @@
 -- What the code finds of an item of FROM: what it reads, and the facts of that.
-use Rattle.std.specs.Prelude.{◌≡◌, ℕ, List, [], Some, Result, Ok, Err}
+use Rattle.std.specs.Prelude.{◌≡◌, ℕ, List, [], ◌++◌, Some, Result, Ok, Err}
 use Rattle.perm_catalog.specs.declared.column.Column.{Column}
 use Rattle.perm_values.specs.declared.kind.Kind.{Kind}
 use Rattle.bag_algebra.specs.Kinds.{kinds_of, kinds_in}
@@ -54,3 +54,7 @@ abbrev pub ItemSeen : ItemMeant → Scope → Gathered → Gathered → Scope �
 ItemSeen m scope old new wider (Ok done) = ItemAdded m scope old new wider
 ItemSeen m scope old new wider (Err (Broken first)) = first_or m.breaks (tt {0}) ≡ Err first
 ItemSeen m scope old new wider (Err NoMemory) = Unit {0}
+
+-- all names so far are those of the items before, and of those in scope
+abbrev pub KeepsNames : List (List ℕ) → List (List ℕ) → Scope → Scope → Type 0
+KeepsNames old new scope wider = (before : List (List ℕ)) → old ≡ before ++ scope.items → new ≡ before ++ wider.items

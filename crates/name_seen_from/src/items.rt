@@ -1,47 +1,44 @@
 //! Items of FROM in scope.
-ghost use Rattle.std.specs.Prelude.{◌≡◌, ◌++◌, OnOk};
+ghost use Rattle.std.specs.Prelude.{◌≡◌, OnOk};
 ghost use Rattle.name_meaning.specs.Froms.{Read, item_meant, label_of, scope_name};
 ghost use Rattle.name_meaning.specs.Trees.{source_of};
 ghost use Rattle.name_laws.specs.Facts.{both_facts};
 ghost use Rattle.perm_catalog.specs.Contents.{Contents};
 ghost use Rattle.name_seen_from.specs.Added.{facts_in};
 ghost use Rattle.name_seen_parts.specs.Scopes.{item_scope, scope_beside};
-ghost use Rattle.name_seen_from.specs.Readings.{IsRead, ItemSeen};
+ghost use Rattle.name_seen_from.specs.Readings.{IsRead, ItemSeen, KeepsNames};
 
 use crate::facts::Facts;
 use crate::marks::with_mark;
 use crate::reading::Reading;
 use name_meaning::Scope;
 use name_seen_parts::{Around, Refusal, add_item, item_break, scope_name};
+use name_sets::Names;
 use perm_values::{Chars, NoMemory};
 use sql_tree::FromItem;
 use std::alloc::Global;
 
-/// Puts an item with what it reads in scope, behind items of these names and those in scope, and its facts behind those
+/// Puts an item with what it reads in scope, behind items of these names, to which its own comes, and its facts behind those
 /// so far. A break is the item's first one; otherwise it fails only for want of memory.
 pub fn put_item(
     item: &FromItem,
-    earlier: &[Chars],
+    names: &mut Names,
     scope: &mut Scope,
     around: &Around,
     reading: Reading,
     facts: &mut Facts,
 ) -> Result<(), Refusal>
-    ensures { (c : Contents) (read : Read) → IsRead read reading →
-        ItemSeen (item_meant item.now.at item.now.mark (earlier.now
-        ++ scope.old.items) (scope_name (source_of c item.now.source) item.now.alias)
+    ensures seen { (c : Contents) (read : Read) → IsRead read reading →
+        ItemSeen (item_meant item.now.at item.now.mark names.old.known.keys
+        (scope_name (source_of c item.now.source) item.now.alias)
         (label_of (source_of c item.now.source) item.now.alias) read) scope.old facts.old facts.new scope.new
         result }
+    ensures named { OnOk result (KeepsNames names.old.known.keys names.new.known.keys scope.old scope.new) }
 {
     let name = scope_name(around.alloc, item)?;
-    item_break(
-        item,
-        &name,
-        earlier,
-        scope.items.as_slice(),
-        reading.columns.as_slice(),
-    )?;
+    item_break(item, &name, &*names, reading.columns.as_slice())?;
     let marked = with_mark(around.alloc, item, reading)?;
+    names.add(around.alloc, &name)?;
     put_read(around.alloc, scope, name, marked, facts)?;
     Ok(())
 }

@@ -1,8 +1,10 @@
 -- The first break of names and values, gone through from the left.
 use Rattle.std.specs.Prelude.{◌≡◌, ℕ, suc, ◌+◌, ◌<◌, Bool, true, false, not, ◌||◌, List, [], ◌∷◌, ◌++◌, length, map, Option, Some, None, Result, Ok, Err, ◌≤◌, flat_map}
-use Rattle.std.proofs.Common.{refl, ap, sym, subst, ◌∙◌, drop, take, get_or, ◌-◌, arith, length-drop}
-use Rattle.std.proofs.lemmas.List.{map_more, reverse-append, take_all}
+use Rattle.std.proofs.Common.{refl, true≢false, ap, sym, subst, ◌∙◌, drop, take, get_or, ◌-◌, arith, length-drop}
+use Rattle.std.proofs.lemmas.Bool.{or_left, or_right}
+use Rattle.std.proofs.lemmas.List.{map_more, reverse-append, take-append-drop, take_all}
 use Rattle.std.proofs.lemmas.List.Folds.{list_any-append}
+use Rattle.std.specs.Cmp.Lexicographic.{bytes_decides}
 use Rattle.std.specs.List.{list_any}
 use mathlib.Core.List.{reverse}
 use Rattle.perm_values.specs.declared.kind.Kind.{Kind}
@@ -10,10 +12,11 @@ use Rattle.perm_values.specs.declared.kind.Kind.TheVariants.{Integer, Text, Bool
 use Rattle.perm_catalog.specs.Columns.{column_kinds}
 use Rattle.perm_catalog.specs.Contents.{Contents}
 use Rattle.perm_catalog.specs.declared.column.Column.{Column}
+use Rattle.contribution.proofs.Added.{one_more}
 use Rattle.sql_tree.specs.declared.expression.ExprTree.{ExprTree}
 use Rattle.sql_tree.specs.declared.statement.ColumnDef.{ColumnDef}
 use Rattle.name_meaning.specs.Froms.{condition_breaks, named_so, names_of, settled_columns}
-use Rattle.name_meaning.specs.Meanings.{Meant, Surroundings, broken_if, is_same_kind, means_at, seen_kind, settled, unites}
+use Rattle.name_meaning.specs.Meanings.{Meant, Surroundings, broken, broken_if, is_same_kind, means_at, seen_kind, settled, unites}
 use Rattle.name_meaning.specs.Statements.{bare, has_boolean, repeated_columns, repeats, value_breaks, values_breaks}
 use Rattle.name_meaning.specs.Trees.{part_of}
 use Rattle.name_meaning.specs.declared.answer.Break.{Break}
@@ -28,6 +31,7 @@ use Rattle.std.proofs.Math.ListN.{drop_of_length-le}
 use Rattle.name_seen_parts.specs.Columns.{columns_of}
 use Rattle.name_seen_parts.specs.declared.clauses.column.ShownColumn.{ShownColumn}
 use Rattle.name_seen_parts.proofs.Firsts.{dropped, first-stays, flat-first}
+use Rattle.name_sets.specs.Named.{is_named}
 use Rattle.name_statements.specs.Earlier.{column_break, is_defined, is_shown, texts_of}
 use Rattle.name_meaning.specs.declared.rule.Rule.TheVariants as rule
 
@@ -73,9 +77,44 @@ columns-first columns at column first within e broken =
     ∙ first-stays (column_break (take at columns) column)
     (repeated_columns (column.name.text ∷ reverse (texts_of (take at columns))) (drop (at + 1) columns)) (tt {0}) (tt {0}) first broken
 
+-- the same of the names so far in a set
+pub texts-behind : (columns : List ColumnDef) (at : ℕ) (column : ColumnDef) (keys : List (List ℕ)) → at < length columns → column ≡ get_or columns at column
+    → keys ≡ texts_of (take at columns) → keys ++ column.name.text ∷ [] ≡ texts_of (take (at + 1) columns)
+texts-behind columns at column keys within e are =
+    ap (λ (names : List (List ℕ)). names ++ column.name.text ∷ []) are
+    ∙ sym (map_more (λ (column : ColumnDef). column.name.text) columns at column within e
+    ∙ ap (λ (column : ColumnDef). texts_of (take at columns) ++ column.name.text ∷ []) (sym e))
+
+column-told : (earlier : List ColumnDef) (column : ColumnDef) (keys : List (List ℕ)) (is_new : Bool) → keys ≡ texts_of earlier
+    → is_new ≡ not (is_named keys column.name.text) → is_new ≡ not (is_defined earlier column.name.text)
+column-told earlier column keys is_new are told =
+    told ∙ ap (λ (names : List (List ℕ)). not (is_named names column.name.text)) are
+    ∙ ap not (sym (any-texts (named_so column.name.text) earlier))
+
+not-true : (b : Bool) → not b ≡ true → b ≡ false
+not-true true e = absurd (true≢false (sym e))
+not-true false e = refl
+
+not-false : (b : Bool) → not b ≡ false → b ≡ true
+not-false true e = refl
+not-false false e = absurd (true≢false e)
+
+pub column-new : (earlier : List ColumnDef) (column : ColumnDef) (keys : List (List ℕ)) (is_new : Bool) → keys ≡ texts_of earlier
+    → is_new ≡ not (is_named keys column.name.text) → is_new ≡ true → column_break earlier column ≡ []
+column-new earlier column keys is_new are told new =
+    ap (λ (b : Bool). broken_if b rule.RepeatedColumn column.name.at)
+    (not-true (is_defined earlier column.name.text) (sym (column-told earlier column keys is_new are told) ∙ new))
+
+pub column-repeated : (earlier : List ColumnDef) (column : ColumnDef) (keys : List (List ℕ)) (is_new : Bool) → keys ≡ texts_of earlier
+    → is_new ≡ not (is_named keys column.name.text) → is_new ≡ false
+    → first_or (column_break earlier column) (tt {0}) ≡ Err (broken rule.RepeatedColumn column.name.at)
+column-repeated earlier column keys is_new are told old =
+    ap (λ (b : Bool). first_or (broken_if b rule.RepeatedColumn column.name.at) (tt {0}))
+    (not-false (is_defined earlier column.name.text) (sym (column-told earlier column keys is_new are told) ∙ old))
+
 -- ---- the columns of a query
 
-abbrev shown_names : List ShownColumn → List (List ℕ)
+abbrev pub shown_names : List ShownColumn → List (List ℕ)
 shown_names columns = names_of (settled_columns (columns_of columns))
 
 any-shown : (test : List ℕ → Bool) (columns : List ShownColumn) → list_any (λ (column : ShownColumn). test column.name) columns ≡ list_any test (shown_names columns)
@@ -92,6 +131,83 @@ repeats-at columns at column b within e is =
     ap (λ (more : List ShownColumn). repeats (shown_names more)) (dropped columns at column within e)
     ∙ ap (λ (found : Bool). found || repeats (shown_names (drop (at + 1) columns)))
     (sym (is ∙ any-shown (named_so column.name) (drop (at + 1) columns)))
+
+-- the same of the names so far in a set
+pub shown-append : (columns more : List ShownColumn) → shown_names (columns ++ more) ≡ shown_names columns ++ shown_names more
+shown-append [] more = refl
+shown-append (column ∷ columns) more = ap (λ (names : List (List ℕ)). column.name ∷ names) (shown-append columns more)
+
+pub shown-behind : (columns : List ShownColumn) (at : ℕ) (column : ShownColumn) (keys : List (List ℕ)) → at < length columns
+    → column ≡ get_or columns at column → keys ≡ shown_names (take at columns) → keys ++ column.name ∷ [] ≡ shown_names (take (at + 1) columns)
+shown-behind columns at column keys within e are =
+    ap (λ (names : List (List ℕ)). names ++ column.name ∷ []) are ∙ sym (shown-append (take at columns) (column ∷ []))
+    ∙ ap shown_names (sym (one_more columns at column within e))
+
+both-false : (a b : Bool) → a ≡ false → b ≡ false → (a || b) ≡ false
+both-false a b none neither = (λ i. none i || b) ∙ neither
+
+left-false : (a b : Bool) → (a || b) ≡ false → a ≡ false
+left-false true b e = e
+left-false false b e = refl
+
+right-false : (a b : Bool) → (a || b) ≡ false → b ≡ false
+right-false true b e = absurd (true≢false e)
+right-false false b e = e
+
+named-back : (a b : List ℕ) → named_so a b ≡ true → named_so b a ≡ true
+named-back a b e = (bytes_decides b a).1 (sym ((bytes_decides a b).0 e))
+
+other-back : (a b : List ℕ) → named_so a b ≡ false → named_so b a ≡ false
+other-back a b e = by (named_so b a) refl where
+  by : (is : Bool) → named_so b a ≡ is → is ≡ false
+  by true same = absurd (true≢false (sym (named-back b a same) ∙ e))
+  by false other = refl
+
+new-repeats : (names : List (List ℕ)) (name : List ℕ) → list_any (named_so name) names ≡ false → repeats names ≡ false
+    → repeats (names ++ name ∷ []) ≡ false
+new-repeats [] name new none = refl
+new-repeats (first ∷ names) name new none =
+    let apart = other-back name first (left-false (named_so name first) (list_any (named_so name) names) new) in
+    let among = left-false (list_any (named_so first) names) (repeats names) none in
+    both-false (list_any (named_so first) (names ++ name ∷ [])) (repeats (names ++ name ∷ []))
+    (list_any-append (named_so first) names (name ∷ [])
+    ∙ both-false (list_any (named_so first) names) (named_so first name || false) among (both-false (named_so first name) false apart refl))
+    (new-repeats names name (right-false (named_so name first) (list_any (named_so name) names) new)
+    (right-false (list_any (named_so first) names) (repeats names) none))
+
+old-repeats : (names : List (List ℕ)) (name : List ℕ) (more : List (List ℕ)) → list_any (named_so name) names ≡ true
+    → repeats (names ++ name ∷ more) ≡ true
+old-repeats [] name more old = absurd (true≢false (sym old))
+old-repeats (first ∷ names) name more old = by (named_so name first) refl old where
+  among : List (List ℕ)
+  among = names ++ name ∷ more
+
+  by : (is : Bool) → named_so name first ≡ is → (is || list_any (named_so name) names) ≡ true → (list_any (named_so first) among || repeats among) ≡ true
+  by true same found = or_left (list_any (named_so first) among) (repeats among)
+      (list_any-append (named_so first) names (name ∷ more) ∙ or_right (list_any (named_so first) names) (named_so first name || list_any (named_so first) more)
+      (or_left (named_so first name) (list_any (named_so first) more) (named-back name first same)))
+  by false other found = or_right (list_any (named_so first) among) (repeats among) (old-repeats names name more found)
+
+pub names-new : (columns : List ShownColumn) (at : ℕ) (column : ShownColumn) (keys : List (List ℕ)) (is_new : Bool) → at < length columns
+    → column ≡ get_or columns at column → keys ≡ shown_names (take at columns) → is_new ≡ not (is_named keys column.name) → is_new ≡ true
+    → repeats (shown_names (take at columns)) ≡ false → repeats (shown_names (take (at + 1) columns)) ≡ false
+names-new columns at column keys is_new within e are told new none =
+    let names = shown_names (take at columns) in
+    ap repeats (sym (shown-behind columns at column names within e refl))
+    ∙ new-repeats names column.name (ap (λ (known : List (List ℕ)). is_named known column.name) (sym are)
+    ∙ not-true (is_named keys column.name) (sym told ∙ new)) none
+
+pub names-repeat : (columns : List ShownColumn) (at : ℕ) (column : ShownColumn) (keys : List (List ℕ)) (is_new : Bool) → at < length columns
+    → column ≡ get_or columns at column → keys ≡ shown_names (take at columns) → is_new ≡ not (is_named keys column.name) → is_new ≡ false
+    → repeats (shown_names columns) ≡ true
+names-repeat columns at column keys is_new within e are told old =
+    let names = shown_names (take at columns) in
+    let rest = drop (at + 1) columns in
+    ap (λ (all : List ShownColumn). repeats (shown_names all)) (sym (take-append-drop at columns))
+    ∙ ap repeats (shown-append (take at columns) (drop at columns))
+    ∙ ap (λ (more : List ShownColumn). repeats (names ++ shown_names more)) (dropped columns at column within e)
+    ∙ old-repeats names column.name (shown_names rest) (ap (λ (known : List (List ℕ)). is_named known column.name) (sym are)
+    ∙ not-false (is_named keys column.name) (sym told ∙ old))
 
 holds-first : (kind : Kind) (b : Bool) → is_same_kind kind Boolean ≡ b → (found : Bool) → elim kind [ Integer ↦ found | Text ↦ found | Boolean ↦ true ] ≡ (b || found)
 holds-first Integer b e found = ap (λ (c : Bool). c || found) e

@@ -1,17 +1,21 @@
 -- A whole query, made and within the limits.
-use Rattle.std.specs.Prelude.{◌≡◌, ℕ, List, [], ◌∷◌, map, IfOk, IsErrAnd, IsOkAnd, Option, Some, Result, Ok, Err}
-use Rattle.std.proofs.Common.{ap, refl, sym, subst, ◌∙◌}
+use Rattle.std.specs.Prelude.{◌≡◌, ℕ, Bool, true, false, ◌||◌, List, [], ◌∷◌, map, nat_lt, IfOk, IsErrAnd, IsOkAnd, Option, Some, Result, Ok, Err}
+use Rattle.std.proofs.Common.{ap, arith, refl, sym, subst, ◌∙◌}
+use Rattle.std.proofs.lemmas.Bool.{lt-ltb, ltb-true}
+use Rattle.bag_algebra.specs.Measures.{height_of, size_of}
 use Rattle.bag_algebra.specs.declared.query.Query.{Query}
 use Rattle.name_seen_parts.proofs.Firsts.{both-none, first-behind, first-stays, none-broken}
 use Rattle.name_seen_parts.specs.Columns.{columns_of}
 use Rattle.name_meaning.specs.Froms.{names_of, settled_columns, table_columns}
-use Rattle.name_meaning.specs.Meanings.{Around, Inside, OutColumn, QueryMeant, query_means_at}
+use Rattle.name_meaning.specs.Meanings.{Around, Inside, OutColumn, QueryMeant, broken, broken_if, query_means_at}
 use Rattle.name_meaning.specs.Queries.{key_of}
-use Rattle.name_meaning.specs.Statements.{query_limits, size_limit, stored_columns, width_limit}
+use Rattle.name_meaning.specs.Statements.{greatest_height, most_operators, query_limits, size_limit, stored_columns, width_limit}
 use Rattle.name_meaning.specs.Statements as words
 use Rattle.name_meaning.specs.Trees.{query_of}
 use Rattle.std.specs.Option.{option_map_or}
 use Rattle.name_meaning.specs.declared.answer.Break.{Break}
+use Rattle.name_meaning.specs.declared.rule.Rule.TheVariants as rule
+use Rattle.name_heights.specs.High.{QueryHigh}
 use Rattle.name_made_nodes.specs.Makes.{MakesQuery}
 use Rattle.name_seen_parts.specs.Seen.{first_or}
 use Rattle.perm_catalog.specs.Contents.{Contents}
@@ -55,6 +59,16 @@ pub size_second : (at : ℕ) (m : QueryMeant) (found : Gathered) (made : Query) 
 size_second at m found made first e narrow none makes large =
     first-behind (width_limit m.inside.queries) (size_limit at (m.make [])) (tt {0}) (sym (widths-are m found e) ∙ narrow)
     ∙ ap (λ (query : Query). first_or (size_limit at query) (tt {0})) (sym (makes.makes none)) ∙ large
+
+-- a query that is made so high at least passes the limit
+pub high_second : (at : ℕ) (m : QueryMeant) (found : Gathered) (height : ℕ) → m.breaks ≡ [] → IsInside m found → QueryHigh height m
+    → nat_lt greatest_height height ≡ true → first_or (query_limits at m) (tt {0}) ≡ Err (broken rule.TooLarge at)
+high_second at m found height none inside high above =
+    let query = m.make [] in
+    let too_high : nat_lt greatest_height (height_of query) ≡ true =
+    lt-ltb greatest_height (height_of query) (omega (arith, ltb-true greatest_height height above, high none [])) in
+    first-behind (width_limit m.inside.queries) (size_limit at query) (tt {0}) (sym (widths-are m found inside.inside) ∙ inside.narrow)
+    ∙ ap (λ (b : Bool). first_or (broken_if (b || nat_lt most_operators (size_of query)) rule.TooLarge at) (tt {0})) too_high
 
 abbrev pub whole_with : Query → QueryShown → Gathered → List OrderTree → Whole
 whole_with made shown found order = record {

@@ -1,8 +1,8 @@
 //! The limits that are looked at where names and kinds break no rule.
-ghost use Rattle.std.specs.Prelude.{◌≡◌, Ok, IfOk, IfErr, IsErrAnd};
+ghost use Rattle.std.specs.Prelude.{◌≡◌, Ok, IfOk, IfErr, IsErrAnd, nat_lt};
 ghost use Rattle.name_seen_parts.specs.Seen.{first_or};
 ghost use Rattle.name_seen_parts.specs.declared.refusal.Refusal.TheVariants.{Break as Broken};
-ghost use Rattle.name_meaning.specs.Statements.{size_limit};
+ghost use Rattle.name_meaning.specs.Statements.{greatest_height, size_limit};
 
 use bag_algebra::{Query, height, size};
 use name_meaning::{Break, Rule};
@@ -13,6 +13,13 @@ const GREATEST_HEIGHT: u64 = 256;
 
 /// The most operators of a query.
 const MOST_OPERATORS: u64 = 65_536;
+
+/// Whether a query may not be so high.
+pub(crate) fn is_too_high(height: u64) -> bool
+    ensures { result ≡ nat_lt greatest_height height }
+{
+    height > GREATEST_HEIGHT
+}
 
 /// That the query, whose tree stands at this offset, is too high or has too many operators.
 pub(crate) fn size_break(at: usize, query: &Query) -> Result<(), Break>

@@ -1,4 +1,5 @@
-//! What a statement breaks by its own names. None of these calls takes memory.
+//! What a statement breaks by its own names. Want of memory is no answer of these calls: where they take some, they do without
+//! it if need be.
 ghost use Rattle.std.specs.Prelude.{◌≡◌, ◌++◌};
 ghost use Rattle.name_seen_parts.specs.Seen.{first_or};
 ghost use Rattle.name_meaning.specs.Statements as words;
@@ -10,14 +11,15 @@ use crate::seen::{repeated_columns, table_limit, taken, unknown_table, unknown_v
 use name_meaning::Break;
 use perm_catalog::Catalog;
 use sql_tree::{ColumnDef, Name, StatementBody};
+use std::alloc::Global;
 
 /// The first rule that the names of what the statement makes, changes or drops break.
-pub fn own_break(catalog: &Catalog, body: &StatementBody) -> Result<(), Break>
+pub fn own_break(alloc: Global, catalog: &Catalog, body: &StatementBody) -> Result<(), Break>
     ensures { result ≡ first_or (own_breaks catalog.now body.now) tt }
 {
     match body {
         StatementBody::CreateTable { table, columns } => {
-            table_break(catalog, table, columns.as_slice())
+            table_break(alloc, catalog, table, columns.as_slice())
         }
         StatementBody::CreateTableAs { table, .. } => taken(catalog, table),
         StatementBody::CreateView { view, .. } => taken(catalog, view),
@@ -32,11 +34,16 @@ pub fn own_break(catalog: &Catalog, body: &StatementBody) -> Result<(), Break>
     }
 }
 
-fn table_break(catalog: &Catalog, table: &Name, columns: &[ColumnDef]) -> Result<(), Break>
+fn table_break(
+    alloc: Global,
+    catalog: &Catalog,
+    table: &Name,
+    columns: &[ColumnDef],
+) -> Result<(), Break>
     ensures { result ≡ first_or (body_breaks catalog.now (asked.CreateTable table.now columns.now)) tt }
 {
     taken(catalog, table)?;
-    repeated_columns(columns)?;
+    repeated_columns(alloc, columns)?;
     table_limit(table, columns.len())
 }
 

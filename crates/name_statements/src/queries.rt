@@ -34,10 +34,15 @@ pub struct Whole {
 }
 
 /// That the columns of a query at this offset are none of a table of this name.
-pub fn stored_break(table: &Name, at: usize, columns: &[ShownColumn]) -> Result<(), Break>
+pub fn stored_break(
+    alloc: Global,
+    table: &Name,
+    at: usize,
+    columns: &[ShownColumn],
+) -> Result<(), Break>
     ensures { result ≡ first_or (stored_breaks table.now at (settled_columns (columns_of columns.now))) tt }
 {
-    repeats_break(at, columns)?;
+    repeats_break(alloc, at, columns)?;
     boolean_break(at, columns)?;
     table_limit(table, columns.len())
 }

@@ -10,13 +10,16 @@ ghost use Rattle.name_meaning.specs.Statements.{stored_columns};
 ghost use Rattle.name_meaning.specs.Trees.{query_of};
 ghost use Rattle.perm_catalog.specs.Sound.{IsSound};
 ghost use Rattle.name_seen_from.specs.Queried.{QueryWhole};
+ghost use Rattle.name_heights.specs.High.{QueryHigh};
 ghost use Rattle.name_statements.specs.Resolves.{InsideSeen, IsInside, WholeSeen, WithinSeen};
 
-use crate::limits::{size_break, within};
+use crate::limits::{is_too_high, size_break, within};
 use crate::queries::{Whole, gathered_in, names_in, places_of};
 use bag_algebra::{Answer, Query};
+use name_heights::query_height;
 use name_inside::{Gathered, first_wide};
 use name_made_parts::column_names;
+use name_meaning::{Break, Rule};
 use name_seen_from::QueryShown;
 use name_seen_parts::{Around, Refusal, ShownColumn, settled_columns};
 use perm_catalog::Column;
@@ -24,9 +27,24 @@ use perm_values::{Chars, Key, List, NoMemory};
 use sql_tree::QueryTree;
 use std::alloc::Global;
 
+/// What stands inside a query that breaks nothing, or the break of the first in it that is too wide, or else that the query is
+/// too high. It isn't said of each that is: what the tree alone doesn't tell shows when the query is made.
+pub fn gathered_within(query: &QueryTree, around: &Around) -> Result<Gathered, Refusal>
+    requires sound { IsSound around.now.catalog.now }
+    requires whole { (query_means_at (query_of around.now.catalog.now query.now)
+        (around_of around.now)).breaks ≡ [] }
+    ensures { InsideSeen query.now.at
+        (query_means_at (query_of around.now.catalog.now query.now) (around_of around.now)) result }
+{
+    match narrow_within(query, around) {
+        Ok(gathered) => low_enough(query.at, query_height(query), gathered),
+        Err(refusal) => Err(refusal),
+    }
+}
+
 /// What stands inside a query that breaks nothing, or the break of the first in it that is too wide.
 #[tactic(auto, using(crate::proofs::Wholes::wide_first))]
-pub fn gathered_within(query: &QueryTree, around: &Around) -> Result<Gathered, Refusal>
+fn narrow_within(query: &QueryTree, around: &Around) -> Result<Gathered, Refusal>
     requires sound { IsSound around.now.catalog.now }
     requires whole { (query_means_at (query_of around.now.catalog.now query.now)
         (around_of around.now)).breaks ≡ [] }
@@ -36,6 +54,21 @@ pub fn gathered_within(query: &QueryTree, around: &Around) -> Result<Gathered, R
     let gathered = gathered_in(query, around)?;
     let width = first_wide(gathered.queries.as_slice());
     within(gathered, width)
+}
+
+/// The same of a query that is made so high at least, or that it is too high.
+fn low_enough(at: usize, height: u64, gathered: Gathered) -> Result<Gathered, Refusal>
+    ensures { (m : QueryMeant) → m.breaks ≡ [] → QueryHigh height m → IsInside m gathered
+        → InsideSeen at m result }
+{
+    if is_too_high(height) {
+        drop(gathered);
+        return Err(Refusal::Break(Break {
+            rule: Rule::TooLarge,
+            at,
+        }));
+    }
+    Ok(gathered)
 }
 
 /// A query that was seen to break nothing, whole, of what stands inside it and of what was made; or the first limit that it

@@ -55,11 +55,12 @@ use Rattle.name_seen_cores.specs.Listed.{ItemSeen as ItemIsSeen, ListSeen, ListW
 use Rattle.name_seen_cores.proofs.Lists.{list-more, nothing-listed}
 use Rattle.name_seen_cores.proofs.Opened.{chain-means, paren-means, set-is, step-at, step-operand as operand-of}
 use Rattle.name_seen_cores.proofs.Queried.{chain-behind, chain-refused}
+use Rattle.name_meaning.specs.declared.scope.Scope.{Scope}
 use Rattle.name_seen_from.specs.Readings.{ItemAdded, ItemSeen, ReadSeen}
 use Rattle.name_seen.proofs.Conditions.{some-condition}
 use Rattle.name_seen.proofs.CoreSteps.{core-answered, from-answered, from-refused, groups-refused, has-from, having-refused, where-refused, word-refused}
 use Rattle.name_seen.proofs.FromTrees.{from-means, inner-read, item-refused, item-means, joined-condition, joined-item, joined-word, lateral-means, named-read, read-refused}
-use Rattle.name_seen.proofs.Joined.{first-refused, first-whole, join-refused, joins-behind, none-held, source-refused, step-refused, join-behind, lateral-seen}
+use Rattle.name_seen.proofs.Joined.{first-refused, first-whole, join-behind, join-refused, joins-behind, lateral-seen, never-if_ok, never-ok, none-held, nothing-read, source-refused, step-refused, whatever-ok}
 use Rattle.name_laws.proofs.Lateral.{join-lateral, join-plain, lateral_item, plain_item}
 use Rattle.sql_tree.specs.Regular.{is_lateral}
 use Rattle.name_seen.specs.Joining.{JoinSeen}
@@ -609,12 +610,12 @@ sources::read_inner-returns-in-Err t c =
     let around = c.args.around.now in
     read-refused (query_means_at (query_of around.catalog.now c.args.query.now) (around_of around)) c.in-Err.refusal c.in-Err.ensures
 
-pub sources::from_item-returns-in_err-reading : goal.sources::from_item-returns-in_err-reading
-sources::from_item-returns-in_err-reading t c =
+pub sources::from_item-returns-in_err-reading-clause-seen : goal.sources::from_item-returns-in_err-reading-clause-seen
+sources::from_item-returns-in_err-reading-clause-seen t c =
     let around = c.args.around.now in
     let item = c.args.item.now in
     let place = in_from (scopes_of around.outer.now) in
-    let held = c.args.earlier.now ++ c.args.scope.now.items in
+    let held = c.args.names.now.known.keys in
     same-refused (λ result. ItemSeen ((from_item_of around.catalog.now item).means place held) c.args.scope.now c.args.facts.now c.args.facts.now c.args.scope.now result)
     c.from_residual.result c.in_err-reading.field-0.0 c.from_residual.ensures.1
     (subst (λ (m : ItemMeant). ItemSeen m c.args.scope.now c.args.facts.now c.args.facts.now c.args.scope.now (Err c.in_err-reading.field-0.0))
@@ -626,22 +627,22 @@ sources::from_item-returns-in_err-reading t c =
     (subst (λ (kept : Contents). ReadSeen (read_of kept (around_of c.in_from.result) (source_of kept item.source)) (Err c.in_err-reading.field-0.0)) c.in_from.ensures.catalog
     c.in_err-reading.ensures))))
 
-pub sources::from_item-returns : goal.sources::from_item-returns
-sources::from_item-returns t c =
+pub sources::from_item-returns-clause-seen : goal.sources::from_item-returns-clause-seen
+sources::from_item-returns-clause-seen t c =
     let around = c.args.around.now in
     let item = c.args.item.now in
     let place = in_from (scopes_of around.outer.now) in
     subst (λ (m : ItemMeant). ItemSeen m c.args.scope.now c.args.facts.now c.put_item.new.facts c.put_item.new.scope c.put_item.result)
-    (sym (item-means around.catalog.now item place (c.args.earlier.now ++ c.args.scope.now.items)))
-    (c.put_item.ensures around.catalog.now (read_of around.catalog.now place (source_of around.catalog.now item.source))
+    (sym (item-means around.catalog.now item place c.args.names.now.known.keys))
+    (c.put_item.ensures.seen around.catalog.now (read_of around.catalog.now place (source_of around.catalog.now item.source))
     (rw (c.in_from.ensures.place, c.in_from.ensures.catalog) at c.in_ok-reading.ensures))
 
-pub sources::lateral_item-returns-in_err-reading : goal.sources::lateral_item-returns-in_err-reading
-sources::lateral_item-returns-in_err-reading t c =
+pub sources::lateral_item-returns-in_err-reading-clause-seen : goal.sources::lateral_item-returns-in_err-reading-clause-seen
+sources::lateral_item-returns-in_err-reading-clause-seen t c =
     let around = c.args.around.now in
     let item = c.args.item.now in
     let place = around_beside (c.args.scope.now ∷ scopes_of around.outer.now) in
-    let held = c.args.earlier.now ++ c.args.scope.now.items in
+    let held = c.args.names.now.known.keys in
     same-refused (λ result. ItemSeen ((from_item_of around.catalog.now item).means place held) c.args.scope.now c.args.facts.now c.args.facts.now c.args.scope.now result)
     c.from_residual.result c.in_err-reading.field-0.0 c.from_residual.ensures.1
     (subst (λ (m : ItemMeant). ItemSeen m c.args.scope.now c.args.facts.now c.args.facts.now c.args.scope.now (Err c.in_err-reading.field-0.0))
@@ -650,14 +651,26 @@ sources::lateral_item-returns-in_err-reading t c =
     (read_of around.catalog.now place (source_of around.catalog.now item.source)) c.args.scope.now c.args.scope.now c.args.facts.now c.args.facts.now
     c.in_err-reading.field-0.0 c.in_err-reading.ensures))
 
-pub sources::lateral_item-returns : goal.sources::lateral_item-returns
-sources::lateral_item-returns t c =
+pub sources::lateral_item-returns-clause-seen : goal.sources::lateral_item-returns-clause-seen
+sources::lateral_item-returns-clause-seen t c =
     let around = c.args.around.now in
     let item = c.args.item.now in
     let place = around_beside (c.args.scope.now ∷ scopes_of around.outer.now) in
     subst (λ (m : ItemMeant). ItemSeen m c.args.scope.now c.args.facts.now c.put_item.new.facts c.put_item.new.scope c.put_item.result)
-    (sym (item-means around.catalog.now item place (c.args.earlier.now ++ c.args.scope.now.items)))
-    (c.put_item.ensures around.catalog.now (read_of around.catalog.now place (source_of around.catalog.now item.source)) c.in_ok-reading.ensures)
+    (sym (item-means around.catalog.now item place c.args.names.now.known.keys))
+    (c.put_item.ensures.seen around.catalog.now (read_of around.catalog.now place (source_of around.catalog.now item.source)) c.in_ok-reading.ensures)
+
+pub sources::from_item-returns-in_err-reading-clause-named : goal.sources::from_item-returns-in_err-reading-clause-named
+sources::from_item-returns-in_err-reading-clause-named t c = never-ok _ c.from_residual.result _ c.from_residual.ensures.1
+
+pub sources::from_item-returns-clause-named : goal.sources::from_item-returns-clause-named
+sources::from_item-returns-clause-named t c = c.put_item.ensures.named
+
+pub sources::lateral_item-returns-in_err-reading-clause-named : goal.sources::lateral_item-returns-in_err-reading-clause-named
+sources::lateral_item-returns-in_err-reading-clause-named t c = never-ok _ c.from_residual.result _ c.from_residual.ensures.1
+
+pub sources::lateral_item-returns-clause-named : goal.sources::lateral_item-returns-clause-named
+sources::lateral_item-returns-clause-named t c = c.put_item.ensures.named
 
 pub sources::read_beside-returns : goal.sources::read_beside-returns
 sources::read_beside-returns t c =
@@ -668,132 +681,156 @@ sources::read_beside-returns t c =
     (subst (λ (kept : Contents). ReadSeen (read_of kept (around_of c.lateral.result) (source_of kept source)) c.read_source.result) c.lateral.ensures.catalog
     c.read_source.ensures)
 
-pub sources::join_seen-returns-then-is_lateral : goal.sources::join_seen-returns-then-is_lateral
-sources::join_seen-returns-then-is_lateral t c = λ left before first.
+pub sources::join_seen-returns-then-is_lateral-clause-seen : goal.sources::join_seen-returns-then-is_lateral-clause-seen
+sources::join_seen-returns-then-is_lateral-clause-seen t c = λ left earlier before held first.
     let around = c.args.around.now in
     let step = c.args.step.now in
     let outer = scopes_of around.outer.now in
     let joined = join_of around.catalog.now step in
     let lateral = ap is_lateral (joined-word around.catalog.now step) ∙ sym c.is_lateral.ensures ∙ c.if-is_lateral.true in
-    subst (λ (m : FromMeant). JoinSeen m c.args.earlier.now before c.lateral_item.new.facts c.lateral_item.new.scope c.lateral_item.result)
+    subst (λ (m : FromMeant). JoinSeen m earlier before c.lateral_item.new.facts c.lateral_item.new.scope c.lateral_item.result)
     (sym (join-lateral outer left joined lateral))
-    (lateral-seen left joined.word (lateral_item outer left joined) c.args.earlier.now before c.args.facts.now c.lateral_item.new.facts c.args.scope.now
+    (lateral-seen left joined.word (lateral_item outer left joined) earlier before c.args.facts.now c.lateral_item.new.facts c.args.scope.now
     c.lateral_item.new.scope c.lateral_item.result first
     (subst (λ (m : ItemMeant). ItemSeen m c.args.scope.now c.args.facts.now c.lateral_item.new.facts c.lateral_item.new.scope c.lateral_item.result)
-    (sym (lateral-means around.catalog.now step outer left c.args.earlier.now before c.args.facts.now c.args.scope.now first)) c.lateral_item.ensures))
+    (sym (lateral-means around.catalog.now step outer left earlier before c.args.facts.now c.args.scope.now c.args.names.now.known.keys held first)) c.lateral_item.ensures.seen))
 
-pub sources::join_seen-returns-in_err-from_item : goal.sources::join_seen-returns-in_err-from_item
-sources::join_seen-returns-in_err-from_item t c = λ left before first.
+pub sources::join_seen-returns-in_err-from_item-clause-seen : goal.sources::join_seen-returns-in_err-from_item-clause-seen
+sources::join_seen-returns-in_err-from_item-clause-seen t c = λ left earlier before held first.
     let around = c.args.around.now in
     let step = c.args.step.now in
     let outer = scopes_of around.outer.now in
     let joined = join_of around.catalog.now step in
     let plain = ap is_lateral (joined-word around.catalog.now step) ∙ sym c.is_lateral.ensures ∙ c.if-is_lateral.false in
-    same-refused (λ result. JoinSeen (join_item outer left joined (joined_item outer left joined)) c.args.earlier.now before c.from_item.new.facts
+    same-refused (λ result. JoinSeen (join_item outer left joined (joined_item outer left joined)) earlier before c.from_item.new.facts
     c.from_item.new.scope result) c.from_residual.result c.in_err-from_item.field-0.0 c.from_residual.ensures.1
-    (subst (λ (m : FromMeant). JoinSeen m c.args.earlier.now before c.from_item.new.facts c.from_item.new.scope (Err c.in_err-from_item.field-0.0))
+    (subst (λ (m : FromMeant). JoinSeen m earlier before c.from_item.new.facts c.from_item.new.scope (Err c.in_err-from_item.field-0.0))
     (sym (join-plain outer left joined plain))
-    (join-refused outer left joined (plain_item outer left joined) c.args.earlier.now before c.args.facts.now c.from_item.new.facts c.args.scope.now
+    (join-refused outer left joined (plain_item outer left joined) earlier before c.args.facts.now c.from_item.new.facts c.args.scope.now
     c.from_item.new.scope c.in_err-from_item.field-0.0 first
     (subst (λ (m : ItemMeant). ItemSeen m c.args.scope.now c.args.facts.now c.from_item.new.facts c.from_item.new.scope (Err c.in_err-from_item.field-0.0))
-    (sym (joined-item around.catalog.now step (in_from outer) left.names (c.args.earlier.now ++ c.args.scope.now.items) first.names))
-    c.in_err-from_item.ensures)))
+    (sym (joined-item around.catalog.now step (in_from outer) left.names c.args.names.now.known.keys (first.names ∙ sym held)))
+    c.in_err-from_item.ensures.seen)))
 
-pub sources::join_seen-returns : goal.sources::join_seen-returns
-sources::join_seen-returns t c = λ left before first.
+pub sources::join_seen-returns-clause-seen : goal.sources::join_seen-returns-clause-seen
+sources::join_seen-returns-clause-seen t c = λ left earlier before held first.
     let around = c.args.around.now in
     let step = c.args.step.now in
     let outer = scopes_of around.outer.now in
     let joined = join_of around.catalog.now step in
     let plain = ap is_lateral (joined-word around.catalog.now step) ∙ sym c.is_lateral.ensures ∙ c.if-is_lateral.false in
-    subst (λ (m : FromMeant). JoinSeen m c.args.earlier.now before c.condition_seen.new.facts c.from_item.new.scope c.condition_seen.result)
+    subst (λ (m : FromMeant). JoinSeen m earlier before c.condition_seen.new.facts c.from_item.new.scope c.condition_seen.result)
     (sym (join-plain outer left joined plain))
-    (join-behind outer left joined (plain_item outer left joined) c.args.earlier.now before c.args.facts.now c.from_item.new.facts
+    (join-behind outer left joined (plain_item outer left joined) earlier before c.args.facts.now c.from_item.new.facts
     c.condition_seen.new.facts c.args.scope.now c.from_item.new.scope c.condition_seen.result first
     (subst (λ (m : ItemMeant). ItemAdded m c.args.scope.now c.args.facts.now c.from_item.new.facts c.from_item.new.scope)
-    (sym (joined-item around.catalog.now step (in_from outer) left.names (c.args.earlier.now ++ c.args.scope.now.items) first.names)) c.in_ok-from_item.ensures)
+    (sym (joined-item around.catalog.now step (in_from outer) left.names c.args.names.now.known.keys (first.names ∙ sym held))) c.in_ok-from_item.ensures.seen)
     (subst (λ (part : Option Part). ConditionSeen part (optional_meant (in_clause c.from_item.new.scope outer false) part) c.from_item.new.facts
     c.condition_seen.new.facts c.condition_seen.result)
     (sym (joined-condition around.catalog.now step (out-JoinStep step).condition refl)) c.condition_seen.ensures))
 
-pub sources::source_items-returns-in_err-from_item : goal.sources::source_items-returns-in_err-from_item
-sources::source_items-returns-in_err-from_item t c =
+pub sources::join_seen-returns-then-is_lateral-clause-named : goal.sources::join_seen-returns-then-is_lateral-clause-named
+sources::join_seen-returns-then-is_lateral-clause-named t c = c.lateral_item.ensures.named
+
+pub sources::join_seen-returns-in_err-from_item-clause-named : goal.sources::join_seen-returns-in_err-from_item-clause-named
+sources::join_seen-returns-in_err-from_item-clause-named t c = never-ok _ c.from_residual.result _ c.from_residual.ensures.1
+
+pub sources::join_seen-returns-clause-named : goal.sources::join_seen-returns-clause-named
+sources::join_seen-returns-clause-named t c = whatever-ok c.condition_seen.result c.in_ok-from_item.ensures.named
+
+pub sources::source_items-returns-in_err-from_item-clause-seen : goal.sources::source_items-returns-in_err-from_item-clause-seen
+sources::source_items-returns-in_err-from_item-clause-seen t c =
     let around = c.args.around.now in
     let outer = scopes_of around.outer.now in
     let tree = c.args.tree.now in
-    let first = (from_item_of around.catalog.now (out-FromTree tree).first).means (in_from outer) c.args.earlier.now in
+    let earlier = c.args.names.now.known.keys in
+    let first = (from_item_of around.catalog.now (out-FromTree tree).first).means (in_from outer) earlier in
     let joins = (out-FromTree tree).joins in
     let join = join_of around.catalog.now in
-    same-refused (λ result. FromSeen ((from_of around.catalog.now tree).means outer c.args.earlier.now) c.args.earlier.now c.args.facts.now c.from_item.new.facts result)
+    same-refused (λ result. FromSeen ((from_of around.catalog.now tree).means outer earlier) earlier c.args.facts.now c.from_item.new.facts result)
     c.from_residual.result c.in_err-from_item.field-0.0 c.from_residual.ensures.1
-    (subst (λ (m : FromMeant). FromSeen m c.args.earlier.now c.args.facts.now c.from_item.new.facts (Err c.in_err-from_item.field-0.0))
-    (sym (from-means around.catalog.now tree outer c.args.earlier.now))
-    (first-refused outer first (map join joins) c.args.earlier.now c.args.facts.now c.from_item.new.facts c.no_items-scope.result c.from_item.new.scope c.in_err-from_item.field-0.0
-    (subst (λ (names : List (List ℕ)). ItemSeen ((from_item_of around.catalog.now (out-FromTree tree).first).means (in_from outer) names) c.no_items-scope.result c.args.facts.now
-    c.from_item.new.facts c.from_item.new.scope (Err c.in_err-from_item.field-0.0))
-    (none-held c.args.earlier.now c.no_items-scope.result c.no_items-scope.ensures) c.in_err-from_item.ensures)))
+    (subst (λ (m : FromMeant). FromSeen m earlier c.args.facts.now c.from_item.new.facts (Err c.in_err-from_item.field-0.0))
+    (sym (from-means around.catalog.now tree outer earlier))
+    (first-refused outer first (map join joins) earlier c.args.facts.now c.from_item.new.facts c.no_items-scope.result c.from_item.new.scope c.in_err-from_item.field-0.0
+    c.in_err-from_item.ensures.seen))
+
+pub sources::source_items-returns-in_err-from_item-clause-named : goal.sources::source_items-returns-in_err-from_item-clause-named
+sources::source_items-returns-in_err-from_item-clause-named t c = never-if_ok _ c.from_residual.result _ c.from_residual.ensures.1
 
 pub sources::source_items-loop-step-init : goal.sources::source_items-loop-step-init
 sources::source_items-loop-step-init t c =
     let around = c.args.around.now in
     let outer = scopes_of around.outer.now in
     let tree = c.args.tree.now in
-    let first = (from_item_of around.catalog.now (out-FromTree tree).first).means (in_from outer) c.args.earlier.now in
-    let joins = (out-FromTree tree).joins in
-    let join = join_of around.catalog.now in
-    first-whole first c.args.earlier.now c.args.facts.now c.from_item.new.facts c.no_items-scope.result c.from_item.new.scope c.no_items-scope.ensures
-    (subst (λ (names : List (List ℕ)). ItemAdded ((from_item_of around.catalog.now (out-FromTree tree).first).means (in_from outer) names) c.no_items-scope.result c.args.facts.now
-    c.from_item.new.facts c.from_item.new.scope)
-    (none-held c.args.earlier.now c.no_items-scope.result c.no_items-scope.ensures) c.in_ok-from_item.ensures)
+    let earlier = c.args.names.now.known.keys in
+    let first = (from_item_of around.catalog.now (out-FromTree tree).first).means (in_from outer) earlier in
+    record {
+      seen = first-whole first earlier c.args.facts.now c.from_item.new.facts c.no_items-scope.result c.from_item.new.scope c.no_items-scope.ensures
+          c.in_ok-from_item.ensures.seen;
+      named = c.in_ok-from_item.ensures.named earlier (sym (none-held earlier c.no_items-scope.result c.no_items-scope.ensures));
+    }
 
-pub sources::source_items-returns-in_err-join_seen : goal.sources::source_items-returns-in_err-join_seen
-sources::source_items-returns-in_err-join_seen t c =
+pub sources::source_items-returns-in_err-join_seen-clause-seen : goal.sources::source_items-returns-in_err-join_seen-clause-seen
+sources::source_items-returns-in_err-join_seen-clause-seen t c =
     let around = c.args.around.now in
     let outer = scopes_of around.outer.now in
     let tree = c.args.tree.now in
-    let first = (from_item_of around.catalog.now (out-FromTree tree).first).means (in_from outer) c.args.earlier.now in
+    let earlier = c.args.names.now.known.keys in
+    let first = (from_item_of around.catalog.now (out-FromTree tree).first).means (in_from outer) earlier in
     let joins = (out-FromTree tree).joins in
     let join = join_of around.catalog.now in
-    let so_far = join_all outer (first_item c.args.earlier.now first) (map join (take c.loop-step.step-index joins)) in
+    let so_far = join_all outer (first_item earlier first) (map join (take c.loop-step.step-index joins)) in
     let within = rw c.as_slice-step-items.ensures at c.loop-step-test.true in
     let is = rw c.as_slice-step-items.ensures at c.step-item.is in
-    same-refused (λ result. FromSeen ((from_of around.catalog.now tree).means outer c.args.earlier.now) c.args.earlier.now c.args.facts.now c.join_seen.new.facts result)
+    same-refused (λ result. FromSeen ((from_of around.catalog.now tree).means outer earlier) earlier c.args.facts.now c.join_seen.new.facts result)
     c.from_residual-in_err-join_seen.result c.in_err-join_seen.field-0.0 c.from_residual-in_err-join_seen.ensures.1
-    (subst (λ (m : FromMeant). FromSeen m c.args.earlier.now c.args.facts.now c.join_seen.new.facts (Err c.in_err-join_seen.field-0.0))
-    (sym (from-means around.catalog.now tree outer c.args.earlier.now
-    ∙ ap (join_all outer (first_item c.args.earlier.now first)) (mapped-at join joins c.loop-step.step-index c.step-item.result within is)))
-    (step-refused outer (first_item c.args.earlier.now first) (map join (take c.loop-step.step-index joins)) (join c.step-item.result)
-    (map join (drop (c.loop-step.step-index + 1) joins)) c.args.earlier.now c.args.facts.now c.join_seen.new.facts c.join_seen.new.scope c.in_err-join_seen.field-0.0
-    (c.in_err-join_seen.ensures so_far c.args.facts.now c.loop-step.invariant)))
+    (subst (λ (m : FromMeant). FromSeen m earlier c.args.facts.now c.join_seen.new.facts (Err c.in_err-join_seen.field-0.0))
+    (sym (from-means around.catalog.now tree outer earlier
+    ∙ ap (join_all outer (first_item earlier first)) (mapped-at join joins c.loop-step.step-index c.step-item.result within is)))
+    (step-refused outer (first_item earlier first) (map join (take c.loop-step.step-index joins)) (join c.step-item.result)
+    (map join (drop (c.loop-step.step-index + 1) joins)) earlier c.args.facts.now c.join_seen.new.facts c.join_seen.new.scope c.in_err-join_seen.field-0.0
+    (c.in_err-join_seen.ensures.seen so_far earlier c.args.facts.now c.loop-step.invariant.named c.loop-step.invariant.seen)))
+
+pub sources::source_items-returns-in_err-join_seen-clause-named : goal.sources::source_items-returns-in_err-join_seen-clause-named
+sources::source_items-returns-in_err-join_seen-clause-named t c =
+    never-if_ok _ c.from_residual-in_err-join_seen.result _ c.from_residual-in_err-join_seen.ensures.1
 
 pub sources::source_items-loop-step-preserved : goal.sources::source_items-loop-step-preserved
 sources::source_items-loop-step-preserved t c =
     let around = c.args.around.now in
     let outer = scopes_of around.outer.now in
     let tree = c.args.tree.now in
-    let first = (from_item_of around.catalog.now (out-FromTree tree).first).means (in_from outer) c.args.earlier.now in
+    let earlier = c.args.names.now.known.keys in
+    let first = (from_item_of around.catalog.now (out-FromTree tree).first).means (in_from outer) earlier in
     let joins = (out-FromTree tree).joins in
     let join = join_of around.catalog.now in
-    let so_far = join_all outer (first_item c.args.earlier.now first) (map join (take c.loop-step.step-index joins)) in
+    let so_far = join_all outer (first_item earlier first) (map join (take c.loop-step.step-index joins)) in
     let within = rw c.as_slice-step-items.ensures at c.loop-step-test.true in
     let is = rw c.as_slice-step-items.ensures at c.step-item.is in
-    subst (λ (m : FromMeant). FromWhole m c.args.earlier.now c.args.facts.now c.join_seen.new.facts c.join_seen.new.scope)
-    (sym (ap (join_all outer (first_item c.args.earlier.now first)) (row-more join joins c.loop-step.step-index c.step-item.result within is)
-    ∙ joins-behind outer (first_item c.args.earlier.now first) (map join (take c.loop-step.step-index joins)) (join c.step-item.result)))
-    (c.in_ok-join_seen.ensures so_far c.args.facts.now c.loop-step.invariant)
+    record {
+      seen = subst (λ (m : FromMeant). FromWhole m earlier c.args.facts.now c.join_seen.new.facts c.join_seen.new.scope)
+          (sym (ap (join_all outer (first_item earlier first)) (row-more join joins c.loop-step.step-index c.step-item.result within is)
+          ∙ joins-behind outer (first_item earlier first) (map join (take c.loop-step.step-index joins)) (join c.step-item.result)))
+          (c.in_ok-join_seen.ensures.seen so_far earlier c.args.facts.now c.loop-step.invariant.named c.loop-step.invariant.seen);
+      named = c.in_ok-join_seen.ensures.named earlier c.loop-step.invariant.named;
+    }
 
-pub sources::source_items-returns : goal.sources::source_items-returns
-sources::source_items-returns t c =
+pub sources::source_items-returns-clause-seen : goal.sources::source_items-returns-clause-seen
+sources::source_items-returns-clause-seen t c =
     let around = c.args.around.now in
     let outer = scopes_of around.outer.now in
     let tree = c.args.tree.now in
-    let first = (from_item_of around.catalog.now (out-FromTree tree).first).means (in_from outer) c.args.earlier.now in
+    let earlier = c.args.names.now.known.keys in
+    let first = (from_item_of around.catalog.now (out-FromTree tree).first).means (in_from outer) earlier in
     let joins = (out-FromTree tree).joins in
     let join = join_of around.catalog.now in
     let all = rw c.as_slice-step-items.ensures at c.loop-step-test.false in
-    subst (λ (m : FromMeant). FromWhole m c.args.earlier.now c.args.facts.now c.loop-step.facts c.loop-step.scope)
-    (ap (λ (steps : List JoinStep). join_all outer (first_item c.args.earlier.now first) (map join steps)) (take_all c.loop-step.step-index joins all)
-    ∙ sym (from-means around.catalog.now tree outer c.args.earlier.now)) c.loop-step.invariant
+    subst (λ (m : FromMeant). FromWhole m earlier c.args.facts.now c.loop-step.facts c.loop-step.scope)
+    (ap (λ (steps : List JoinStep). join_all outer (first_item earlier first) (map join steps)) (take_all c.loop-step.step-index joins all)
+    ∙ sym (from-means around.catalog.now tree outer earlier)) c.loop-step.invariant.seen
+
+pub sources::source_items-returns-clause-named : goal.sources::source_items-returns-clause-named
+sources::source_items-returns-clause-named t c = c.loop-step.invariant.named
 
 pub sources::from_scope-returns-in_err-own : goal.sources::from_scope-returns-in_err-own
 sources::from_scope-returns-in_err-own t c =
@@ -806,9 +843,15 @@ sources::from_scope-returns-in_err-own t c =
     (subst (λ (parts : List FromPart). FromSeen (from_all outer parts) [] c.args.facts.now c.source_items.new.facts (Err c.in_err-own.field-0.0))
     (sym (mapped-at part c.args.sources.now c.loop-source.source-index c.source-item.result c.loop-source-test.true c.source-item.is))
     (source-refused outer so_far (part c.source-item.result) (map part (drop (c.loop-source.source-index + 1) c.args.sources.now)) c.args.facts.now c.loop-source.facts
-    c.source_items.new.facts c.loop-source.scope c.in_err-own.field-0.0 c.loop-source.invariant
+    c.source_items.new.facts c.loop-source.scope c.in_err-own.field-0.0 c.loop-source.invariant.seen
     (subst (λ (names : List (List ℕ)). FromSeen ((part c.source-item.result).means outer names) names c.loop-source.facts c.source_items.new.facts (Err c.in_err-own.field-0.0))
-    c.as_slice.ensures c.in_err-own.ensures)))
+    c.loop-source.invariant.named c.in_err-own.ensures.seen)))
+
+pub sources::from_scope-loop-source-init : goal.sources::from_scope-loop-source-init
+sources::from_scope-loop-source-init t c = record {
+  seen = nothing-read (scopes_of c.args.around.now.outer.now) c.args.facts.now c.no_items-scope.result c.no_items-scope.ensures;
+  named = c.none-names.ensures ∙ ap (λ (scope : Scope). scope.items) (sym c.no_items-scope.ensures);
+}
 
 pub sources::from_scope-loop-source-preserved : goal.sources::from_scope-loop-source-preserved
 sources::from_scope-loop-source-preserved t c =
@@ -816,10 +859,21 @@ sources::from_scope-loop-source-preserved t c =
     let outer = scopes_of around.outer.now in
     let part = from_of around.catalog.now in
     let so_far = map part (take c.loop-source.source-index c.args.sources.now) in
-    subst (λ (parts : List FromPart). FromWhole (from_all outer parts) [] c.args.facts.now c.source_items.new.facts c.add_items.new.left)
-    (sym (row-more part c.args.sources.now c.loop-source.source-index c.source-item.result c.loop-source-test.true c.source-item.is))
-    (source-behind outer so_far (part c.source-item.result) c.args.facts.now c.loop-source.facts c.source_items.new.facts c.loop-source.scope c.in_ok-own.own c.add_items.new.left
-    c.loop-source.invariant (rw c.as_slice.ensures at c.in_ok-own.ensures) c.in_ok-add_items.ensures)
+    record {
+      seen = subst (λ (parts : List FromPart). FromWhole (from_all outer parts) [] c.args.facts.now c.source_items.new.facts c.add_items.new.left)
+          (sym (row-more part c.args.sources.now c.loop-source.source-index c.source-item.result c.loop-source-test.true c.source-item.is))
+          (source-behind outer so_far (part c.source-item.result) c.args.facts.now c.loop-source.facts c.source_items.new.facts c.loop-source.scope c.in_ok-own.own c.add_items.new.left
+          c.loop-source.invariant.seen
+          (subst (λ (names : List (List ℕ)). FromSeen ((part c.source-item.result).means outer names) names c.loop-source.facts c.source_items.new.facts (Ok c.in_ok-own.own))
+          c.loop-source.invariant.named c.in_ok-own.ensures.seen) c.in_ok-add_items.ensures);
+      named = c.in_ok-own.ensures.named ∙ ap (λ (names : List (List ℕ)). names ++ c.in_ok-own.own.items) c.loop-source.invariant.named
+          ∙ ap (λ (scope : Scope). scope.items) (sym c.in_ok-add_items.ensures);
+    }
+
+pub sources::from_scope-returns : goal.sources::from_scope-returns
+sources::from_scope-returns t c =
+    subst (λ (sources : List FromTree). FromWhole (from_all (scopes_of c.args.around.now.outer.now) (map (from_of c.args.around.now.catalog.now) sources)) [] c.args.facts.now
+    c.loop-source.facts c.loop-source.scope) (take_all c.loop-source.source-index c.args.sources.now c.loop-source-test.false) c.loop-source.invariant.seen
 
 pub cores::core_clauses-returns-in_err-condition_seen : goal.cores::core_clauses-returns-in_err-condition_seen
 cores::core_clauses-returns-in_err-condition_seen t c = λ before input items is adds.

@@ -1,5 +1,5 @@
 use Rattle.std.proofs.Common.{◌≡◌, [], take}
-use Rattle.std.specs.Prelude.{true, map, flat_map}
+use Rattle.std.specs.Prelude.{true, ◌++◌, map, flat_map}
 use Rattle.name_meaning.specs.Expressions.{step_operand, arm_operands}
 use Rattle.name_meaning.specs.Operands.{operand}
 use Rattle.name_meaning.specs.Trees.{part_of, step_of, arm_of}
@@ -33,14 +33,20 @@ invariant-expressions::operands_of_arms-loop-arm l =
 -- the sources so far
 abbrev pub invariant-sources::from_scope-loop-source : goal.invariant-sources::from_scope-loop-source
 invariant-sources::from_scope-loop-source l =
-    FromWhole (from_all (scopes_of l.around.outer.now) (map (from_of l.around.catalog.now) (take l.source-index l.sources))) [] l.fn.facts l.facts l.scope
+    record {
+      seen : FromWhole (from_all (scopes_of l.around.outer.now) (map (from_of l.around.catalog.now) (take l.source-index l.sources))) [] l.fn.facts l.facts l.scope;
+      named : l.names.known.keys ≡ l.scope.items;
+    }
 
 -- the joins so far
 abbrev pub invariant-sources::source_items-loop-step : goal.invariant-sources::source_items-loop-step
 invariant-sources::source_items-loop-step l =
-    FromWhole (join_all (scopes_of l.around.outer.now)
-    (first_item l.earlier ((from_item_of l.around.catalog.now (out-FromTree l.tree).first).means (in_from (scopes_of l.around.outer.now)) l.earlier))
-    (map (join_of l.around.catalog.now) (take l.step-index (out-FromTree l.tree).joins))) l.earlier l.fn.facts l.facts l.scope
+    record {
+      seen : FromWhole (join_all (scopes_of l.around.outer.now)
+          (first_item l.fn.names.known.keys ((from_item_of l.around.catalog.now (out-FromTree l.tree).first).means (in_from (scopes_of l.around.outer.now)) l.fn.names.known.keys))
+          (map (join_of l.around.catalog.now) (take l.step-index (out-FromTree l.tree).joins))) l.fn.names.known.keys l.fn.facts l.facts l.scope;
+      named : l.names.known.keys ≡ l.fn.names.known.keys ++ l.scope.items;
+    }
 
 -- the items of the list so far
 abbrev pub invariant-cores::list_seen-loop-item : goal.invariant-cores::list_seen-loop-item

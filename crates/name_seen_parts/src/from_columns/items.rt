@@ -11,6 +11,7 @@ ghost use Rattle.name_seen_parts.specs.FromColumns.{known_names};
 
 use crate::from_columns::marks::mark_break;
 use name_meaning::{Break, Rule};
+use name_sets::Names;
 use perm_catalog::Column;
 use perm_values::{Chars, Copyable, NoMemory};
 use sql_tree::{FromItem, FromSource};
@@ -41,30 +42,22 @@ pub fn scope_name(alloc: Global, item: &FromItem) -> Result<Chars, NoMemory>
     }
 }
 
-/// That an item of this name stands before, or what its mark breaks.
+/// That an item of this name is one of those before, or what its mark breaks.
 pub fn item_break(
     item: &FromItem,
     name: &Chars,
-    earlier: &[Chars],
-    items: &[Chars],
+    names: &Names,
     columns: &[Column],
 ) -> Result<(), Break>
     ensures { result
-        ≡ first_or (broken_if (list_any (named_so name.now) (earlier.now ++ items.now)) rule.RepeatedItem
-        item.now.at
+        ≡ first_or (broken_if (list_any (named_so name.now) names.now.known.keys) rule.RepeatedItem item.now.at
         ++ mark_breaks item.now.mark (Some (known_names columns.now))) tt }
 {
-    if is_among(name, earlier) || is_among(name, items) {
+    if names.has(name) {
         return Err(Break {
             rule: Rule::RepeatedItem,
             at: item.at,
         });
     }
     mark_break(&item.mark, columns)
-}
-
-fn is_among(name: &Chars, names: &[Chars]) -> bool
-    ensures { result ≡ list_any (named_so name.now) names.now }
-{
-    names.iter().any(|other| name == other)
 }

@@ -1,14 +1,16 @@
 //! Names of tables, views and columns.
-ghost use Rattle.std.specs.Prelude.{◌≡◌, []};
+ghost use Rattle.std.specs.Prelude.{◌≡◌, [], IfOk};
 ghost use Rattle.name_meaning.specs.Statements as words;
 ghost use Rattle.name_seen_parts.specs.Seen.{first_or};
 ghost use Rattle.perm_catalog.specs.Changes.{is_free};
 ghost use Rattle.name_statements.specs.Earlier.{column_break, is_defined};
 
 use name_meaning::{Break, Rule};
+use name_sets::Names;
 use perm_catalog::Catalog;
-use perm_values::Chars;
+use perm_values::{Chars, NoMemory};
 use sql_tree::{ColumnDef, Name};
+use std::alloc::Global;
 
 /// The most columns that a table may have.
 const MOST_COLUMNS: usize = 256;
@@ -84,8 +86,36 @@ pub fn table_limit(name: &Name, width: usize) -> Result<(), Break>
     Ok(())
 }
 
-/// The first column that has the name of an earlier one.
-pub fn repeated_columns(columns: &[ColumnDef]) -> Result<(), Break>
+/// The first column that has the name of an earlier one. Where there is no memory for a set of the names, each is compared with
+/// all before it.
+pub fn repeated_columns(alloc: Global, columns: &[ColumnDef]) -> Result<(), Break>
+    ensures { result ≡ first_or (words.repeated_columns [] columns.now) tt }
+{
+    match first_repeated(alloc, columns) {
+        Ok(found) => found,
+        Err(_) => repeated_among(columns),
+    }
+}
+
+/// The same by a set of the names so far.
+fn first_repeated(alloc: Global, columns: &[ColumnDef]) -> Result<Result<(), Break>, NoMemory>
+    ensures { IfOk result (λ found. found ≡ first_or (words.repeated_columns [] columns.now) tt) }
+{
+    let mut names = Names::none(alloc);
+    for column in columns {
+        let is_new = names.add(alloc, &column.name.text)?;
+        if !is_new {
+            return Ok(Err(Break {
+                rule: Rule::RepeatedColumn,
+                at: column.name.at,
+            }));
+        }
+    }
+    Ok(Ok(()))
+}
+
+/// The same without memory.
+fn repeated_among(columns: &[ColumnDef]) -> Result<(), Break>
     ensures { result ≡ first_or (words.repeated_columns [] columns.now) tt }
 {
     for at in 0..columns.len() {

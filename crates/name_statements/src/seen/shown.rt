@@ -1,5 +1,5 @@
 //! What a statement asks of the columns of its query.
-ghost use Rattle.std.specs.Prelude.{◌≡◌};
+ghost use Rattle.std.specs.Prelude.{◌≡◌, IfOk};
 ghost use Rattle.perm_values.specs.declared.kind.Kind.TheVariants.{Text as Words, Boolean as Truths};
 ghost use Rattle.name_meaning.specs.Froms.{names_of, settled_columns};
 ghost use Rattle.name_meaning.specs.Meanings.{broken_if, is_same_kind, settled};
@@ -10,14 +10,16 @@ ghost use Rattle.name_statements.specs.Earlier.{is_shown};
 
 use name_meaning::{Break, Rule};
 use name_seen_parts::ShownColumn;
-use perm_values::Kind;
+use name_sets::Names;
+use perm_values::{Kind, NoMemory};
+use std::alloc::Global;
 
 /// That two columns of the query at this offset have one name.
-pub fn repeats_break(at: usize, columns: &[ShownColumn]) -> Result<(), Break>
+pub fn repeats_break(alloc: Global, at: usize, columns: &[ShownColumn]) -> Result<(), Break>
     ensures { result ≡ first_or (broken_if
         (repeats (names_of (settled_columns (columns_of columns.now)))) Rule.RepeatedColumn at) tt }
 {
-    if do_repeat(columns) {
+    if do_repeat(alloc, columns) {
         return Err(Break {
             rule: Rule::RepeatedColumn,
             at,
@@ -26,7 +28,32 @@ pub fn repeats_break(at: usize, columns: &[ShownColumn]) -> Result<(), Break>
     Ok(())
 }
 
-fn do_repeat(columns: &[ShownColumn]) -> bool
+/// Where there is no memory for a set of the names, each is compared with all behind it.
+fn do_repeat(alloc: Global, columns: &[ShownColumn]) -> bool
+    ensures { result ≡ repeats (names_of (settled_columns (columns_of columns.now))) }
+{
+    match repeat_in_set(alloc, columns) {
+        Ok(found) => found,
+        Err(_) => repeat_in_pairs(columns),
+    }
+}
+
+/// The same by a set of the names so far.
+fn repeat_in_set(alloc: Global, columns: &[ShownColumn]) -> Result<bool, NoMemory>
+    ensures { IfOk result (λ found. found ≡ repeats (names_of (settled_columns (columns_of columns.now)))) }
+{
+    let mut names = Names::none(alloc);
+    for column in columns {
+        let is_new = names.add(alloc, &column.name)?;
+        if !is_new {
+            return Ok(true);
+        }
+    }
+    Ok(false)
+}
+
+/// The same without memory.
+fn repeat_in_pairs(columns: &[ShownColumn]) -> bool
     ensures { result ≡ repeats (names_of (settled_columns (columns_of columns.now))) }
 {
     for at in 0..columns.len() {

@@ -1,22 +1,21 @@
-use Rattle.std.specs.Prelude.{◌≡◌, ℕ, suc, ◌+◌, true, false, List, [], ◌∷◌, length, map, None, option_map}
-use Rattle.std.proofs.Common.{ap, refl, subst, ◌∙◌, sym, take, arith}
+use Rattle.std.specs.Prelude.{◌≡◌, ℕ, ◌+◌, true, false, List, [], ◌∷◌, map, None, option_map, IfOk}
+use Rattle.std.proofs.Common.{ap, refl, subst, ◌∙◌, sym, take}
 use Rattle.name_meaning.specs.Items.{SelectPart}
 use Rattle.sql_tree.specs.Regular.{is_lateral}
-use Rattle.name_meaning.specs.Meanings.{Surroundings, query_means_at}
+use Rattle.name_meaning.specs.Meanings.{Around, Surroundings, query_means_at}
 use Rattle.name_meaning.specs.Trees.{arm_of, from_item_of, from_of, item_of, join_of, part_of, query_of, set_step_of, step_of}
 use Rattle.name_meaning.specs.declared.scope.Scope.{Scope}
 use Rattle.name_seen_parts.specs.Standing.{around_beside, around_of, standing_in, surroundings}
-use Rattle.name_inside.specs.Held.{Adds, held_arm, held_at, held_item, held_operand, held_optional, held_select, held_step, JoinsAdded, SourcesAdded}
-use Rattle.name_inside.specs.Passed.{HasWidth}
+use Rattle.name_inside.specs.Held.{Adds, held_arm, held_at, held_from, held_item, held_operand, held_optional, held_select, held_step}
+use Rattle.name_inside.specs.Passed.{HasWidth, IsReadAs}
 use Rattle.name_inside.proofs.Arms.{aggregate_adds, arm-adds, between_adds, case_adds, chain_adds, coalesce_adds, column_adds, compared_adds, exists_adds, inlist_adds, inquery_adds, integer_adds, isdistinct_adds, isnull_adds, istruth_adds, like_adds, logic_adds, nots_adds, null_adds, nullif_adds, nullof_adds, paren_adds, quantified_adds, scalar_adds, signs_adds, step-adds, text_adds, truth_adds}
 use Rattle.name_inside.proofs.Cores.{chain-stands, clauses-adds, core-adds, core-broken, core-stands, inner-adds, named-adds, operand-adds, paren-stands, query-adds, star-adds, table_star-adds, value-adds, first-added, join-tree, lateral-tree, no-sources, source-more, step-added}
 use Rattle.name_inside.proofs.Gone.{flat-more, mapped-more}
-use Rattle.name_inside.proofs.Over.{adds-alike, adds-both, adds-over, when-ok}
+use Rattle.name_inside.proofs.Over.{adds-alike, adds-both, adds-over, ok-anyway, when-ok}
 use Rattle.name_inside.proofs.gathering.+gathering.Goals as goal
 use Rattle.name_made_parts.proofs.AskedListing.{mapped}
 use Rattle.name_made_parts.proofs.Sourcing.{from-fields}
-use Rattle.name_meaning.specs.Froms.{first_item, in_clause, in_from, join_all, FromMeant, FromPart}
-use Rattle.name_made_parts.specs.Sources.{join_count}
+use Rattle.name_meaning.specs.Froms.{first_item, from_all, in_clause, in_from, join_all, FromMeant, FromPart}
 use Rattle.std.proofs.lemmas.List.{take_all}
 use Rattle.sql_tree.specs.declared.source.FromTree.{out-FromTree}
 use Rattle.sql_tree.specs.declared.source.JoinStep.{JoinStep}
@@ -178,43 +177,35 @@ items_inside-loop-item-preserved t c =
     c.loop-item-test.true c.item-item.is (c.loop-item.invariant has_from scope) (c.in_ok-item_inside.ensures has_from scope)
 
 pub sources_inside-loop-tree-init : goal.sources_inside-loop-tree-init
-sources_inside-loop-tree-init t c = no-sources (around_of c.args.around.now).outer c.args.scope.now c.args.found.now
+sources_inside-loop-tree-init t c = no-sources (around_of c.args.around.now).outer c.args.found.now
 
 pub sources_inside-loop-tree-preserved : goal.sources_inside-loop-tree-preserved
 sources_inside-loop-tree-preserved t c =
     let around = c.args.around.now in
     let part = from_of around.catalog.now in
-    rw c.in_ok-first.ensures.next
-    (subst (λ (parts : List FromPart). SourcesAdded (around_of around).outer parts c.args.scope.now c.args.found.now c.from_inside.new.found (c.loop-tree.first + suc (join_count c.tree-item.result)))
+    subst (λ (parts : List FromPart). Adds (held_from (from_all (around_of around).outer parts) ∷ []) c.args.found.now c.from_inside.new.found)
     (sym (mapped part c.args.trees.now c.loop-tree.tree-index c.tree-item.result c.loop-tree-test.true c.tree-item.is))
-    (source-more (around_of around).outer (map part (take c.loop-tree.tree-index c.args.trees.now)) (part c.tree-item.result) c.args.scope.now c.args.found.now c.loop-tree.found
-    c.from_inside.new.found c.loop-tree.first (join_count c.tree-item.result) c.loop-tree.invariant c.in_ok-from_inside.ensures))
+    (source-more (around_of around).outer (map part (take c.loop-tree.tree-index c.args.trees.now)) (part c.tree-item.result) c.args.found.now c.loop-tree.found
+    c.from_inside.new.found c.loop-tree.invariant c.in_ok-from_inside.ensures)
 
 pub sources_inside-returns : goal.sources_inside-returns
-sources_inside-returns t c =
-    let all = rw (take_all c.loop-tree.tree-index c.args.trees.now c.loop-tree-test.false) at c.loop-tree.invariant in
-    all.adds
+sources_inside-returns t c = rw (take_all c.loop-tree.tree-index c.args.trees.now c.loop-tree-test.false) at c.loop-tree.invariant
 
-pub from_inside-loop-place-init : goal.from_inside-loop-place-init
-from_inside-loop-place-init t c = record {
-  within = omega arith;
-  added = λ names. first-added names _ c.args.first c.args.scope.now _ _
-      ((rw (c.in_from.ensures.place, c.in_from.ensures.catalog) at c.in_ok-source_inside.ensures) names);
-}
+pub from_inside-loop-step-init : goal.from_inside-loop-step-init
+from_inside-loop-step-init t c = λ names.
+    first-added names _ c.in_ok-read.read c.no_items-own.result c.put_read.new.scope _ _ c.no_items-own.ensures
+    ((rw (c.in_from.ensures.place, c.in_from.ensures.catalog) at c.in_ok-source_inside.ensures) names)
+    ((rw (c.in_from-2.ensures.place, c.in_from-2.ensures.catalog) at c.in_ok-read.ensures) names) c.in_ok-put_read.ensures
 
-pub from_inside-loop-place-preserved : goal.from_inside-loop-place-preserved
-from_inside-loop-place-preserved t c =
+pub from_inside-loop-step-preserved : goal.from_inside-loop-step-preserved
+from_inside-loop-step-preserved t c = λ names.
     let around = c.args.around.now in
     let outer = (around_of around).outer in
     let tree = c.args.tree.now in
-    let more = rw c.as_slice-step-items.ensures at c.loop-place-test.true in
-    record {
-      within = omega (arith, more);
-      added = λ names.
-          let first = (from_item_of around.catalog.now (out-FromTree tree).first).means (in_from outer) names in
-          step-added around.catalog.now outer (first_item names first) (out-FromTree tree).joins c.loop-place.place c.step-item.result c.args.first c.args.scope.now
-          more (rw c.as_slice-step-items.ensures at c.step-item.is) (c.loop-place.invariant.added names) c.in_ok-join_inside.ensures;
-    }
+    let first = (from_item_of around.catalog.now (out-FromTree tree).first).means (in_from outer) names in
+    step-added around.catalog.now outer (first_item names first) (out-FromTree tree).joins c.loop-step.step-index c.step-item.result c.loop-step.own c.join_inside.new.own
+    (rw c.as_slice-step-items.ensures at c.loop-step-test.true) (rw c.as_slice-step-items.ensures at c.step-item.is) (c.loop-step.invariant names)
+    c.in_ok-join_inside.ensures
 
 pub from_inside-returns : goal.from_inside-returns
 from_inside-returns t c = λ names.
@@ -223,47 +214,61 @@ from_inside-returns t c = λ names.
     let tree = c.args.tree.now in
     let first = (from_item_of around.catalog.now (out-FromTree tree).first).means (in_from outer) names in
     let joins = (out-FromTree tree).joins in
-    let all = rw c.as_slice-step-items.ensures at c.loop-place-test.false in
-    let count : c.loop-place.place ≡ length (out-FromTree c.args.tree.now).joins = omega (arith, all, c.loop-place.invariant.within) in
-    subst (λ (n : ℕ). JoinsAdded ((from_of around.catalog.now tree).means outer names) c.args.first c.args.scope.now c.args.found.now c.loop-place.found n) count
-    (subst (λ (m : FromMeant). JoinsAdded m c.args.first c.args.scope.now c.args.found.now c.loop-place.found c.loop-place.place)
-    (ap (λ (steps : List JoinStep). join_all outer (first_item names first) (map (join_of around.catalog.now) steps)) (take_all c.loop-place.place joins all)
-    ∙ sym (from-fields around.catalog.now tree outer names)) (c.loop-place.invariant.added names))
+    let all = rw c.as_slice-step-items.ensures at c.loop-step-test.false in
+    subst (λ (m : FromMeant). Adds (held_from m ∷ []) c.args.found.now c.loop-step.found)
+    (ap (λ (steps : List JoinStep). join_all outer (first_item names first) (map (join_of around.catalog.now) steps)) (take_all c.loop-step.step-index joins all)
+    ∙ sym (from-fields around.catalog.now tree outer names)) (c.loop-step.invariant names).adds
 
 pub join_inside-returns-then-is_lateral : goal.join_inside-returns-then-is_lateral
 join_inside-returns-then-is_lateral t c =
     let around = c.args.around.now in
     when-ok c.beside_inside.result c.beside_inside.ensures (λ added.
-    lateral-tree around.catalog.now (around_of around).outer c.args.step.now c.args.first c.args.before c.args.scope.now _ _
+    lateral-tree around.catalog.now (around_of around).outer c.args.step.now c.args.own.now c.beside_inside.new.own _ _
     (sym c.is_lateral.ensures ∙ c.if-is_lateral.true) added)
 
 pub join_inside-returns : goal.join_inside-returns
 join_inside-returns t c =
     let around = c.args.around.now in
     when-ok c.on_inside.result c.on_inside.ensures (λ on.
-    join-tree around.catalog.now (around_of around).outer c.args.step.now c.args.first c.args.before c.args.scope.now _ _ _
+    join-tree around.catalog.now (around_of around).outer c.args.step.now c.in_ok-read.read c.args.own.now c.put_read.new.scope _ _ _
     (sym c.is_lateral.ensures ∙ c.if-is_lateral.false)
-    (rw (c.in_from.ensures.place, c.in_from.ensures.catalog) at c.in_ok-source_inside.ensures) on)
+    (rw (c.in_from.ensures.place, c.in_from.ensures.catalog) at c.in_ok-source_inside.ensures)
+    (rw (c.in_from-2.ensures.place, c.in_from-2.ensures.catalog) at c.in_ok-read.ensures) c.in_ok-put_read.ensures on)
 
 pub beside_inside-returns : goal.beside_inside-returns
-beside_inside-returns t c = λ items stands counted names.
+beside_inside-returns t c =
+    when-ok c.put_read.result c.put_read.ensures (λ puts. record {
+      adds = c.in_ok-read.ensures.adds;
+      read = c.in_ok-read.read;
+      reads = c.in_ok-read.ensures.reads;
+      puts = puts;
+    })
+
+pub seeing_inside-returns-clause-adds : goal.seeing_inside-returns-clause-adds
+seeing_inside-returns-clause-adds t c =
     let around = c.args.around.now in
-    let outer = (around_of around).outer in
     let item = from_item_of around.catalog.now c.args.item.now in
-    subst (λ (own : Scope). Adds (held_item (item.means (around_beside (own ∷ outer)) names) ∷ []) c.args.found.now c.source_inside.new.found)
-    (c.in_ok-own.ensures items stands counted)
-    ((rw (c.lateral.ensures.place, c.lateral.ensures.catalog, c.in_ok-scopes.ensures) at c.in_ok-source_inside.ensures) names)
+    ok-anyway c.item_read.result (λ names.
+    subst (λ (place : Around). Adds (held_item (item.means place names) ∷ []) c.args.found.now c.source_inside.new.found)
+    (c.lateral-place.ensures.place ∙ ap around_beside c.in_ok-scopes.ensures)
+    ((rw c.lateral-place.ensures.catalog at c.in_ok-source_inside.ensures) names))
+
+pub seeing_inside-returns-clause-reads : goal.seeing_inside-returns-clause-reads
+seeing_inside-returns-clause-reads t c =
+    let around = c.args.around.now in
+    let item = from_item_of around.catalog.now c.args.item.now in
+    subst (λ (place : Around). IfOk c.item_read.result (λ read. (names : List (List ℕ)) → IsReadAs (item.means place names) read))
+    (c.lateral-place.ensures.place ∙ ap around_beside c.in_ok-scopes.ensures)
+    (rw c.lateral-place.ensures.catalog at c.item_read.ensures)
 
 pub on_inside-returns : goal.on_inside-returns
-on_inside-returns t c = λ items stands counted.
+on_inside-returns t c =
     let around = c.args.around.now in
     let outer = (around_of around).outer in
     let condition = option_map (part_of around.catalog.now) c.args.condition.now in
-    let one = (rw c.in-Some.is at c.checked_add.ensures).1 in
     subst (λ (here : Surroundings). Adds (held_optional here condition) c.args.found.now c.condition_inside.new.found)
     (c.seeing-here.ensures.place ∙ ap (λ (scopes : List Scope). standing_in scopes c.in_clause.result) c.in_ok-rows.ensures
-    ∙ c.in_clause.ensures c.in_ok-own.own outer
-    ∙ ap (λ (own : Scope). in_clause own outer false) (c.in_ok-own.ensures items stands (omega (arith, counted, one))))
+    ∙ c.in_clause.ensures c.args.own.now outer)
     (rw c.seeing-here.ensures.catalog at c.in_ok-condition_inside.ensures)
 
 pub item_inside-returns-in-Star : goal.item_inside-returns-in-Star
@@ -302,14 +307,14 @@ core_inside-returns-in_ok-clauses_inside-in-Some t c =
     c.in_ok-clauses_inside-in-Some.ensures
 
 pub clauses_inside-returns : goal.clauses_inside-returns
-clauses_inside-returns t c = λ there.
+clauses_inside-returns t c =
     clauses-adds c.args.around.now.catalog.now (around_of c.args.around.now) c.args.scope.now c.args.core.now (surroundings c.seeing-in_list.result)
     (surroundings c.seeing-in_where.result) c.as_slice.result.now c.as_slice-2.result.now _ _ _ _ _
     (c.seeing-in_list.ensures.place ∙ ap (λ (scopes : List Scope). standing_in scopes c.in_clause.result) c.in_ok-grouped.ensures
     ∙ c.in_clause.ensures c.args.scope.now (around_of c.args.around.now).outer)
     (c.seeing-in_where.ensures.place ∙ ap (λ (scopes : List Scope). standing_in scopes c.in_clause-2.result) c.in_ok-rows.ensures
     ∙ c.in_clause-2.ensures (record c.args.scope.now { groups = None }) (around_of c.args.around.now).outer)
-    c.as_slice.ensures c.as_slice-2.ensures (rw c.seeing-in_list.ensures.catalog at c.in_ok-items_inside.ensures) c.in_ok-sources_inside.ensures there
+    c.as_slice.ensures c.as_slice-2.ensures (rw c.seeing-in_list.ensures.catalog at c.in_ok-items_inside.ensures) c.in_ok-sources_inside.ensures
     (rw c.seeing-in_where.ensures.catalog at c.in_ok-condition_inside.ensures) (rw c.seeing-in_list.ensures.catalog at c.in_ok-condition_inside-2.ensures)
 
 pub query_inside-returns-in_ok-set_inside-in-Some : goal.query_inside-returns-in_ok-set_inside-in-Some

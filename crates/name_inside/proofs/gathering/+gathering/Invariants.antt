@@ -1,11 +1,11 @@
 use Rattle.std.proofs.Common.{◌≡◌, take}
-use Rattle.std.specs.Prelude.{◌≤◌, ℕ, Bool, List, length, map, flat_map}
+use Rattle.std.specs.Prelude.{ℕ, Bool, List, [], ◌∷◌, map, flat_map}
 use Rattle.name_meaning.specs.Trees.{arm_of, from_of, item_of, join_of, part_of, set_step_of, step_of, from_item_of}
 use Rattle.name_meaning.specs.declared.scope.Scope.{Scope}
 use Rattle.name_seen_parts.specs.Standing.{around_of, surroundings}
-use Rattle.name_inside.specs.Held.{Adds, held_arm, held_at, held_items, held_operand, held_step, JoinsAdded, SourcesAdded}
+use Rattle.name_inside.specs.Held.{Adds, FromAdded, held_arm, held_at, held_from, held_items, held_operand, held_step}
 use Rattle.name_inside.proofs.gathering.+gathering.Given as goal
-use Rattle.name_meaning.specs.Froms.{first_item, in_from, join_all}
+use Rattle.name_meaning.specs.Froms.{first_item, from_all, in_from, join_all}
 use Rattle.sql_tree.specs.declared.source.FromTree.{out-FromTree}
 
 -- what stands inside those so far
@@ -19,15 +19,13 @@ invariant-items_inside-loop-item l = (has_from : Bool) (scope : Scope)
 
 abbrev pub invariant-sources_inside-loop-tree : goal.invariant-sources_inside-loop-tree
 invariant-sources_inside-loop-tree l =
-    SourcesAdded (around_of l.around).outer (map (from_of l.around.catalog.now) (take l.tree-index l.trees)) l.scope l.fn.found l.found l.first
+    Adds (held_from (from_all (around_of l.around).outer (map (from_of l.around.catalog.now) (take l.tree-index l.trees))) ∷ []) l.fn.found l.found
 
-abbrev pub invariant-from_inside-loop-place : goal.invariant-from_inside-loop-place
-invariant-from_inside-loop-place l = record {
-  within : l.place ≤ length (out-FromTree l.tree).joins;
-  added : (names : List (List ℕ)) → JoinsAdded (join_all (around_of l.around).outer
-      (first_item names ((from_item_of l.around.catalog.now (out-FromTree l.tree).first).means (in_from (around_of l.around).outer) names))
-      (map (join_of l.around.catalog.now) (take l.place (out-FromTree l.tree).joins))) l.first l.scope l.fn.found l.found l.place;
-}
+-- and the scope of their items
+abbrev pub invariant-from_inside-loop-step : goal.invariant-from_inside-loop-step
+invariant-from_inside-loop-step l = (names : List (List ℕ)) → FromAdded (join_all (around_of l.around).outer
+    (first_item names ((from_item_of l.around.catalog.now (out-FromTree l.tree).first).means (in_from (around_of l.around).outer) names))
+    (map (join_of l.around.catalog.now) (take l.step-index (out-FromTree l.tree).joins))) l.fn.found l.found l.own
 
 abbrev pub invariant-expressions_inside-loop-tree : goal.invariant-expressions_inside-loop-tree
 invariant-expressions_inside-loop-tree l =

@@ -5,7 +5,7 @@ use Rattle.name_seen_parts.specs.Seen.{first_or}
 use Rattle.name_seen_parts.proofs.Firsts.{none-broken}
 use Rattle.name_statements.specs.Earlier.{column_break}
 use Rattle.name_statements.proofs.Broken.{columns-first, columns-step}
-use Rattle.name_statements.proofs.seen.names.repeated_columns.Goals as goal
+use Rattle.name_statements.proofs.seen.names.repeated_among.Goals as goal
 
 pub returns-in-Err : goal.returns-in-Err
 returns-in-Err c =

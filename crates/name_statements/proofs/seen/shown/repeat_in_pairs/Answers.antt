@@ -6,7 +6,7 @@ use Rattle.name_meaning.specs.Statements.{repeats}
 use Rattle.name_seen_parts.specs.declared.clauses.column.ShownColumn.{ShownColumn}
 use Rattle.name_statements.specs.Earlier.{is_shown}
 use Rattle.name_statements.proofs.Broken.{all-behind, repeats-at}
-use Rattle.name_statements.proofs.seen.shown.do_repeat.Goals as goal
+use Rattle.name_statements.proofs.seen.shown.repeat_in_pairs.Goals as goal
 
 pub returns-then-is_among : goal.returns-then-is_among
 returns-then-is_among c =

@@ -1,0 +1,4 @@
+pub mod Forms
+pub mod Nodes
+pub mod Operands
+pub mod Parts

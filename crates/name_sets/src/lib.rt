@@ -1,0 +1,6 @@
+//! Names, looked up by hashing.
+#![tactic(auto)]
+
+mod names;
+
+pub use names::Names;
