@@ -1,5 +1,5 @@
 -- An expression with the expressions of items in the place of its columns.
-use Rattle.std.specs.Prelude.{◌≡◌, true, List, [], map}
+use Rattle.std.specs.Prelude.{◌≡◌, true, List, [], ◌∷◌, map}
 use Rattle.perm_values.specs.declared.kind.Kind.{Kind}
 use Rattle.perm_values.specs.declared.value.Value.{Value}
 use Rattle.bag_algebra.specs.Bags.{Row}
