@@ -9,6 +9,7 @@ ghost use Rattle.bag_algebra.specs.declared.query.Query.{Query};
 ghost use Rattle.query_laws.specs.Standing.{SubsStand};
 ghost use Rattle.simpler_laws.specs.Tested.{tested};
 
+use crate::folding::folded_query;
 use bag_algebra::{Expr, JoinKind, Query, Sublink, faultless};
 use merged_nodes::{distinct_once, inner_pairs, project_merged};
 use perm_values::{List, NoMemory};
@@ -29,6 +30,18 @@ pub fn simplify(alloc: Global, query: Query) -> Result<Query, NoMemory>
     ensures stands { IfOk result (λ p. Stands query p) }
     ensures onward { (q : Query) → Stands q query → IfOk result (λ p. Stands q p) }
 {
+    let folded = folded_query(alloc, &query);
+    drop(query);
+    lowered_tests(alloc, folded)
+}
+
+/// What stands for whatever the query stands for, with its tests where they can be made first. It fails where the query
+/// failed, and for want of memory.
+fn lowered_tests(alloc: Global, query: Result<Query, NoMemory>) -> Result<Query, NoMemory>
+    requires { IfOk query (λ b. IsTrue (is_plain b)) }
+    ensures { (q : Query) → IfOk query (λ b. Stands q b) → IfOk result (λ p. Stands q p) }
+{
+    let query = query?;
     let simpler = under(alloc, &query, &[]);
     drop(query);
     simpler

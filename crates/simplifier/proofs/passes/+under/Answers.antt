@@ -1,4 +1,4 @@
-use Rattle.std.proofs.Common.{true, true≢false, ◌≡◌, ◌&&◌, [], take, refl, sym, ap, ◌∙◌, subst, rules}
+use Rattle.std.proofs.Common.{true, true≢false, ◌≡◌, [], take, refl, sym, ◌∙◌, subst, rules}
 use Rattle.bag_algebra.proofs.Truths.{left-true, right-true}
 use Rattle.bag_algebra.specs.Rewriting.{is_plain, Stands}
 use Rattle.bag_algebra.specs.declared.query.Query.{the_lemmas}
