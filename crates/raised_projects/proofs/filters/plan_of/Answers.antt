@@ -5,8 +5,8 @@ use Rattle.raised_projects.specs.Sides.{IsBelow}
 use Rattle.raised_projects.specs.declared.sides.Side.{Side}
 use Rattle.raised_projects.proofs.filters.plan_of.Goals as goal
 
-pub returns-in_ok-condition : goal.returns-in_ok-condition
-returns-in_ok-condition c =
+pub returns : goal.returns
+returns c =
     let found = subst (λ o. IfSome o (λ (side : Side). (side.input ≡ true) × IsBelow c.args.input.now side)) c.in-Some.is c.in_ok-side.ensures in
     record {
       under = found.1.under;

@@ -4,8 +4,8 @@ use Rattle.perm_values.proofs.Taken.{opened}
 use Rattle.raised_projects.specs.Sides.{IsSide}
 use Rattle.raised_projects.proofs.joins.plan_of.Goals as goal
 
-pub returns-in_ok-condition : goal.returns-in_ok-condition
-returns-in_ok-condition c =
+pub returns : goal.returns
+returns c =
     let given = c.in_ok-lefts.ensures in
     record {
       left = c.args.left.now;
