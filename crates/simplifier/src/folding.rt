@@ -1,5 +1,5 @@
 //! A query over folded expressions: each part over literals alone that meets no fault is its literal.
-ghost use Rattle.std.specs.Prelude.{◌≡◌, IfOk, IsTrue};
+ghost use Rattle.std.specs.Prelude.{IfOk, IsTrue};
 ghost use Rattle.bag_algebra.specs.Rewriting.{is_plain, Stands};
 ghost use Rattle.bag_algebra.specs.built.Scopes.{all_plain};
 ghost use Rattle.query_laws.specs.Standing.{SubsStand};

@@ -3,5 +3,6 @@
 
 mod folding;
 mod passes;
+mod raising;
 
 pub use passes::simplify;
