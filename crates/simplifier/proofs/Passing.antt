@@ -1,5 +1,5 @@
 -- What is found of the parts of a node with tests is found of the node.
-use Rattle.std.proofs.Common.{◌≡◌, true, ◌&&◌, List, [], ◌++◌, refl, sym, ap, ◌∙◌, subst}
+use Rattle.std.proofs.Common.{◌≡◌, true, ◌&&◌, List, [], ◌++◌, sym, ap, ◌∙◌, subst}
 use Rattle.bag_algebra.proofs.Truths.{left-true, right-true}
 use Rattle.bag_algebra.specs.FaultFree.{faultless}
 use Rattle.bag_algebra.specs.Kinds.{width_of}

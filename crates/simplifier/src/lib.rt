@@ -1,6 +1,8 @@
 //! A simpler query in the place of a query without PROVENANCE.
 #![tactic(auto)]
 
+mod folding;
 mod passes;
+mod raising;
 
 pub use passes::simplify;

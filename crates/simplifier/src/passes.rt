@@ -9,15 +9,15 @@ ghost use Rattle.bag_algebra.specs.declared.query.Query.{Query};
 ghost use Rattle.query_laws.specs.Standing.{SubsStand};
 ghost use Rattle.simpler_laws.specs.Tested.{tested};
 
+use crate::folding::folded_query;
+use crate::raising::{above, filter_node, join_node, pairs_where};
 use bag_algebra::{Expr, JoinKind, Query, Sublink, faultless};
-use merged_nodes::{distinct_once, inner_pairs, project_merged};
+use merged_nodes::{distinct_once, project_merged};
 use perm_values::{List, NoMemory};
-use simpler_laws::{
-    all_fault_free, filter_on, filter_parts, join_sides, lowered, tested, with_conjuncts,
-};
+use simpler_laws::{all_fault_free, filter_on, filter_parts, join_sides, lowered, with_conjuncts};
 use standing_nodes::{
-    add_standing, aggregate_standing, apply_standing, except_standing, filter_standing,
-    intersect_standing, join_standing, limit_standing, table, union_standing,
+    add_standing, aggregate_standing, apply_standing, except_standing, intersect_standing,
+    limit_standing, table, union_standing,
 };
 use std::alloc::Global;
 
@@ -29,6 +29,18 @@ pub fn simplify(alloc: Global, query: Query) -> Result<Query, NoMemory>
     ensures stands { IfOk result (λ p. Stands query p) }
     ensures onward { (q : Query) → Stands q query → IfOk result (λ p. Stands q p) }
 {
+    let folded = folded_query(alloc, &query);
+    drop(query);
+    lowered_tests(alloc, folded)
+}
+
+/// What stands for whatever the query stands for, with its tests where they can be made first. It fails where the query
+/// failed, and for want of memory.
+fn lowered_tests(alloc: Global, query: Result<Query, NoMemory>) -> Result<Query, NoMemory>
+    requires { IfOk query (λ b. IsTrue (is_plain b)) }
+    ensures { (q : Query) → IfOk query (λ b. Stands q b) → IfOk result (λ p. Stands q p) }
+{
+    let query = query?;
     let simpler = under(alloc, &query, &[]);
     drop(query);
     simpler
@@ -55,7 +67,7 @@ fn under(alloc: Global, query: &Query, tests: &[Expr]) -> Result<Query, NoMemory
                 let inside = nodes(alloc, subs.as_slice());
                 filter_on(alloc, rows, parts.above.as_slice(), inside)
             } else {
-                tested(alloc, node(alloc, query), tests)
+                above(alloc, node(alloc, query), tests)
             }
         }
         Query::Join {
@@ -69,10 +81,10 @@ fn under(alloc: Global, query: &Query, tests: &[Expr]) -> Result<Query, NoMemory
                 let sides = join_sides(alloc, left.get(), right.get(), condition, tests)?;
                 let lefts = under(alloc, left.get(), sides.left.as_slice());
                 let rights = under(alloc, right.get(), sides.right.as_slice());
-                let pairs = inner_pairs(alloc, lefts, rights, sides.both.as_slice());
-                tested(alloc, pairs, sides.around.as_slice())
+                let pairs = pairs_where(alloc, lefts, rights, sides.both.as_slice());
+                above(alloc, pairs, sides.around.as_slice())
             } else {
-                tested(alloc, node(alloc, query), tests)
+                above(alloc, node(alloc, query), tests)
             }
         }
         Query::Project { input, items, subs } => {
@@ -81,10 +93,10 @@ fn under(alloc: Global, query: &Query, tests: &[Expr]) -> Result<Query, NoMemory
                     let rows = under(alloc, input.get(), below.as_slice());
                     project_merged(alloc, rows, items, Ok(List::new(alloc)))
                 }
-                None => tested(alloc, node(alloc, query), tests),
+                None => above(alloc, node(alloc, query), tests),
             }
         }
-        _ => tested(alloc, node(alloc, query), tests),
+        _ => above(alloc, node(alloc, query), tests),
     }
 }
 
@@ -126,7 +138,7 @@ fn node(alloc: Global, query: &Query) -> Result<Query, NoMemory>
         } => {
             let rows = under(alloc, input.get(), &[]);
             let inside = nodes(alloc, subs.as_slice());
-            filter_standing(alloc, rows, condition, inside)
+            filter_node(alloc, rows, condition, inside)
         }
         Query::Project { input, items, subs } => {
             let rows = under(alloc, input.get(), &[]);
@@ -143,7 +155,7 @@ fn node(alloc: Global, query: &Query) -> Result<Query, NoMemory>
             let lefts = under(alloc, left.get(), &[]);
             let rights = under(alloc, right.get(), &[]);
             let inside = nodes(alloc, subs.as_slice());
-            join_standing(alloc, *kind, lefts, rights, condition, inside)
+            join_node(alloc, *kind, lefts, rights, condition, inside)
         }
         Query::Union { all, left, right } => {
             let lefts = under(alloc, left.get(), &[]);

@@ -1,4 +1,4 @@
-use Rattle.std.proofs.Common.{true, true≢false, ◌≡◌, ◌&&◌, [], take, refl, sym, ap, ◌∙◌, subst, rules}
+use Rattle.std.proofs.Common.{true, true≢false, ◌≡◌, [], take, refl, sym, ◌∙◌, subst, rules}
 use Rattle.bag_algebra.proofs.Truths.{left-true, right-true}
 use Rattle.bag_algebra.specs.Rewriting.{is_plain, Stands}
 use Rattle.bag_algebra.specs.declared.query.Query.{the_lemmas}
@@ -44,7 +44,7 @@ node-nodes-inside-requires t c =
 
 pub node-returns-in-Filter : goal.node-returns-in-Filter
 node-returns-in-Filter t c =
-    stands_where _ _ c.filter_standing.result c.in-Filter.is _ (λ p s. s) (c.filter_standing.ensures c.in-Filter.input c.in-Filter.subs (rw c.get-in-Filter.ensures at c.under-rows.ensures) (rw c.as_slice.ensures at c.nodes-inside.ensures))
+    stands_where _ _ c.filter_node.result c.in-Filter.is _ (λ p s. s) (c.filter_node.ensures c.in-Filter.input c.in-Filter.subs (rw c.get-in-Filter.ensures at c.under-rows.ensures) (rw c.as_slice.ensures at c.nodes-inside.ensures))
 
 pub node-under-rows-requires-in-Project : goal.node-under-rows-requires-in-Project
 node-under-rows-requires-in-Project t c =
@@ -72,8 +72,8 @@ node-nodes-inside-requires-in-Join t c =
 
 pub node-returns-in-Join : goal.node-returns-in-Join
 node-returns-in-Join t c =
-    stands_where _ _ c.join_standing.result c.in-Join.is _ (λ p s. s)
-    (c.join_standing.ensures c.in-Join.left c.in-Join.right c.in-Join.subs (rw c.get-in-Join.ensures at c.under-lefts.ensures) (rw c.get-in-Join-2.ensures at c.under-rights.ensures) (rw c.as_slice-in-Join.ensures at c.nodes-inside-in-Join.ensures))
+    stands_where _ _ c.join_node.result c.in-Join.is _ (λ p s. s)
+    (c.join_node.ensures c.in-Join.left c.in-Join.right c.in-Join.subs (rw c.get-in-Join.ensures at c.under-lefts.ensures) (rw c.get-in-Join-2.ensures at c.under-rights.ensures) (rw c.as_slice-in-Join.ensures at c.nodes-inside-in-Join.ensures))
 
 pub node-under-lefts-requires-in-Union : goal.node-under-lefts-requires-in-Union
 node-under-lefts-requires-in-Union t c =
@@ -208,10 +208,10 @@ pub under-returns-in_ok-sides-in-Join : goal.under-returns-in_ok-sides-in-Join
 under-returns-in_ok-sides-in-Join t c =
     let sides = c.in_ok-sides-in-Join.sides in
     let pairs = Join Inner (tested c.in-Join.left sides.left) (tested c.in-Join.right sides.right) (all_hold sides.both) [] in
-    where_made (λ p. Stands (tested pairs sides.around) p) _ c.tested-then-only_pairs.result (join-passes c.args.query.now c.in-Join.left c.in-Join.right c.in-Join.kind c.in-Join.condition c.in-Join.subs c.args.tests.now c.in-Join.is c.requires.0 c.requires.1 (c.only_pairs.ensures c.if-only_pairs.true).0 (sym c.as_slice-in-Join.ensures ∙ (c.only_pairs.ensures c.if-only_pairs.true).1.0) (c.only_pairs.ensures c.if-only_pairs.true).1.1 c.in_ok-sides-in-Join.sides
+    where_made (λ p. Stands (tested pairs sides.around) p) _ c.above-then-only_pairs.result (join-passes c.args.query.now c.in-Join.left c.in-Join.right c.in-Join.kind c.in-Join.condition c.in-Join.subs c.args.tests.now c.in-Join.is c.requires.0 c.requires.1 (c.only_pairs.ensures c.if-only_pairs.true).0 (sym c.as_slice-in-Join.ensures ∙ (c.only_pairs.ensures c.if-only_pairs.true).1.0) (c.only_pairs.ensures c.if-only_pairs.true).1.1 c.in_ok-sides-in-Join.sides
     (rw (c.get-then-only_pairs.ensures, c.get-then-only_pairs-2.ensures) at c.in_ok-sides-in-Join.ensures))
-    ((rw c.as_slice-then-only_pairs-4.ensures at c.tested-then-only_pairs.ensures) pairs
-    ((rw c.as_slice-then-only_pairs-3.ensures at c.inner_pairs-pairs.ensures) (tested c.in-Join.left sides.left) (tested c.in-Join.right sides.right)
+    ((rw c.as_slice-then-only_pairs-4.ensures at c.above-then-only_pairs.ensures) pairs
+    ((rw c.as_slice-then-only_pairs-3.ensures at c.pairs_where-pairs.ensures) (tested c.in-Join.left sides.left) (tested c.in-Join.right sides.right)
     (rw (c.get-then-only_pairs-3.ensures, c.as_slice-then-only_pairs.ensures) at c.under-lefts.ensures)
     (rw (c.get-then-only_pairs-4.ensures, c.as_slice-then-only_pairs-2.ensures) at c.under-rights.ensures)))
 

@@ -1,8 +1,17 @@
-use Rattle.bag_algebra.specs.Rewriting.{Stands}
+use Rattle.std.proofs.Common.{◌≡◌, true}
+use Rattle.bag_algebra.specs.Rewriting.{is_plain, Stands}
 use Rattle.rewrite_base.proofs.Itself.{stands-onward}
 use Rattle.standing_nodes.proofs.Standing.{where_made}
 use Rattle.simplifier.proofs.passes.simplify.Goals as goal
 
+pub lowered_tests-requires : goal.lowered_tests-requires
+lowered_tests-requires c =
+    where_made (λ p. Stands c.args.query p) (λ p. is_plain p ≡ true) c.folded_query-folded.result (λ p s. s.plain) c.folded_query-folded.ensures
+
+pub returns-clause-stands : goal.returns-clause-stands
+returns-clause-stands c = c.lowered_tests.ensures c.args.query c.folded_query-folded.ensures
+
 pub returns-clause-onward : goal.returns-clause-onward
 returns-clause-onward c q s =
-    where_made (λ p. Stands c.args.query p) (λ p. Stands q p) c.under-simpler.result (λ p t. stands-onward q c.args.query p s t) c.under-simpler.ensures
+    where_made (λ p. Stands c.args.query p) (λ p. Stands q p) c.lowered_tests.result (λ p t. stands-onward q c.args.query p s t)
+    (c.lowered_tests.ensures c.args.query c.folded_query-folded.ensures)

@@ -1,0 +1,2 @@
+pub mod OverLiterals
+pub mod Rebuilt

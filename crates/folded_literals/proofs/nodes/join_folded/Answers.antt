@@ -1,0 +1,16 @@
+use Rattle.bag_algebra.specs.Rewriting.{Stands}
+use Rattle.bag_algebra.specs.declared.query.Query.TheVariants.{Join}
+use Rattle.contribution.proofs.NodeQueries.{of_made}
+use Rattle.perm_values.proofs.Taken.{opened}
+use Rattle.query_laws.proofs.StandingNodes.{stands-Join}
+use Rattle.query_laws.specs.SameExpressions.{SameExpr}
+use Rattle.query_laws.specs.Standing.{SubsStand}
+use Rattle.folded_literals.proofs.nodes.join_folded.Goals as goal
+
+pub returns : goal.returns
+returns c q r originals h g k =
+    let given = c.in_ok-left.ensures in
+    of_made (λ p. Stands (Join c.args.kind q r c.args.condition.now originals) p) c.join.result _ c.join.ensures
+    (stands-Join q _ (opened (λ b. Stands q b) c.args.left _ given.first_was h) r _ (opened (λ d. Stands r d) c.args.right _ given.second_was g) c.args.kind _ _
+    (opened (λ e. SameExpr c.args.condition.now e) c.folded.result _ given.third_was c.folded.ensures) originals _
+    (opened (λ others. SubsStand originals others) c.args.subs _ given.fourth_was k))

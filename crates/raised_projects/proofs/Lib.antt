@@ -1,0 +1,5 @@
+pub mod Inputs
+pub mod MadeRows
+pub mod Picks
+pub mod RaisedFilters
+pub mod RaisedJoins

@@ -1,0 +1,18 @@
+use Rattle.std.proofs.Common.{◌≡◌, true, [], IfSome, ap, subst}
+use Rattle.bag_algebra.specs.declared.query.Query.TheVariants.{Filter}
+use Rattle.contribution.specs.MovedColumns.{IsMoved}
+use Rattle.raised_projects.specs.Sides.{IsBelow}
+use Rattle.raised_projects.specs.declared.sides.Side.{Side}
+use Rattle.raised_projects.proofs.filters.plan_of.Goals as goal
+
+pub returns : goal.returns
+returns c =
+    let found = subst (λ o. IfSome o (λ (side : Side). (side.input ≡ true) × IsBelow c.args.input.now side)) c.in-Some.is c.in_ok-side.ensures in
+    record {
+      under = found.1.under;
+      items = found.1.items;
+      condition = c.args.condition.now;
+      is = ap (λ q. Filter q c.args.condition.now []) found.1.is;
+      columns = found.1.columns;
+      moved = subst (λ order. IsMoved order c.args.condition.now c.in_ok-condition.condition) c.as_slice.ensures c.in_ok-condition.ensures;
+    }
