@@ -162,7 +162,7 @@ fn items_height(items: &[SelectItem]) -> u64
     ensures { (c : Contents) (has_from : Bool) (scope : Scope) (here : Surroundings) → IsSound c
         → ListHigh result (items_meant has_from scope here (map (item_of c) items.now)) }
 {
-    let mut height = 0;
+    let mut height: u64 = 0;
     for item in items {
         height = height.max(listed_height(item));
     }
@@ -252,7 +252,7 @@ fn expressions_height(trees: &[ExprTree]) -> u64
     ensures { (c : Contents) (here : Surroundings) (need : Needs) → IsSound c
         → OperandsHigh result (map (operand here need) (map (part_of c) trees.now)) }
 {
-    let mut height = 0;
+    let mut height: u64 = 0;
     for tree in trees {
         height = height.max(expression_height(tree));
     }
@@ -264,7 +264,7 @@ fn steps_height(steps: &[ExprStep]) -> u64
     ensures { (c : Contents) (here : Surroundings) → IsSound c
         → OperandsHigh result (map (step_operand here) (map (step_of c) steps.now)) }
 {
-    let mut height = 0;
+    let mut height: u64 = 0;
     for step in steps {
         height = height.max(expression_height(&step.part));
     }
@@ -276,7 +276,7 @@ fn arms_height(arms: &[ArmTree]) -> u64
     ensures { (c : Contents) (here : Surroundings) → IsSound c
         → OperandsHigh result (flat_map (arm_operands here) (map (arm_of c) arms.now)) }
 {
-    let mut height = 0;
+    let mut height: u64 = 0;
     for arm in arms {
         let front = expression_height(&arm.condition);
         let both = front.max(expression_height(&arm.value));

@@ -1,5 +1,5 @@
 //! The queries and the names of tables and views that stand inside the parts of a query, in the order of the definition.
-ghost use Rattle.std.specs.Prelude.{ℕ, Bool, List as Items, ◌∷◌, [], IfOk, OnOk, Some, map, flat_map, option_map};
+ghost use Rattle.std.specs.Prelude.{ℕ, Bool, false, List as Items, ◌∷◌, [], IfOk, OnOk, Some, map, flat_map, option_map};
 ghost use Rattle.name_meaning.specs.Meanings.{means_at, query_means_at};
 ghost use Rattle.name_meaning.specs.Trees.{arm_of, core_of, from_item_of, from_of, item_of, join_of, part_of, query_of, set_of_tree, set_step_of, step_of};
 ghost use Rattle.name_meaning.specs.declared.scope.Scope.{Scope as Sight};

@@ -1,4 +1,10 @@
+use Rattle.std.specs.Prelude.{Err}
+use Rattle.std.proofs.Common.{subst}
+use Rattle.name_meaning.specs.Froms.{read_of}
+use Rattle.name_meaning.specs.Trees.{source_of}
+use Rattle.name_seen_from.specs.Readings.{ReadSeen}
 use Rattle.name_seen_parts.specs.Standing.{around_of}
+use Rattle.name_seen_parts.specs.declared.refusal.Refusal.{Refusal}
 use Rattle.name_inside.proofs.ReadItems.{read-broken, read-known}
 use Rattle.name_inside.proofs.first_pass.item_read.Goals as goal
 
@@ -8,6 +14,10 @@ returns-in_ok-named_columns-in-Ok c = λ names.
     read-known held c.args.item.now (around_of c.args.around.now) names c.in-Ok.reading c.in_ok-named_columns-in-Ok.field-0 c.in-Ok.ensures
     (c.in_ok-named_columns-in-Ok.ensures.name held) c.in_ok-named_columns-in-Ok.ensures.columns
 
-pub returns-in-Break : goal.returns-in-Break
-returns-in-Break c = λ names.
-    read-broken c.args.around.now.catalog.now c.args.item.now (around_of c.args.around.now) names c.in-Break.field-0 c.in-Break.ensures
+pub returns-in-Err-Break : goal.returns-in-Err-Break
+returns-in-Err-Break c = λ names.
+    let held = c.args.around.now.catalog.now in
+    let place = around_of c.args.around.now in
+    read-broken held c.args.item.now place names c.in-Err-Break.field-0-0
+    (subst (λ (refusal : Refusal). ReadSeen (read_of held place (source_of held c.args.item.now.source)) (Err refusal)) c.in-Err-Break.field-0-is
+    c.in-Err-Break.ensures)
