@@ -82,7 +82,7 @@ pub texts-behind : (columns : List ColumnDef) (at : ℕ) (column : ColumnDef) (k
     → keys ≡ texts_of (take at columns) → keys ++ column.name.text ∷ [] ≡ texts_of (take (at + 1) columns)
 texts-behind columns at column keys within e are =
     ap (λ (names : List (List ℕ)). names ++ column.name.text ∷ []) are
-    ∙ sym (map_more (λ (column : ColumnDef). column.name.text) columns at column within e
+    ∙ sym (map_more (λ (column : ColumnDef). column.name.text) columns at column within
     ∙ ap (λ (column : ColumnDef). texts_of (take at columns) ++ column.name.text ∷ []) (sym e))
 
 column-told : (earlier : List ColumnDef) (column : ColumnDef) (keys : List (List ℕ)) (is_new : Bool) → keys ≡ texts_of earlier
@@ -178,15 +178,16 @@ new-repeats (first ∷ names) name new none =
 old-repeats : (names : List (List ℕ)) (name : List ℕ) (more : List (List ℕ)) → list_any (named_so name) names ≡ true
     → repeats (names ++ name ∷ more) ≡ true
 old-repeats [] name more old = absurd (true≢false (sym old))
-old-repeats (first ∷ names) name more old = by (named_so name first) refl old where
+old-repeats (first ∷ names) name more old = by (old-repeats names name more) (named_so name first) refl old where
   among : List (List ℕ)
   among = names ++ name ∷ more
 
-  by : (is : Bool) → named_so name first ≡ is → (is || list_any (named_so name) names) ≡ true → (list_any (named_so first) among || repeats among) ≡ true
-  by true same found = or_left (list_any (named_so first) among) (repeats among)
+  by : (list_any (named_so name) names ≡ true → repeats among ≡ true) → (is : Bool) → named_so name first ≡ is
+      → (is || list_any (named_so name) names) ≡ true → (list_any (named_so first) among || repeats among) ≡ true
+  by later true same found = or_left (list_any (named_so first) among) (repeats among)
       (list_any-append (named_so first) names (name ∷ more) ∙ or_right (list_any (named_so first) names) (named_so first name || list_any (named_so first) more)
       (or_left (named_so first name) (list_any (named_so first) more) (named-back name first same)))
-  by false other found = or_right (list_any (named_so first) among) (repeats among) (old-repeats names name more found)
+  by later false other found = or_right (list_any (named_so first) among) (repeats among) (later found)
 
 pub names-new : (columns : List ShownColumn) (at : ℕ) (column : ShownColumn) (keys : List (List ℕ)) (is_new : Bool) → at < length columns
     → column ≡ get_or columns at column → keys ≡ shown_names (take at columns) → is_new ≡ not (is_named keys column.name) → is_new ≡ true

@@ -18,19 +18,19 @@ returns-then-not-is_new c =
     sym (ap (λ (breaks : List Break). first_or breaks (tt {0})) c.loop-column.invariant.rest
     ∙ columns-first c.args.columns.now c.loop-column.column-index c.column-item.result _ c.loop-column-test.true c.column-item.is
     (column-repeated (take c.loop-column.column-index c.args.columns.now) c.column-item.result c.loop-column.names.known.keys c.in_ok-is_new.is_new
-    c.loop-column.invariant.names c.in_ok-is_new.ensures.tells c.if-is_new.false))
+    c.loop-column.invariant.names c.in_ok-is_new.ensures.tells c.if-not-is_new.true))
 
 pub loop-column-preserved : goal.loop-column-preserved
 loop-column-preserved c =
     let before = take c.loop-column.column-index c.args.columns.now in
     record {
-      names = c.in_ok-is_new.ensures.adds c.if-is_new.true
+      names = c.in_ok-is_new.ensures.adds c.if-not-is_new.false
           ∙ texts-behind c.args.columns.now c.loop-column.column-index c.column-item.result c.loop-column.names.known.keys
           c.loop-column-test.true c.column-item.is c.loop-column.invariant.names;
       rest = c.loop-column.invariant.rest
           ∙ columns-step c.args.columns.now c.loop-column.column-index c.column-item.result c.loop-column-test.true c.column-item.is
           (column-new before c.column-item.result c.loop-column.names.known.keys c.in_ok-is_new.is_new c.loop-column.invariant.names
-          c.in_ok-is_new.ensures.tells c.if-is_new.true);
+          c.in_ok-is_new.ensures.tells c.if-not-is_new.false);
     }
 
 pub returns : goal.returns

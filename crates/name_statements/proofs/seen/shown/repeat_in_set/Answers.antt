@@ -14,17 +14,17 @@ loop-column-init c = record { names = c.none-names.ensures; apart = refl }
 pub returns-then-not-is_new : goal.returns-then-not-is_new
 returns-then-not-is_new c =
     sym (names-repeat c.args.columns.now c.loop-column.column-index c.column-item.result c.loop-column.names.known.keys c.in_ok-is_new.is_new
-    c.loop-column-test.true c.column-item.is c.loop-column.invariant.names c.in_ok-is_new.ensures.tells c.if-is_new.false)
+    c.loop-column-test.true c.column-item.is c.loop-column.invariant.names c.in_ok-is_new.ensures.tells c.if-not-is_new.true)
 
 pub loop-column-preserved : goal.loop-column-preserved
 loop-column-preserved c =
     let keys = c.loop-column.names.known.keys in
     record {
-      names = c.in_ok-is_new.ensures.adds c.if-is_new.true
+      names = c.in_ok-is_new.ensures.adds c.if-not-is_new.false
           ∙ shown-behind c.args.columns.now c.loop-column.column-index c.column-item.result keys c.loop-column-test.true c.column-item.is
           c.loop-column.invariant.names;
       apart = names-new c.args.columns.now c.loop-column.column-index c.column-item.result keys c.in_ok-is_new.is_new c.loop-column-test.true
-          c.column-item.is c.loop-column.invariant.names c.in_ok-is_new.ensures.tells c.if-is_new.true c.loop-column.invariant.apart;
+          c.column-item.is c.loop-column.invariant.names c.in_ok-is_new.ensures.tells c.if-not-is_new.false c.loop-column.invariant.apart;
     }
 
 pub returns : goal.returns
