@@ -408,7 +408,7 @@ class Queries:
     def broken(self, query):
         """The query with a lateral query that asks for its provenance, or reads what it may not see: itself, what stands behind it
         or before a comma, or a name that may mean anything; and the place in its text where it does so. None where it has no
-        lateral query that begins with SELECT."""
+        lateral query that begins with SELECT, or breaks a rule without the condition that it had."""
         broken = copy.deepcopy(query)
         laterals = []
         for lateral, unseen in laterals_in(broken):
@@ -430,5 +430,16 @@ class Queries:
             front.where = "is_null", False, ("column", table, column)
             return write_query(broken)
         at = reading(*((MARK, column) if table else (None, MARK))).index(name(MARK))
+        front.where = "truth", True
+        if self.refuses(broken):
+            return None
         reading(table, column)
         return broken, at
+
+    def refuses(self, query):
+        """Whether a query breaks a rule, as where a source of the condition that it had is named further out."""
+        try:
+            self.catalog.resolve(query)
+        except Refused:
+            return True
+        return False
