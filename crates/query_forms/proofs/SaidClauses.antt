@@ -11,10 +11,10 @@ use Rattle.tree_texts.specs.Phrases.{direction, key, more_keys, ordered, grouped
 use Rattle.query_texts.specs.Names.{outermost}
 use Rattle.query_forms.specs.ShownExpressions.{never, never_arms, beside}
 use Rattle.query_forms.specs.ShownQueries.{own_column, own_columns, key_form, all_keys, called_from}
-use Rattle.query_texts.specs.ExpressionTexts.{arm_text, arms_text}
+use Rattle.expression_texts.specs.ExpressionTexts.{arm_text, arms_text}
 use Rattle.query_forms.specs.Pieces.{said, expr_said}
-use Rattle.query_texts.specs.QueryTexts.{comma, grouped_column, grouped_columns, grouped_text, direction_text, key_texts, position_text, position_texts, order_text, called_items, never_text, nevers_text, beside_text}
-use Rattle.query_texts.specs.Words.{name_text, number_text, null_text, reference_text, unless_none}
+use Rattle.query_texts.specs.QueryTexts.{comma, grouped_column, grouped_columns, grouped_text, direction_text, key_text, key_texts, position_text, position_texts, order_text, called_items, never_text, nevers_text, beside_text}
+use Rattle.expression_texts.specs.Words.{name_text, number_text, null_text, reference_text, unless_none}
 use Rattle.query_forms.proofs.SaidExpressions.{arm_said, cases_said}
 use Rattle.query_forms.proofs.SaidLists.{comma_next}
 use Rattle.query_forms.proofs.SaidOperators.{null_said}
@@ -61,35 +61,32 @@ module _ (prefix : List ℕ) where
 -- ---- ORDER BY
 
 -- keys from a number on
+abbrev form_text : ℕ → KeyForm → List ℕ
+form_text number key = comma number ++ (number_text key.position ++ direction_text key.descending)
+
 abbrev forms_text : ℕ → List KeyForm → List ℕ
 forms_text number [] = []
-forms_text number (key ∷ keys) = comma number ++ (number_text key.position ++ (direction_text key.descending ++ forms_text (number + 1) keys))
+forms_text number (key ∷ keys) = form_text number key ++ forms_text (number + 1) keys
 
 direction_said : (descending : Bool) → said (direction descending) ≡ direction_text descending
 direction_said true = refl
 direction_said false = refl
-
-key_regroup : (word number direction rest : List ℕ) → (word ++ (number ++ direction)) ++ rest ≡ word ++ (number ++ (direction ++ rest))
-key_regroup word number direction rest =
-    append_assoc word (number ++ direction) rest ∙ ap (λ t. word ++ t) (append_assoc number direction rest)
 
 more_keys_said : (number : ℕ) (keys : List KeyForm) → codes ", " ≡ comma number → said (more_keys keys) ≡ forms_text number keys
 more_keys_said number [] behind = refl
 more_keys_said number (key ∷ keys) behind =
     ap₂ (λ word rest. (word ++ (number_text key.position ++ said (direction key.descending))) ++ rest) behind (more_keys_said (number + 1) keys (comma_next number))
     ∙ ap (λ d. (comma number ++ (number_text key.position ++ d)) ++ forms_text (number + 1) keys) (direction_said key.descending)
-    ∙ key_regroup (comma number) (number_text key.position) (direction_text key.descending) (forms_text (number + 1) keys)
 
 ordered_said : (keys : List KeyForm) → said (ordered keys) ≡ unless_none (length keys) (codes "ORDER BY ") ++ forms_text 0 keys
 ordered_said [] = refl
 ordered_said (key ∷ keys) =
     ap₂ (λ d rest. codes "ORDER BY " ++ ((number_text key.position ++ d) ++ rest)) (direction_said key.descending) (more_keys_said 1 keys refl)
-    ∙ ap (λ t. codes "ORDER BY " ++ t) (append_assoc (number_text key.position) (direction_text key.descending) (forms_text 1 keys))
 
 keys_text : (number : ℕ) (keys : List Key) → forms_text number (map key_form keys) ≡ key_texts number keys
 keys_text number [] = refl
 keys_text number (key ∷ keys) =
-    ap (λ rest. comma number ++ (number_text (key.place + 1) ++ (direction_text key.descending ++ rest))) (keys_text (number + 1) keys)
+    ap (λ rest. key_text number key ++ rest) (keys_text (number + 1) keys)
 
 abbrev at_position : ℕ → KeyForm
 at_position number = record { position = number; descending = false }
@@ -99,21 +96,18 @@ positions_text : (keys number count : ℕ) → forms_text (keys + number) (map a
 positions_text keys number zero = refl
 positions_text keys number (suc count) =
     let next : keys + number + 1 ≡ keys + (number + 1) = omega arith in
-    ap (λ n. comma (keys + number) ++ (number_text (number + 1) ++ forms_text n (map at_position (range_with_len (number + 1 + 1) count)))) next
-    ∙ ap (λ rest. comma (keys + number) ++ (number_text (number + 1) ++ rest)) (positions_text keys (number + 1) count)
-    ∙ sym (append_assoc (comma (keys + number)) (number_text (number + 1)) (flat_map (position_text keys) (range_with_len (number + 1) count)))
+    ap₂ (λ text n. (comma (keys + number) ++ text) ++ forms_text n (map at_position (range_with_len (number + 1 + 1) count)))
+    (append-nil (number_text (number + 1))) next
+    ∙ ap (λ rest. position_text keys number ++ rest) (positions_text keys (number + 1) count)
 
 forms_append : (number : ℕ) (keys : List Key) (more : List KeyForm)
     → forms_text number (map key_form keys ++ more) ≡ key_texts number keys ++ forms_text (number + length keys) more
 forms_append number [] more = ap (λ n. forms_text n more) (sym (add-zero number))
 forms_append number (key ∷ keys) more =
     let next : number + 1 + length keys ≡ number + length (key ∷ keys) = omega arith in
-    let behind : List ℕ = forms_text (number + length (key ∷ keys)) more in
-    ap (λ rest. comma number ++ (number_text (key.place + 1) ++ (direction_text key.descending ++ rest)))
+    ap (λ rest. key_text number key ++ rest)
     (forms_append (number + 1) keys more ∙ ap (λ n. key_texts (number + 1) keys ++ forms_text n more) next)
-    ∙ ap (λ t. comma number ++ (number_text (key.place + 1) ++ t)) (sym (append_assoc (direction_text key.descending) (key_texts (number + 1) keys) behind))
-    ∙ ap (λ t. comma number ++ t) (sym (append_assoc (number_text (key.place + 1)) (direction_text key.descending ++ key_texts (number + 1) keys) behind))
-    ∙ sym (append_assoc (comma number) (number_text (key.place + 1) ++ (direction_text key.descending ++ key_texts (number + 1) keys)) behind)
+    ∙ sym (append_assoc (key_text number key) (key_texts (number + 1) keys) (forms_text (number + length (key ∷ keys)) more))
 
 length_of_keys : (keys : List Key) (first count : ℕ) → length (map key_form keys ++ map at_position (range_with_len first count)) ≡ length keys + count
 length_of_keys [] first zero = refl
@@ -145,5 +139,3 @@ called_said number [] behind = refl
 called_said number (name ∷ names) behind =
     let reference : List ℕ = reference_text outermost 0 (number + 1) in
     ap₂ (λ word rest. (word ++ (reference ++ (codes "AS " ++ name_text name))) ++ rest) behind (called_said (number + 1) names (comma_next number))
-    ∙ append_assoc (comma number) (reference ++ (codes "AS " ++ name_text name)) (called_items (number + 1) names)
-    ∙ ap (λ t. comma number ++ t) (append_assoc reference (codes "AS " ++ name_text name) (called_items (number + 1) names))

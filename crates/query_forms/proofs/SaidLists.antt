@@ -14,13 +14,14 @@ use Rattle.tree_texts.specs.FormPlans as plan
 use Rattle.tree_texts.specs.Forms as f
 use Rattle.tree_texts.specs.Forms.{ExprForm, ColumnForm, KeyForm}
 use Rattle.tree_texts.specs.Phrases.{more_keys, ordered, grouped, more_groups}
-use Rattle.query_texts.specs.Names.{Naming, own, column_name, outermost}
+use Rattle.expression_texts.specs.Names.{column_name}
+use Rattle.query_texts.specs.Names.{Naming, own, outermost}
 use Rattle.query_forms.specs.ShownExpressions.{shown_expr, never_arms, beside, arms_of}
 use Rattle.query_forms.specs.ShownQueries.{own_column, own_columns, Listed, listed, named_from, columns, key_form, all_keys, aggregated, aggregates_from, argument, arguments, grouped_columns as group_forms, called_from}
-use Rattle.query_texts.specs.ExpressionTexts.{expr_bytes, cases_text, arms_text}
+use Rattle.expression_texts.specs.ExpressionTexts.{expr_bytes, cases_text, arms_text}
 use Rattle.query_forms.specs.Pieces.{said, expr_said}
 use Rattle.query_texts.specs.QueryTexts.{comma, as_text, item_text, unread_text, column_item, column_items, named_items, grouped_column, grouped_columns, grouped_text, group_items, argument_text, argument_items, aggregated_text, aggregate_items, direction_text, key_texts, position_text, position_texts, order_text, called_items, never_text, nevers_text, beside_text, expr_items}
-use Rattle.query_texts.specs.Words.{name_text, number_text, reference_text, unless_none}
+use Rattle.expression_texts.specs.Words.{name_text, number_text, reference_text, unless_none}
 use Rattle.query_forms.proofs.SaidExpressions.{expression_said, arm_said, cases_said}
 
 -- ---- items

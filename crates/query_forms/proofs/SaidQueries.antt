@@ -17,20 +17,20 @@ use Rattle.bag_algebra.specs.declared.query.JoinKind.TheVariants as join
 use Rattle.bag_algebra.specs.declared.query.Query.{Query, Row_of-Sublink, more_of-Sublink, end_of-Sublink}
 use Rattle.bag_algebra.specs.declared.query.Query.TheVariants.{Table, Single}
 use Rattle.bag_algebra.specs.declared.query.SubKind.{SubKind}
-use Rattle.bag_algebra.specs.declared.query.SubKind.TheVariants as sub
+use Rattle.bag_algebra.specs.declared.query.SubKind.TheVariants as ask
 use Rattle.tree_texts.specs.FormPlans as plan
 use Rattle.tree_texts.specs.Forms as f
 use Rattle.tree_texts.specs.Forms.{ExprForm, ColumnForm, FromForm, ConditionForm, CoreForm, QueryForm, JoinForms}
 use Rattle.tree_texts.specs.Phrases.{maybe_distinct, grouped, ordered}
-use Rattle.query_texts.specs.Names.{Naming, own, deeper, names_of, outermost}
+use Rattle.query_texts.specs.Names.{Naming, naming, own, deeper, names_of, outermost}
 use Rattle.query_forms.specs.ShownExpressions.{shown_expr, beside}
 use Rattle.query_forms.specs.ShownQueries.{own_columns, Listed, listed, named_from, one, columns, selected, alone, over, first_source, copied, of_table, tested_by, projected, joined, stays, in_groups, below_groups, aggregates_from, arguments, grouped_columns, all_keys, key_form, any_of, all_of, tested_part, asked, shown, sub_forms, called, called_from, shown_answer}
-use Rattle.query_texts.specs.Uses.{uses, items_use, spare}
+use Rattle.query_texts.specs.Unused.{used_in, items_use, spare}
 use Rattle.query_texts.specs.declared.tables.TableNames.{TableNames}
-use Rattle.query_texts.specs.ExpressionTexts.{expr_bytes}
+use Rattle.expression_texts.specs.ExpressionTexts.{expr_bytes}
 use Rattle.query_forms.specs.Pieces.{said, expr_said, query_said}
-use Rattle.query_texts.specs.QueryTexts.{naming, as_text, item_text, unread_text, column_items, columns_text, named_items, over_text, select_text, copied_text, table_text, beside_text, condition_text, expr_items, projected_text, join_text, lateral_text, lateral_back, set_text, group_items, argument_items, aggregate_items, below_text, above_text, grouped_text, groups_text, order_text, any_text, all_text, part_text, tested_text, asked_text, query_bytes, sub_texts, answer_bytes, key_texts, called_items}
-use Rattle.query_texts.specs.Words.{name_text, number_text, reference_text, unless_none}
+use Rattle.query_texts.specs.QueryTexts.{as_text, item_text, unread_text, column_items, columns_text, named_items, over_text, copied_text, table_text, beside_text, beside_joined, beside_lateral, condition_text, expr_items, projected_text, set_text, group_items, argument_items, aggregate_items, below_text, above_text, grouped_text, groups_text, order_text, any_text, all_text, part_text, tested_text, asked_text, query_bytes, sub_texts, answer_bytes, key_texts, called_items}
+use Rattle.expression_texts.specs.Words.{name_text, number_text, reference_text, unless_none}
 use Rattle.query_forms.proofs.SaidClauses.{beside_said, grouped_said, order_said, answer_order_said, called_said}
 use Rattle.query_forms.proofs.SaidExpressions.{expression_said}
 use Rattle.query_forms.proofs.SaidLists.{list_said, items_said, listed_said, items_append, one_said, columns_length, columns_said, names_said, groups_said, arguments_said, aggregates_said}
@@ -85,8 +85,8 @@ module _ (prefix : List ℕ) where
 
   condition_said : (forms : List ExprForm) (condition : Expr) → expr_said (tested_by prefix forms condition) ≡ condition_text prefix (map expr_said forms) condition
   condition_said forms condition =
-      beside_said kinds.Boolean (spare (λ number. uses number condition) 0 forms) (shown_expr prefix forms condition)
-      ∙ ap₂ (beside_text kinds.Boolean) (spare_map (λ number. uses number condition) 0 forms) (expression_said prefix forms condition)
+      beside_said kinds.Boolean (spare (used_in condition) 0 forms) (shown_expr prefix forms condition)
+      ∙ ap₂ (beside_text kinds.Boolean) (spare_map (used_in condition) 0 forms) (expression_said prefix forms condition)
 
   items_of : (out : Naming) (forms : List ExprForm) (number : ℕ) (items : List Item)
       → items_said out number (map expr_said (map (λ (item : Item). shown_expr prefix forms item.expr) items))
@@ -110,28 +110,27 @@ module _ (prefix : List ℕ) where
 
 -- ---- clauses put together
 
-filter_regroup : (l s c : List ℕ) → (codes "SELECT " ++ (l ++ (s ++ ((codes "WHERE " ++ c) ++ [])))) ++ [] ≡ (codes "SELECT " ++ l) ++ (s ++ (codes "WHERE " ++ c))
+filter_regroup : (l s c : List ℕ) → (codes "SELECT " ++ (l ++ (s ++ ((codes "WHERE " ++ c) ++ [])))) ++ [] ≡ ((codes "SELECT " ++ l) ++ s) ++ (codes "WHERE " ++ c)
 filter_regroup l s c =
     append-nil (codes "SELECT " ++ (l ++ (s ++ ((codes "WHERE " ++ c) ++ [])))) ∙ ap (λ t. codes "SELECT " ++ (l ++ (s ++ t))) (append-nil (codes "WHERE " ++ c))
+    ∙ ap (λ t. codes "SELECT " ++ t) (sym (append_assoc l s (codes "WHERE " ++ c)))
+
+join_regroup : (word q on : List ℕ) → (word ++ ((q ++ codes ") AS \"t2\" ") ++ (codes "ON " ++ on))) ++ [] ≡ (word ++ (q ++ codes ") AS \"t2\" ON ")) ++ on
+join_regroup word q on =
+    append-nil (word ++ ((q ++ codes ") AS \"t2\" ") ++ (codes "ON " ++ on)))
+    ∙ ap (λ t. word ++ t) (append_assoc q (codes ") AS \"t2\" ") (codes "ON " ++ on) ∙ sym (append_assoc q (codes ") AS \"t2\" ON ") on))
+    ∙ sym (append_assoc word (q ++ codes ") AS \"t2\" ON ") on)
 
 -- a join behind its first source
 join_said : (kind : JoinKind) (right : QueryForm) (on : ExprForm) → said (plan.joins (f.a_join (joined kind) (f.subquery right (codes "t2")) on f.no_joins))
-    ≡ join_text kind ++ (query_said right ++ (codes ") AS \"t2\" ON " ++ expr_said on))
-join_said join.Inner right on =
-    append-nil (codes "JOIN ( " ++ ((query_said right ++ codes ") AS \"t2\" ") ++ (codes "ON " ++ expr_said on)))
-    ∙ ap (λ t. codes "JOIN ( " ++ t) (append_assoc (query_said right) (codes ") AS \"t2\" ") (codes "ON " ++ expr_said on))
-join_said join.Left right on =
-    append-nil (codes "LEFT JOIN ( " ++ ((query_said right ++ codes ") AS \"t2\" ") ++ (codes "ON " ++ expr_said on)))
-    ∙ ap (λ t. codes "LEFT JOIN ( " ++ t) (append_assoc (query_said right) (codes ") AS \"t2\" ") (codes "ON " ++ expr_said on))
-join_said join.Right right on =
-    append-nil (codes "RIGHT JOIN ( " ++ ((query_said right ++ codes ") AS \"t2\" ") ++ (codes "ON " ++ expr_said on)))
-    ∙ ap (λ t. codes "RIGHT JOIN ( " ++ t) (append_assoc (query_said right) (codes ") AS \"t2\" ") (codes "ON " ++ expr_said on))
-join_said join.Full right on =
-    append-nil (codes "FULL JOIN ( " ++ ((query_said right ++ codes ") AS \"t2\" ") ++ (codes "ON " ++ expr_said on)))
-    ∙ ap (λ t. codes "FULL JOIN ( " ++ t) (append_assoc (query_said right) (codes ") AS \"t2\" ") (codes "ON " ++ expr_said on))
+    ≡ beside_joined kind (query_said right) ++ expr_said on
+join_said join.Inner right on = join_regroup (codes "JOIN ( ") (query_said right) (expr_said on)
+join_said join.Left right on = join_regroup (codes "LEFT JOIN ( ") (query_said right) (expr_said on)
+join_said join.Right right on = join_regroup (codes "RIGHT JOIN ( ") (query_said right) (expr_said on)
+join_said join.Full right on = join_regroup (codes "FULL JOIN ( ") (query_said right) (expr_said on)
 
 lateral_said : (kind : JoinKind) (right : QueryForm) → said (plan.joins (f.a_lateral (stays kind) right (codes "t2") f.no_joins))
-    ≡ lateral_text kind ++ (query_said right ++ lateral_back kind)
+    ≡ beside_lateral kind (query_said right)
 lateral_said join.Inner right = append-nil (codes "CROSS JOIN LATERAL ( " ++ (query_said right ++ codes ") AS \"t2\" "))
 lateral_said join.Left right =
     append-nil (codes "LEFT JOIN LATERAL ( " ++ ((query_said right ++ codes ") AS \"t2\" ") ++ codes "ON TRUE "))
@@ -142,10 +141,11 @@ lateral_said join.Full right = append-nil (codes "CROSS JOIN LATERAL ( " ++ (que
 -- a query over two sources
 two_sources : (prefix : List ℕ) (out : Naming) (count : ℕ) (left : QueryForm) (joins : JoinForms)
     → query_said (alone (selected false (listed out one (columns prefix count)) (f.from (first_source left) joins) f.no_condition []))
-    ≡ select_text prefix out count ++ (over_text (query_said left) ++ said (plan.joins joins))
+    ≡ copied_text prefix out count (query_said left) ++ said (plan.joins joins)
 two_sources prefix out count left joins =
     simple_said false (listed out one (columns prefix count)) (f.from (first_source left) joins)
     ∙ ap (λ l. codes "SELECT " ++ (l ++ said (plan.sources (f.from (first_source left) joins)))) (columns_list prefix out count)
+    ∙ ap (λ t. codes "SELECT " ++ t) (sym (append_assoc (columns_text prefix out count) (over_text (query_said left)) (said (plan.joins joins))))
 
 set_regroup : (a b : List ℕ) → a ++ ((b ++ []) ++ []) ≡ a ++ b
 set_regroup a b = ap (λ t. a ++ t) (append-nil (b ++ []) ∙ append-nil b)
@@ -245,10 +245,11 @@ in_groups_said prefix out groups aggregates q =
 
 -- ---- sublinks
 
-asked_regroup : (a word q : List ℕ) → codes "( " ++ ((a ++ (word ++ (q ++ codes ") "))) ++ codes ") ") ≡ codes "( " ++ (a ++ (word ++ (q ++ codes ") ) ")))
+asked_regroup : (a word q : List ℕ) → codes "( " ++ ((a ++ (word ++ (q ++ codes ") "))) ++ codes ") ") ≡ (codes "( " ++ (a ++ word)) ++ (q ++ codes ") ) ")
 asked_regroup a word q =
     ap (λ t. codes "( " ++ t) (append_assoc a (word ++ (q ++ codes ") ")) (codes ") ")
-    ∙ ap (λ t. a ++ t) (append_assoc word (q ++ codes ") ") (codes ") ") ∙ ap (λ t. word ++ t) (append_assoc q (codes ") ") (codes ") "))))
+    ∙ ap (λ t. a ++ t) (append_assoc word (q ++ codes ") ") (codes ") ") ∙ ap (λ t. word ++ t) (append_assoc q (codes ") ") (codes ") ")))
+    ∙ sym (append_assoc a word (q ++ codes ") ) ")))
 
 any_said : (c : Compare) (a : ExprForm) (q : QueryForm)
     → expr_said (any_of c a q) ≡ codes "( " ++ ((expr_said a ++ (any_text c ++ (said (plan.nested q) ++ codes ") "))) ++ codes ") ")
@@ -274,30 +275,49 @@ part_said prefix (Some part) = expression_said prefix [] part
 
 asked_said : (prefix : List ℕ) (kind : SubKind) (tested : Option Expr) (q : QueryForm)
     → expr_said (asked kind (tested_part prefix tested) q) ≡ asked_text prefix kind tested (query_said q)
-asked_said prefix sub.Exists tested q = ap (λ t. codes "EXISTS ( " ++ (t ++ codes ") ")) (nested_said q)
-asked_said prefix (sub.Any c) tested q =
+asked_said prefix ask.Exists tested q = ap (λ t. codes "EXISTS ( " ++ (t ++ codes ") ")) (nested_said q)
+asked_said prefix (ask.Any c) tested q =
     any_said c (tested_part prefix tested) q
     ∙ ap₂ (λ a t. codes "( " ++ ((a ++ (any_text c ++ (t ++ codes ") "))) ++ codes ") ")) (part_said prefix tested) (nested_said q)
     ∙ asked_regroup (part_text prefix tested) (any_text c) (query_said q)
-asked_said prefix (sub.All c) tested q =
+asked_said prefix (ask.All c) tested q =
     all_said c (tested_part prefix tested) q
     ∙ ap₂ (λ a t. codes "( " ++ ((a ++ (all_text c ++ (t ++ codes ") "))) ++ codes ") ")) (part_said prefix tested) (nested_said q)
     ∙ asked_regroup (part_text prefix tested) (all_text c) (query_said q)
-asked_said prefix sub.Scalar tested q = ap (λ t. codes "( " ++ (t ++ codes ") ")) (nested_said q)
+asked_said prefix ask.Scalar tested q = ap (λ t. codes "( " ++ (t ++ codes ") ")) (nested_said q)
 
 -- ---- queries
 
 module _ (tables : List TableNames) where
+  -- FROM a query that says its text
+  over_is : (prefix : List ℕ) (q : Query) → query_said (shown tables prefix (own prefix) q) ≡ query_bytes tables prefix (own prefix) q
+      → said (plan.sources (over (shown tables prefix (own prefix) q))) ≡ over_text (query_bytes tables prefix (own prefix) q)
+  over_is prefix q input = over_said (shown tables prefix (own prefix) q) ∙ ap over_text input
+
+  -- all its columns
+  copied_is : (prefix : List ℕ) (out : Naming) (q : Query) → query_said (shown tables prefix (own prefix) q) ≡ query_bytes tables prefix (own prefix) q
+      → said (plan.core (copied prefix out (width_of q) (shown tables prefix (own prefix) q)))
+      ≡ copied_text prefix out (width_of q) (query_bytes tables prefix (own prefix) q)
+  copied_is prefix out q input =
+      copied_said prefix out (width_of q) (shown tables prefix (own prefix) q) ∙ ap (copied_text prefix out (width_of q)) input
+
+  condition_is : (prefix : List ℕ) (forms : List ExprForm) (texts : List (List ℕ)) (condition : Expr) → map expr_said forms ≡ texts
+      → expr_said (tested_by prefix forms condition) ≡ condition_text prefix texts condition
+  condition_is prefix forms texts condition subs = condition_said prefix forms condition ∙ ap (λ ts. condition_text prefix ts condition) subs
+
   mutual
     pub form_said : (prefix : List ℕ) (out : Naming) (q : Query) → query_said (shown tables prefix out q) ≡ query_bytes tables prefix out q
     form_said prefix out (Table id kinds) = table_said out (names_of tables id)
     form_said prefix out Single = single_said out
     form_said prefix out (BaseOf input places label) = form_said prefix out input
     form_said prefix out (FilterOf input condition _ subs) =
+        let forms = sub_forms tables prefix subs in
         filter_regroup (list_said (listed out one (columns prefix (width_of input)))) (said (plan.sources (over (shown tables prefix (own prefix) input))))
-        (expr_said (tested_by prefix (sub_forms tables prefix subs) condition))
-        ∙ ap₂ (λ l t. (codes "SELECT " ++ l) ++ t) (columns_list prefix out (width_of input))
-        (ap₂ (λ s c. s ++ (codes "WHERE " ++ c)) (over_is prefix input) (condition_is prefix subs condition))
+        (expr_said (tested_by prefix forms condition))
+        ∙ ap₂ (λ l s. ((codes "SELECT " ++ l) ++ s) ++ (codes "WHERE " ++ expr_said (tested_by prefix forms condition)))
+        (columns_list prefix out (width_of input)) (over_is prefix input (form_said prefix (own prefix) input))
+        ∙ ap (λ c. copied_text prefix out (width_of input) (query_bytes tables prefix (own prefix) input) ++ (codes "WHERE " ++ c))
+        (condition_is prefix forms (sub_texts tables prefix subs) condition (subs_said prefix subs))
     form_said prefix out (ProjectOf input items _ subs) =
         let forms = sub_forms tables prefix subs in
         simple_said false (projected prefix out forms (spare (items_use items) 0 forms) items) (over (shown tables prefix (own prefix) input))
@@ -305,53 +325,44 @@ module _ (tables : List TableNames) where
         (projected_said prefix out forms (spare (items_use items) 0 forms) items
         ∙ ap (λ unused. projected_text prefix out (map expr_said forms) unused items) (spare_map (items_use items) 0 forms)
         ∙ ap (λ texts. projected_text prefix out texts (spare (items_use items) 0 texts) items) (subs_said prefix subs))
-        (over_is prefix input)
+        (over_is prefix input (form_said prefix (own prefix) input))
     form_said prefix out (JoinOf kind left right condition _ subs) =
         let right_side = naming prefix (width_of left + 1) in
-        let on = tested_by prefix (sub_forms tables prefix subs) condition in
+        let forms = sub_forms tables prefix subs in
+        let on = tested_by prefix forms condition in
         let q = shown tables prefix right_side right in
         two_sources prefix out (width_of left + width_of right) (shown tables prefix (own prefix) left)
         (f.a_join (joined kind) (f.subquery q (codes "t2")) on f.no_joins)
-        ∙ ap₂ (λ l t. select_text prefix out (width_of left + width_of right) ++ (over_text l ++ t)) (form_said prefix (own prefix) left)
+        ∙ ap₂ (λ l t. copied_text prefix out (width_of left + width_of right) l ++ t) (form_said prefix (own prefix) left)
         (join_said kind q on
-        ∙ ap₂ (λ r c. join_text kind ++ (r ++ (codes ") AS \"t2\" ON " ++ c))) (form_said prefix right_side right) (condition_is prefix subs condition))
+        ∙ ap₂ (λ r c. beside_joined kind r ++ c) (form_said prefix right_side right)
+        (condition_is prefix forms (sub_texts tables prefix subs) condition (subs_said prefix subs)))
     form_said prefix out (ApplyOf kind left right) =
         let right_side = naming prefix (width_of left + 1) in
         let q = shown tables (deeper prefix) right_side right in
         two_sources prefix out (width_of left + width_of right) (shown tables prefix (own prefix) left) (f.a_lateral (stays kind) q (codes "t2") f.no_joins)
-        ∙ ap₂ (λ l t. select_text prefix out (width_of left + width_of right) ++ (over_text l ++ t)) (form_said prefix (own prefix) left)
-        (lateral_said kind q ∙ ap (λ r. lateral_text kind ++ (r ++ lateral_back kind)) (form_said (deeper prefix) right_side right))
+        ∙ ap₂ (λ l t. copied_text prefix out (width_of left + width_of right) l ++ t) (form_said prefix (own prefix) left)
+        (lateral_said kind q ∙ ap (beside_lateral kind) (form_said (deeper prefix) right_side right))
     form_said prefix out (UnionOf all left right) =
         union_said all (copied prefix out (width_of left) (shown tables prefix (own prefix) left)) (copied prefix out (width_of right) (shown tables prefix (own prefix) right))
-        ∙ ap₂ (λ a b. a ++ (set_text (codes "UNION ") all ++ b)) (copied_is prefix out left) (copied_is prefix out right)
+        ∙ ap₂ (λ a b. a ++ (set_text (codes "UNION ") all ++ b)) (copied_is prefix out left (form_said prefix (own prefix) left))
+        (copied_is prefix out right (form_said prefix (own prefix) right))
     form_said prefix out (IntersectOf all left right) =
         intersect_said all (copied prefix out (width_of left) (shown tables prefix (own prefix) left)) (copied prefix out (width_of right) (shown tables prefix (own prefix) right))
-        ∙ ap₂ (λ a b. a ++ (set_text (codes "INTERSECT ") all ++ b)) (copied_is prefix out left) (copied_is prefix out right)
+        ∙ ap₂ (λ a b. a ++ (set_text (codes "INTERSECT ") all ++ b)) (copied_is prefix out left (form_said prefix (own prefix) left))
+        (copied_is prefix out right (form_said prefix (own prefix) right))
     form_said prefix out (ExceptOf all left right) =
         except_said all (copied prefix out (width_of left) (shown tables prefix (own prefix) left)) (copied prefix out (width_of right) (shown tables prefix (own prefix) right))
-        ∙ ap₂ (λ a b. a ++ (set_text (codes "EXCEPT ") all ++ b)) (copied_is prefix out left) (copied_is prefix out right)
+        ∙ ap₂ (λ a b. a ++ (set_text (codes "EXCEPT ") all ++ b)) (copied_is prefix out left (form_said prefix (own prefix) left))
+        (copied_is prefix out right (form_said prefix (own prefix) right))
     form_said prefix out (DistinctOf input) =
         simple_said true (listed out one (columns prefix (width_of input))) (over (shown tables prefix (own prefix) input))
-        ∙ ap₂ (λ l s. codes "SELECT DISTINCT " ++ (l ++ s)) (columns_list prefix out (width_of input)) (over_is prefix input)
+        ∙ ap₂ (λ l s. codes "SELECT DISTINCT " ++ (l ++ s)) (columns_list prefix out (width_of input)) (over_is prefix input (form_said prefix (own prefix) input))
     form_said prefix out (AggregateOf input groups aggregates) =
         in_groups_said prefix out groups aggregates (shown tables prefix (own prefix) input) ∙ ap (groups_text prefix out groups aggregates) (form_said prefix (own prefix) input)
     form_said prefix out (LimitOf input keys count) =
-        ap₂ (λ a o. a ++ (o ++ (codes "LIMIT " ++ number_text count))) (copied_is prefix out input) (order_said keys (width_of input))
+        ap₂ (λ a o. a ++ (o ++ (codes "LIMIT " ++ number_text count))) (copied_is prefix out input (form_said prefix (own prefix) input)) (order_said keys (width_of input))
     form_said prefix out (ProvOf input) = form_said prefix out input
-
-    over_is : (prefix : List ℕ) (q : Query) → said (plan.sources (over (shown tables prefix (own prefix) q))) ≡ over_text (query_bytes tables prefix (own prefix) q)
-    over_is prefix q = over_said (shown tables prefix (own prefix) q) ∙ ap over_text (form_said prefix (own prefix) q)
-
-    copied_is : (prefix : List ℕ) (out : Naming) (q : Query)
-        → said (plan.core (copied prefix out (width_of q) (shown tables prefix (own prefix) q)))
-        ≡ copied_text prefix out (width_of q) (query_bytes tables prefix (own prefix) q)
-    copied_is prefix out q =
-        copied_said prefix out (width_of q) (shown tables prefix (own prefix) q) ∙ ap (copied_text prefix out (width_of q)) (form_said prefix (own prefix) q)
-
-    condition_is : (prefix : List ℕ) {m : _} (subs : Row_of-Sublink m) (condition : Expr)
-        → expr_said (tested_by prefix (sub_forms tables prefix subs) condition) ≡ condition_text prefix (sub_texts tables prefix subs) condition
-    condition_is prefix subs condition =
-        condition_said prefix (sub_forms tables prefix subs) condition ∙ ap (λ texts. condition_text prefix texts condition) (subs_said prefix subs)
 
     subs_said : (prefix : List ℕ) {m : _} (subs : Row_of-Sublink m) → map expr_said (sub_forms tables prefix subs) ≡ sub_texts tables prefix subs
     subs_said prefix end_of-Sublink = refl
@@ -368,7 +379,6 @@ module _ (tables : List TableNames) where
   answer_list (name ∷ names) =
       let reference : List ℕ = reference_text outermost 0 1 in
       ap (λ rest. (reference ++ (codes "AS " ++ name_text name)) ++ rest) (called_said 1 names refl)
-      ∙ append_assoc reference (codes "AS " ++ name_text name) (called_items 1 names)
 
   answer_regroup : (u c s o : List ℕ) → (codes "SELECT " ++ ((u ++ c) ++ (s ++ []))) ++ (o ++ []) ≡ codes "SELECT " ++ (u ++ (c ++ (s ++ o)))
   answer_regroup u c s o =
@@ -377,7 +387,8 @@ module _ (tables : List TableNames) where
 
   pub answer_said : (q : Query) (names : List (List ℕ)) (keys : List Key) → query_said (shown_answer tables q names keys) ≡ answer_bytes tables q names keys
   answer_said q names keys =
-      ap₂ (λ l s. (codes "SELECT " ++ (l ++ (s ++ []))) ++ (said (ordered (map key_form keys)) ++ [])) (answer_list names) (over_is outermost q)
+      ap₂ (λ l s. (codes "SELECT " ++ (l ++ (s ++ []))) ++ (said (ordered (map key_form keys)) ++ [])) (answer_list names)
+      (over_is outermost q (form_said outermost (own outermost) q))
       ∙ ap (λ o. (codes "SELECT " ++ ((unread_text outermost (codes "1 ") (length names) ++ called_items 0 names)
       ++ (over_text (query_bytes tables outermost (own outermost) q) ++ []))) ++ (o ++ [])) (answer_order_said keys)
       ∙ answer_regroup (unread_text outermost (codes "1 ") (length names)) (called_items 0 names) (over_text (query_bytes tables outermost (own outermost) q))

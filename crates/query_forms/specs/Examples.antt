@@ -19,7 +19,7 @@ use Rattle.bag_algebra.specs.declared.query.AggFn.TheVariants as agg
 use Rattle.bag_algebra.specs.declared.query.JoinKind.TheVariants as join
 use Rattle.bag_algebra.specs.declared.query.Query.{Query, more_of-Sublink, end_of-Sublink}
 use Rattle.bag_algebra.specs.declared.query.Query.TheVariants.{Table, Single}
-use Rattle.bag_algebra.specs.declared.query.SubKind.TheVariants as sub
+use Rattle.bag_algebra.specs.declared.query.SubKind.TheVariants as ask
 use Rattle.tree_texts.specs.Texts.{expr_text, query_text, script_text}
 use Rattle.query_texts.specs.Names.{own, outermost}
 use Rattle.query_forms.specs.ShownExpressions.{shown_expr}
@@ -134,13 +134,13 @@ example-limit = refl
 
 -- ---- sublinks
 
-example-in : text (FilterOf s (Sub 0) one (more_of-Sublink (sub.Any compare.Equal) (Some (col 0)) s end_of-Sublink))
+example-in : text (FilterOf s (Sub 0) one (more_of-Sublink (ask.Any compare.Equal) (Some (col 0)) s end_of-Sublink))
     ≡ codes "SELECT \"c1\" AS \"c1\" FROM ( SELECT \"c\" AS \"c1\" FROM \"s\" ) AS \"t1\" WHERE ( \"c1\" IN ( SELECT \"c\" AS \"cc1\" FROM \"s\" ) ) "
 unfolding digits
 example-in = refl
 
 -- a sublink that the condition doesn't use stands beside it
-example-unused : text (FilterOf s (Lit (Boolean true) kind.Boolean) one (more_of-Sublink sub.Exists None s end_of-Sublink))
+example-unused : text (FilterOf s (Lit (Boolean true) kind.Boolean) one (more_of-Sublink ask.Exists None s end_of-Sublink))
     ≡ codes "SELECT \"c1\" AS \"c1\" FROM ( SELECT \"c\" AS \"c1\" FROM \"s\" ) AS \"t1\" WHERE CASE WHEN ( ( EXISTS ( SELECT \"c\" AS \"cc1\" FROM \"s\" ) IS NULL ) IS NULL ) THEN CAST ( NULL AS BOOLEAN ) ELSE TRUE END "
 unfolding digits
 example-unused = refl

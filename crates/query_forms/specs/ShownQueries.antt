@@ -19,12 +19,13 @@ use Rattle.bag_algebra.specs.declared.query.JoinKind.TheVariants as join
 use Rattle.bag_algebra.specs.declared.query.Query.{Query, Row_of-Sublink, more_of-Sublink, end_of-Sublink}
 use Rattle.bag_algebra.specs.declared.query.Query.TheVariants.{Table, Single}
 use Rattle.bag_algebra.specs.declared.query.SubKind.{SubKind}
-use Rattle.bag_algebra.specs.declared.query.SubKind.TheVariants as sub
+use Rattle.bag_algebra.specs.declared.query.SubKind.TheVariants as ask
 use Rattle.tree_texts.specs.Forms as f
 use Rattle.tree_texts.specs.Forms.{ExprForm, ItemForms, SourceForm, FromForm, ConditionForm, ColumnForm, CoreForm, QueryForm, KeyForm, Joined, enclosed}
-use Rattle.query_texts.specs.Names.{Naming, own, column_name, unread, outermost, deeper, names_of}
+use Rattle.expression_texts.specs.Names.{column_name}
+use Rattle.query_texts.specs.Names.{Naming, naming, own, unread, outermost, deeper, names_of}
 use Rattle.query_forms.specs.ShownExpressions.{shown_expr, unsaid, beside}
-use Rattle.query_texts.specs.Uses.{uses, items_use, spare}
+use Rattle.query_texts.specs.Unused.{used_in, items_use, spare}
 use Rattle.query_texts.specs.declared.tables.TableNames.{TableNames}
 
 -- ---- columns
@@ -86,7 +87,7 @@ of_table out table =
     selected false (listed out one (map (λ name. f.column (f.bare name)) table.columns)) (f.from (f.table table.name) f.no_joins) f.no_condition []
 
 abbrev pub tested_by : List ℕ → List ExprForm → Expr → ExprForm
-tested_by prefix subs condition = beside kinds.Boolean (spare (λ number. uses number condition) 0 subs) (shown_expr prefix subs condition)
+tested_by prefix subs condition = beside kinds.Boolean (spare (used_in condition) 0 subs) (shown_expr prefix subs condition)
 
 -- the sublinks that no item uses stand beside the first
 abbrev pub projected : List ℕ → Naming → List ExprForm → List ExprForm → List Item → Listed
@@ -176,10 +177,10 @@ tested_part prefix None = unsaid
 tested_part prefix (Some part) = shown_expr prefix [] part
 
 abbrev pub asked : SubKind → ExprForm → QueryForm → ExprForm
-asked sub.Exists a q = f.exists q
-asked (sub.Any c) a q = any_of c a q
-asked (sub.All c) a q = all_of c a q
-asked sub.Scalar a q = f.scalar q
+asked ask.Exists a q = f.exists q
+asked (ask.Any c) a q = any_of c a q
+asked (ask.All c) a q = all_of c a q
+asked ask.Scalar a q = f.scalar q
 
 -- ---- queries
 
@@ -196,16 +197,14 @@ abbrev mutual
       let forms = sub_forms tables prefix subs in
       alone (selected false (projected prefix out forms (spare (items_use items) 0 forms) items) (over (shown tables prefix (own prefix) input)) f.no_condition [])
   shown tables prefix out (JoinOf kind left right condition _ subs) =
-      let right_side = record { prefix = prefix; first = width_of left + 1 } in
       alone (selected false (listed out one (columns prefix (width_of left + width_of right)))
       (f.from (first_source (shown tables prefix (own prefix) left))
-      (f.a_join (joined kind) (f.subquery (shown tables prefix right_side right) (codes "t2"))
+      (f.a_join (joined kind) (f.subquery (shown tables prefix (naming prefix (width_of left + 1)) right) (codes "t2"))
       (tested_by prefix (sub_forms tables prefix subs) condition) f.no_joins)) f.no_condition [])
   shown tables prefix out (ApplyOf kind left right) =
-      let right_side = record { prefix = prefix; first = width_of left + 1 } in
       alone (selected false (listed out one (columns prefix (width_of left + width_of right)))
       (f.from (first_source (shown tables prefix (own prefix) left))
-      (f.a_lateral (stays kind) (shown tables (deeper prefix) right_side right) (codes "t2") f.no_joins)) f.no_condition [])
+      (f.a_lateral (stays kind) (shown tables (deeper prefix) (naming prefix (width_of left + 1)) right) (codes "t2") f.no_joins)) f.no_condition [])
   shown tables prefix out (UnionOf all left right) =
       f.united (copied prefix out (width_of left) (shown tables prefix (own prefix) left)) f.union all
       (copied prefix out (width_of right) (shown tables prefix (own prefix) right)) f.no_unions [] None

@@ -1,3 +1,3 @@
-pub mod Opened
 pub mod OpenedQueries
-pub mod Ranges
+pub mod Projected
+pub mod Spared

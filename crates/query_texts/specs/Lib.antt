@@ -1,6 +1,4 @@
-pub mod ExpressionTexts
+pub mod Frames
 pub mod Names
 pub mod QueryTexts
-pub mod Used
-pub mod Uses
-pub mod Words
+pub mod Unused

@@ -18,16 +18,13 @@ use Rattle.bag_algebra.specs.declared.query.JoinKind.TheVariants as join
 use Rattle.bag_algebra.specs.declared.query.Query.{Query, Row_of-Sublink, more_of-Sublink, end_of-Sublink}
 use Rattle.bag_algebra.specs.declared.query.Query.TheVariants.{Table, Single}
 use Rattle.bag_algebra.specs.declared.query.SubKind.{SubKind}
-use Rattle.bag_algebra.specs.declared.query.SubKind.TheVariants as sub
+use Rattle.bag_algebra.specs.declared.query.SubKind.TheVariants as ask
 use Rattle.bag_algebra.specs.declared.query.Sublink.{Sublink}
-use Rattle.query_texts.specs.Names.{Naming, own, deeper, names_of, outermost}
-use Rattle.query_texts.specs.Uses.{uses, items_use, spare}
+use Rattle.query_texts.specs.Names.{Naming, naming, own, deeper, names_of, outermost}
+use Rattle.query_texts.specs.Unused.{used_in, items_use, spare}
 use Rattle.query_texts.specs.declared.tables.TableNames.{TableNames}
-use Rattle.query_texts.specs.ExpressionTexts.{expr_bytes}
-use Rattle.query_texts.specs.Words.{name_text, number_text, reference_text, null_text, unsaid_text, compare_text, unless_none}
-
-abbrev pub naming : List ℕ → ℕ → Naming
-naming prefix first = record { prefix = prefix; first = first }
+use Rattle.expression_texts.specs.ExpressionTexts.{expr_bytes}
+use Rattle.expression_texts.specs.Words.{name_text, number_text, reference_text, null_text, unsaid_text, unless_none}
 
 -- ---- SELECT lists
 
@@ -73,10 +70,17 @@ select_text prefix out count = codes "SELECT " ++ columns_text prefix out count
 abbrev pub copied_text : List ℕ → Naming → ℕ → List ℕ → List ℕ
 copied_text prefix out count q = select_text prefix out count ++ over_text q
 
+-- the columns of a table
+abbrev pub listed_text : Naming → List ℕ → List (List ℕ) → List ℕ
+listed_text out name columns =
+    codes "SELECT " ++ (unread_text out.prefix (codes "1 ") (length columns) ++ (named_items out 0 columns ++ (codes "FROM " ++ name_text name)))
+
 abbrev pub table_text : Naming → TableNames → List ℕ
-table_text out table =
-    codes "SELECT " ++ (unread_text out.prefix (codes "1 ") (length table.columns) ++ (named_items out 0 table.columns
-    ++ (codes "FROM " ++ name_text table.name)))
+table_text out table = listed_text out table.name table.columns
+
+-- of what has no columns
+abbrev pub single_text : List ℕ → List ℕ
+single_text prefix = codes "SELECT " ++ unread_text prefix (codes "1 ") 0
 
 -- ---- expressions beside which unused sublinks stand
 
@@ -98,7 +102,10 @@ beside_text kind unused text = beside_front kind unused ++ (text ++ beside_back 
 
 abbrev pub condition_text : List ℕ → List (List ℕ) → Expr → List ℕ
 condition_text prefix subs condition =
-    beside_text kinds.Boolean (spare (λ number. uses number condition) 0 subs) (expr_bytes prefix subs condition)
+    beside_text kinds.Boolean (spare (used_in condition) 0 subs) (expr_bytes prefix subs condition)
+
+abbrev pub where_text : List ℕ → List (List ℕ) → Expr → List ℕ
+where_text prefix subs condition = codes "WHERE " ++ condition_text prefix subs condition
 
 abbrev pub expr_items : List ℕ → Naming → List (List ℕ) → ℕ → List Item → List ℕ
 expr_items prefix out subs number [] = []
@@ -110,6 +117,9 @@ abbrev pub projected_text : List ℕ → Naming → List (List ℕ) → List (Li
 projected_text prefix out subs unused [] = unread_text out.prefix (beside_text kinds.Integer unused (codes "1 ")) 0
 projected_text prefix out subs unused (item ∷ items) =
     beside_text item.kind unused (expr_bytes prefix subs item.expr) ++ (as_text out 0 ++ expr_items prefix out subs 1 items)
+
+abbrev pub projecting_text : List ℕ → Naming → List (List ℕ) → List Item → List ℕ
+projecting_text prefix out subs items = codes "SELECT " ++ projected_text prefix out subs (spare (items_use items) 0 subs) items
 
 -- ---- joins
 
@@ -131,6 +141,13 @@ lateral_back join.Left = codes ") AS \"t2\" ON TRUE "
 lateral_back join.Right = codes ") AS \"t2\" "
 lateral_back join.Full = codes ") AS \"t2\" "
 
+-- the query on the right, and what it is joined on
+abbrev pub beside_joined : JoinKind → List ℕ → List ℕ
+beside_joined kind q = join_text kind ++ (q ++ codes ") AS \"t2\" ON ")
+
+abbrev pub beside_lateral : JoinKind → List ℕ → List ℕ
+beside_lateral kind q = lateral_text kind ++ (q ++ lateral_back kind)
+
 abbrev pub set_text : List ℕ → Bool → List ℕ
 set_text word true = word ++ codes "ALL "
 set_text word false = word
@@ -141,25 +158,17 @@ abbrev pub argument_text : List ℕ → Option Expr → List ℕ
 argument_text prefix None = codes "1 "
 argument_text prefix (Some part) = expr_bytes prefix [] part
 
-abbrev pub aggregate_front : AggFn → List ℕ
-aggregate_front agg.CountRows = codes "COUNT ( * ) "
-aggregate_front agg.Count = codes "COUNT ( "
-aggregate_front agg.CountDistinct = codes "COUNT ( DISTINCT "
-aggregate_front agg.Sum = codes "SUM ( "
-aggregate_front agg.Min = codes "MIN ( "
-aggregate_front agg.Max = codes "MAX ( "
-
--- a column within an aggregate
-abbrev pub within_text : AggFn → List ℕ → List ℕ
-within_text agg.CountRows column = []
-within_text agg.Count column = column ++ codes ") "
-within_text agg.CountDistinct column = column ++ codes ") "
-within_text agg.Sum column = column ++ codes ") "
-within_text agg.Min column = column ++ codes ") "
-within_text agg.Max column = column ++ codes ") "
+-- an aggregate of a column
+abbrev pub folded_text : List ℕ → List ℕ → List ℕ
+folded_text word column = word ++ (column ++ codes ") ")
 
 abbrev pub aggregated_text : AggFn → List ℕ → List ℕ
-aggregated_text function column = aggregate_front function ++ within_text function column
+aggregated_text agg.CountRows column = codes "COUNT ( * ) "
+aggregated_text agg.Count column = folded_text (codes "COUNT ( ") column
+aggregated_text agg.CountDistinct column = folded_text (codes "COUNT ( DISTINCT ") column
+aggregated_text agg.Sum column = folded_text (codes "SUM ( ") column
+aggregated_text agg.Min column = folded_text (codes "MIN ( ") column
+aggregated_text agg.Max column = folded_text (codes "MAX ( ") column
 
 abbrev pub group_items : List ℕ → ℕ → List ℕ → List ℕ
 group_items prefix number [] = []
@@ -206,9 +215,12 @@ abbrev pub direction_text : Bool → List ℕ
 direction_text true = codes "DESC "
 direction_text false = []
 
+abbrev pub key_text : ℕ → Key → List ℕ
+key_text number key = comma number ++ (number_text (key.place + 1) ++ direction_text key.descending)
+
 abbrev pub key_texts : ℕ → List Key → List ℕ
 key_texts number [] = []
-key_texts number (key ∷ keys) = comma number ++ (number_text (key.place + 1) ++ (direction_text key.descending ++ key_texts (number + 1) keys))
+key_texts number (key ∷ keys) = key_text number key ++ key_texts (number + 1) keys
 
 -- positions of all columns, behind so many keys
 abbrev pub position_text : ℕ → ℕ → List ℕ
@@ -220,6 +232,9 @@ position_texts keys count = flat_map (position_text keys) (range_with_len 0 coun
 abbrev pub order_text : List Key → ℕ → List ℕ
 order_text keys count =
     unless_none (length keys + count) (codes "ORDER BY ") ++ (key_texts 0 keys ++ position_texts (length keys) count)
+
+abbrev pub limited_text : List Key → ℕ → ℕ → List ℕ
+limited_text keys columns count = order_text keys columns ++ (codes "LIMIT " ++ number_text count)
 
 -- ---- sublinks
 
@@ -239,58 +254,49 @@ all_text compare.LessEqual = codes "<= ALL ( "
 all_text compare.Greater = codes "> ALL ( "
 all_text compare.GreaterEqual = codes ">= ALL ( "
 
-abbrev pub asked_front : SubKind → List ℕ
-asked_front sub.Exists = codes "EXISTS ( "
-asked_front (sub.Any c) = codes "( "
-asked_front (sub.All c) = codes "( "
-asked_front sub.Scalar = codes "( "
-
 abbrev pub part_text : List ℕ → Option Expr → List ℕ
 part_text prefix None = unsaid_text
 part_text prefix (Some part) = expr_bytes prefix [] part
 
-abbrev pub tested_text : List ℕ → SubKind → Option Expr → List ℕ
-tested_text prefix sub.Exists tested = []
-tested_text prefix (sub.Any c) tested = part_text prefix tested
-tested_text prefix (sub.All c) tested = part_text prefix tested
-tested_text prefix sub.Scalar tested = []
+-- what ANY and ALL compare
+abbrev pub tested_text : List ℕ → Option Expr → List ℕ → List ℕ
+tested_text prefix tested word = codes "( " ++ (part_text prefix tested ++ word)
 
-abbrev pub asked_middle : SubKind → List ℕ
-asked_middle sub.Exists = []
-asked_middle (sub.Any c) = any_text c
-asked_middle (sub.All c) = all_text c
-asked_middle sub.Scalar = []
+-- what stands before the query of a sublink, and behind it
+abbrev pub asking_text : List ℕ → SubKind → Option Expr → List ℕ
+asking_text prefix ask.Exists tested = codes "EXISTS ( "
+asking_text prefix (ask.Any c) tested = tested_text prefix tested (any_text c)
+asking_text prefix (ask.All c) tested = tested_text prefix tested (all_text c)
+asking_text prefix ask.Scalar tested = codes "( "
 
 abbrev pub asked_back : SubKind → List ℕ
-asked_back sub.Exists = codes ") "
-asked_back (sub.Any c) = codes ") ) "
-asked_back (sub.All c) = codes ") ) "
-asked_back sub.Scalar = codes ") "
+asked_back ask.Exists = codes ") "
+asked_back (ask.Any c) = codes ") ) "
+asked_back (ask.All c) = codes ") ) "
+asked_back ask.Scalar = codes ") "
 
 abbrev pub asked_text : List ℕ → SubKind → Option Expr → List ℕ → List ℕ
-asked_text prefix kind tested q = asked_front kind ++ (tested_text prefix kind tested ++ (asked_middle kind ++ (q ++ asked_back kind)))
+asked_text prefix kind tested q = asking_text prefix kind tested ++ (q ++ asked_back kind)
 
 -- ---- queries
 
 abbrev mutual
   pub query_bytes : List TableNames → List ℕ → Naming → Query → List ℕ
   query_bytes tables prefix out (Table id kinds) = table_text out (names_of tables id)
-  query_bytes tables prefix out Single = codes "SELECT " ++ unread_text out.prefix (codes "1 ") 0
+  query_bytes tables prefix out Single = single_text out.prefix
   query_bytes tables prefix out (BaseOf input places label) = query_bytes tables prefix out input
   query_bytes tables prefix out (FilterOf input condition _ subs) =
-      select_text prefix out (width_of input) ++ (over_text (query_bytes tables prefix (own prefix) input)
-      ++ (codes "WHERE " ++ condition_text prefix (sub_texts tables prefix subs) condition))
+      copied_text prefix out (width_of input) (query_bytes tables prefix (own prefix) input)
+      ++ where_text prefix (sub_texts tables prefix subs) condition
   query_bytes tables prefix out (ProjectOf input items _ subs) =
-      let texts = sub_texts tables prefix subs in
-      codes "SELECT " ++ (projected_text prefix out texts (spare (items_use items) 0 texts) items
-      ++ over_text (query_bytes tables prefix (own prefix) input))
+      projecting_text prefix out (sub_texts tables prefix subs) items ++ over_text (query_bytes tables prefix (own prefix) input)
   query_bytes tables prefix out (JoinOf kind left right condition _ subs) =
-      select_text prefix out (width_of left + width_of right) ++ (over_text (query_bytes tables prefix (own prefix) left)
-      ++ (join_text kind ++ (query_bytes tables prefix (naming prefix (width_of left + 1)) right
-      ++ (codes ") AS \"t2\" ON " ++ condition_text prefix (sub_texts tables prefix subs) condition))))
+      copied_text prefix out (width_of left + width_of right) (query_bytes tables prefix (own prefix) left)
+      ++ (beside_joined kind (query_bytes tables prefix (naming prefix (width_of left + 1)) right)
+      ++ condition_text prefix (sub_texts tables prefix subs) condition)
   query_bytes tables prefix out (ApplyOf kind left right) =
-      select_text prefix out (width_of left + width_of right) ++ (over_text (query_bytes tables prefix (own prefix) left)
-      ++ (lateral_text kind ++ (query_bytes tables (deeper prefix) (naming prefix (width_of left + 1)) right ++ lateral_back kind)))
+      copied_text prefix out (width_of left + width_of right) (query_bytes tables prefix (own prefix) left)
+      ++ beside_lateral kind (query_bytes tables (deeper prefix) (naming prefix (width_of left + 1)) right)
   query_bytes tables prefix out (UnionOf all left right) =
       copied_text prefix out (width_of left) (query_bytes tables prefix (own prefix) left)
       ++ (set_text (codes "UNION ") all ++ copied_text prefix out (width_of right) (query_bytes tables prefix (own prefix) right))
@@ -306,7 +312,7 @@ abbrev mutual
       groups_text prefix out groups aggregates (query_bytes tables prefix (own prefix) input)
   query_bytes tables prefix out (LimitOf input keys count) =
       copied_text prefix out (width_of input) (query_bytes tables prefix (own prefix) input)
-      ++ (order_text keys (width_of input) ++ (codes "LIMIT " ++ number_text count))
+      ++ limited_text keys (width_of input) count
   query_bytes tables prefix out (ProvOf input) = query_bytes tables prefix out input
 
   pub sub_texts : List TableNames → List ℕ → {m : _} → Row_of-Sublink m → List (List ℕ)
@@ -324,10 +330,12 @@ subs_texts tables prefix subs = map (sub_text tables prefix) subs
 
 -- ---- answers
 
+abbrev pub called_item : ℕ → List ℕ → List ℕ
+called_item number name = comma number ++ (reference_text outermost 0 (number + 1) ++ (codes "AS " ++ name_text name))
+
 abbrev pub called_items : ℕ → List (List ℕ) → List ℕ
 called_items number [] = []
-called_items number (name ∷ names) =
-    comma number ++ (reference_text outermost 0 (number + 1) ++ (codes "AS " ++ (name_text name ++ called_items (number + 1) names)))
+called_items number (name ∷ names) = called_item number name ++ called_items (number + 1) names
 
 abbrev pub answer_bytes : List TableNames → Query → List (List ℕ) → List Key → List ℕ
 answer_bytes tables q names keys =

@@ -2,13 +2,13 @@
 #![tactic(auto)]
 
 mod clauses;
-mod draft;
-mod expressions;
+mod counts;
+mod frame;
+mod groups;
 mod lists;
-mod operators;
 mod queries;
+mod sublinks;
 mod tables;
-mod uses;
 mod words;
 
 pub use queries::query_text;

@@ -1,65 +1,83 @@
 //! Words of SQL, each with a blank behind it.
-ghost use Rattle.std.specs.Prelude.{◌≡◌, length};
-ghost use Rattle.query_texts.specs.Words.{kind_text, truth_text, compare_text, chain_word, unless_none};
+ghost use Rattle.std.specs.Prelude.{◌≡◌};
+ghost use Rattle.query_texts.specs.QueryTexts.{all_text, any_text, asked_back, direction_text, join_text, lateral_back, lateral_text};
 
-use null_logic::{Arith, Compare};
-use perm_values::Kind;
+use bag_algebra::{JoinKind, SubKind};
+use null_logic::Compare;
 
-pub(crate) fn kind_text(kind: Kind) -> &'static [u8]
-    ensures { result.now ≡ kind_text kind }
+pub(crate) fn join_text(kind: JoinKind) -> &'static [u8]
+    ensures { result.now ≡ join_text kind }
 {
     match kind {
-        Kind::Integer => b"BIGINT ",
-        Kind::Text => b"TEXT ",
-        Kind::Boolean => b"BOOLEAN ",
+        JoinKind::Inner => b"JOIN ( ",
+        JoinKind::Left => b"LEFT JOIN ( ",
+        JoinKind::Right => b"RIGHT JOIN ( ",
+        JoinKind::Full => b"FULL JOIN ( ",
     }
 }
 
-pub(crate) fn truth_text(truth: bool) -> &'static [u8]
-    ensures { result.now ≡ truth_text truth }
+pub(crate) fn lateral_text(kind: JoinKind) -> &'static [u8]
+    ensures { result.now ≡ lateral_text kind }
 {
-    if truth { b"TRUE " } else { b"FALSE " }
+    match kind {
+        JoinKind::Inner => b"CROSS JOIN LATERAL ( ",
+        JoinKind::Left => b"LEFT JOIN LATERAL ( ",
+        JoinKind::Right => b"CROSS JOIN LATERAL ( ",
+        JoinKind::Full => b"CROSS JOIN LATERAL ( ",
+    }
 }
 
-pub(crate) fn compare_text(compare: Compare) -> &'static [u8]
-    ensures { result.now ≡ compare_text compare }
+pub(crate) fn lateral_back(kind: JoinKind) -> &'static [u8]
+    ensures { result.now ≡ lateral_back kind }
+{
+    match kind {
+        JoinKind::Inner => b") AS \"t2\" ",
+        JoinKind::Left => b") AS \"t2\" ON TRUE ",
+        JoinKind::Right => b") AS \"t2\" ",
+        JoinKind::Full => b") AS \"t2\" ",
+    }
+}
+
+pub(crate) fn any_text(compare: Compare) -> &'static [u8]
+    ensures { result.now ≡ any_text compare }
 {
     match compare {
-        Compare::Equal => b"= ",
-        Compare::NotEqual => b"<> ",
-        Compare::Less => b"< ",
-        Compare::LessEqual => b"<= ",
-        Compare::Greater => b"> ",
-        Compare::GreaterEqual => b">= ",
+        Compare::Equal => b"IN ( ",
+        Compare::NotEqual => b"<> ANY ( ",
+        Compare::Less => b"< ANY ( ",
+        Compare::LessEqual => b"<= ANY ( ",
+        Compare::Greater => b"> ANY ( ",
+        Compare::GreaterEqual => b">= ANY ( ",
     }
 }
 
-/// An operation of a chain, whose level is given.
-pub(crate) fn chain_word(additive: bool, op: Arith) -> &'static [u8]
-    ensures { result.now ≡ chain_word additive op }
+pub(crate) fn all_text(compare: Compare) -> &'static [u8]
+    ensures { result.now ≡ all_text compare }
 {
-    if additive {
-        match op {
-            Arith::Add => b"+ ",
-            Arith::Subtract => b"- ",
-            Arith::Multiply => b"- ",
-            Arith::Divide => b"- ",
-            Arith::Remainder => b"- ",
-        }
-    } else {
-        match op {
-            Arith::Add => b"* ",
-            Arith::Subtract => b"* ",
-            Arith::Multiply => b"* ",
-            Arith::Divide => b"/ ",
-            Arith::Remainder => b"% ",
-        }
+    match compare {
+        Compare::Equal => b"= ALL ( ",
+        Compare::NotEqual => b"NOT IN ( ",
+        Compare::Less => b"< ALL ( ",
+        Compare::LessEqual => b"<= ALL ( ",
+        Compare::Greater => b"> ALL ( ",
+        Compare::GreaterEqual => b">= ALL ( ",
     }
 }
 
-/// A word that stands there unless there is nothing to stand beside it.
-pub(crate) fn unless_none(count: usize, word: &[u8]) -> &[u8]
-    ensures { result.now ≡ unless_none count word.now }
+/// What stands behind the query of a sublink.
+pub(crate) fn asked_back(kind: SubKind) -> &'static [u8]
+    ensures { result.now ≡ asked_back kind }
 {
-    if count == 0 { b"" } else { word }
+    match kind {
+        SubKind::Exists => b") ",
+        SubKind::Any(_) => b") ) ",
+        SubKind::All(_) => b") ) ",
+        SubKind::Scalar => b") ",
+    }
+}
+
+pub(crate) fn direction_text(descending: bool) -> &'static [u8]
+    ensures { result.now ≡ direction_text descending }
+{
+    if descending { b"DESC " } else { b"" }
 }
