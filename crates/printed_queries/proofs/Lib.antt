@@ -1,0 +1,3 @@
+pub mod AskedNumbers
+pub mod PrintedValues
+pub mod TakenAnswers
