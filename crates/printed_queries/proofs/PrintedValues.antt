@@ -34,7 +34,7 @@ use Rattle.printed_queries.specs.Writable.{Writable, WritableParts, WritableStep
 
 -- ---- answers
 
-answered-rest : (read given : List Value) (n : ℕ) (first more : List ℕ) → Answered read given n (first ++ more)
+pub answered-rest : (read given : List Value) (n : ℕ) (first more : List ℕ) → Answered read given n (first ++ more)
     → Answered read given n first × Answered read given (n + length first) more
 answered-rest read given n [] more a =
     let none : n ≡ n + 0 = omega arith in
