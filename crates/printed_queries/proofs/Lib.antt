@@ -1,0 +1,9 @@
+pub mod AskedNumbers
+pub mod MarkedBags
+pub mod PrintedValues
+pub mod ReadSublinks
+pub mod RelatedOutcomes
+pub mod ShownNodes
+pub mod ShownRows
+pub mod ShownSets
+pub mod TakenAnswers
