@@ -3,7 +3,9 @@ pub mod MarkedBags
 pub mod PrintedValues
 pub mod ReadSublinks
 pub mod RelatedOutcomes
+pub mod ShownGroups
 pub mod ShownNodes
+pub mod ShownQueries
 pub mod ShownRows
 pub mod ShownSets
 pub mod TakenAnswers

@@ -1,6 +1,7 @@
 -- Conditions and items with their sublinks, as their text is read.
 use Rattle.std.proofs.Common.{◌≡◌, ℕ, zero, suc, ◌+◌, ◌<◌, Bool, true, false, ◌||◌, List, [], ◌∷◌, ◌++◌, length, map, pos, refl, sym, ap, subst, ◌∙◌, arith}
 use Rattle.std.specs.Prelude.{slice_index_or}
+use Rattle.std.proofs.lemmas.List.{length-map}
 use Rattle.perm_values.specs.Rows.{value_at}
 use Rattle.perm_values.specs.declared.kind.Kind.{Kind}
 use Rattle.perm_values.specs.declared.kind.Kind.TheVariants as kinds
@@ -27,8 +28,20 @@ use Rattle.printed_queries.specs.Writable.{Writable, WritableItems}
 use Rattle.printed_queries.proofs.AskedNumbers.{asks, Below, asks-append, below-append, uses-asked, asked-below, idle-asks, idle-below}
 use Rattle.printed_queries.proofs.PrintedValues.{answered-rest, beside-value, value-printed}
 use Rattle.printed_queries.proofs.RelatedOutcomes.{AlikeOutcomes}
-use Rattle.printed_queries.proofs.ShownRows.{Shown}
+use Rattle.printed_queries.proofs.ShownRows.{Shown, WideRow, wide-next}
 use Rattle.printed_queries.proofs.TakenAnswers.{Answers, answer_at, looked_at, taken-answers, answered-taken}
+
+-- ---- without sublinks
+
+none_below : (numbers : List ℕ) → Below 0 numbers → numbers ≡ []
+none_below [] below = refl
+none_below (number ∷ numbers) below = absurd (omega (arith, below.0))
+
+pub value-alone : (scopes : List (List Kind)) (unread : List ℕ) (u v : Row) (env other : List Row) → Carries scopes unread (u ∷ env) (v ∷ other)
+    → (part : Expr) (kind : Kind) → HasKind scopes [] part kind → Writable part → value (printed_expr unread 0 part) v other [] ≡ value part u env []
+value-alone scopes unread u v env other carried part kind h w =
+    let none = none_below (asked_in part) (asked-below scopes [] part kind h) in
+    value-printed scopes [] unread u v env other carried [] [] part kind 0 h w (subst (Answered [] [] 0) (sym none) tt)
 
 -- ---- the answers of sublinks
 
@@ -50,10 +63,6 @@ module _ (db : Database) (env : List Row) (u : Row) where
   listed-looked : (subs : List Sublink) → (subs_denote subs db env).answers u ≡ looked_at (map (sublink_value db env u) subs)
   listed-looked [] = refl
   listed-looked (sub ∷ subs) = ap (both (λ v vs. v ∷ vs) (sublink_value db env u sub)) (listed-looked subs)
-
-length-map : {X Y : Type 0} (f : X → Y) (xs : List X) → length (map f xs) ≡ length xs
-length-map f [] = refl
-length-map f (x ∷ xs) = ap suc (length-map f xs)
 
 module _ (f : Sublink → Outcome Value) where
   at-map : (subs : List Sublink) (number : ℕ) → number < length subs → f (slice_index_or subs number nothing_asked) ≡ answer_at (map f subs) number
@@ -96,16 +105,6 @@ and_then-mapped : {X Y Z : Type 0} (h : X → Y) (f : X → Outcome Z) (g : Y �
 and_then-mapped h f g same (Good x) = same x
 and_then-mapped h f g same (Bad k) = refl
 
-abbrev pub WideRow : ℕ → Outcome Row → Type 0
-WideRow width (Good row) = length row ≡ width
-WideRow width (Bad f) = Unit {0}
-
-wide-next : (width : ℕ) (o : Outcome Value) (p : Outcome Row) → WideRow width p → WideRow (suc width) (both (λ v vs. v ∷ vs) o p)
-wide-next width (Good v) (Good row) w = ap suc w
-wide-next width (Good v) (Bad g) w = tt
-wide-next width (Bad f) (Good row) w = tt
-wide-next width (Bad f) (Bad g) w = tt
-
 wide-each : (f : Item → Outcome Value) (items : List Item) → WideRow (length items) (each f items)
 wide-each f [] = refl
 wide-each f (item ∷ items) = wide-next (length items) (f item) (each f items) (wide-each f items)
@@ -129,7 +128,7 @@ module _ (db : Database) (scopes : List (List Kind)) (unread : List ℕ) (u v : 
     (same : map (sublink_value db other v) asked ≡ answers_of db env u subs) where
 
   count_is : length asked ≡ length (sub_kinds subs)
-  count_is = sym (length-map (sublink_value db other v) asked) ∙ ap length same ∙ length-answers db env u subs
+  count_is = sym (length-map asked (sublink_value db other v)) ∙ ap length same ∙ length-answers db env u subs
 
   answers-read : (first numbers : List ℕ) → Below (length asked) (first ++ numbers)
       → ((number : ℕ) → number < length asked → asks (first ++ numbers) number ≡ true)
@@ -138,7 +137,7 @@ module _ (db : Database) (scopes : List (List Kind)) (unread : List ℕ) (u v : 
   answers-read first numbers below all =
       let f = sublink_value db other v in
       let os = answers_of db env u subs in
-      let count : length asked ≡ length os = sym (length-map f asked) ∙ ap length same in
+      let count : length asked ≡ length os = sym (length-map asked f) ∙ ap length same in
       listed-looked db other v (taken asked (first ++ numbers))
       ∙ ap looked_at (taken-values f asked (first ++ numbers) below)
       ∙ ap (λ as. looked_at (map (answer_at as) (first ++ numbers))) same
@@ -219,7 +218,7 @@ module _ (db : Database) (scopes : List (List Kind)) (unread : List ℕ) (u v : 
           ∙ and_then-mapped (λ vs. map (value_at vs) (first ++ asked_by all)) own printed
           (λ vs. first-read vs (map (value_at vs) (first ++ asked_by all)) item items (length first) form w (answered-taken vs first (asked_by all)))
           given in
-      let wide = subst (λ n. WideRow n (and_then given own)) (sym (length-map (λ (item : Item). item.kind) all))
+      let wide = subst (λ n. WideRow n (and_then given own)) (sym (length-map all (λ (item : Item). item.kind)))
           (wide-after (length all) own (λ vs. wide-each (λ (item : Item). value item.expr u env vs) all) given) in
       subst (AlikeOutcomes (Shown (map (λ (item : Item). item.kind) all)) (and_then given own)) (sym read)
       (same-shown item.kind (map (λ (item : Item). item.kind) items) (and_then given own) wide)

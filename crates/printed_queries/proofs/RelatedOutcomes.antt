@@ -1,13 +1,14 @@
 -- Outcomes that are alike: good ones where what they give is related, bad ones where their faults are the same.
-use Rattle.std.proofs.Common.{◌≡◌, List, [], ◌∷◌, ◌++◌}
+use Rattle.std.proofs.Common.{◌≡◌, Bool, true, false, cond, ◌||◌, List, [], ◌∷◌, ◌++◌, map, filter, refl, sym, subst}
+use Rattle.std.specs.List.{list_any}
 use Rattle.bag_algebra.specs.Outcome.{Outcome, Good, Bad, union, and_then, mapped, both, both_then, gather, each}
 
 -- item by item
 abbrev pub Along : {A B : Type 0} → (A → B → Type 0) → List A → List B → Type 0
 Along R [] [] = Unit {0}
 Along R [] (b ∷ bs) = ⊥
-Along R (a ∷ as) [] = ⊥
-Along R (a ∷ as) (b ∷ bs) = R a b × Along R as bs
+Along R (a ∷ xs) [] = ⊥
+Along R (a ∷ xs) (b ∷ bs) = R a b × Along R xs bs
 
 abbrev pub AlikeOutcomes : {A B : Type 0} → (A → B → Type 0) → Outcome A → Outcome B → Type 0
 AlikeOutcomes R (Good a) (Good b) = R a b
@@ -15,12 +16,60 @@ AlikeOutcomes R (Good a) (Bad g) = ⊥
 AlikeOutcomes R (Bad f) (Good b) = ⊥
 AlikeOutcomes R (Bad f) (Bad g) = f ≡ g
 
-pub along-append : {A B : Type 0} (R : A → B → Type 0) (as more : List A) (bs others : List B) → Along R as bs → Along R more others
-    → Along R (as ++ more) (bs ++ others)
+pub along-append : {A B : Type 0} (R : A → B → Type 0) (xs more : List A) (bs others : List B) → Along R xs bs → Along R more others
+    → Along R (xs ++ more) (bs ++ others)
 along-append R [] more [] others r s = s
 along-append R [] more (b ∷ bs) others r s = absurd r
-along-append R (a ∷ as) more [] others r s = absurd r
-along-append R (a ∷ as) more (b ∷ bs) others r s = (r.0, along-append R as more bs others r.1 s)
+along-append R (a ∷ xs) more [] others r s = absurd r
+along-append R (a ∷ xs) more (b ∷ bs) others r s = (r.0, along-append R xs more bs others r.1 s)
+
+-- ---- lists
+
+module _ {A B : Type 0} (R : A → B → Type 0) where
+  pub along-cond : (b : Bool) (xs : List A) (bs : List B) → Along R xs bs → Along R (cond b xs []) (cond b bs [])
+  along-cond true xs bs r = r
+  along-cond false xs bs r = tt
+
+  pub along-kept : (S : A → B → Type 0) → ((a : A) (b : B) → R a b → S a b) → (xs : List A) (bs : List B) → Along R xs bs → Along S xs bs
+  along-kept S turned [] [] r = tt
+  along-kept S turned [] (b ∷ bs) r = absurd r
+  along-kept S turned (a ∷ xs) [] r = absurd r
+  along-kept S turned (a ∷ xs) (b ∷ bs) r = (turned a b r.0, along-kept S turned xs bs r.1)
+
+  pub along-map : {X Y : Type 0} (S : X → Y → Type 0) (f : A → X) (g : B → Y) → ((a : A) (b : B) → R a b → S (f a) (g b)) → (xs : List A) (bs : List B)
+      → Along R xs bs → Along S (map f xs) (map g bs)
+  along-map S f g turned [] [] r = tt
+  along-map S f g turned [] (b ∷ bs) r = absurd r
+  along-map S f g turned (a ∷ xs) [] r = absurd r
+  along-map S f g turned (a ∷ xs) (b ∷ bs) r = (turned a b r.0, along-map S f g turned xs bs r.1)
+
+  module _ (test : A → Bool) (other : B → Bool) (same : (a : A) (b : B) → R a b → other b ≡ test a) where
+    pub any-along : (xs : List A) (bs : List B) → Along R xs bs → list_any other bs ≡ list_any test xs
+    any-along [] [] r = refl
+    any-along [] (b ∷ bs) r = absurd r
+    any-along (a ∷ xs) [] r = absurd r
+    any-along (a ∷ xs) (b ∷ bs) r = λ i. same a b r.0 i || any-along xs bs r.1 i
+
+    either-along : (x : Bool) (a : A) (b : B) (xs : List A) (bs : List B) → R a b → Along R xs bs → Along R (cond x (a ∷ xs) xs) (cond x (b ∷ bs) bs)
+    either-along true a b xs bs r s = (r, s)
+    either-along false a b xs bs r s = s
+
+    pub filter-along : (xs : List A) (bs : List B) → Along R xs bs → Along R (filter test xs) (filter other bs)
+    filter-along [] [] r = tt
+    filter-along [] (b ∷ bs) r = absurd r
+    filter-along (a ∷ xs) [] r = absurd r
+    filter-along (a ∷ xs) (b ∷ bs) r =
+        subst (λ x. Along R (cond (test a) (a ∷ filter test xs) (filter test xs)) (cond x (b ∷ filter other bs) (filter other bs))) (sym (same a b r.0))
+        (either-along (test a) a b (filter test xs) (filter other bs) r.0 (filter-along xs bs r.1))
+
+-- ---- outcomes
+
+pub alike-kept : {A B : Type 0} (R S : A → B → Type 0) → ((a : A) (b : B) → R a b → S a b) → (o : Outcome A) (p : Outcome B) → AlikeOutcomes R o p
+    → AlikeOutcomes S o p
+alike-kept R S turned (Good a) (Good b) r = turned a b r
+alike-kept R S turned (Good a) (Bad g) r = absurd r
+alike-kept R S turned (Bad f) (Good b) r = absurd r
+alike-kept R S turned (Bad f) (Bad g) r = r
 
 module _ {A B X Y : Type 0} (R : A → B → Type 0) (S : X → Y → Type 0) where
   pub alike-mapped : (f : A → X) (g : B → Y) → ((a : A) (b : B) → R a b → S (f a) (g b)) → (o : Outcome A) (p : Outcome B)
@@ -69,20 +118,20 @@ module _ {A B C D X Y : Type 0} (R : A → B → Type 0) (T : C → D → Type 0
 
 module _ {A B X Y : Type 0} (R : A → B → Type 0) (S : X → Y → Type 0) where
   pub alike-each : (f : A → Outcome X) (g : B → Outcome Y) → ((a : A) (b : B) → R a b → AlikeOutcomes S (f a) (g b))
-      → (as : List A) (bs : List B) → Along R as bs → AlikeOutcomes (Along S) (each f as) (each g bs)
+      → (xs : List A) (bs : List B) → Along R xs bs → AlikeOutcomes (Along S) (each f xs) (each g bs)
   alike-each f g turned [] [] r = tt
   alike-each f g turned [] (b ∷ bs) r = absurd r
-  alike-each f g turned (a ∷ as) [] r = absurd r
-  alike-each f g turned (a ∷ as) (b ∷ bs) r =
+  alike-each f g turned (a ∷ xs) [] r = absurd r
+  alike-each f g turned (a ∷ xs) (b ∷ bs) r =
       alike-both S (Along S) (Along S) (λ x xs. x ∷ xs) (λ y ys. y ∷ ys) (λ x y xs ys s more. (s, more))
-      (f a) (g b) (each f as) (each g bs) (turned a b r.0) (alike-each f g turned as bs r.1)
+      (f a) (g b) (each f xs) (each g bs) (turned a b r.0) (alike-each f g turned xs bs r.1)
 
   pub alike-gather : (f : A → Outcome (List X)) (g : B → Outcome (List Y)) → ((a : A) (b : B) → R a b → AlikeOutcomes (Along S) (f a) (g b))
-      → (as : List A) (bs : List B) → Along R as bs → AlikeOutcomes (Along S) (gather f as) (gather g bs)
+      → (xs : List A) (bs : List B) → Along R xs bs → AlikeOutcomes (Along S) (gather f xs) (gather g bs)
   alike-gather f g turned [] [] r = tt
   alike-gather f g turned [] (b ∷ bs) r = absurd r
-  alike-gather f g turned (a ∷ as) [] r = absurd r
-  alike-gather f g turned (a ∷ as) (b ∷ bs) r =
+  alike-gather f g turned (a ∷ xs) [] r = absurd r
+  alike-gather f g turned (a ∷ xs) (b ∷ bs) r =
       alike-both (Along S) (Along S) (Along S) (λ xs more. xs ++ more) (λ ys more. ys ++ more)
       (λ xs ys more others s t. along-append S xs more ys others s t)
-      (f a) (g b) (gather f as) (gather g bs) (turned a b r.0) (alike-gather f g turned as bs r.1)
+      (f a) (g b) (gather f xs) (gather g bs) (turned a b r.0) (alike-gather f g turned xs bs r.1)

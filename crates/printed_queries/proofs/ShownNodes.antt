@@ -1,49 +1,18 @@
 -- Nodes over rows that are shown by others: filters and joins.
-use Rattle.std.proofs.Common.{◌≡◌, ℕ, zero, suc, ◌+◌, ◌<◌, Bool, true, false, cond, ◌||◌, not, List, [], ◌∷◌, ◌++◌, length, map, filter, refl, sym, ap, subst, ◌∙◌, arith}
+use Rattle.std.proofs.Common.{◌≡◌, ℕ, zero, suc, ◌+◌, ◌<◌, Bool, true, false, cond, not, List, [], ◌∷◌, ◌++◌, length, length-append, map, refl, sym, ap, subst, ◌∙◌, arith}
+use Rattle.std.proofs.lemmas.List.{get_or_append_left}
 use Rattle.std.specs.List.{list_any}
 use Rattle.perm_values.specs.Rows.{value_at}
 use Rattle.perm_values.specs.declared.kind.Kind.{Kind}
 use Rattle.perm_values.specs.declared.value.Value.{Value}
+use Rattle.perm_values.specs.declared.value.Value.TheVariants.{Null}
 use Rattle.bag_algebra.specs.Bags.{Row, Bag, nulls}
 use Rattle.bag_algebra.specs.Means.{holds_of, kept, is_met, keeps_left, keeps_right, unmatched_left, unmatched_right, met_pairs, joined_rows, under}
 use Rattle.bag_algebra.specs.Outcome.{Outcome, Good, Bad, and_then, mapped, gather}
 use Rattle.bag_algebra.specs.declared.query.JoinKind.{JoinKind}
 use Rattle.printed_queries.specs.Printed.{unread_of}
-use Rattle.printed_queries.proofs.RelatedOutcomes.{Along, AlikeOutcomes, along-append, alike-mapped, alike-and_then, alike-gather}
-use Rattle.printed_queries.proofs.ShownRows.{Shown, Faces, shown-faces, shown-length}
-
--- ---- lists
-
-module _ {A B : Type 0} (R : A → B → Type 0) where
-  along-cond : (b : Bool) (as : List A) (bs : List B) → Along R as bs → Along R (cond b as []) (cond b bs [])
-  along-cond true as bs r = r
-  along-cond false as bs r = tt
-
-  along-map : {X Y : Type 0} (S : X → Y → Type 0) (f : A → X) (g : B → Y) → ((a : A) (b : B) → R a b → S (f a) (g b)) → (as : List A) (bs : List B)
-      → Along R as bs → Along S (map f as) (map g bs)
-  along-map S f g turned [] [] r = tt
-  along-map S f g turned [] (b ∷ bs) r = absurd r
-  along-map S f g turned (a ∷ as) [] r = absurd r
-  along-map S f g turned (a ∷ as) (b ∷ bs) r = (turned a b r.0, along-map S f g turned as bs r.1)
-
-  module _ (test : A → Bool) (other : B → Bool) (same : (a : A) (b : B) → R a b → other b ≡ test a) where
-    any-along : (as : List A) (bs : List B) → Along R as bs → list_any other bs ≡ list_any test as
-    any-along [] [] r = refl
-    any-along [] (b ∷ bs) r = absurd r
-    any-along (a ∷ as) [] r = absurd r
-    any-along (a ∷ as) (b ∷ bs) r = λ i. same a b r.0 i || any-along as bs r.1 i
-
-    either-along : (x : Bool) (a : A) (b : B) (as : List A) (bs : List B) → R a b → Along R as bs → Along R (cond x (a ∷ as) as) (cond x (b ∷ bs) bs)
-    either-along true a b as bs r s = (r, s)
-    either-along false a b as bs r s = s
-
-    filter-along : (as : List A) (bs : List B) → Along R as bs → Along R (filter test as) (filter other bs)
-    filter-along [] [] r = tt
-    filter-along [] (b ∷ bs) r = absurd r
-    filter-along (a ∷ as) [] r = absurd r
-    filter-along (a ∷ as) (b ∷ bs) r =
-        subst (λ x. Along R (cond (test a) (a ∷ filter test as) (filter test as)) (cond x (b ∷ filter other bs) (filter other bs))) (sym (same a b r.0))
-        (either-along (test a) a b (filter test as) (filter other bs) r.0 (filter-along as bs r.1))
+use Rattle.printed_queries.proofs.RelatedOutcomes.{Along, AlikeOutcomes, along-append, along-cond, along-map, any-along, filter-along, alike-mapped, alike-and_then, alike-gather}
+use Rattle.printed_queries.proofs.ShownRows.{Shown, shown_width, Faces, shown-faces, shown-length}
 
 -- ---- what a condition keeps
 
@@ -69,20 +38,6 @@ filter-alike kinds f g same o p s =
 
 -- ---- rows beside rows
 
-length-append : {X : Type 0} (xs ys : List X) → length (xs ++ ys) ≡ length xs + length ys
-length-append [] ys = let none : length ys ≡ 0 + length ys = omega arith in none
-length-append (x ∷ xs) ys = let next : suc (length xs + length ys) ≡ suc (length xs) + length ys = omega arith in ap suc (length-append xs ys) ∙ next
-
-value_at-first : (u w : Row) (place : ℕ) → place < length u → value_at (u ++ w) place ≡ value_at u place
-value_at-first [] w place h = absurd (omega (arith, h))
-value_at-first (x ∷ u) w zero h = refl
-value_at-first (x ∷ u) w (suc place) h = value_at-first u w place (omega (arith, h))
-
--- how many columns stand for these
-abbrev pub shown_width : List Kind → ℕ
-shown_width [] = 1
-shown_width (kind ∷ kinds) = length (kind ∷ kinds)
-
 length-nulls : (n : ℕ) → length (nulls n) ≡ n
 length-nulls zero = refl
 length-nulls (suc n) = ap suc (length-nulls n)
@@ -100,7 +55,7 @@ beside-faces kind left [] u w x wide s = record {
   there = λ place h.
       let own : 0 + place ≡ place = omega arith in
       let below : place < length u = omega (arith, h, wide, length-append (kind ∷ left) []) in
-      ap (value_at (u ++ x)) own ∙ value_at-first u x place below ∙ sym (value_at-first u w place below);
+      ap (value_at (u ++ x)) own ∙ get_or_append_left u x Null place below ∙ sym (get_or_append_left u w Null place below);
 }
 beside-faces kind left (first ∷ right) u w x wide s = record {
   wide = length-append u w ∙ (λ i. wide i + s.1 i) ∙ sym (length-append (kind ∷ left) (first ∷ right));

@@ -3,6 +3,7 @@ use Rattle.std.proofs.Common.{◌≡◌, ℕ, zero, suc, ◌+◌, ◌<◌, Bool,
 use Rattle.std.specs.List.{list_any}
 use Rattle.perm_values.specs.Rows.{same_row, value_at}
 use Rattle.perm_values.specs.declared.kind.Kind.{Kind}
+use Rattle.perm_values.specs.declared.kind.Kind.TheVariants as kinds
 use Rattle.perm_values.specs.declared.value.Value.{Value}
 use Rattle.perm_values.specs.declared.value.Value.TheVariants.{Integer}
 use Rattle.bag_algebra.specs.Bags.{Row, Bag}
@@ -25,6 +26,14 @@ abbrev pub Shown : List Kind → Row → Row → Type 0
 Shown [] u v = (u ≡ []) × (length v ≡ 1)
 Shown (kind ∷ kinds) u v = (v ≡ u) × (length u ≡ length (kind ∷ kinds))
 
+-- the kinds of the columns that stand for these
+abbrev pub shown_kinds : List Kind → List Kind
+shown_kinds [] = kinds.Integer ∷ []
+shown_kinds (kind ∷ more) = kind ∷ more
+
+abbrev pub shown_width : List Kind → ℕ
+shown_width kinds = length (shown_kinds kinds)
+
 -- the row's values stand in the other row from a place on
 pub record Faces (kinds : List Kind) (start : ℕ) (u v : Row) : Type 0 where
   pub wide : length u ≡ length kinds
@@ -36,6 +45,19 @@ shown-faces (kind ∷ kinds) u v s = record {
   wide = s.1;
   there = λ place h. let none : 0 + place ≡ place = omega arith in ap (value_at v) none ∙ ap (λ w. value_at w place) s.0;
 }
+
+pub faces-itself : (kinds : List Kind) (u : Row) → length u ≡ length kinds → Faces kinds 0 u u
+faces-itself kinds u wide = record { wide = wide; there = λ place h. let none : 0 + place ≡ place = omega arith in ap (value_at u) none }
+
+-- one row further in
+pub faces-carried : (kinds : List Kind) (start : ℕ) (u v : Row) (scopes : List (List Kind)) (unread : List ℕ) (env other : List Row) → Faces kinds start u v
+    → Carries scopes unread env other → Carries (kinds ∷ scopes) (start ∷ unread) (u ∷ env) (v ∷ other)
+faces-carried kinds start u v scopes unread env other f carried zero place kind h = f.there place (get-below kinds place kind h)
+faces-carried kinds start u v scopes unread env other f carried (suc level) place kind h = carried level place kind h
+
+pub shown-carried : (kinds : List Kind) (u v : Row) (scopes : List (List Kind)) (unread : List ℕ) (env other : List Row) → Shown kinds u v
+    → Carries scopes unread env other → Carries (kinds ∷ scopes) (0 ∷ unread) (u ∷ env) (v ∷ other)
+shown-carried kinds u v scopes unread env other s carried = faces-carried kinds 0 u v scopes unread env other (shown-faces kinds u v s) carried
 
 pub shown-length : (kinds : List Kind) (u v : Row) → Shown kinds u v → length u ≡ length kinds
 shown-length [] u v s = ap length s.0
@@ -111,6 +133,37 @@ Wide width (u ∷ us) = (length u ≡ width) × Wide width us
 abbrev pub WideOutcome : ℕ → Outcome Bag → Type 0
 WideOutcome width (Good us) = Wide width us
 WideOutcome width (Bad f) = Unit {0}
+
+abbrev pub WideRow : ℕ → Outcome Row → Type 0
+WideRow width (Good row) = length row ≡ width
+WideRow width (Bad f) = Unit {0}
+
+pub wide-next : (width : ℕ) (o : Outcome Value) (p : Outcome Row) → WideRow width p → WideRow (suc width) (both (λ v vs. v ∷ vs) o p)
+wide-next width (Good v) (Good row) w = ap suc w
+wide-next width (Good v) (Bad g) w = tt
+wide-next width (Bad f) (Good row) w = tt
+wide-next width (Bad f) (Bad g) w = tt
+
+wide-more : (width : ℕ) (o : Outcome Row) (p : Outcome Bag) → WideRow width o → WideOutcome width p → WideOutcome width (both (λ u us. u ∷ us) o p)
+wide-more width (Good u) (Good us) w x = (w, x)
+wide-more width (Good u) (Bad g) w x = tt
+wide-more width (Bad f) (Good us) w x = tt
+wide-more width (Bad f) (Bad g) w x = tt
+
+-- what is made of each row of a width
+pub wide-rows : (width own : ℕ) (make : Row → Outcome Row) → ((u : Row) → length u ≡ own → WideRow width (make u)) → (us : Bag) → Wide own us
+    → WideOutcome width (each make us)
+wide-rows width own make turned [] w = tt
+wide-rows width own make turned (u ∷ us) w =
+    wide-more width (make u) (each make us) (turned u w.0) (wide-rows width own make turned us w.1)
+
+rows-themselves : (kinds : List Kind) (us : Bag) → Wide (length kinds) us → Along (Faces kinds 0) us us
+rows-themselves kinds [] w = tt
+rows-themselves kinds (u ∷ us) w = (faces-itself kinds u w.0, rows-themselves kinds us w.1)
+
+pub alike-itself : (kinds : List Kind) (o : Outcome Bag) → WideOutcome (length kinds) o → AlikeOutcomes (Along (Faces kinds 0)) o o
+alike-itself kinds (Good us) w = rows-themselves kinds us w
+alike-itself kinds (Bad f) w = refl
 
 pub wide-marked : (kinds : List Kind) (us : Bag) → Wide (length kinds) us → Along (Shown kinds) us (map (mark kinds) us)
 wide-marked kinds [] w = tt

@@ -31,7 +31,7 @@ module _ (width : ℕ) where
   wide-filter test [] w = tt
   wide-filter test (u ∷ us) w = either-wide (test u) u (filter test us) (filter test us) w.0 (wide-filter test us w.1) (wide-filter test us w.1)
 
-  wide-once : (us : Bag) → Wide width us → Wide width (once us)
+  pub wide-once : (us : Bag) → Wide width us → Wide width (once us)
   wide-once [] w = tt
   wide-once (u ∷ us) w = (w.0, wide-filter (λ v. not (same_row u v)) (once us) (wide-once us w.1))
 
@@ -159,15 +159,15 @@ columns-cmp u v (x ∷ xs) (y ∷ ys) start same f g =
     let first : value_at u start ≡ x = ap (value_at u) own ∙ f 0 (omega arith) in
     let second : value_at v start ≡ y = ap (value_at v) own ∙ g 0 (omega arith) in
     let rest = columns-cmp u v xs ys (start + 1) (omega (arith, same))
-        (λ place h. let next : start + 1 + place ≡ start + suc place = omega arith in ap (value_at u) next ∙ f (suc place) (omega (arith, h)))
-        (λ place h. let next : start + 1 + place ≡ start + suc place = omega arith in ap (value_at v) next ∙ g (suc place) (omega (arith, h))) in
+    (λ place h. let next : start + 1 + place ≡ start + suc place = omega arith in ap (value_at u) next ∙ f (suc place) (omega (arith, h)))
+    (λ place h. let next : start + 1 + place ≡ start + suc place = omega arith in ap (value_at v) next ∙ g (suc place) (omega (arith, h))) in
     (λ i. ordering_then (value_cmp (first i) (second i)) (rest i)) ∙ then-then (value_cmp x y) (row_cmp xs ys) (row_cmp u v)
 
 all_keys-cmp : (keys : List Key) (u v : Row) (width : ℕ) → length u ≡ width → length v ≡ width
     → printed_cmp (all_keys width keys) u v ≡ printed_cmp keys u v
 all_keys-cmp [] u v width h k =
     let own : (w : Row) (place : ℕ) → place < length w → value_at w (0 + place) ≡ value_at w place =
-        λ w place b. let none : 0 + place ≡ place = omega arith in ap (value_at w) none in
+    λ w place b. let none : 0 + place ≡ place = omega arith in ap (value_at w) none in
     ap (λ n. printed_cmp (map at_place (range_with_len 0 n)) u v) (sym h)
     ∙ columns-cmp u v u v 0 (h ∙ sym k) (own u) (own v) ∙ then-same (row_cmp u v)
 all_keys-cmp (key ∷ keys) u v width h k = ap (ordering_then (key_cmp key u v)) (all_keys-cmp keys u v width h k)
@@ -214,5 +214,5 @@ limit-alike kinds keys count within (Good us) w =
     let width = length kinds in
     let first = take count (sorted (printed_cmp keys) us) in
     let marked = ap (take count) (sorted-marked (mark kinds) (printed_cmp (all_keys width keys)) (printed_cmp keys) width (marked-cmp kinds keys within) us w)
-        ∙ take-map (mark kinds) count (sorted (printed_cmp keys) us) in
+    ∙ take-map (mark kinds) count (sorted (printed_cmp keys) us) in
     subst (Along (Shown kinds) first) (sym marked) (wide-marked kinds first (wide-take width count (sorted (printed_cmp keys) us) (wide-sorted width (printed_cmp keys) us w)))

@@ -3,4 +3,7 @@
 
 mod laws;
 
-pub use laws::{an_expression_is_read_with_its_value, unused_sublinks_leave_the_value};
+pub use laws::{
+    an_answer_is_read_with_its_rows, an_expression_is_read_with_its_value,
+    unused_sublinks_leave_the_value,
+};
