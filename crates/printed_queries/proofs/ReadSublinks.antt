@@ -126,7 +126,6 @@ same-shown kind more (Bad f) w = refl
 module _ (db : Database) (scopes : List (List Kind)) (unread : List ℕ) (u v : Row) (env other : List Row)
     (carried : Carries scopes unread (u ∷ env) (v ∷ other)) {m : _} (subs : Row_of-Sublink m) (asked : List Sublink)
     (same : map (sublink_value db other v) asked ≡ answers_of db env u subs) where
-
   count_is : length asked ≡ length (sub_kinds subs)
   count_is = sym (length-map asked (sublink_value db other v)) ∙ ap length same ∙ length-answers db env u subs
 
@@ -140,7 +139,7 @@ module _ (db : Database) (scopes : List (List Kind)) (unread : List ℕ) (u v : 
       let count : length asked ≡ length os = sym (length-map asked f) ∙ ap length same in
       listed-looked db other v (taken asked (first ++ numbers))
       ∙ ap looked_at (taken-values f asked (first ++ numbers) below)
-      ∙ ap (λ as. looked_at (map (answer_at as) (first ++ numbers))) same
+      ∙ ap (λ found. looked_at (map (answer_at found) (first ++ numbers))) same
       ∙ taken-answers os (first ++ numbers) (subst (λ n. Below n (first ++ numbers)) count below)
       (λ number h. all number (subst (λ n. number < n) (sym count) h))
       ∙ ap (mapped (λ vs. map (value_at vs) (first ++ numbers))) (sym (answers-looked db env u subs))
@@ -166,7 +165,7 @@ module _ (db : Database) (scopes : List (List Kind)) (unread : List ℕ) (u v : 
       let count = length first in
       let spares : Below (length asked) first = idle-below (used_in condition) (length asked) 0 (length asked) (omega arith) in
       let known = subst (λ n. Below n numbers) (sym count_is) (asked-below scopes (sub_kinds subs) condition kinds.Boolean h) in
-      ap (λ as. and_then as (value (printed_condition unread asked condition) v other))
+      ap (λ o. and_then o (value (printed_condition unread asked condition) v other))
       (answers-read first numbers (below-append (length asked) first numbers spares known)
       (λ number within. covered (used_in condition) (length asked) numbers number (used_in condition number) refl (uses-asked number condition) within))
       ∙ and_then-mapped (λ vs. map (value_at vs) (first ++ numbers)) (value condition u env) (value (printed_condition unread asked condition) v other)
@@ -203,10 +202,10 @@ module _ (db : Database) (scopes : List (List Kind)) (unread : List ℕ) (u v : 
       let first = idle (items_use []) (length asked) in
       let given = (sub_denote subs db env).answers u in
       let printed = λ vs. each (λ (item : Item). value item.expr v other vs) (first_beside unread (length first) []) in
-      let read = ap (λ as. and_then as printed) (answers-read first [] (all-below [] form) (all-covered []))
-          ∙ and_then-mapped (λ vs. map (value_at vs) (first ++ [])) (λ vs. Good (Integer (pos 1) ∷ [])) printed
-          (λ vs. ap (λ o. both (λ x xs. x ∷ xs) o (Good [])) (beside-value v other (map (value_at vs) (first ++ [])) kinds.Integer (length first) (integer 1)))
-          given in
+      let read = ap (λ o. and_then o printed) (answers-read first [] (all-below [] form) (all-covered []))
+      ∙ and_then-mapped (λ vs. map (value_at vs) (first ++ [])) (λ vs. Good (Integer (pos 1) ∷ [])) printed
+      (λ vs. ap (λ o. both (λ x xs. x ∷ xs) o (Good [])) (beside-value v other (map (value_at vs) (first ++ [])) kinds.Integer (length first) (integer 1)))
+      given in
       subst (AlikeOutcomes (Shown []) (and_then given (λ vs. Good []))) (sym read) (unread-shown given)
   items-shown (item ∷ items) form w =
       let all = item ∷ items in
@@ -214,11 +213,11 @@ module _ (db : Database) (scopes : List (List Kind)) (unread : List ℕ) (u v : 
       let given = (sub_denote subs db env).answers u in
       let own = λ vs. each (λ (item : Item). value item.expr u env vs) all in
       let printed = λ vs. each (λ (item : Item). value item.expr v other vs) (first_beside unread (length first) all) in
-      let read = ap (λ as. and_then as printed) (answers-read first (asked_by all) (all-below all form) (all-covered all))
-          ∙ and_then-mapped (λ vs. map (value_at vs) (first ++ asked_by all)) own printed
-          (λ vs. first-read vs (map (value_at vs) (first ++ asked_by all)) item items (length first) form w (answered-taken vs first (asked_by all)))
-          given in
+      let read = ap (λ o. and_then o printed) (answers-read first (asked_by all) (all-below all form) (all-covered all))
+      ∙ and_then-mapped (λ vs. map (value_at vs) (first ++ asked_by all)) own printed
+      (λ vs. first-read vs (map (value_at vs) (first ++ asked_by all)) item items (length first) form w (answered-taken vs first (asked_by all)))
+      given in
       let wide = subst (λ n. WideRow n (and_then given own)) (sym (length-map all (λ (item : Item). item.kind)))
-          (wide-after (length all) own (λ vs. wide-each (λ (item : Item). value item.expr u env vs) all) given) in
+      (wide-after (length all) own (λ vs. wide-each (λ (item : Item). value item.expr u env vs) all) given) in
       subst (AlikeOutcomes (Shown (map (λ (item : Item). item.kind) all)) (and_then given own)) (sym read)
       (same-shown item.kind (map (λ (item : Item). item.kind) items) (and_then given own) wide)
