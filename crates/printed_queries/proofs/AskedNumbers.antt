@@ -80,7 +80,7 @@ abbrev some_kind : Option Kind → Type 0
 some_kind None = Unit {0}
 some_kind (Some kind) = ⊥
 
-get-below : (xs : List Kind) (place : ℕ) (kind : Kind) → slice_get xs place ≡ Some kind → place < length xs
+pub get-below : (xs : List Kind) (place : ℕ) (kind : Kind) → slice_get xs place ≡ Some kind → place < length xs
 get-below [] place kind e = absurd (subst some_kind e tt)
 get-below (x ∷ xs) zero kind e = omega arith
 get-below (x ∷ xs) (suc place) kind e = omega (arith, get-below xs place kind e)
@@ -143,22 +143,24 @@ module _ (used : ℕ → Bool) where
   kept true limit first more h k = k
   kept false limit first more h k = (h, k)
 
-  -- each number that isn't used is spared
-  mutual
-    pub idle-asks : (count start number : ℕ) → start ≤ number → number < start + count → used number ≡ false
-        → asks (spare used start (range_with_len start count)) number ≡ true
-    idle-asks zero start number low high e = absurd (omega (arith, low, high))
-    idle-asks (suc count) start number low high e = first-or_later count start number (nat_eq start number) refl low high e
+  -- the first number, or one of those behind it
+  first-or_later : (count start number : ℕ) (b : Bool) → nat_eq start number ≡ b → start ≤ number → number < start + suc count → used number ≡ false
+      → (start + 1 ≤ number → number < start + 1 + count → asks (spare used (start + 1) (range_with_len (start + 1) count)) number ≡ true)
+      → asks (spare used start (range_with_len start (suc count))) number ≡ true
+  first-or_later count start number true here low high e later =
+      let same : start ≡ number = grind (arith, nat_tests, here) in
+      own-spared (used start) number start (spare used (start + 1) (range_with_len (start + 1) count)) (ap used same ∙ e) here
+  first-or_later count start number false here low high e later =
+      let apart : start ≢ number = grind (arith, nat_tests, here) in
+      spared (used start) number start (spare used (start + 1) (range_with_len (start + 1) count))
+      (later (omega (arith, low, apart)) (omega (arith, high)))
 
-    first-or_later : (count start number : ℕ) (b : Bool) → nat_eq start number ≡ b → start ≤ number → number < start + suc count → used number ≡ false
-        → asks (spare used start (range_with_len start (suc count))) number ≡ true
-    first-or_later count start number true here low high e =
-        let same : start ≡ number = grind (arith, nat_tests, here) in
-        own-spared (used start) number start (spare used (start + 1) (range_with_len (start + 1) count)) (ap used same ∙ e) here
-    first-or_later count start number false here low high e =
-        let apart : start ≢ number = grind (arith, nat_tests, here) in
-        spared (used start) number start (spare used (start + 1) (range_with_len (start + 1) count))
-        (idle-asks count (start + 1) number (omega (arith, low, apart)) (omega (arith, high)) e)
+  -- each number that isn't used is spared
+  pub idle-asks : (count start number : ℕ) → start ≤ number → number < start + count → used number ≡ false
+      → asks (spare used start (range_with_len start count)) number ≡ true
+  idle-asks zero start number low high e = absurd (omega (arith, low, high))
+  idle-asks (suc count) start number low high e =
+      first-or_later count start number (nat_eq start number) refl low high e (λ l h. idle-asks count (start + 1) number l h e)
 
   -- and each that is spared is below their count
   pub idle-below : (limit start count : ℕ) → start + count ≤ limit → Below limit (spare used start (range_with_len start count))

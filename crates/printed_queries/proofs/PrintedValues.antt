@@ -1,6 +1,7 @@
 -- What the text of an expression is read as has the expression's value.
-use Rattle.std.proofs.Common.{◌≡◌, ℕ, zero, suc, ◌+◌, Bool, true, false, cond, List, [], ◌∷◌, ◌++◌, length, map, pos, negsuc, refl, sym, ap, subst, ◌∙◌, arith}
+use Rattle.std.proofs.Common.{◌≡◌, ℕ, zero, suc, ◌+◌, Bool, true, false, cond, List, [], ◌∷◌, ◌++◌, length, map, pos, negsuc, refl, sym, ap, subst, ◌∙◌, true≢false, arith}
 use Rattle.std.specs.Prelude.{◌==◌, if◌then◌else◌, Ok, Err}
+use Rattle.std.specs.Int.{is_negative}
 use Rattle.std.specs.List.{range_with_len}
 use Rattle.std.proofs.lemmas.Bool.Decides.{nat_tests}
 use Rattle.null_logic.specs.Arithmetic.{fits_64}
@@ -29,7 +30,7 @@ use Rattle.bag_algebra.specs.built.Patterns.{OpOf, ChainOf, CaseOf, IsNullOf, Is
 use Rattle.bag_algebra.specs.declared.expr.Expr.{Expr, Row_of-Expr, Row_of-Arm, Row_of-ChainStep, more_of-Expr, end_of-Expr, more_of-Arm, end_of-Arm, more_of-ChainStep, end_of-ChainStep}
 use Rattle.bag_algebra.specs.declared.expr.Expr.TheVariants.{Col, Lit, Op, Sub, IsNull}
 use Rattle.printed_queries.specs.Carried.{Carries, Answered}
-use Rattle.printed_queries.specs.PrintedExpressions.{asked_in, asked_in_parts, asked_in_steps, asked_in_arms, negative, integer, least, printed_literal, among, first_known, printed_operator, printed_test, printed_expr, printed_parts, printed_steps, printed_arms, never, beside}
+use Rattle.printed_queries.specs.PrintedExpressions.{asked_in, asked_in_parts, asked_in_steps, asked_in_arms, negative, integer, least, printed_integer, printed_literal, among, first_known, printed_operator, printed_test, printed_expr, printed_parts, printed_steps, printed_arms, never, beside}
 use Rattle.printed_queries.specs.Writable.{Writable, WritableParts, WritableSteps, WritableArms, WritableValue}
 
 -- ---- answers
@@ -148,9 +149,13 @@ module _ (u : Row) (env : List Row) (answers : List Value) where
       least-value ∙ ap (λ m. Good (Integer (negsuc m))) same
   below-value n false e fits = negative-value n fits
 
+  pos-value : (n : ℕ) (b : Bool) → b ≡ false → value (printed_integer b n) u env answers ≡ Good (Integer (pos n))
+  pos-value n true e = absurd (true≢false e)
+  pos-value n false e = refl
+
   literal-value : (v : Value) (kind : Kind) → WritableValue v → value (printed_literal v kind) u env answers ≡ Good v
   literal-value Null kind w = refl
-  literal-value (Integer (pos n)) kind w = refl
+  literal-value (Integer (pos n)) kind w = pos-value n (is_negative (pos n)) (grind (arith, nat_tests))
   literal-value (Integer (negsuc n)) kind w = below-value n (suc n == 9223372036854775808) refl w
   literal-value (Text spelled) kind w = refl
   literal-value (Boolean truth) kind w = refl
@@ -261,6 +266,6 @@ module _ (scopes : List (List Kind)) (subs : List Kind) (unread : List ℕ) (u v
         let chosen = answered-rest read given from (asked_in arm) (asked_in_arms arms) tested.1 in
         let later = from + length (asked_in arm) in
         let test = value-printed condition kinds.Boolean n h.condition w.0 tested.0 in
-        let here = value-printed arm kind from h.arm w.1.0 chosen.0 in
-        let rest = arms-printed arms kind later o p h.others w.1.1 chosen.1 e in
+        let here = value-printed arm kind from h.arm w.1 chosen.0 in
+        let rest = arms-printed arms kind later o p h.others w.2 chosen.1 e in
         λ i. chosen_arm (test i) (here i) (rest i)

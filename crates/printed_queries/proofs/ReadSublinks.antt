@@ -201,7 +201,7 @@ module _ (db : Database) (scopes : List (List Kind)) (unread : List ℕ) (u v : 
   items-shown [] form w =
       let first = idle (items_use []) (length asked) in
       let given = (sub_denote subs db env).answers u in
-      let printed = λ vs. each (λ (item : Item). value item.expr v other vs) (first_beside unread (length first) []) in
+      let printed : List Value → Outcome Row = λ vs. each (λ (item : Item). value item.expr v other vs) (first_beside unread (length first) []) in
       let read = ap (λ o. and_then o printed) (answers-read first [] (all-below [] form) (all-covered []))
       ∙ and_then-mapped (λ vs. map (value_at vs) (first ++ [])) (λ vs. Good (Integer (pos 1) ∷ [])) printed
       (λ vs. ap (λ o. both (λ x xs. x ∷ xs) o (Good [])) (beside-value v other (map (value_at vs) (first ++ [])) kinds.Integer (length first) (integer 1)))
@@ -211,8 +211,8 @@ module _ (db : Database) (scopes : List (List Kind)) (unread : List ℕ) (u v : 
       let all = item ∷ items in
       let first = idle (items_use all) (length asked) in
       let given = (sub_denote subs db env).answers u in
-      let own = λ vs. each (λ (item : Item). value item.expr u env vs) all in
-      let printed = λ vs. each (λ (item : Item). value item.expr v other vs) (first_beside unread (length first) all) in
+      let own : List Value → Outcome Row = λ vs. each (λ (item : Item). value item.expr u env vs) all in
+      let printed : List Value → Outcome Row = λ vs. each (λ (item : Item). value item.expr v other vs) (first_beside unread (length first) all) in
       let read = ap (λ o. and_then o printed) (answers-read first (asked_by all) (all-below all form) (all-covered all))
       ∙ and_then-mapped (λ vs. map (value_at vs) (first ++ asked_by all)) own printed
       (λ vs. first-read vs (map (value_at vs) (first ++ asked_by all)) item items (length first) form w (answered-taken vs first (asked_by all)))

@@ -62,7 +62,7 @@ beside-faces kind left (first ∷ right) u w x wide s = record {
   there = λ place h. let own : 0 + place ≡ place = omega arith in ap (value_at (u ++ x)) own ∙ ap (λ y. value_at (u ++ y) place) s.0;
 }
 
-pair-faces : (left right : List Kind) (u v w x : Row) → Shown left u v → Shown right w x → Faces (left ++ right) (unread_of left) (u ++ w) (v ++ x)
+pub pair-faces : (left right : List Kind) (u v w x : Row) → Shown left u v → Shown right w x → Faces (left ++ right) (unread_of left) (u ++ w) (v ++ x)
 pair-faces [] right [] [] w x s r = absurd (omega (arith, s.1))
 pair-faces [] right [] (y ∷ []) w x s r = record {
   wide = shown-length right w x r;

@@ -49,9 +49,9 @@ kinds-listed : (place : ℕ) (kinds : List Kind) → map (λ (item : Item). item
 kinds-listed place [] = refl
 kinds-listed place (kind ∷ kinds) = kinds-columns place (kind ∷ kinds)
 
-kinds-counted : (kinds : List Kind) → map (λ (item : Item). item.kind) (or_unread (column 0 kinds.Integer) (columns_from 0 kinds)) ≡ shown_kinds kinds
+kinds-counted : (all : List Kind) → map (λ (item : Item). item.kind) (or_unread (column 0 kinds.Integer) (columns_from 0 all)) ≡ shown_kinds all
 kinds-counted [] = refl
-kinds-counted (kind ∷ kinds) = kinds-columns 0 (kind ∷ kinds)
+kinds-counted (kind ∷ more) = kinds-columns 0 (kind ∷ more)
 
 kinds-items : (unread : List ℕ) (n : ℕ) (items : List Item)
     → map (λ (item : Item). item.kind) (printed_items unread n items) ≡ map (λ (item : Item). item.kind) items
@@ -364,7 +364,7 @@ module _ (source : ℕ → List Kind → Query) (db : Database) where
         (distinct-alike (kinds_of input) (meaning input db env) (input-wide outer unread env other carried input s)))
     rows-shown (AggregateOf input groups aggregates) outer unread env other form w given carried =
         let own = kinds_of input in
-        let kinds = kinds_in own groups ++ map (λ (aggregate : Aggr). aggregate.kind) aggregates in
+        let all = kinds_in own groups ++ map (λ (aggregate : Aggr). aggregate.kind) aggregates in
         let functions = map (λ (aggregate : Aggr). aggregate.function) aggregates in
         let numbers = or_counted groups (aggregates_from (length groups) aggregates) in
         let listed = or_unread unread_item (grouped own groups ++ arguments (own ∷ outer) (0 ∷ unread) aggregates) in
@@ -372,7 +372,7 @@ module _ (source : ℕ → List Kind → Query) (db : Database) where
         let below = Project first listed [] in
         let classes = Aggregate below (range_with_len 0 (length groups)) numbers in
         let counting = in_classes (range_with_len 0 (length groups)) (map (λ (aggregate : Aggr). aggregate.function) numbers) (arguments_on numbers other) in
-        let given_back = or_unread (column 0 kinds.Integer) (columns_from 0 kinds) in
+        let given_back = or_unread (column 0 kinds.Integer) (columns_from 0 all) in
         let mine = and_then (meaning input db env) (in_classes groups functions (arguments_on aggregates env)) in
         let rows : meaning (AggregateOf input groups aggregates) db env ≡ mine = rows-with_lists _ _ in
         let here = groups-alike own outer unread env other carried groups aggregates form.groups form.aggregates w.1 (meaning input db env) (meaning first db other)
@@ -380,8 +380,8 @@ module _ (source : ℕ → List Kind → Query) (db : Database) where
         let read = meaning-Project db other classes given_back []
         ∙ ap (λ o. and_then o (each (items_values other given_back)))
         (meaning-Aggregate db other below (range_with_len 0 (length groups)) numbers ∙ ap (λ o. and_then o counting) (meaning-Project db other first listed [])) in
-        subst (λ o. AlikeOutcomes (Along (Shown kinds)) o (meaning (Project classes given_back []) db other)) (sym rows)
-        (subst (AlikeOutcomes (Along (Shown kinds)) mine) (sym read) here)
+        subst (λ o. AlikeOutcomes (Along (Shown all)) o (meaning (Project classes given_back []) db other)) (sym rows)
+        (subst (AlikeOutcomes (Along (Shown all)) mine) (sym read) here)
     rows-shown (LimitOf input keys count) outer unread env other form w given carried =
         let s = rows-shown input outer unread env other form.input w given carried in
         let below = copied (kinds_of input) (printed source outer unread input) in

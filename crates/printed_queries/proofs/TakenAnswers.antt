@@ -37,45 +37,49 @@ module _ (test : Outcome Value → Bool) where
   any-at (o ∷ os) zero within e = ap (λ b. b || list_any test os) e
   any-at (o ∷ os) (suc number) within e = ap (λ b. test o || b) (any-at os number (omega (arith, within)) e) ∙ or_true (test o)
 
-  mutual
-    any-where : (os : Answers) → list_any test os ≡ true → (number : ℕ) × (number < length os) × (test (answer_at os number) ≡ true)
-    any-where [] e = absurd (true≢false (sym e))
-    any-where (o ∷ os) e = here-or_there (test o) o os refl e
+  abbrev Somewhere : Answers → Type 0
+  Somewhere os = (number : ℕ) × (number < length os) × (test (answer_at os number) ≡ true)
 
-    here-or_there : (b : Bool) (o : Outcome Value) (os : Answers) → test o ≡ b → (b || list_any test os) ≡ true
-        → (number : ℕ) × (number < length (o ∷ os)) × (test (answer_at (o ∷ os) number) ≡ true)
-    here-or_there true o os here e = (0, (omega arith, here))
-    here-or_there false o os here e = let there = any-where os e in (suc there.0, (omega (arith, there.1.0), there.1.1))
+  here-or_there : (b : Bool) (o : Outcome Value) (os : Answers) → test o ≡ b → (b || list_any test os) ≡ true → (list_any test os ≡ true → Somewhere os)
+      → Somewhere (o ∷ os)
+  here-or_there true o os here e there = (0, omega arith, here)
+  here-or_there false o os here e there = let found = there e in let within = found.1 in (suc found.0, omega (arith, within), found.2)
+
+  any-where : (os : Answers) → list_any test os ≡ true → Somewhere os
+  any-where [] e = absurd (true≢false (sym e))
+  any-where (o ∷ os) e = here-or_there (test o) o os refl e (any-where os)
 
   module _ (os : Answers) where
-    mutual
-      from-taken : (numbers : List ℕ) → Below (length os) numbers → list_any test (map (answer_at os) numbers) ≡ true → list_any test os ≡ true
-      from-taken [] below e = absurd (true≢false (sym e))
-      from-taken (number ∷ numbers) below e = first-or_more (test (answer_at os number)) number numbers refl below e
+    first-or_more : (b : Bool) (number : ℕ) (numbers : List ℕ) → test (answer_at os number) ≡ b → number < length os
+        → (b || list_any test (map (answer_at os) numbers)) ≡ true → (list_any test (map (answer_at os) numbers) ≡ true → list_any test os ≡ true)
+        → list_any test os ≡ true
+    first-or_more true number numbers here within e more = any-at os number within here
+    first-or_more false number numbers here within e more = more e
 
-      first-or_more : (b : Bool) (number : ℕ) (numbers : List ℕ) → test (answer_at os number) ≡ b → Below (length os) (number ∷ numbers)
-          → (b || list_any test (map (answer_at os) numbers)) ≡ true → list_any test os ≡ true
-      first-or_more true number numbers here below e = any-at os number below.0 here
-      first-or_more false number numbers here below e = from-taken numbers below.1 e
+    from-taken : (numbers : List ℕ) → Below (length os) numbers → list_any test (map (answer_at os) numbers) ≡ true → list_any test os ≡ true
+    from-taken [] below e = absurd (true≢false (sym e))
+    from-taken (number ∷ numbers) below e =
+        first-or_more (test (answer_at os number)) number numbers refl below.0 e (from-taken numbers below.1)
 
-    mutual
-      to-taken : (numbers : List ℕ) (number : ℕ) → asks numbers number ≡ true → test (answer_at os number) ≡ true
-          → list_any test (map (answer_at os) numbers) ≡ true
-      to-taken [] number e holds = absurd (true≢false (sym e))
-      to-taken (other ∷ numbers) number e holds = taken-or_later (nat_eq other number) other numbers number refl e holds
+    taken-or_later : (b : Bool) (other : ℕ) (numbers : List ℕ) (number : ℕ) → nat_eq other number ≡ b → (b || asks numbers number) ≡ true
+        → test (answer_at os number) ≡ true → (asks numbers number ≡ true → list_any test (map (answer_at os) numbers) ≡ true)
+        → list_any test (map (answer_at os) (other ∷ numbers)) ≡ true
+    taken-or_later true other numbers number here e holds later =
+        let same : other ≡ number = grind (arith, nat_tests, here) in
+        ap (λ b. b || list_any test (map (answer_at os) numbers)) (ap (λ k. test (answer_at os k)) same ∙ holds)
+    taken-or_later false other numbers number here e holds later =
+        ap (λ b. test (answer_at os other) || b) (later e) ∙ or_true (test (answer_at os other))
 
-      taken-or_later : (b : Bool) (other : ℕ) (numbers : List ℕ) (number : ℕ) → nat_eq other number ≡ b → (b || asks numbers number) ≡ true
-          → test (answer_at os number) ≡ true → list_any test (map (answer_at os) (other ∷ numbers)) ≡ true
-      taken-or_later true other numbers number here e holds =
-          let same : other ≡ number = grind (arith, nat_tests, here) in
-          ap (λ b. b || list_any test (map (answer_at os) numbers)) (ap (λ k. test (answer_at os k)) same ∙ holds)
-      taken-or_later false other numbers number here e holds =
-          ap (λ b. test (answer_at os other) || b) (to-taken numbers number e holds) ∙ or_true (test (answer_at os other))
+    to-taken : (numbers : List ℕ) (number : ℕ) → asks numbers number ≡ true → test (answer_at os number) ≡ true
+        → list_any test (map (answer_at os) numbers) ≡ true
+    to-taken [] number e holds = absurd (true≢false (sym e))
+    to-taken (other ∷ numbers) number e holds =
+        taken-or_later (nat_eq other number) other numbers number refl e holds (λ later. to-taken numbers number later holds)
 
     taken-any : (numbers : List ℕ) → Below (length os) numbers → ((number : ℕ) → number < length os → asks numbers number ≡ true)
         → list_any test (map (answer_at os) numbers) ≡ list_any test os
     taken-any numbers below all = equal_tests (list_any test (map (answer_at os) numbers)) (list_any test os) (from-taken numbers below)
-        (λ e. let found = any-where os e in to-taken numbers found.0 (all found.0 found.1.0) found.1.1)
+        (λ e. let found = any-where os e in to-taken numbers found.0 (all found.0 found.1) found.2)
 
 -- ---- outcomes
 

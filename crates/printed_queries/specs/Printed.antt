@@ -1,12 +1,12 @@
 -- What the text of a query is read as: a query in which each node is a core of its own.
-use Rattle.std.specs.Prelude.{ℕ, suc, ◌+◌, List, [], ◌∷◌, ◌++◌, map, length, Option, Some, None, option_map, slice_index_or, unwrap_or}
+use Rattle.std.specs.Prelude.{ℕ, suc, ◌+◌, Bool, false, List, [], ◌∷◌, ◌++◌, map, length, Option, Some, None, option_map, slice_index_or, unwrap_or}
 use Rattle.std.specs.List.{flat_map, range_with_len}
 use Rattle.null_logic.specs.declared.operator.Operator.{Operator}
 use Rattle.null_logic.specs.declared.operator.Operator.TheVariants as op
 use Rattle.perm_values.specs.declared.key.Key.{Key}
 use Rattle.perm_values.specs.declared.kind.Kind.{Kind}
 use Rattle.perm_values.specs.declared.kind.Kind.TheVariants as kinds
-use Rattle.bag_algebra.specs.Kinds.{kinds_of, kinds_in}
+use Rattle.bag_algebra.specs.Kinds.{kinds_of, kind_in, kinds_in}
 use Rattle.bag_algebra.specs.WellFormed.{column_kind}
 use Rattle.bag_algebra.specs.built.Patterns.{OpOf, ChainOf, CaseOf, IsNullOf, IsTruthOf, SameOf, BaseOf, FilterOf, ProjectOf, JoinOf, ApplyOf, UnionOf, IntersectOf, ExceptOf, DistinctOf, AggregateOf, LimitOf, ProvOf}
 use Rattle.bag_algebra.specs.declared.expr.Expr.{Expr, Row_of-Expr, more_of-Expr, end_of-Expr}
@@ -151,8 +151,8 @@ abbrev pub arguments : List (List Kind) → List ℕ → List Aggr → List Item
 arguments scopes unread aggregates = map (λ (aggregate : Aggr). argument scopes unread aggregate.argument) aggregates
 
 abbrev pub grouped : List Kind → List ℕ → List Item
-grouped kinds [] = []
-grouped kinds (place ∷ places) = column place (slice_index_or kinds place kinds.Text) ∷ grouped kinds places
+grouped below [] = []
+grouped below (place ∷ places) = column place (kind_in below place) ∷ grouped below places
 
 -- COUNT of rows has no argument
 abbrev pub argument_at : AggFn → ℕ → Option Expr

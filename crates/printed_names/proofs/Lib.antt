@@ -1,0 +1,2 @@
+pub mod WorkedTrees
+pub mod WorkedRows
