@@ -14,7 +14,6 @@ use Rattle.null_logic.specs.declared.run_fault.RunFault.TheVariants.{OutOfRange}
 use Rattle.null_logic.specs.declared.operator.Operator.TheVariants as op
 use Rattle.null_logic.specs.declared.truth.Truth.{Truth}
 use Rattle.null_logic.specs.declared.truth.Truth.TheVariants.{True, False, Unknown}
-use Rattle.perm_values.specs.Rows.{value_at}
 use Rattle.perm_values.specs.Values.{same_value}
 use Rattle.perm_values.specs.declared.kind.Kind.{Kind}
 use Rattle.perm_values.specs.declared.kind.Kind.TheVariants as kinds

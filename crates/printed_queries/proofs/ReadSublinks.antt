@@ -19,7 +19,6 @@ use Rattle.bag_algebra.specs.declared.expr.Item.{Item}
 use Rattle.bag_algebra.specs.declared.query.Query.{Row_of-Sublink, more_of-Sublink, end_of-Sublink}
 use Rattle.bag_algebra.specs.declared.query.Sublink.{Sublink}
 use Rattle.bag_algebra.proofs.Truths.{or_true}
-use Rattle.expression_texts.specs.Uses.{uses}
 use Rattle.query_texts.specs.Unused.{used_in, items_use}
 use Rattle.printed_queries.specs.Carried.{Carries, Answered}
 use Rattle.printed_queries.specs.Printed.{idle, idle_in, nothing_asked, taken, printed_condition, condition_subs, asked_by, printed_items, first_beside}

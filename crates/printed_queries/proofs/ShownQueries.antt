@@ -1,10 +1,9 @@
 -- What the text of a query is read as has rows that show the query's, or the same faults.
-use Rattle.std.proofs.Common.{◌≡◌, ℕ, zero, suc, ◌+◌, ◌<◌, Bool, true, false, List, [], ◌∷◌, ◌++◌, length, map, take, All, Option, Some, None, option_map, refl, sym, ap, subst, ◌∙◌, true≢false, arith}
+use Rattle.std.proofs.Common.{◌≡◌, ℕ, suc, ◌+◌, true, List, [], ◌∷◌, ◌++◌, length, map, take, All, Option, Some, None, option_map, refl, sym, ap, subst, ◌∙◌, true≢false, arith}
 use Rattle.std.specs.List.{range_with_len}
 use Rattle.perm_values.specs.Rows.{printed_cmp}
 use Rattle.perm_values.specs.declared.kind.Kind.{Kind}
 use Rattle.perm_values.specs.declared.kind.Kind.TheVariants as kinds
-use Rattle.perm_values.specs.declared.key.Key.{Key}
 use Rattle.perm_values.specs.declared.value.Value.{Value}
 use Rattle.perm_values.specs.declared.value.Value.TheVariants.{Boolean}
 use Rattle.bag_algebra.specs.Bags.{Row, Bag, once, sorted, union_of, intersect_of, except_of}
@@ -14,7 +13,7 @@ use Rattle.bag_algebra.specs.Meaning.{Database, meaning, sub_denote, optional_va
 use Rattle.bag_algebra.specs.Means.{kept, joined_rows, under, sub_value, is_some_row, grouped as in_classes}
 use Rattle.bag_algebra.specs.Outcome.{Outcome, Good, Bad, union, and_then, mapped, both, both_then, gather, each}
 use Rattle.bag_algebra.specs.TablesRead.{EachTable, EachSubTable}
-use Rattle.bag_algebra.specs.WellFormed.{WellFormed, SubsForm, HasKind, sub_form, is_dependent}
+use Rattle.bag_algebra.specs.WellFormed.{WellFormed, SubsForm, sub_form, is_dependent}
 use Rattle.bag_algebra.specs.built.Openings.{rows-with_lists, meaning-Filter, meaning-Project, meaning-Join, meaning-Apply, meaning-Union, meaning-Intersect, meaning-Except, meaning-Distinct, meaning-Aggregate, meaning-Limit, kinds_of-Project, kinds_of-Union, kinds_of-Intersect, kinds_of-Except, kinds_of-Distinct, kinds_of-Limit}
 use Rattle.bag_algebra.specs.built.Patterns.{BaseOf, FilterOf, ProjectOf, JoinOf, ApplyOf, UnionOf, IntersectOf, ExceptOf, DistinctOf, AggregateOf, LimitOf, ProvOf}
 use Rattle.bag_algebra.specs.declared.expr.Expr.{Expr}
@@ -27,7 +26,7 @@ use Rattle.bag_algebra.specs.declared.query.Query.TheVariants.{Table, Single, Fi
 use Rattle.bag_algebra.specs.declared.query.SubKind.{SubKind}
 use Rattle.bag_algebra.specs.declared.query.SubKind.TheVariants as ask
 use Rattle.printed_queries.specs.Carried.{Carries, IsGiven}
-use Rattle.printed_queries.specs.Printed.{column, columns_from, unread_item, or_unread, unread_of, copied, paired, idle, taken, asked_by, first_beside, printed_items, printed_condition, condition_subs, projected, lateral_kind, arguments, grouped, aggregates_from, or_counted, in_groups, all_keys, printed, printed_subs, printed_answer}
+use Rattle.printed_queries.specs.Printed.{column, columns_from, unread_item, or_unread, unread_of, copied, idle, taken, asked_by, first_beside, printed_items, printed_condition, condition_subs, projected, lateral_kind, arguments, grouped, aggregates_from, or_counted, all_keys, printed, printed_subs, printed_answer}
 use Rattle.printed_queries.specs.PrintedExpressions.{asked_in, printed_expr}
 use Rattle.printed_queries.specs.Writable.{WritableOption, WritableQuery, WritableSubs}
 use Rattle.query_texts.specs.Unused.{items_use}

@@ -1,23 +1,16 @@
 -- Rows of a query beside rows of what its text is read as, and copies of these.
-use Rattle.std.proofs.Common.{◌≡◌, ℕ, zero, suc, ◌+◌, ◌<◌, Bool, true, false, cond, ◌||◌, not, List, [], ◌∷◌, ◌++◌, length, map, filter, pos, refl, sym, ap, subst, ◌∙◌, arith}
-use Rattle.std.specs.List.{list_any}
+use Rattle.std.proofs.Common.{◌≡◌, ℕ, zero, suc, ◌+◌, ◌<◌, List, [], ◌∷◌, length, map, pos, refl, sym, ap, subst, ◌∙◌, arith}
 use Rattle.perm_values.specs.Rows.{same_row, value_at}
 use Rattle.perm_values.specs.declared.kind.Kind.{Kind}
 use Rattle.perm_values.specs.declared.kind.Kind.TheVariants as kinds
 use Rattle.perm_values.specs.declared.value.Value.{Value}
 use Rattle.perm_values.specs.declared.value.Value.TheVariants.{Integer}
 use Rattle.bag_algebra.specs.Bags.{Row, Bag}
-use Rattle.bag_algebra.specs.Expressions.{value, row_at}
-use Rattle.bag_algebra.specs.Meaning.{Database, meaning, items_on}
-use Rattle.bag_algebra.specs.Means.{holds_of, kept, no_subs}
+use Rattle.bag_algebra.specs.Expressions.{value}
 use Rattle.bag_algebra.specs.Outcome.{Outcome, Good, Bad, and_then, mapped, both, each}
-use Rattle.bag_algebra.specs.WellFormed.{column_kind}
-use Rattle.bag_algebra.specs.built.Openings.{meaning-Project}
 use Rattle.bag_algebra.specs.declared.expr.Item.{Item}
-use Rattle.bag_algebra.specs.declared.query.Query.{Query}
 use Rattle.printed_queries.specs.Carried.{Carries}
-use Rattle.printed_queries.specs.Printed.{column, columns_from, unread_item, or_unread, copied}
-use Rattle.printed_queries.specs.PrintedExpressions.{before}
+use Rattle.printed_queries.specs.Printed.{columns_from, unread_item, or_unread}
 use Rattle.printed_queries.proofs.AskedNumbers.{get-below}
 use Rattle.printed_queries.proofs.RelatedOutcomes.{Along, AlikeOutcomes}
 

@@ -1,6 +1,6 @@
 -- What the text of an expression is read as: what is printed in another form is read in that form, a column stands behind those that
 -- nothing reads, and the sublinks are numbered as they are used in the text.
-use Rattle.std.specs.Prelude.{ℕ, zero, suc, ◌+◌, ℤ, pos, Bool, true, false, if◌then◌else◌, List, [], ◌∷◌, ◌++◌, map, length, slice_index_or, unsigned_abs, ◌==◌}
+use Rattle.std.specs.Prelude.{ℕ, zero, suc, ◌+◌, pos, Bool, true, false, if◌then◌else◌, List, [], ◌∷◌, ◌++◌, map, length, slice_index_or, unsigned_abs, ◌==◌}
 use Rattle.std.specs.Int.{is_negative}
 use Rattle.std.specs.List.{range_with_len}
 use Rattle.null_logic.specs.declared.arith.Arith.TheVariants.{Subtract}
