@@ -1,2 +1,11 @@
-pub mod WorkedTrees
+pub mod ReadColumns
+pub mod ReadConditions
+pub mod ReadExpressions
+pub mod ReadForms
+pub mod ReadLeaves
+pub mod ReadNodes
+pub mod ReadOperators
+pub mod ReadParts
+pub mod ReadScopes
 pub mod WorkedRows
+pub mod WorkedTrees

@@ -1,10 +1,9 @@
 -- The tree of an expression's form is read as what is printed of the expression.
 use Rattle.std.proofs.Common.{◌≡◌, ℕ, suc, ◌+◌, ◌≤◌, Bool, true, false, List, [], ◌∷◌, ◌++◌, length, length-append, map, Some, refl, sym, ap, subst, ◌∙◌, true≢false, append-nil, append_assoc, arith}
 use Rattle.std.proofs.lemmas.Bool.{and_parts}
-use Rattle.std.proofs.lemmas.Bool.Decides.{nat_tests}
 use Rattle.std.proofs.lemmas.List.{length-map, map-append}
 use Rattle.std.specs.Int.{is_negative}
-use Rattle.std.specs.Prelude.{◌==◌, if◌then◌else◌, slice_index_or}
+use Rattle.std.specs.Prelude.{◌==◌, if◌then◌else◌, slice_index_or, unsigned_abs}
 use mathlib.Core.Bool.{beq}
 use Rattle.null_logic.specs.declared.arith.Arith.TheVariants.{Subtract}
 use Rattle.null_logic.specs.declared.operator.Operator.{Operator}
@@ -13,21 +12,21 @@ use Rattle.null_logic.specs.declared.truth.Truth.{Truth}
 use Rattle.null_logic.specs.declared.truth.Truth.TheVariants.{True, False, Unknown}
 use Rattle.perm_values.specs.declared.kind.Kind.{Kind}
 use Rattle.perm_values.specs.declared.kind.Kind.TheVariants as kinds
-use Rattle.perm_values.specs.declared.value.Value.TheVariants.{Integer}
-use Rattle.bag_algebra.specs.WellFormed.{ArmsHave, HasKind, OpForm, PartsHave, StepsHave, is_additive, number_of_arms, number_of_parts, number_of_steps, op_form, steps_are}
+use Rattle.bag_algebra.specs.WellFormed.{ArmsHave, HasKind, PartsHave, StepsHave, is_additive, number_of_arms, number_of_parts, number_of_steps, op_form, steps_are}
 use Rattle.bag_algebra.specs.built.Patterns.{OpOf, ChainOf, CaseOf, IsNullOf, IsTruthOf, SameOf}
 use Rattle.bag_algebra.specs.declared.expr.Arm.{Arm}
 use Rattle.bag_algebra.specs.declared.expr.ChainStep.{ChainStep}
 use Rattle.bag_algebra.specs.declared.expr.Expr.{Expr, Row_of-Expr, Row_of-Arm, Row_of-ChainStep, more_of-Expr, end_of-Expr, more_of-Arm, end_of-Arm, more_of-ChainStep, end_of-ChainStep}
-use Rattle.bag_algebra.specs.declared.expr.Expr.TheVariants.{Col, Lit, Op, Chain, Sub, IsNull, IsTruth, Same}
+use Rattle.bag_algebra.specs.declared.expr.Expr.TheVariants.{Col, Lit, Op, Chain, Case, Sub, IsNull, IsTruth, Same}
 use Rattle.bag_algebra.specs.declared.query.Sublink.{Sublink}
 use Rattle.perm_catalog.specs.Contents.{Contents}
 use Rattle.sql_tree.specs.declared.expression.ArmTree.{ArmTree}
 use Rattle.sql_tree.specs.declared.expression.ExprStep.{ExprStep}
 use Rattle.sql_tree.specs.declared.expression.ExprTree.{ExprTree}
-use Rattle.name_meaning.specs.Expressions.{arm_operands, first_of, second_of, times}
+use Rattle.name_meaning.specs.Expressions.{case_meant, first_of, second_of, times}
 use Rattle.name_meaning.specs.Meanings.{Surroundings, united_kind}
-use Rattle.name_meaning.specs.Operands.{operand, united}
+use Rattle.name_meaning.specs.Operands.{BuiltParts, Operand, node, operand, united}
+use Rattle.name_meaning.specs.Sublinks.{nothing_before}
 use Rattle.name_meaning.specs.Trees.{part_of}
 use Rattle.name_meaning.specs.declared.need.Gives.TheVariants.{Always as always}
 use Rattle.name_meaning.specs.declared.need.Need.{Need}
@@ -35,13 +34,13 @@ use Rattle.name_meaning.specs.declared.need.Need.TheVariants.{OfKind as of_kind,
 use Rattle.tree_texts.specs.Forms as f
 use Rattle.tree_texts.specs.Forms.{ExprForm}
 use Rattle.tree_texts.specs.Trees.{IsExpr}
-use Rattle.query_forms.specs.ShownExpressions.{ArmForm, StepForm, arms_of, cases, chained, least as shown_least, literal, never, never_arms, operated, shown_arms, shown_expr, shown_parts, shown_steps, truth_tested, unsaid, beside as shown_beside}
+use Rattle.query_forms.specs.ShownExpressions.{ArmForm, StepForm, cases, chain_of, chained, least as shown_least, operated, shown_arms, shown_expr, shown_parts, shown_steps, signed, truth_tested}
 use Rattle.printed_queries.specs.Printed.{nothing_asked, taken}
-use Rattle.printed_queries.specs.PrintedExpressions.{asked_in, asked_in_arms, asked_in_parts, asked_in_steps, integer, least, negative, printed_arms, printed_expr, printed_integer, printed_literal, printed_parts, printed_steps, printed_test}
+use Rattle.printed_queries.specs.PrintedExpressions.{asked_in, asked_in_arms, asked_in_parts, asked_in_steps, integer, least, negative, printed_arms, printed_expr, printed_integer, printed_literal, printed_operator, printed_parts, printed_steps, printed_test}
 use Rattle.printed_queries.specs.Writable.{Writable, WritableArms, WritableParts, WritableSteps}
 use Rattle.printed_queries.proofs.RelatedOutcomes.{Along}
 use Rattle.printed_names.proofs.ReadColumns.{Finds, FindsSublinks}
-use Rattle.printed_names.proofs.ReadForms.{IsArmTree, IsStepTree, OfLevel, arm_part, inside, opened-case, opened-chain, opened-negated, opened-null, opened-same, opened-truth, step_part}
+use Rattle.printed_names.proofs.ReadForms.{IsArmTree, IsStepTree, OfLevel, Opened, arm_part, chain_meant, inside, opened-case, opened-chain, opened-negated, opened-null, opened-same, opened-truth, step_part, within}
 use Rattle.printed_names.proofs.ReadLeaves.{alone-read, column-read, integer-read, literal-read, negative-read}
 use Rattle.printed_names.proofs.ReadNodes.{ArmsRead, StepsRead, arm-read, case-read, chain-read, no_arms-read, no_steps-read, step-read}
 use Rattle.printed_names.proofs.ReadOperators.{PartsRead, SingleRead, operator-read, over-parts}
@@ -99,7 +98,7 @@ taken-count asked numbers = length-map numbers (λ number. slice_index_or asked 
 
 module _ (c : Contents) (here : Surroundings) (form : ExprForm) (own : Kind) (made : ℕ → Expr) (subs : List Sublink)
     (read : {tree : ExprTree} → IsExpr form tree → IsRead ((part_of c tree).means here) own made subs) where
-  null-read : {tree : ExprTree} → IsExpr (f.enclosed (f.is_null false form)) tree → IsRead ((part_of c tree).means here) kinds.Boolean (λ n. IsNull (made n)) subs
+  pub null-read : {tree : ExprTree} → IsExpr (f.enclosed (f.is_null false form)) tree → IsRead ((part_of c tree).means here) kinds.Boolean (λ n. IsNull (made n)) subs
   null-read {tree = tree} d =
       let i = inside c here d in
       let o = opened-null c here i.compound in
@@ -215,6 +214,19 @@ module _ (c : Contents) (here : Surroundings) (a : ExprForm) (made : ℕ → Exp
       read-same ((part_of c tree).means here) (chain_meant here (part_of c o.start) (map (step_part c) o.trees)) kinds.Integer
       (λ n. Chain (made n) (others (n + count))) (first ++ more) o.is (chain-over (step ∷ steps) h o.start o.trees o.start_is o.all rest)
 
+-- ---- CASE
+
+module _ (c : Contents) (here : Surroundings) where
+  pub cased-read : (shared : Kind) (arms : List ArmForm) → 1 ≤ length arms → (otherwise : ExprForm) (made : ℕ → List Arm) (later : ℕ → Expr) (more : List Sublink)
+      → ((trees : List ArmTree) → Along IsArmTree arms trees → (last : ExprTree) → IsExpr otherwise last
+      → ArmsRead here shared (map (arm_part c) trees) (operand here alike (part_of c last)) made later more) → {tree : ExprTree}
+      → IsExpr (cases arms otherwise) tree → IsRead ((part_of c tree).means here) shared (λ n. Case (made n) (later n)) more
+  cased-read shared [] h otherwise made later more rest d = absurd (omega (arith, h))
+  cased-read shared (arm ∷ arms) h otherwise made later more rest {tree = tree} d =
+      let o = opened-case c here arm arms d in
+      read-same ((part_of c tree).means here) (case_meant here (map (arm_part c) o.trees) (Some (part_of c o.last))) shared (λ n. Case (made n) (later n)) more o.is
+      (case-read here shared (map (arm_part c) o.trees) (part_of c o.last) made later more (rest o.trees o.all o.last o.last_is))
+
 -- ---- the whole
 
 parts-shown : (prefix : List ℕ) (forms : List ExprForm) {m : _} (parts : Row_of-Expr m) → length (shown_parts prefix forms parts) ≡ number_of_parts parts
@@ -254,8 +266,8 @@ module _ (c : Contents) (prefix : List ℕ) (forms : List ExprForm) (asked : Lis
       let all = one_more-read c here a shared first (taken asked one) read (b ∷ []) (λ n. second n ∷ []) (taken asked other ++ []) (length one) rest (taken-count asked one) in
       let made : ℕ → Expr = λ n. Same (first n) (second (n + length one)) in
       let both = over-parts c here (a ∷ b ∷ []) shared (λ n. first n ∷ second (n + length one) ∷ []) (taken asked one ++ (taken asked other ++ [])) all alike
-          (always kinds.Boolean) kinds.Boolean (λ es. Same (first_of es) (second_of es)) made tree refl (within c here i.is (opened-same c here i.compound))
-          (λ trees d. refl) (λ n. refl) in
+      (always kinds.Boolean) kinds.Boolean (λ es. Same (first_of es) (second_of es)) made tree refl (within c here i.is (opened-same c here i.compound))
+      (λ trees d. refl) (λ n. refl) in
       two-taken one other kinds.Boolean made tree
       (subst (λ ms. IsRead ((part_of c tree).means here) kinds.Boolean made (taken asked one ++ ms)) (append-nil (taken asked other)) both)
 
@@ -276,27 +288,16 @@ module _ (c : Contents) (prefix : List ℕ) (forms : List ExprForm) (asked : Lis
   arm-next shared tree trees last test chosen others otherwise first second rest more r s all =
       let made : ℕ → List Arm = λ n. record { condition = test n; value = chosen (n + length first) } ∷ others (n + length first + length second) in
       let taken_all : taken asked first ++ (taken asked second ++ (taken asked rest ++ more)) ≡ taken asked (first ++ (second ++ rest)) ++ more =
-          ap (λ ms. taken asked first ++ ms) (sym (append_assoc (taken asked second) (taken asked rest) more))
-          ∙ sym (append_assoc (taken asked first) (taken asked second ++ taken asked rest) more)
-          ∙ ap (λ ms. taken asked first ++ ms ++ more) (sym (taken-append asked second rest))
-          ∙ ap (λ ms. ms ++ more) (sym (taken-append asked first (second ++ rest))) in
+      ap (λ ms. taken asked first ++ ms) (sym (append_assoc (taken asked second) (taken asked rest) more))
+      ∙ sym (append_assoc (taken asked first) (taken asked second ++ taken asked rest) more)
+      ∙ ap (λ ms. taken asked first ++ ms ++ more) (sym (taken-append asked second rest))
+      ∙ ap (λ ms. ms ++ more) (sym (taken-append asked first (second ++ rest))) in
       let far : (n : ℕ) → n + length first + length second + length rest ≡ n + length (first ++ (second ++ rest)) =
-          λ n. omega (arith, length-append first (second ++ rest), length-append second rest) in
+      λ n. omega (arith, length-append first (second ++ rest), length-append second rest) in
       subst (λ later. ArmsRead here shared (map (arm_part c) (tree ∷ trees)) last made later (taken asked (first ++ (second ++ rest)) ++ more)) (λ i n. otherwise (far n i))
       (subst (ArmsRead here shared (map (arm_part c) (tree ∷ trees)) last made (λ n. otherwise (n + length first + length second + length rest))) taken_all
       (arm-read here shared (arm_part c tree) (map (arm_part c) trees) last test chosen others (λ n. otherwise (n + length rest)) (taken asked first) (taken asked second)
       (taken asked rest ++ more) (length first) (length second) r s all (taken-count asked first) (taken-count asked second)))
-
-  case-over : (shared : Kind) (arms : List ArmForm) → 1 ≤ length arms → (trees : List ArmTree) → Along IsArmTree arms trees → (last : ExprTree) (made : ℕ → List Arm)
-      (otherwise : ℕ → Expr) (more : List Sublink)
-      → ((form : ArmForm) (others : List ArmForm) → arms ≡ form ∷ others → (tree : ArmTree) → IsArmTree form tree → (chosen : ℕ → Expr) × (second : List Sublink) × IsRead ((part_of c tree.value).means here) shared chosen second)
-      → ArmsRead here shared (map (arm_part c) trees) (operand here alike (part_of c last)) made otherwise more
-      → IsRead (case_meant here (map (arm_part c) trees) (Some (part_of c last))) shared (λ n. Case (made n) (otherwise n)) more
-  case-over shared [] h trees all last made otherwise more first r = absurd (omega (arith, h))
-  case-over shared (form ∷ forms) h [] all last made otherwise more first r = absurd all
-  case-over shared (form ∷ forms) h (tree ∷ trees) all last made otherwise more first r =
-      let found = first form forms refl tree all.0 in
-      case-read here shared (arm_part c tree) (map (arm_part c) trees) (part_of c last) found.0 found.1 made otherwise more found.2 r
 
   mutual
     pub expr-read : (e : Expr) (kind : Kind) → HasKind scopes subs e kind → Writable e → {tree : ExprTree} → IsExpr (shown_expr prefix forms e) tree
@@ -341,7 +342,15 @@ module _ (c : Contents) (prefix : List ℕ) (forms : List ExprForm) (asked : Lis
         (taken asked (asked_in_steps steps)) (length (asked_in first)) (λ {tree} e. expr-read first kinds.Integer h.first w.0 e) (taken-count asked (asked_in first))
         h.level.additive (shown_steps prefix forms steps) (omega (arith, number, steps-shown prefix forms steps))
         (steps-of_level prefix forms h.level.additive steps h.level.all) (λ trees all. steps-read steps h.steps w.1 trees all) d))
-    expr-read (CaseOf _ arms otherwise) kind h w {tree = tree} d = case-shown arms otherwise kind h.number h.arms h.otherwise w.0 w.1 d
+    expr-read (CaseOf _ arms otherwise) kind h w {tree = tree} d =
+        let made : ℕ → Expr = λ n. Case (printed_arms unread n arms) (printed_expr unread (n + length (asked_in_arms arms)) otherwise) in
+        let number = h.number in
+        two-taken (asked_in_arms arms) (asked_in otherwise) kind made tree
+        (cased-read c here kind (shown_arms prefix forms arms) (omega (arith, number, arms-shown prefix forms arms)) (shown_expr prefix forms otherwise)
+        (λ n. printed_arms unread n arms) (λ n. printed_expr unread (n + length (asked_in_arms arms)) otherwise)
+        (taken asked (asked_in_arms arms) ++ taken asked (asked_in otherwise))
+        (λ trees all last e. arms-read arms kind h.arms w.0 trees all last (λ n. printed_expr unread n otherwise) (taken asked (asked_in otherwise))
+        (expr-read otherwise kind h.otherwise w.1 e)) d)
     expr-read (Sub number) kind h w {tree = tree} d = finds_sublinks number kind h tree d
     expr-read (IsNullOf part) kind h w {tree = tree} d =
         subst (λ k. Reads (λ n. IsNull (printed_expr unread n part)) (asked_in part) k tree) (sym h.gives)

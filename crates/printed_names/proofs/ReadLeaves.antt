@@ -87,14 +87,18 @@ module _ (c : Contents) (here : Surroundings) where
       kinds.Integer kinds.Integer (λ n. integer amount ∷ []) []
       (alone-read (of_kind kinds.Integer) kinds.Integer kinds.Integer (f.integer amount) (λ n. integer amount) [] (integer-read amount) refl o.trees o.all) refl)
 
+  pub null_literal-read : (own : Kind) {tree : ExprTree} → IsExpr (f.null own) tree → IsRead ((part_of c tree).means here) own (λ n. Lit Null own) []
+  unfolding means_at
+  null_literal-read own {tree = tree} (null_tree is) =
+      read-same ((part_of c tree).means here) (known own (Lit Null own)) own (λ n. Lit Null own) [] (means-nullof c here tree own is) (known-read own (Lit Null own))
+
   -- integers are read elsewhere
   pub literal-read : (v : Value) (own : Kind) → fits v own ≡ true
       → ((number : ℤ) {tree : ExprTree} → IsExpr (signed (is_negative number) (unsigned_abs number)) tree
       → IsRead ((part_of c tree).means here) kinds.Integer (λ n. printed_integer (is_negative number) (unsigned_abs number)) [])
       → {tree : ExprTree} → IsExpr (literal v own) tree → IsRead ((part_of c tree).means here) own (λ n. printed_literal v own) []
   unfolding means_at
-  literal-read Null own e numbers {tree = tree} (null_tree is) =
-      read-same ((part_of c tree).means here) (known own (Lit Null own)) own (λ n. Lit Null own) [] (means-nullof c here tree own is) (known-read own (Lit Null own))
+  literal-read Null own e numbers d = null_literal-read own d
   literal-read (Integer number) kinds.Integer e numbers d = numbers number d
   literal-read (Integer number) kinds.Text e numbers d = absurd (true≢false (sym e))
   literal-read (Integer number) kinds.Boolean e numbers d = absurd (true≢false (sym e))

@@ -1,5 +1,5 @@
 -- Chains and CASE over parts that are read.
-use Rattle.std.proofs.Common.{◌≡◌, ℕ, ◌+◌, false, List, [], ◌∷◌, ◌++◌, length, map, flat_map, Some, refl, sym, ap, subst, arith}
+use Rattle.std.proofs.Common.{◌≡◌, ℕ, ◌+◌, false, List, [], ◌∷◌, ◌++◌, length, map, flat_map, Some, None, refl, sym, ap, subst, arith}
 use Rattle.null_logic.specs.declared.operator.Operator.TheVariants as x
 use Rattle.perm_values.specs.declared.kind.Kind.{Kind}
 use Rattle.perm_values.specs.declared.kind.Kind.TheVariants.{Integer, Boolean}
@@ -48,10 +48,10 @@ module _ (here : Surroundings) where
       let need = need_of (x.Arith step.op) false in
       let os = operand here need first ∷ map (step_operand here) all in
       let read = node-read (chain_gives all) (chain_made all) os Integer Integer
-          (λ n. made n ∷ map (λ (step : ChainStep). step.part) (others (n + count))) (subs ++ more)
-          (one-read Integer Integer (operand here need first) (map (step_operand here) all) made (λ n. map (λ (step : ChainStep). step.part) (others n)) subs more count r
-          (meets-arith need (need-arith step.op)) rest.operands is)
-          (given-arith (chain_gives all) os (gives-arith step.op)) in
+      (λ n. made n ∷ map (λ (step : ChainStep). step.part) (others (n + count))) (subs ++ more)
+      (one-read Integer Integer (operand here need first) (map (step_operand here) all) made (λ n. map (λ (step : ChainStep). step.part) (others n)) subs more count r
+      (meets-arith need (need-arith step.op)) rest.operands is)
+      (given-arith (chain_gives all) os (gives-arith step.op)) in
       subst (λ m. IsRead (chain_meant here first all) Integer m (subs ++ more)) (λ i n. Chain (made n) (rest.whole (n + count) i)) read
     where
       given-arith : (gives : Gives) (os : List Operand) → gives ≡ always Integer → given_kind gives os ≡ Some Integer
@@ -64,6 +64,7 @@ module _ (here : Surroundings) where
     pub operands : AreRead shared (flat_map (arm_operands here) arms ++ last ∷ []) exprs subs
     pub arms_are : (n : ℕ) → arms_made arms (exprs n) ≡ made n
     pub rest_is : (n : ℕ) → first_of (rest_made arms (exprs n)) ≡ otherwise n
+    pub common : united (flat_map (arm_operands here) arms ++ last ∷ []) ≡ Some shared
 
   pub no_arms-read : (shared : Kind) (last : Part) (made : ℕ → Expr) (subs : List Sublink) → IsRead (last.means here) shared made subs
       → ArmsRead shared [] (operand here alike last) (λ n. []) made (subs ++ [])
@@ -72,6 +73,7 @@ module _ (here : Surroundings) where
     operands = one-read shared shared (operand here alike last) [] made (λ n. []) subs [] (length subs) r refl (none-read shared) refl;
     arms_are = λ n. refl;
     rest_is = λ n. refl;
+    common = ap (λ found. united_kind found None) (read-seen (last.means here) shared made subs r);
   }
 
   pub arm-read : (shared : Kind) (arm : ArmPart) (arms : List ArmPart) (last : Operand) (test chosen : ℕ → Expr) (others : ℕ → List Arm) (otherwise : ℕ → Expr)
@@ -88,15 +90,13 @@ module _ (here : Surroundings) where
         is;
     arms_are = λ n. ap (λ more. record { condition = test n; value = chosen (n + count) } ∷ more) (rest.arms_are (n + count + next));
     rest_is = λ n. rest.rest_is (n + count + next);
+    common = ap (λ found. united_kind found (united (flat_map (arm_operands here) arms ++ last ∷ []))) (read-seen (arm.value.means here) shared chosen second s);
   }
 
-  pub case-read : (shared : Kind) (arm : ArmPart) (arms : List ArmPart) (last : Part) (chosen : ℕ → Expr) (second : List Sublink) (made : ℕ → List Arm)
-      (otherwise : ℕ → Expr) (subs : List Sublink) → IsRead (arm.value.means here) shared chosen second
-      → ArmsRead shared (arm ∷ arms) (operand here alike last) made otherwise subs
-      → IsRead (case_meant here (arm ∷ arms) (Some last)) shared (λ n. Case (made n) (otherwise n)) subs
-  case-read shared arm arms last chosen second made otherwise subs r all =
-      let os = flat_map (arm_operands here) (arm ∷ arms) ++ operand here alike last ∷ [] in
-      let behind = united (flat_map (arm_operands here) arms ++ operand here alike last ∷ []) in
-      let given : united os ≡ Some shared = ap (λ found. united_kind found behind) (read-seen (arm.value.means here) shared chosen second r) in
-      subst (λ m. IsRead (case_meant here (arm ∷ arms) (Some last)) shared m subs) (λ i n. Case (all.arms_are n i) (all.rest_is n i))
-      (node-read common (case_made (arm ∷ arms)) os shared shared all.exprs subs all.operands given)
+  pub case-read : (shared : Kind) (arms : List ArmPart) (last : Part) (made : ℕ → List Arm) (otherwise : ℕ → Expr) (subs : List Sublink)
+      → ArmsRead shared arms (operand here alike last) made otherwise subs
+      → IsRead (case_meant here arms (Some last)) shared (λ n. Case (made n) (otherwise n)) subs
+  case-read shared arms last made otherwise subs all =
+      let os = flat_map (arm_operands here) arms ++ operand here alike last ∷ [] in
+      subst (λ m. IsRead (case_meant here arms (Some last)) shared m subs) (λ i n. Case (all.arms_are n i) (all.rest_is n i))
+      (node-read common (case_made arms) os shared shared all.exprs subs all.operands all.common)
