@@ -1,8 +1,12 @@
+pub mod PlainTrees
 pub mod ReadColumns
 pub mod ReadConditions
+pub mod ReadCores
 pub mod ReadExpressions
 pub mod ReadForms
+pub mod ReadFroms
 pub mod ReadLeaves
+pub mod ReadLists
 pub mod ReadNodes
 pub mod ReadOperators
 pub mod ReadParts

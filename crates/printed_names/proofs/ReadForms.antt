@@ -214,7 +214,7 @@ factors-along (step ∷ steps) h (a_factor_tree (factor_tree is d) ds) =
 abbrev pub step_part : Contents → ExprStep → StepPart
 step_part c tree = record { op = tree.op; part = part_of c tree.part }
 
-step-is : (c : Contents) (tree : ExprStep) → step_of c tree ≡ step_part c tree
+pub step-is : (c : Contents) (tree : ExprStep) → step_of c tree ≡ step_part c tree
 unfolding token
 step-is c tree = exprstep-record c tree.op tree.part
 
@@ -280,7 +280,7 @@ arms-along (arm ∷ arms) (an_arm_tree d e ds) = (record { condition = d; value 
 abbrev pub arm_part : Contents → ArmTree → ArmPart
 arm_part c tree = record { condition = part_of c tree.condition; value = part_of c tree.value }
 
-arm-is : (c : Contents) (tree : ArmTree) → arm_of c tree ≡ arm_part c tree
+pub arm-is : (c : Contents) (tree : ArmTree) → arm_of c tree ≡ arm_part c tree
 unfolding token
 arm-is c tree = armtree-record c tree.condition tree.value
 
