@@ -1,6 +1,9 @@
+pub mod OpenedCores
+pub mod PlainShown
 pub mod PlainTrees
 pub mod ReadColumns
 pub mod ReadConditions
+pub mod ReadCopies
 pub mod ReadCores
 pub mod ReadExpressions
 pub mod ReadForms
@@ -10,6 +13,7 @@ pub mod ReadLists
 pub mod ReadNodes
 pub mod ReadOperators
 pub mod ReadParts
+pub mod ReadQueries
 pub mod ReadScopes
 pub mod WorkedRows
 pub mod WorkedTrees

@@ -22,7 +22,6 @@ use Rattle.name_meaning.specs.declared.scope.Scope.{Scope}
 use Rattle.tree_texts.specs.Forms as f
 use Rattle.tree_texts.specs.Forms.{QueryForm}
 use Rattle.tree_texts.specs.Trees.{AreSources, IsQuery, no_join_trees, source_trees, subquery_tree}
-use Rattle.printed_queries.specs.Printed.{unread_of}
 use Rattle.printed_queries.proofs.ShownRows.{shown_kinds}
 use Rattle.printed_names.proofs.ReadCores.{FromRead, QueryRead}
 use Rattle.printed_names.proofs.ReadLists.{out_columns}
@@ -107,16 +106,16 @@ numbered-columns depth number item (kind ∷ more) = (refl, refl, numbered-colum
 
 -- over one query whose columns are numbered from 1 on
 pub scope-over : (depth : ℕ) (name : List ℕ) (all : List Kind) → 1 + length all < 2 ^ 64
-    → IsScope depth (unread_of all) all (scope_of (item_of_query name (listed_names depth 1 all) (shown_kinds all) ∷ []))
+    → IsScope depth 0 all (scope_of (item_of_query name (listed_names depth 1 all) (shown_kinds all) ∷ []))
 scope-over depth name [] bound = record {
-  unread = record { item = 0; name = marks depth ++ decimal 0; kind = kinds.Integer } ∷ [];
+  unread = [];
   own = [];
-  back = [];
+  back = record { item = 0; name = marks depth ++ decimal 0; kind = kinds.Integer } ∷ [];
   columns = refl;
-  before = (refl, tt);
+  before = tt;
   count = refl;
   numbered = tt;
-  behind = tt;
+  behind = (refl, tt);
   ungrouped = refl;
   bound = bound;
 }
