@@ -1,6 +1,7 @@
 pub mod OpenedCores
 pub mod PlainShown
 pub mod PlainTrees
+pub mod ReadArms
 pub mod ReadColumns
 pub mod ReadConditions
 pub mod ReadCopies
@@ -8,6 +9,7 @@ pub mod ReadCores
 pub mod ReadExpressions
 pub mod ReadForms
 pub mod ReadFroms
+pub mod ReadItems
 pub mod ReadLeaves
 pub mod ReadLists
 pub mod ReadNodes

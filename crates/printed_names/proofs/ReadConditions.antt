@@ -106,6 +106,9 @@ taken-from used all (sub ∷ rest) k same =
 pub taken-spared : (used : ℕ → Bool) (asked : List Sublink) → taken asked (idle used (length asked)) ≡ spare used 0 asked
 taken-spared used asked = taken-from used asked asked 0 (λ i h. let none : 0 + i ≡ i = omega arith in ap (λ n. slice_index_or asked n nothing_asked) none)
 
+pub spared-count : (asked : List Sublink) (used : ℕ → Bool) → length (spare used 0 asked) ≡ length (idle used (length asked))
+spared-count asked used = ap length (sym (taken-spared used asked)) ∙ length-map (idle used (length asked)) (λ number. slice_index_or asked number nothing_asked)
+
 -- ---- beside an expression
 
 -- so many sublinks, the first of this number
@@ -158,9 +161,6 @@ module _ (c : Contents) (here : Surroundings) (kind : Kind) (a : ExprForm) (made
 
 module _ (c : Contents) (prefix : List ℕ) (forms : List ExprForm) (asked : List Sublink) (scopes : List (List Kind)) (all : List Kind) (unread : List ℕ) (here : Surroundings)
     (finds : Finds prefix scopes unread here.scopes) (sublinks : SubsRead c here forms asked all) (outside : here.argument ≡ false) where
-  spared-count : (used : ℕ → Bool) → length (spare used 0 asked) ≡ length (idle used (length asked))
-  spared-count used = ap length (sym (taken-spared used asked)) ∙ length-map (idle used (length asked)) (λ number. slice_index_or asked number nothing_asked)
-
   pub condition-read : (condition : Expr) → HasKind scopes all condition kinds.Boolean → Writable condition → {tree : ExprTree}
       → IsExpr (tested_by prefix forms condition) tree
       → IsRead ((part_of c tree).means here) kinds.Boolean
@@ -171,7 +171,7 @@ module _ (c : Contents) (prefix : List ℕ) (forms : List ExprForm) (asked : Lis
       let subs_are : spare used 0 asked ++ taken asked (asked_in condition) ≡ condition_subs asked condition =
       ap (λ subs. subs ++ taken asked (asked_in condition)) (sym (taken-spared used asked)) ∙ sym (taken-append asked (idle_in condition asked) (asked_in condition)) in
       subst (IsRead ((part_of c tree).means here) kinds.Boolean (made (length (idle_in condition asked)))) subs_are
-      (subst (λ count. IsRead ((part_of c tree).means here) kinds.Boolean (made count) (spare used 0 asked ++ taken asked (asked_in condition))) (spared-count used)
+      (subst (λ count. IsRead ((part_of c tree).means here) kinds.Boolean (made count) (spare used 0 asked ++ taken asked (asked_in condition))) (spared-count asked used)
       (beside-read c here kinds.Boolean (shown_expr prefix forms condition) (λ n. printed_expr unread n condition) (taken asked (asked_in condition))
       (λ {tree} e. expr-read c prefix forms asked scopes all unread here finds (sublinks-found c here forms asked all sublinks) outside condition kinds.Boolean h w e)
       (spare used 0 forms) (spare used 0 asked) (spared-read c here used 0 forms asked all sublinks) d))
