@@ -2,6 +2,7 @@ pub mod OpenedCores
 pub mod PlainShown
 pub mod PlainTrees
 pub mod ReadArms
+pub mod ReadAsked
 pub mod ReadColumns
 pub mod ReadConditions
 pub mod ReadCopies

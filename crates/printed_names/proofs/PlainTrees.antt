@@ -108,8 +108,9 @@ module _ (c : Contents) where
       || ((ap (λ (a : ArmPart). a.value.aggregating) (arm-is c arm) ∙ h.0.1) i || arms-plain arms last h.1 k i)
 
   mutual
-    pub plain-tree : {form : ExprForm} {tree : ExprTree} → Plain form → IsExpr form tree → PlainTree tree
     unfolding token
+
+    pub plain-tree : {form : ExprForm} {tree : ExprTree} → Plain form → IsExpr form tree → PlainTree tree
     plain-tree {tree = tree} p (column_tree {x = x} d is) = plain-of tree _ (ap (body_of c) is ∙ exprbody-column c x) refl
     plain-tree {tree = tree} p (integer_tree is) = plain-of tree _ (ap (body_of c) is ∙ exprbody-integer c _) refl
     plain-tree {tree = tree} p (text_tree is) = plain-of tree _ (ap (body_of c) is ∙ exprbody-text c _) refl
@@ -127,7 +128,6 @@ module _ (c : Contents) where
     plain-tree {tree = tree} p (scalar_tree {x = x} d is) = plain-of tree _ (ap (body_of c) is ∙ exprbody-scalar c x) refl
 
     plain-compound : {form : CompoundForm} {tree : ExprTree} → PlainCompound form → IsCompound form tree → PlainTree tree
-    unfolding token
     plain-compound {tree = tree} p (negative_tree {x = x} d is) = plain-of tree _ (ap (body_of c) is ∙ exprbody-signs c 1 x) (one-plain x (plain-tree p d))
     plain-compound {tree = tree} p (added_tree {x = x} {step = step} {steps = steps} d (term_tree own e) ds is) =
         plain-of tree _ (ap (body_of c) is ∙ exprbody-chain c x (step ∷ steps))

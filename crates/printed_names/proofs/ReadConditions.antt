@@ -40,7 +40,7 @@ use Rattle.printed_names.proofs.ReadParts.{IsRead}
 
 module _ (c : Contents) (here : Surroundings) where
   abbrev pub SubRead : ExprForm → Sublink → Kind → Type 0
-  SubRead form sub kind = {tree : ExprTree} → IsExpr form tree → IsRead ((part_of c tree).means here) kind (λ n. Sub n) (sub ∷ [])
+  SubRead form sub kind = (tree : ExprTree) → IsExpr form tree → IsRead ((part_of c tree).means here) kind (λ n. Sub n) (sub ∷ [])
 
   -- each form is read as its sublink, whose value has its kind
   abbrev pub SubsRead : List ExprForm → List Sublink → List Kind → Type 0
@@ -63,7 +63,7 @@ module _ (c : Contents) (here : Surroundings) where
   sublinks-found [] (sub ∷ subs) (own ∷ all) r number kind e tree d = absurd r
   sublinks-found (form ∷ forms) [] (own ∷ all) r number kind e tree d = absurd r
   sublinks-found (form ∷ forms) (sub ∷ subs) (own ∷ all) r zero kind e tree d =
-      subst (λ k. IsRead ((part_of c tree).means here) k (λ n. Sub n) (sub ∷ [])) (some-same own kind e) (r.0 d)
+      subst (λ k. IsRead ((part_of c tree).means here) k (λ n. Sub n) (sub ∷ [])) (some-same own kind e) (r.0 tree d)
   sublinks-found (form ∷ forms) (sub ∷ subs) (own ∷ all) r (suc number) kind e tree d = sublinks-found forms subs all r.1 number kind e tree d
 
   -- of whatever kinds
@@ -76,7 +76,7 @@ module _ (c : Contents) (here : Surroundings) where
   either-read : (b : Bool) (form : ExprForm) (sub : Sublink) (kind : Kind) (forms : List ExprForm) (subs : List Sublink) → SubRead form sub kind → AnyRead forms subs
       → AnyRead (cond b forms (form ∷ forms)) (cond b subs (sub ∷ subs))
   either-read true form sub kind forms subs r rest = rest
-  either-read false form sub kind forms subs r rest = ((kind, λ {tree} d. r d), rest)
+  either-read false form sub kind forms subs r rest = ((kind, r), rest)
 
   pub spared-read : (used : ℕ → Bool) (start : ℕ) (forms : List ExprForm) (subs : List Sublink) (all : List Kind) → SubsRead forms subs all
       → AnyRead (spare used start forms) (spare used start subs)
@@ -87,7 +87,7 @@ module _ (c : Contents) (here : Surroundings) where
   spared-read used start (form ∷ forms) [] (kind ∷ all) r = absurd r
   spared-read used start (form ∷ forms) (sub ∷ subs) [] r = absurd r
   spared-read used start (form ∷ forms) (sub ∷ subs) (kind ∷ all) r =
-      either-read (used start) form sub kind (spare used (start + 1) forms) (spare used (start + 1) subs) (λ {tree} d. r.0 d) (spared-read used (start + 1) forms subs all r.1)
+      either-read (used start) form sub kind (spare used (start + 1) forms) (spare used (start + 1) subs) r.0 (spared-read used (start + 1) forms subs all r.1)
 
 -- the sublinks of the numbers that aren't used are those that are left
 taken-from : (used : ℕ → Bool) (all rest : List Sublink) (k : ℕ)
@@ -136,7 +136,7 @@ module _ (c : Contents) (here : Surroundings) (kind : Kind) (last : ExprTree) (m
       let all = arm-read here kind (arm_part c tree) (map (arm_part c) trees) (operand here alike (part_of c last)) (λ n. IsNull (IsNull (Sub n))) (λ n. Lit Null kind)
       (λ n. map (never kind) (range_with_len n (length others))) (λ n. made (n + length others)) (sub ∷ []) [] (others ++ subs) 1 0
       (null-read c here (f.enclosed (f.is_null false form)) kinds.Boolean (λ n. IsNull (Sub n)) (sub ∷ [])
-      (λ {tree} e. null-read c here form r.0.0 (λ n. Sub n) (sub ∷ []) (λ {tree} g. r.0.1 g) e) d.0.condition)
+      (λ tree e. null-read c here form r.0.0 (λ n. Sub n) (sub ∷ []) r.0.1 e) d.0.condition)
       (null_literal-read c here kind d.0.value) (nevers-read forms others r.1 trees d.1) refl refl in
       subst (λ m. ArmsRead here kind (map (arm_part c) (tree ∷ trees)) (operand here alike (part_of c last)) m (λ n. made (n + suc (length others))) (sub ∷ (others ++ subs)))
       (λ i n. let next : n + 1 + 0 ≡ n + 1 = omega arith in never kind n ∷ map (never kind) (range_with_len (next i) (length others)))
@@ -149,13 +149,13 @@ module _ (c : Contents) (here : Surroundings) (kind : Kind) (a : ExprForm) (made
   pub beside-read : (forms : List ExprForm) (others : List Sublink) → AnyRead c here forms others → {tree : ExprTree} → IsExpr (shown_beside kind forms a) tree
       → IsRead ((part_of c tree).means here) kind (λ n. beside_from n kind (length others) (made (n + length others))) (others ++ subs)
   beside-read [] [] r {tree = tree} d =
-      subst (λ m. IsRead ((part_of c tree).means here) kind m subs) (λ i n. let none : n ≡ n + 0 = omega arith in made (none i)) (read d)
+      subst (λ m. IsRead ((part_of c tree).means here) kind m subs) (λ i n. let none : n ≡ n + 0 = omega arith in made (none i)) (read tree d)
   beside-read [] (sub ∷ others) r d = absurd r
   beside-read (form ∷ forms) [] r d = absurd r
   beside-read (form ∷ forms) (sub ∷ others) r d =
       cased-read c here kind (never_arms kind (form ∷ forms)) (omega arith) a (λ n. map (never kind) (range_with_len n (suc (length others))))
       (λ n. made (n + suc (length others))) ((sub ∷ others) ++ subs)
-      (λ trees all last e. nevers-read c here kind last made subs (read e) (form ∷ forms) (sub ∷ others) r trees all) d
+      (λ trees all last e. nevers-read c here kind last made subs (read last e) (form ∷ forms) (sub ∷ others) r trees all) d
 
 -- ---- conditions
 
@@ -173,7 +173,7 @@ module _ (c : Contents) (prefix : List ℕ) (forms : List ExprForm) (asked : Lis
       subst (IsRead ((part_of c tree).means here) kinds.Boolean (made (length (idle_in condition asked)))) subs_are
       (subst (λ count. IsRead ((part_of c tree).means here) kinds.Boolean (made count) (spare used 0 asked ++ taken asked (asked_in condition))) (spared-count asked used)
       (beside-read c here kinds.Boolean (shown_expr prefix forms condition) (λ n. printed_expr unread n condition) (taken asked (asked_in condition))
-      (λ {tree} e. expr-read c prefix forms asked scopes all unread here finds (sublinks-found c here forms asked all sublinks) outside condition kinds.Boolean h w e)
+      (λ tree e. expr-read c prefix forms asked scopes all unread here finds (sublinks-found c here forms asked all sublinks) outside condition kinds.Boolean h w e)
       (spare used 0 forms) (spare used 0 asked) (spared-read c here used 0 forms asked all sublinks) d))
 
   -- behind nothing

@@ -53,8 +53,8 @@ module _ (c : Contents) (has_from : Bool) (scope : Scope) (here : Surroundings) 
       (subst (λ m. AreItems (named_from (marks out) m (copies (place + 1 + 1) (length all))) items) next ds)) in
       let others = subst (λ m. ListRead has_from scope here (map (item_of c) items) (numbered_names out (suc first) all) all (λ n. columns_from m all) []) far rest in
       item-read c has_from scope here items (numbered_names out (suc first) all) kind all (λ n. Col 0 (before unread 0 + place))
-      (λ n. columns_from (suc (before unread 0 + place)) all) [] [] 0 d (λ {tree} e. plain-tree c tt e)
-      (λ {tree} e. column-read c here (marks depth) (own ∷ scopes) unread finds outside 0 place kind (sym (ap (slice_get own) at_place) ∙ kinds_are 0 kind refl) e) others refl
+      (λ n. columns_from (suc (before unread 0 + place)) all) [] [] 0 d (λ tree e. plain-tree c tt e)
+      (λ tree e. column-read c here (marks depth) (own ∷ scopes) unread finds outside 0 place kind (sym (ap (slice_get own) at_place) ∙ kinds_are 0 kind refl) e) others refl
 
   -- all columns, or one that nothing reads
   pub columns-listed : (out first : ℕ) (all : List Kind) → Kinds 0 all → {item : SelectItem} {items : List SelectItem}
@@ -62,7 +62,7 @@ module _ (c : Contents) (has_from : Bool) (scope : Scope) (here : Surroundings) 
       → AreItems (listed (naming (marks out) first) one (columns (marks depth) (length all))).more items
       → ListRead has_from scope here (map (item_of c) (item ∷ items)) (listed_names out first all) (shown_kinds all) (λ n. or_unread unread_item (columns_from (before unread 0) all)) []
   columns-listed out first [] kinds_are d no_item_trees =
-      item-read c has_from scope here [] [] kinds.Integer [] (λ n. integer 1) (λ n. []) [] [] 0 d (λ {tree} e. plain-tree c tt e) (λ {tree} e. integer-read c here 1 e)
+      item-read c has_from scope here [] [] kinds.Integer [] (λ n. integer 1) (λ n. []) [] [] 0 d (λ tree e. plain-tree c tt e) (λ tree e. integer-read c here 1 e)
       (no_items-read has_from scope here) refl
   columns-listed out first (kind ∷ all) kinds_are {item = item} {items = items} d ds =
       let none : before unread 0 + 0 ≡ before unread 0 = omega arith in

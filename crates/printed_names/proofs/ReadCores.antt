@@ -14,6 +14,7 @@ use Rattle.name_meaning.specs.Items.{SelectPart, made_items, named_from}
 use Rattle.name_meaning.specs.Meanings.{Around, Meant, Part, QueryMeant, Surroundings, broken_if, is_whole, unites}
 use Rattle.name_meaning.specs.Scopes.{ScopeItem, scope_of}
 use Rattle.name_meaning.specs.Sublinks.{nothing_before}
+use Rattle.name_meaning.specs.declared.answer.Break.{Break}
 use Rattle.name_meaning.specs.declared.scope.Scope.{Scope}
 use Rattle.name_meaning.specs.declared.rule.Rule.TheVariants as rule
 use Rattle.printed_names.proofs.ReadLists.{ListRead, made_of, out_columns, titles-named}
@@ -80,7 +81,10 @@ module _ (around : Around) (input : FromMeant) (has_from is_distinct : Bool) (pa
   abbrev clauses : Clauses
   clauses = core_clauses (in_clause (scope_of items) around.outer false) (in_clause (scope_of items) around.outer true) (scope_of items) has_from input condition None parts
 
-  no_word : (b : Bool) → cond b [] [] ≡ []
+  abbrev nothing : List Break
+  nothing = []
+
+  no_word : (b : Bool) → cond b nothing nothing ≡ nothing
   no_word true = refl
   no_word false = refl
 

@@ -115,7 +115,7 @@ module _ (c : Contents) (here : Surroundings) (form : ExprForm) (own : Kind) (ma
       (alone-read c here (of_kind kinds.Boolean) own own form made subs read need o.trees o.all) refl)
 
 tested-read : (c : Contents) (here : Surroundings) (truth : Truth) (form : ExprForm) (made : ℕ → Expr) (subs : List Sublink)
-    → ({tree : ExprTree} → IsExpr form tree → IsRead ((part_of c tree).means here) kinds.Boolean made subs) → {tree : ExprTree}
+    → ((tree : ExprTree) → IsExpr form tree → IsRead ((part_of c tree).means here) kinds.Boolean made subs) → {tree : ExprTree}
     → IsExpr (truth_tested truth form) tree → IsRead ((part_of c tree).means here) kinds.Boolean (λ n. printed_test truth (made n)) subs
 tested-read c here True form made subs read {tree = tree} d =
     let i = inside c here d in
@@ -124,7 +124,7 @@ tested-read c here False form made subs read {tree = tree} d =
     let i = inside c here d in
     over_truth-read c here form kinds.Boolean made subs read refl (λ es. IsTruth False (first_of es)) tree (within c here i.is (opened-truth c here i.compound))
 tested-read c here Unknown form made subs read d =
-    null-read c here (f.enclosed (f.negated form)) kinds.Boolean (λ n. Op x.Not (made n ∷ [])) subs negated d
+    null-read c here (f.enclosed (f.negated form)) kinds.Boolean (λ n. Op x.Not (made n ∷ [])) subs (λ tree e. negated e) d
   where
     negated : {tree : ExprTree} → IsExpr (f.enclosed (f.negated form)) tree → IsRead ((part_of c tree).means here) kinds.Boolean (λ n. Op x.Not (made n ∷ [])) subs
     negated {tree = tree} e =
@@ -150,7 +150,7 @@ module _ (c : Contents) (here : Surroundings) where
     single-read [] others more count rest =
         let none : [] ≡ more = ap (λ (b : BuiltParts). b.subs) ((rest.parts free tt [] tt).make shared nothing_before) in
         λ tree d. subst (λ ms. IsRead ((part_of c tree).means here) shared made (first ++ ms)) none
-        (subst (IsRead ((part_of c tree).means here) shared made) (sym (append-nil first)) (read d))
+        (subst (IsRead ((part_of c tree).means here) shared made) (sym (append-nil first)) (read tree d))
     single-read (b ∷ forms) others more count rest = tt
 
     module _ (forms : List ExprForm) (others : ℕ → List Expr) (more : List Sublink) (count : ℕ) (rest : PartsRead c here forms shared others more) (same : length first ≡ count) where
@@ -158,7 +158,7 @@ module _ (c : Contents) (here : Surroundings) where
           → AreRead shared (map (operand here need) (map (part_of c) trees)) (λ n. made n ∷ others (n + count)) (first ++ more)
       more-read need meets [] d = absurd d
       more-read need meets (tree ∷ trees) d =
-          one-read shared shared (operand here need (part_of c tree)) (map (operand here need) (map (part_of c) trees)) made others first more count (read d.0) meets
+          one-read shared shared (operand here need (part_of c tree)) (map (operand here need) (map (part_of c) trees)) made others first more count (read tree d.0) meets
           (rest.parts need meets trees d.1) same
 
       first-common : (trees : List ExprTree) → Along IsExpr (a ∷ forms) trees → 1 ≤ length (a ∷ forms)
@@ -166,7 +166,7 @@ module _ (c : Contents) (here : Surroundings) where
       first-common [] d h = absurd d
       first-common (tree ∷ trees) d h =
           ap (λ found. united_kind found (united (map (operand here alike) (map (part_of c) trees))))
-          (read-seen ((part_of c tree).means here) shared made first (read d.0))
+          (read-seen ((part_of c tree).means here) shared made first (read tree d.0))
 
       pub one_more-read : PartsRead c here (a ∷ forms) shared (λ n. made n ∷ others (n + count)) (first ++ more)
       one_more-read = record {
@@ -203,7 +203,7 @@ module _ (c : Contents) (here : Surroundings) (a : ExprForm) (made : ℕ → Exp
   chain-over [] h start trees d all rest = absurd (omega (arith, h))
   chain-over (step ∷ steps) h start [] d all rest = absurd all
   chain-over (step ∷ steps) h start (tree ∷ trees) d all rest =
-      chain-read here (part_of c start) (step_part c tree) (map (step_part c) trees) made others first more count (read d) (rest (tree ∷ trees) all) same
+      chain-read here (part_of c start) (step_part c tree) (map (step_part c) trees) made others first more count (read start d) (rest (tree ∷ trees) all) same
 
   chained-read : (additive : Bool) (steps : List StepForm) → 1 ≤ length steps → OfLevel additive steps
       → ((trees : List ExprStep) → Along IsStepTree steps trees → StepsRead here (map (step_part c) trees) others more) → {tree : ExprTree}
@@ -258,7 +258,7 @@ module _ (c : Contents) (prefix : List ℕ) (forms : List ExprForm) (asked : Lis
   two-taken first more kind made tree r = subst (IsRead ((part_of c tree).means here) kind made) (sym (taken-append asked first more)) r
 
   same-read : (a b : ExprForm) (shared : Kind) (first second : ℕ → Expr) (one other : List ℕ)
-      → ({tree : ExprTree} → IsExpr a tree → Reads first one shared tree) → ({tree : ExprTree} → IsExpr b tree → Reads second other shared tree) → {tree : ExprTree}
+      → ((tree : ExprTree) → IsExpr a tree → Reads first one shared tree) → ((tree : ExprTree) → IsExpr b tree → Reads second other shared tree) → {tree : ExprTree}
       → IsExpr (f.enclosed (f.is_distinct true a b)) tree → Reads (λ n. Same (first n) (second (n + length one))) (one ++ other) kinds.Boolean tree
   same-read a b shared first second one other read more {tree = tree} d =
       let i = inside c here d in
@@ -305,7 +305,7 @@ module _ (c : Contents) (prefix : List ℕ) (forms : List ExprForm) (asked : Lis
     expr-read (Col level place) kind h w d = column-read c here prefix scopes unread finds outside level place kind h d
     expr-read (Lit v own) kind h w {tree = tree} d =
         subst (λ k. Reads (λ n. printed_literal v own) [] k tree) (sym h.gives)
-        (literal-read c here v own h.fitting (λ number {tree} e. signed-read c here (is_negative number) (unsigned_abs number) e) d)
+        (literal-read c here v own h.fitting (λ number tree e. signed-read c here (is_negative number) (unsigned_abs number) e) d)
     expr-read (OpOf x.And _ parts) kind h w d =
         operator-shown x.And parts kinds.Boolean kind (record { number = h.number; parts = refl; gives = h.gives }) (parts-read parts kinds.Boolean h.parts w) d
     expr-read (OpOf x.Or _ parts) kind h w d =
@@ -339,7 +339,7 @@ module _ (c : Contents) (prefix : List ℕ) (forms : List ExprForm) (asked : Lis
         subst (λ k. Reads made (asked_in first ++ asked_in_steps steps) k tree) (sym h.gives)
         (two-taken (asked_in first) (asked_in_steps steps) kinds.Integer made tree
         (chained-read c here (shown_expr prefix forms first) (λ n. printed_expr unread n first) (λ n. printed_steps unread n steps) (taken asked (asked_in first))
-        (taken asked (asked_in_steps steps)) (length (asked_in first)) (λ {tree} e. expr-read first kinds.Integer h.first w.0 e) (taken-count asked (asked_in first))
+        (taken asked (asked_in_steps steps)) (length (asked_in first)) (λ tree e. expr-read first kinds.Integer h.first w.0 e) (taken-count asked (asked_in first))
         h.level.additive (shown_steps prefix forms steps) (omega (arith, number, steps-shown prefix forms steps))
         (steps-of_level prefix forms h.level.additive steps h.level.all) (λ trees all. steps-read steps h.steps w.1 trees all) d))
     expr-read (CaseOf _ arms otherwise) kind h w {tree = tree} d =
@@ -355,15 +355,15 @@ module _ (c : Contents) (prefix : List ℕ) (forms : List ExprForm) (asked : Lis
     expr-read (IsNullOf part) kind h w {tree = tree} d =
         subst (λ k. Reads (λ n. IsNull (printed_expr unread n part)) (asked_in part) k tree) (sym h.gives)
         (null-read c here (shown_expr prefix forms part) h.parts.shared (λ n. printed_expr unread n part) (taken asked (asked_in part))
-        (λ {tree} e. expr-read part h.parts.shared h.parts.parts w e) d)
+        (λ tree e. expr-read part h.parts.shared h.parts.parts w e) d)
     expr-read (IsTruthOf truth part) kind h w {tree = tree} d =
         subst (λ k. Reads (λ n. printed_test truth (printed_expr unread n part)) (asked_in part) k tree) (sym h.gives)
         (tested-read c here truth (shown_expr prefix forms part) (λ n. printed_expr unread n part) (taken asked (asked_in part))
-        (λ {tree} e. expr-read part kinds.Boolean h.parts w e) d)
+        (λ tree e. expr-read part kinds.Boolean h.parts w e) d)
     expr-read (SameOf first second) kind h w {tree = tree} d =
         subst (λ k. Reads (λ n. Same (printed_expr unread n first) (printed_expr unread (n + length (asked_in first)) second)) (asked_in first ++ asked_in second) k tree) (sym h.gives)
         (same-read (shown_expr prefix forms first) (shown_expr prefix forms second) h.parts.shared (λ n. printed_expr unread n first) (λ n. printed_expr unread n second)
-        (asked_in first) (asked_in second) (λ {tree} e. expr-read first h.parts.shared h.parts.parts.0 w.0 e) (λ {tree} e. expr-read second h.parts.shared h.parts.parts.1 w.1 e) d)
+        (asked_in first) (asked_in second) (λ tree e. expr-read first h.parts.shared h.parts.parts.0 w.0 e) (λ tree e. expr-read second h.parts.shared h.parts.parts.1 w.1 e) d)
 
     parts-read : {m : _} (parts : Row_of-Expr m) (shared : Kind) → PartsHave scopes subs parts shared → WritableParts parts → PartsReadOf parts shared
     parts-read end_of-Expr shared h w = no_parts-read c here shared
@@ -371,7 +371,7 @@ module _ (c : Contents) (prefix : List ℕ) (forms : List ExprForm) (asked : Lis
         subst (PartsRead c here (shown_expr prefix forms part ∷ shown_parts prefix forms parts) shared
         (λ n. printed_expr unread n part ∷ printed_parts unread (n + length (asked_in part)) parts)) (sym (taken-append asked (asked_in part) (asked_in_parts parts)))
         (one_more-read c here (shown_expr prefix forms part) shared (λ n. printed_expr unread n part) (taken asked (asked_in part))
-        (λ {tree} d. expr-read part shared h.0 w.0 d) (shown_parts prefix forms parts) (λ n. printed_parts unread n parts) (taken asked (asked_in_parts parts))
+        (λ tree d. expr-read part shared h.0 w.0 d) (shown_parts prefix forms parts) (λ n. printed_parts unread n parts) (taken asked (asked_in_parts parts))
         (length (asked_in part)) (parts-read parts shared h.1 w.1) (taken-count asked (asked_in part)))
 
     steps-read : {m : _} (steps : Row_of-ChainStep m) → StepsHave scopes subs steps → WritableSteps steps → (trees : List ExprStep)

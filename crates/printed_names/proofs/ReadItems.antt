@@ -56,8 +56,8 @@ module _ (c : Contents) (prefix : List ℕ) (forms : List ExprForm) (asked : Lis
       (sym (taken-append asked numbers (asked_by items)))
       (item-read c has_from scope here trees (numbered_names out (suc first) (kinds_of_items items)) item.kind (kinds_of_items items) (λ n. printed_expr unread n item.expr)
       (λ n. printed_items unread n items) (taken asked numbers) (taken asked (asked_by items)) (length numbers) d
-      (λ {tree} e. plain-tree c (plain-shown prefix forms plain item.expr) e)
-      (λ {tree} e. expr-read c prefix forms asked scopes all unread here finds (sublinks-found c here forms asked all sublinks) outside item.expr item.kind (form 0 item (omega arith)) w.0 e)
+      (λ tree e. plain-tree c (plain-shown prefix forms plain item.expr) e)
+      (λ tree e. expr-read c prefix forms asked scopes all unread here finds (sublinks-found c here forms asked all sublinks) outside item.expr item.kind (form 0 item (omega arith)) w.0 e)
       rest (taken-count asked numbers))
 
   -- the list of a projection
@@ -72,7 +72,7 @@ module _ (c : Contents) (prefix : List ℕ) (forms : List ExprForm) (asked : Lis
 
   -- an expression beside the sublinks that no item uses
   besides-read : (items : List Item) (kind : Kind) (a : ExprForm) (made : ℕ → Expr) (subs : List Sublink)
-      → ({tree : ExprTree} → IsExpr a tree → IsRead ((part_of c tree).means here) kind made subs) → {tree : ExprTree} → IsExpr (shown_beside kind (left_over items) a) tree
+      → ((tree : ExprTree) → IsExpr a tree → IsRead ((part_of c tree).means here) kind made subs) → {tree : ExprTree} → IsExpr (shown_beside kind (left_over items) a) tree
       → IsRead ((part_of c tree).means here) kind
       (λ n. beside_from n kind (length (idle (items_use items) (length asked))) (made (n + length (idle (items_use items) (length asked)))))
       (taken asked (idle (items_use items) (length asked)) ++ subs)
@@ -94,8 +94,8 @@ module _ (c : Contents) (prefix : List ℕ) (forms : List ExprForm) (asked : Lis
         read = subst (ListRead has_from scope here (map (item_of c) (only ∷ [])) (listed_names out first []) (kinds.Integer ∷ []) (λ n. item_at kinds.Integer (beside_from n kinds.Integer count (integer 1)) ∷ []))
             (append-nil (others ++ []) ∙ sym (taken-append asked (idle (items_use []) (length asked)) []))
             (item-read c has_from scope here [] [] kinds.Integer [] (λ n. beside_from n kinds.Integer count (integer 1)) (λ n. []) (others ++ []) [] (length (others ++ [])) d
-            (λ {tree} e. plain-tree c (plain-beside kinds.Integer (left_over []) one unused tt) e)
-            (λ {tree} e. besides-read [] kinds.Integer one (λ n. integer 1) [] (λ {tree} g. integer-read c here 1 g) e) (no_items-read has_from scope here) refl);
+            (λ tree e. plain-tree c (plain-beside kinds.Integer (left_over []) one unused tt) e)
+            (λ tree e. besides-read [] kinds.Integer one (λ n. integer 1) [] (λ tree g. integer-read c here 1 g) e) (no_items-read has_from scope here) refl);
         whole = ap (λ e. item_at kinds.Integer e ∷ []) (beside-first kinds.Integer count (integer 1));
       }
   projected-read (item ∷ items) form w unused out first {item = tree} {trees = trees} d ds =
@@ -114,9 +114,9 @@ module _ (c : Contents) (prefix : List ℕ) (forms : List ExprForm) (asked : Lis
       let own = item-read c has_from scope here trees (numbered_names out (suc first) (kinds_of_items items)) item.kind (kinds_of_items items)
       (λ n. beside_from n item.kind count (printed_expr unread (n + count) item.expr)) (λ n. printed_items unread n items)
       (taken asked spared ++ taken asked numbers) (taken asked (asked_by items)) (length (spared ++ numbers)) d
-      (λ {tree} e. plain-tree c (plain-beside item.kind (left_over every) (shown_item item) unused (plain-shown prefix forms plain item.expr)) e)
-      (λ {tree} e. besides-read every item.kind (shown_item item) (λ n. printed_expr unread n item.expr) (taken asked numbers)
-      (λ {tree} g. expr-read c prefix forms asked scopes all unread here finds (sublinks-found c here forms asked all sublinks) outside item.expr item.kind (form 0 item (omega arith)) w.0 g) e)
+      (λ tree e. plain-tree c (plain-beside item.kind (left_over every) (shown_item item) unused (plain-shown prefix forms plain item.expr)) e)
+      (λ tree e. besides-read every item.kind (shown_item item) (λ n. printed_expr unread n item.expr) (taken asked numbers)
+      (λ tree g. expr-read c prefix forms asked scopes all unread here finds (sublinks-found c here forms asked all sublinks) outside item.expr item.kind (form 0 item (omega arith)) w.0 g) e)
       rest counted in
       let none : 0 + count ≡ count = omega arith in
       let behind : 0 + length (spared ++ numbers) ≡ count + length numbers = omega (arith, length-append spared numbers) in

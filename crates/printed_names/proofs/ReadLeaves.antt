@@ -45,8 +45,7 @@ module _ (c : Contents) (here : Surroundings) where
       → IsRead ((part_of c tree).means here) kind (λ n. Col level (before unread level + place)) []
   unfolding means_at
   column-read prefix scopes unread finds outside level place kind h {tree = tree} (column_tree {x = reference} (bare_tree none named) is) =
-      let column = record { level = level; place = Some (before unread level + place); kind = kind } in
-      read-same ((part_of c tree).means here) (column_meant here reference.at (found column)) kind (λ n. Col level (before unread level + place)) []
+      read-same ((part_of c tree).means here) (column_meant here reference.at (found (record { level = level; place = Some (before unread level + place); kind = kind }))) kind (λ n. Col level (before unread level + place)) []
       (means-column c here tree reference is ∙ ap (column_meant here reference.at) (finds level place kind h reference none named))
       (record {
         breaks = ap (λ b. broken_if (b && nat_lt 0 level) rule.MisplacedAggregate reference.at) outside;
@@ -68,13 +67,13 @@ module _ (c : Contents) (here : Surroundings) where
 
   -- one part by itself
   pub alone-read : (need : Need) (shared own : Kind) (form : ExprForm) (made : ℕ → Expr) (subs : List Sublink)
-      → ({tree : ExprTree} → IsExpr form tree → IsRead ((part_of c tree).means here) own made subs) → Meets need shared own
+      → ((tree : ExprTree) → IsExpr form tree → IsRead ((part_of c tree).means here) own made subs) → Meets need shared own
       → (trees : List ExprTree) → Along IsExpr (form ∷ []) trees
       → AreRead shared (map (operand here need) (map (part_of c) trees)) (λ n. made n ∷ []) subs
   alone-read need shared own form made subs read meets [] d = absurd d
   alone-read need shared own form made subs read meets (tree ∷ []) d =
       subst (AreRead shared (operand here need (part_of c tree) ∷ []) (λ n. made n ∷ [])) (append-nil subs)
-      (one-read shared own (operand here need (part_of c tree)) [] made (λ n. []) subs [] _ (read d.0) meets (none-read shared) refl)
+      (one-read shared own (operand here need (part_of c tree)) [] made (λ n. []) subs [] _ (read tree d.0) meets (none-read shared) refl)
   alone-read need shared own form made subs read meets (tree ∷ other ∷ more) d = absurd d.1
 
   pub negative-read : (amount : ℕ) {tree : ExprTree} → IsExpr (f.enclosed (f.negative (f.integer amount))) tree
@@ -85,7 +84,7 @@ module _ (c : Contents) (here : Surroundings) where
       read-same ((part_of c tree).means here) _ kinds.Integer (λ n. negative amount) [] (i.is ∙ o.is)
       (node-read (always kinds.Integer) (λ es. times x.Negate 1 (first_of es)) (map (operand here (of_kind kinds.Integer)) (map (part_of c) o.trees))
       kinds.Integer kinds.Integer (λ n. integer amount ∷ []) []
-      (alone-read (of_kind kinds.Integer) kinds.Integer kinds.Integer (f.integer amount) (λ n. integer amount) [] (integer-read amount) refl o.trees o.all) refl)
+      (alone-read (of_kind kinds.Integer) kinds.Integer kinds.Integer (f.integer amount) (λ n. integer amount) [] (λ tree e. integer-read amount e) refl o.trees o.all) refl)
 
   pub null_literal-read : (own : Kind) {tree : ExprTree} → IsExpr (f.null own) tree → IsRead ((part_of c tree).means here) own (λ n. Lit Null own) []
   unfolding means_at
@@ -94,12 +93,12 @@ module _ (c : Contents) (here : Surroundings) where
 
   -- integers are read elsewhere
   pub literal-read : (v : Value) (own : Kind) → fits v own ≡ true
-      → ((number : ℤ) {tree : ExprTree} → IsExpr (signed (is_negative number) (unsigned_abs number)) tree
+      → ((number : ℤ) (tree : ExprTree) → IsExpr (signed (is_negative number) (unsigned_abs number)) tree
       → IsRead ((part_of c tree).means here) kinds.Integer (λ n. printed_integer (is_negative number) (unsigned_abs number)) [])
       → {tree : ExprTree} → IsExpr (literal v own) tree → IsRead ((part_of c tree).means here) own (λ n. printed_literal v own) []
   unfolding means_at
   literal-read Null own e numbers d = null_literal-read own d
-  literal-read (Integer number) kinds.Integer e numbers d = numbers number d
+  literal-read (Integer number) kinds.Integer e numbers {tree = tree} d = numbers number tree d
   literal-read (Integer number) kinds.Text e numbers d = absurd (true≢false (sym e))
   literal-read (Integer number) kinds.Boolean e numbers d = absurd (true≢false (sym e))
   literal-read (Text spelled) kinds.Integer e numbers d = absurd (true≢false (sym e))

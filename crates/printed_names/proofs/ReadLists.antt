@@ -118,12 +118,12 @@ module _ (c : Contents) (has_from : Bool) (scope : Scope) (here : Surroundings) 
 
   -- an item with a name, before others
   pub item-read : {a : ExprForm} {name : List ℕ} {item : SelectItem} (items : List SelectItem) (names : List (List ℕ)) (kind : Kind) (kinds : List Kind) (made : ℕ → Expr)
-      (others : ℕ → List Item) (subs more : List Sublink) (count : ℕ) → IsItem a name item → ({tree : ExprTree} → IsExpr a tree → PlainTree c tree)
-      → ({tree : ExprTree} → IsExpr a tree → IsRead ((part_of c tree).means here) kind made subs)
+      (others : ℕ → List Item) (subs more : List Sublink) (count : ℕ) → IsItem a name item → ((tree : ExprTree) → IsExpr a tree → PlainTree c tree)
+      → ((tree : ExprTree) → IsExpr a tree → IsRead ((part_of c tree).means here) kind made subs)
       → ListRead has_from scope here (map (item_of c) items) names kinds others more → length subs ≡ count
       → ListRead has_from scope here (map (item_of c) (item ∷ items)) (name ∷ names) (kind ∷ kinds) (λ n. item_at kind (made n) ∷ others (n + count)) (subs ++ more)
   item-read {name = name} {item = item} items names kind kinds made others subs more count (item_tree {x = x} alias d named is) plain read rest same =
       let list : ℕ → List Item = λ n. item_at kind (made n) ∷ others (n + count) in
       let part_named : item_of c item ≡ named_part x name = ap (item_of c) is ∙ part-is x alias ∙ ap (named_part x) named in
       subst (λ part. ListRead has_from scope here (part ∷ map (item_of c) items) (name ∷ names) (kind ∷ kinds) list (subs ++ more)) (sym part_named)
-      (first-read x (map (item_of c) items) name names kind kinds made others subs more count (plain d) (read d) rest same)
+      (first-read x (map (item_of c) items) name names kind kinds made others subs more count (plain x d) (read x d) rest same)

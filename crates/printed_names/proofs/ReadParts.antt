@@ -45,7 +45,7 @@ pub record AreRead (shared : Kind) (os : List Operand) (made : ℕ → List Expr
 pub none-read : (shared : Kind) → AreRead shared [] (λ n. []) []
 none-read shared = record { breaks = refl; fit = refl; fit_behind = refl; make = λ alike_kind before. refl }
 
-same-itself : (kind : Kind) → is_same_kind kind kind ≡ true
+pub same-itself : (kind : Kind) → is_same_kind kind kind ≡ true
 same-itself Integer = refl
 same-itself Text = refl
 same-itself Boolean = refl

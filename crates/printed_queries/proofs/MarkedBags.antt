@@ -7,7 +7,7 @@ pub map-append : {X Y : Type 0} (f : X → Y) (xs ys : List X) → map f (xs ++ 
 map-append f [] ys = refl
 map-append f (x ∷ xs) ys = ap (λ more. f x ∷ more) (map-append f xs ys)
 
-map-cond : {X Y : Type 0} (f : X → Y) (b : Bool) (xs ys : List X) → cond b (map f xs) (map f ys) ≡ map f (cond b xs ys)
+pub map-cond : {X Y : Type 0} (f : X → Y) (b : Bool) (xs ys : List X) → cond b (map f xs) (map f ys) ≡ map f (cond b xs ys)
 map-cond f true xs ys = refl
 map-cond f false xs ys = refl
 
