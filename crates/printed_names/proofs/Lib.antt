@@ -18,5 +18,7 @@ pub mod ReadOperators
 pub mod ReadParts
 pub mod ReadQueries
 pub mod ReadScopes
+pub mod ReadSets
+pub mod ReadSublinkForms
 pub mod WorkedRows
 pub mod WorkedTrees

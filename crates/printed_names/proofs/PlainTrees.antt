@@ -1,5 +1,5 @@
 -- The tree of an expression's form has no aggregate of its own core.
-use Rattle.std.proofs.Common.{◌≡◌, Bool, false, ◌||◌, List, [], ◌∷◌, ◌++◌, map, flat_map, refl, ap, ◌∙◌}
+use Rattle.std.proofs.Common.{◌≡◌, Bool, true, false, ◌||◌, List, [], ◌∷◌, ◌++◌, map, flat_map, refl, ap, ◌∙◌}
 use Rattle.std.specs.List.{list_any}
 use Rattle.perm_catalog.specs.Contents.{Contents}
 use Rattle.sql_tree.specs.declared.expression.ArmTree.{ArmTree}

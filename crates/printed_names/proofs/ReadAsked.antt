@@ -84,7 +84,7 @@ module _ (c : Contents) (here : Surroundings) (standing : here.sublinks ≡ true
   abbrev inner_query : QueryTree → QueryMeant
   inner_query tree = (query_of c tree).means (around_of here)
 
-  exists-read : {tree : ExprTree} → IsExpr (f.exists q) tree
+  pub exists-read : {tree : ExprTree} → IsExpr (f.exists q) tree
       → IsRead ((part_of c tree).means here) kinds.Boolean (λ n. Sub n) (record { kind = ask.Exists; tested = None; query = query } ∷ [])
   unfolding means_at
   exists-read {tree = tree} (exists_tree {x = y} d is) =
@@ -107,7 +107,7 @@ module _ (c : Contents) (here : Surroundings) (standing : here.sublinks ≡ true
     first_kind-is tree d =
         λ i. cond (is_whole ((read tree d).breaks i)) (elim (one_column-is tree d i) as (λ _. Option Kind) [ None ↦ None | Some found ↦ elim found as (λ _. Option Kind) [ [] ↦ None | first ∷ more ↦ first.kind ] ]) None
 
-    scalar-read : {tree : ExprTree} → IsExpr (f.scalar q) tree
+    pub scalar-read : {tree : ExprTree} → IsExpr (f.scalar q) tree
         → IsRead ((part_of c tree).means here) kind (λ n. Sub n) (record { kind = ask.Scalar; tested = None; query = query } ∷ [])
     unfolding means_at
     scalar-read {tree = tree} (scalar_tree {x = y} d is) =
@@ -123,7 +123,7 @@ module _ (c : Contents) (here : Surroundings) (standing : here.sublinks ≡ true
         })
 
     -- beside a left operand, which has no sublinks
-    looked-read : (sub : SubKind) (x : ExprTree) (y : QueryTree) (at : ℕ) (made : ℕ → Expr) (e : Expr) → IsQuery q y
+    pub looked-read : (sub : SubKind) (x : ExprTree) (y : QueryTree) (at : ℕ) (made : ℕ → Expr) (e : Expr) → IsQuery q y
         → IsRead ((part_of c x).means (in_tested here)) kind made [] → ((n : ℕ) → made n ≡ e)
         → IsRead (tested_meant here at sub (part_of c x) (query_of c y)) kinds.Boolean (λ n. Sub n) (record { kind = sub; tested = Some e; query = query } ∷ [])
     looked-read sub x y at made e d own same =

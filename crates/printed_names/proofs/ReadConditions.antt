@@ -145,7 +145,7 @@ module _ (c : Contents) (here : Surroundings) (kind : Kind) (last : ExprTree) (m
       (λ i n. let far : n + 1 + 0 + length others ≡ n + suc (length others) = omega arith in made (far i)) all)
 
 module _ (c : Contents) (here : Surroundings) (kind : Kind) (a : ExprForm) (made : ℕ → Expr) (subs : List Sublink)
-    (read : {tree : ExprTree} → IsExpr a tree → IsRead ((part_of c tree).means here) kind made subs) where
+    (read : (tree : ExprTree) → IsExpr a tree → IsRead ((part_of c tree).means here) kind made subs) where
   pub beside-read : (forms : List ExprForm) (others : List Sublink) → AnyRead c here forms others → {tree : ExprTree} → IsExpr (shown_beside kind forms a) tree
       → IsRead ((part_of c tree).means here) kind (λ n. beside_from n kind (length others) (made (n + length others))) (others ++ subs)
   beside-read [] [] r {tree = tree} d =

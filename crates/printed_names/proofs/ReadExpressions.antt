@@ -97,7 +97,7 @@ taken-count asked numbers = length-map numbers (λ number. slice_index_or asked 
 -- ---- tests
 
 module _ (c : Contents) (here : Surroundings) (form : ExprForm) (own : Kind) (made : ℕ → Expr) (subs : List Sublink)
-    (read : {tree : ExprTree} → IsExpr form tree → IsRead ((part_of c tree).means here) own made subs) where
+    (read : (tree : ExprTree) → IsExpr form tree → IsRead ((part_of c tree).means here) own made subs) where
   pub null-read : {tree : ExprTree} → IsExpr (f.enclosed (f.is_null false form)) tree → IsRead ((part_of c tree).means here) kinds.Boolean (λ n. IsNull (made n)) subs
   null-read {tree = tree} d =
       let i = inside c here d in
@@ -143,7 +143,7 @@ module _ (c : Contents) (here : Surroundings) where
       none need meets (tree ∷ trees) d = absurd d
 
   module _ (a : ExprForm) (shared : Kind) (made : ℕ → Expr) (first : List Sublink)
-      (read : {tree : ExprTree} → IsExpr a tree → IsRead ((part_of c tree).means here) shared made first) where
+      (read : (tree : ExprTree) → IsExpr a tree → IsRead ((part_of c tree).means here) shared made first) where
     -- where nothing stands behind it, no sublinks do
     single-read : (forms : List ExprForm) (others : ℕ → List Expr) (more : List Sublink) (count : ℕ) → PartsRead c here forms shared others more
         → SingleRead c here (a ∷ forms) shared (λ n. made n ∷ others (n + count)) (first ++ more)
@@ -196,7 +196,7 @@ steps-shown prefix forms end_of-ChainStep = refl
 steps-shown prefix forms (more_of-ChainStep operation part steps) = ap suc (steps-shown prefix forms steps)
 
 module _ (c : Contents) (here : Surroundings) (a : ExprForm) (made : ℕ → Expr) (others : ℕ → List ChainStep) (first more : List Sublink) (count : ℕ)
-    (read : {tree : ExprTree} → IsExpr a tree → IsRead ((part_of c tree).means here) kinds.Integer made first) (same : length first ≡ count) where
+    (read : (tree : ExprTree) → IsExpr a tree → IsRead ((part_of c tree).means here) kinds.Integer made first) (same : length first ≡ count) where
   chain-over : (steps : List StepForm) → 1 ≤ length steps → (start : ExprTree) (trees : List ExprStep) → IsExpr a start → Along IsStepTree steps trees
       → ((trees : List ExprStep) → Along IsStepTree steps trees → StepsRead here (map (step_part c) trees) others more)
       → IsRead (chain_meant here (part_of c start) (map (step_part c) trees)) kinds.Integer (λ n. Chain (made n) (others (n + count))) (first ++ more)
