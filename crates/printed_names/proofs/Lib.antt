@@ -11,6 +11,7 @@ pub mod ReadExpressions
 pub mod ReadForms
 pub mod ReadFroms
 pub mod ReadItems
+pub mod ReadJoins
 pub mod ReadLeaves
 pub mod ReadLists
 pub mod ReadNodes

@@ -12,7 +12,7 @@ use Rattle.name_meaning.specs.Trees.{arm_of, body_of, part_of, step_of}
 use Rattle.null_logic.specs.declared.operator.Operator.TheVariants.{And, Or}
 use Rattle.tree_texts.specs.Forms as f
 use Rattle.tree_texts.specs.Forms.{ArmForms, CompoundForm, ExprForm, ExprForms, ProductForms, SumForms}
-use Rattle.tree_texts.specs.Trees.{AreArms, AreExprs, AreFactors, AreTerms, IsCompound, IsExpr, a_factor_tree, a_term_tree, all_tree, an_arm_tree, an_expr_tree, any_tree, added_tree, between_tree, case_tree, coalesce_tree, column_tree, compared_tree, each_of_tree, enclosed_tree, exists_tree, factor_tree, in_list_tree, in_query_tree, integer_tree, is_distinct_tree, is_null_tree, is_truth_tree, like_tree, multiplied_tree, negated_tree, negative_tree, no_arm_trees, no_expr_trees, no_factor_trees, no_term_trees, null_if_tree, null_tree, one_of_tree, scalar_tree, term_tree, text_tree, truth_tree}
+use Rattle.tree_texts.specs.Trees.{AreArms, AreExprs, AreFactors, AreTerms, IsCompound, IsExpr, a_factor_tree, a_term_tree, all_tree, an_arm_tree, an_expr_tree, any_tree, added_tree, between_tree, case_tree, coalesce_tree, column_tree, compared_tree, count_distinct_tree, count_rows_tree, count_tree, each_of_tree, enclosed_tree, exists_tree, factor_tree, folded_tree, in_list_tree, in_query_tree, integer_tree, is_distinct_tree, is_null_tree, is_truth_tree, like_tree, multiplied_tree, negated_tree, negative_tree, no_arm_trees, no_expr_trees, no_factor_trees, no_term_trees, null_if_tree, null_tree, one_of_tree, scalar_tree, term_tree, text_tree, truth_tree}
 use Rattle.printed_names.proofs.ReadForms.{arm-is, step-is}
 
 -- ---- forms without aggregates, but for those of sublinks
@@ -124,6 +124,10 @@ module _ (c : Contents) where
         plain-of tree _ (ap (body_of c) is ∙ exprbody-coalesce c (x ∷ trees)) (first-plain x (map (part_of c) trees) (plain-tree p.0 d) (plain-exprs p.1 ds))
     plain-tree {tree = tree} p (null_if_tree {x = x} {y = y} d e is) =
         plain-of tree _ (ap (body_of c) is ∙ exprbody-nullif c x y) (two-plain x y (plain-tree p.0 d) (plain-tree p.1 e))
+    plain-tree p (count_rows_tree is) = absurd p
+    plain-tree p (count_tree d is) = absurd p
+    plain-tree p (count_distinct_tree d is) = absurd p
+    plain-tree p (folded_tree d is) = absurd p
     plain-tree {tree = tree} p (exists_tree {x = x} d is) = plain-of tree _ (ap (body_of c) is ∙ exprbody-exists c x) refl
     plain-tree {tree = tree} p (scalar_tree {x = x} d is) = plain-of tree _ (ap (body_of c) is ∙ exprbody-scalar c x) refl
 

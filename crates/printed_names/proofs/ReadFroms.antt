@@ -15,7 +15,7 @@ use Rattle.sql_tree.specs.declared.source.ScopeMark.{ScopeMark}
 use Rattle.sql_tree.specs.declared.source.ScopeMark.TheVariants.{Plain}
 use Rattle.name_meaning.proofs.Equations.{fromitem-record, fromsource-inner, fromtree-record, token}
 use Rattle.name_meaning.specs.Froms.{FromItemPart, FromMeant, FromPart, ItemMeant, SourcePart, external, first_item, from_all, in_from, item_meant, label_of, names_of, read_of, read_query, scope_name, settled_columns}
-use Rattle.name_meaning.specs.Meanings.{QueryMeant}
+use Rattle.name_meaning.specs.Meanings.{Around, QueryMeant}
 use Rattle.name_meaning.specs.Scopes.{KnownColumn, ScopeItem, numbered_columns, scope_of}
 use Rattle.name_meaning.specs.Trees.{from_item_of, from_of, query_of, source_of}
 use Rattle.name_meaning.specs.declared.scope.Scope.{Scope}
@@ -59,7 +59,7 @@ plain-of : (m : QueryMeant) (names : List (List ℕ)) (places : Option (List ℕ
 plain-of m names places q e made = ap (λ found. option_map_or (external (m.make []) names) found (m.make [])) e ∙ made
 
 -- an item whose query is read
-query_item-read : (at : ℕ) (name label : List ℕ) (m : QueryMeant) (names : List (List ℕ)) (all : List Kind) (q : Query) → QueryRead m names all q
+pub query_item-read : (at : ℕ) (name label : List ℕ) (m : QueryMeant) (names : List (List ℕ)) (all : List Kind) (q : Query) → QueryRead m names all q
     → FromRead (first_item [] (item_meant at Plain [] name label (read_query m))) (item_of_query name names all ∷ []) q
 query_item-read at name label m names all q r = record {
   breaks = λ i. r.breaks i ++ [] ++ [];
@@ -70,16 +70,16 @@ query_item-read at name label m names all q r = record {
 
 module _ (c : Contents) (outer : List Scope) where
   -- what an item is, from its source, its name and its mark
-  abbrev item_from : ℕ → SourcePart → Option Name → ScopeMark → ItemMeant
-  item_from at source alias mark = item_meant at mark [] (scope_name source alias) (label_of source alias) (read_of c (in_from outer) source)
+  abbrev item_from : ℕ → List (List ℕ) → SourcePart → Option Name → ScopeMark → Around → ItemMeant
+  item_from at earlier source alias mark around = item_meant at mark earlier (scope_name source alias) (label_of source alias) (read_of c around source)
 
-  item-is : (item : FromItem) (tree : QueryTree) (alias : Name) → item.source ≡ Inner tree → item.alias ≡ Some alias → item.mark ≡ Plain
-      → (from_item_of c item).means (in_from outer) []
-      ≡ item_meant item.at Plain [] alias.text alias.text (read_query ((query_of c tree).means (in_from outer)))
+  pub item-is : (around : Around) (earlier : List (List ℕ)) (item : FromItem) (tree : QueryTree) (alias : Name) → item.source ≡ Inner tree → item.alias ≡ Some alias → item.mark ≡ Plain
+      → (from_item_of c item).means around earlier
+      ≡ item_meant item.at Plain earlier alias.text alias.text (read_query ((query_of c tree).means around))
   unfolding token
-  item-is item tree alias source named mark =
-      ap (λ (part : FromItemPart). part.means (in_from outer) []) (fromitem-record c item.at item.source item.alias item.mark)
-      ∙ (λ i. item_from item.at ((ap (source_of c) source ∙ fromsource-inner c tree) i) (named i) (mark i))
+  item-is around earlier item tree alias source named mark =
+      ap (λ (part : FromItemPart). part.means around earlier) (fromitem-record c item.at item.source item.alias item.mark)
+      ∙ (λ i. item_from item.at earlier ((ap (source_of c) source ∙ fromsource-inner c tree) i) (named i) (mark i) around)
 
   from-is : (item : FromItem) → from_all outer (map (from_of c) (roll-FromTree (record { first = item; joins = [] }) ∷ []))
       ≡ first_item [] ((from_item_of c item).means (in_from outer) [])
@@ -94,13 +94,13 @@ module _ (c : Contents) (outer : List Scope) where
   subquery-read {name = name} names all query (source_trees {item = item} (subquery_tree {tree = tree} {alias = alias} d source named called mark) no_join_trees is) read =
       subst (λ t. FromRead (from_all outer (map (from_of c) (t ∷ []))) (item_of_query name names all ∷ []) query) (sym is)
       (subst (λ m. FromRead m (item_of_query name names all ∷ []) query) (sym (from-is item))
-      (subst (λ m. FromRead (first_item [] m) (item_of_query name names all ∷ []) query) (sym (item-is item tree alias source named mark))
+      (subst (λ m. FromRead (first_item [] m) (item_of_query name names all ∷ []) query) (sym (item-is (in_from outer) [] item tree alias source named mark))
       (subst (λ n. FromRead (first_item [] (item_meant item.at Plain [] alias.text alias.text (read_query ((query_of c tree).means (in_from outer))))) (item_of_query n names all ∷ []) query) called
       (query_item-read item.at alias.text alias.text ((query_of c tree).means (in_from outer)) names all query (read tree d)))))
 
 -- ---- its scope
 
-numbered-columns : (depth number item : ℕ) (all : List Kind) → Numbered depth number all (numbered_columns item (known_columns (numbered_names depth number all) all))
+pub numbered-columns : (depth number item : ℕ) (all : List Kind) → Numbered depth number all (numbered_columns item (known_columns (numbered_names depth number all) all))
 numbered-columns depth number item [] = tt
 numbered-columns depth number item (kind ∷ more) = (refl, refl, numbered-columns depth (suc number) item more)
 

@@ -87,26 +87,26 @@ module _ (c : Contents) (depth : ℕ) (scopes : List (List Kind)) (unread : List
         (record { kind = ask.All op; tested = Some (printed_expr unread 0 part); query = query } ∷ [])
         (means-quantified c here tree true op x y is) (beside-operand (ask.All op) x y tree.at d e)
 
-    in_parentheses : (sub : SubKind) {tree inner : ExprTree} → (part_of c tree).means here ≡ (part_of c inner).means here → Result sub inner → Result sub tree
-    in_parentheses sub {tree = tree} {inner = inner} is r =
+    in_parentheses : (sub : SubKind) (tree inner : ExprTree) → (part_of c tree).means here ≡ (part_of c inner).means here → Result sub inner → Result sub tree
+    in_parentheses sub tree inner is r =
         read-same ((part_of c tree).means here) ((part_of c inner).means here) kinds.Boolean (λ n. Sub n)
         (record { kind = sub; tested = Some (printed_expr unread 0 part); query = query } ∷ []) is r
 
     any_of-read : (op : Compare) {tree : ExprTree} → IsExpr (any_of op (shown_expr (marks depth) [] part) q) tree → Result (ask.Any op) tree
-    any_of-read compare.Equal d = let i = inside c here d in in_parentheses (ask.Any compare.Equal) i.is (in-read false (ask.Any compare.Equal) refl i.compound)
-    any_of-read compare.NotEqual d = let i = inside c here d in in_parentheses (ask.Any compare.NotEqual) i.is (any-read compare.NotEqual i.compound)
-    any_of-read compare.Less d = let i = inside c here d in in_parentheses (ask.Any compare.Less) i.is (any-read compare.Less i.compound)
-    any_of-read compare.LessEqual d = let i = inside c here d in in_parentheses (ask.Any compare.LessEqual) i.is (any-read compare.LessEqual i.compound)
-    any_of-read compare.Greater d = let i = inside c here d in in_parentheses (ask.Any compare.Greater) i.is (any-read compare.Greater i.compound)
-    any_of-read compare.GreaterEqual d = let i = inside c here d in in_parentheses (ask.Any compare.GreaterEqual) i.is (any-read compare.GreaterEqual i.compound)
+    any_of-read compare.Equal {tree = tree} d = let i = inside c here d in in_parentheses (ask.Any compare.Equal) tree i.inner i.is (in-read false (ask.Any compare.Equal) refl i.compound)
+    any_of-read compare.NotEqual {tree = tree} d = let i = inside c here d in in_parentheses (ask.Any compare.NotEqual) tree i.inner i.is (any-read compare.NotEqual i.compound)
+    any_of-read compare.Less {tree = tree} d = let i = inside c here d in in_parentheses (ask.Any compare.Less) tree i.inner i.is (any-read compare.Less i.compound)
+    any_of-read compare.LessEqual {tree = tree} d = let i = inside c here d in in_parentheses (ask.Any compare.LessEqual) tree i.inner i.is (any-read compare.LessEqual i.compound)
+    any_of-read compare.Greater {tree = tree} d = let i = inside c here d in in_parentheses (ask.Any compare.Greater) tree i.inner i.is (any-read compare.Greater i.compound)
+    any_of-read compare.GreaterEqual {tree = tree} d = let i = inside c here d in in_parentheses (ask.Any compare.GreaterEqual) tree i.inner i.is (any-read compare.GreaterEqual i.compound)
 
     all_of-read : (op : Compare) {tree : ExprTree} → IsExpr (all_of op (shown_expr (marks depth) [] part) q) tree → Result (ask.All op) tree
-    all_of-read compare.Equal d = let i = inside c here d in in_parentheses (ask.All compare.Equal) i.is (all-read compare.Equal i.compound)
-    all_of-read compare.NotEqual d = let i = inside c here d in in_parentheses (ask.All compare.NotEqual) i.is (in-read true (ask.All compare.NotEqual) refl i.compound)
-    all_of-read compare.Less d = let i = inside c here d in in_parentheses (ask.All compare.Less) i.is (all-read compare.Less i.compound)
-    all_of-read compare.LessEqual d = let i = inside c here d in in_parentheses (ask.All compare.LessEqual) i.is (all-read compare.LessEqual i.compound)
-    all_of-read compare.Greater d = let i = inside c here d in in_parentheses (ask.All compare.Greater) i.is (all-read compare.Greater i.compound)
-    all_of-read compare.GreaterEqual d = let i = inside c here d in in_parentheses (ask.All compare.GreaterEqual) i.is (all-read compare.GreaterEqual i.compound)
+    all_of-read compare.Equal {tree = tree} d = let i = inside c here d in in_parentheses (ask.All compare.Equal) tree i.inner i.is (all-read compare.Equal i.compound)
+    all_of-read compare.NotEqual {tree = tree} d = let i = inside c here d in in_parentheses (ask.All compare.NotEqual) tree i.inner i.is (in-read true (ask.All compare.NotEqual) refl i.compound)
+    all_of-read compare.Less {tree = tree} d = let i = inside c here d in in_parentheses (ask.All compare.Less) tree i.inner i.is (all-read compare.Less i.compound)
+    all_of-read compare.LessEqual {tree = tree} d = let i = inside c here d in in_parentheses (ask.All compare.LessEqual) tree i.inner i.is (all-read compare.LessEqual i.compound)
+    all_of-read compare.Greater {tree = tree} d = let i = inside c here d in in_parentheses (ask.All compare.Greater) tree i.inner i.is (all-read compare.Greater i.compound)
+    all_of-read compare.GreaterEqual {tree = tree} d = let i = inside c here d in in_parentheses (ask.All compare.GreaterEqual) tree i.inner i.is (all-read compare.GreaterEqual i.compound)
 
   -- each kind of sublink
   pub sublink-read : (kind : SubKind) (tested : Option Expr) → sub_form kind tested scopes own → WritableOption tested
