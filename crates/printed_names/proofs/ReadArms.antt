@@ -72,7 +72,7 @@ module _ (c : Contents) (depth : ℕ) (scopes : List (List Kind)) (unread : List
 
   -- under a condition
   module _ (forms : List ExprForm) (asked : List Sublink) (all : List Kind)
-      (sublinks : (here : Surroundings) → here.scopes ≡ own_scope ∷ around.outer → here.sublinks ≡ true → SubsRead c here forms asked all) where
+      (sublinks : (here : Surroundings) → here.scopes ≡ own_scope ∷ around.outer → here.argument ≡ false → here.sublinks ≡ true → SubsRead c here forms asked all) where
     pub filter-read : (condition : Expr) → HasKind (own ∷ scopes) all condition kinds.Boolean → Writable condition → (out first : ℕ) (tree : Core)
         → IsCore (selected false (listed (naming (marks out) first) one (columns (marks (suc depth)) (length own))) (over form)
         (f.condition (tested_by (marks (suc depth)) forms condition)) []) tree
@@ -89,8 +89,8 @@ module _ (c : Contents) (depth : ℕ) (scopes : List (List Kind)) (unread : List
         let test : Condition = record { expr = printed_condition (0 ∷ unread) asked condition; subs = condition_subs asked condition } in
         let where_read : TestRead ((part_of c t.tested).means here) test = record {
           made = λ n. beside_from n kinds.Boolean (length (idle_in condition asked)) (printed_expr (0 ∷ unread) (n + length (idle_in condition asked)) condition);
-          read = condition-read c (marks (suc depth)) forms asked (own ∷ scopes) all (0 ∷ unread) here found (sublinks here refl refl) refl condition h w t.condition_is;
-          first = condition-first c (marks (suc depth)) forms asked (own ∷ scopes) all (0 ∷ unread) here found (sublinks here refl refl) refl condition;
+          read = condition-read c (marks (suc depth)) forms asked (own ∷ scopes) all (0 ∷ unread) here found (sublinks here refl refl refl) refl condition h w t.condition_is;
+          first = condition-first c (marks (suc depth)) forms asked (own ∷ scopes) all (0 ∷ unread) here found (sublinks here refl refl refl) refl condition;
         } in
         let list = columns-listed c has own_scope (in_clause own_scope around.outer true) (suc depth) own scopes (0 ∷ unread) found refl out first own
         (λ i kind e. let none : 0 + i ≡ i = omega arith in ap (slice_get own) none ∙ e) o.first o.rest in (
@@ -113,7 +113,7 @@ module _ (c : Contents) (depth : ℕ) (scopes : List (List Kind)) (unread : List
         let here = in_clause own_scope around.outer true in
         let found = finds (suc depth) (own ∷ scopes) (0 ∷ unread) (own_scope ∷ around.outer) own-finds in
         let from = subquery-read c around.outer (listed_names (suc depth) 1 own) (shown_kinds own) q o.from input in
-        let p = projected-read c (marks (suc depth)) forms asked (own ∷ scopes) all (0 ∷ unread) here found (sublinks here refl refl) refl plain has own_scope items h w unused out first o.first o.rest in
+        let p = projected-read c (marks (suc depth)) forms asked (own ∷ scopes) all (0 ∷ unread) here found (sublinks here refl refl refl) refl plain has own_scope items h w unused out first o.first o.rest in
         let subs = taken asked (idle (items_use items) (length asked) ++ asked_by items) in
         let core = core-read around (from_all around.outer (map (from_of c) o.sources)) has false (map (item_of c) (o.item ∷ o.items)) None
         (item_of_query (codes "t1") (listed_names (suc depth) 1 own) (shown_kinds own) ∷ []) q from None (listed_names out first (kinds_of_items items))

@@ -70,7 +70,7 @@ query_item-read at name label m names all q r = record {
 
 module _ (c : Contents) (outer : List Scope) where
   -- what an item is, from its source, its name and its mark
-  abbrev item_from : ℕ → List (List ℕ) → SourcePart → Option Name → ScopeMark → Around → ItemMeant
+  abbrev pub item_from : ℕ → List (List ℕ) → SourcePart → Option Name → ScopeMark → Around → ItemMeant
   item_from at earlier source alias mark around = item_meant at mark earlier (scope_name source alias) (label_of source alias) (read_of c around source)
 
   pub item-is : (around : Around) (earlier : List (List ℕ)) (item : FromItem) (tree : QueryTree) (alias : Name) → item.source ≡ Inner tree → item.alias ≡ Some alias → item.mark ≡ Plain
@@ -81,7 +81,7 @@ module _ (c : Contents) (outer : List Scope) where
       ap (λ (part : FromItemPart). part.means around earlier) (fromitem-record c item.at item.source item.alias item.mark)
       ∙ (λ i. item_from item.at earlier ((ap (source_of c) source ∙ fromsource-inner c tree) i) (named i) (mark i) around)
 
-  from-is : (item : FromItem) → from_all outer (map (from_of c) (roll-FromTree (record { first = item; joins = [] }) ∷ []))
+  pub from-is : (item : FromItem) → from_all outer (map (from_of c) (roll-FromTree (record { first = item; joins = [] }) ∷ []))
       ≡ first_item [] ((from_item_of c item).means (in_from outer) [])
   unfolding token
   from-is item = ap (λ (part : FromPart). part.means outer []) (fromtree-record c item [])

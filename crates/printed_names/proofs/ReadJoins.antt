@@ -132,27 +132,27 @@ words-kind join.Right = refl
 words-kind join.Full = refl
 
 -- a second item whose query is read
-second_item-breaks : (at : ℕ) (m : QueryMeant) (names : List (List ℕ)) (all : List Kind) (q : Query) → QueryRead m names all q
+pub second_item-breaks : (at : ℕ) (m : QueryMeant) (names : List (List ℕ)) (all : List Kind) (q : Query) → QueryRead m names all q
     → (item_meant at Plain (codes "t1" ∷ []) (codes "t2") (codes "t2") (read_query m)).breaks ≡ []
 second_item-breaks at m names all q r = λ i. r.breaks i ++ [] ++ []
 
-second_item-items : (at : ℕ) (m : QueryMeant) (names : List (List ℕ)) (all : List Kind) (q : Query) → QueryRead m names all q
+pub second_item-items : (at : ℕ) (m : QueryMeant) (names : List (List ℕ)) (all : List Kind) (q : Query) → QueryRead m names all q
     → scope_items (item_meant at Plain (codes "t1" ∷ []) (codes "t2") (codes "t2") (read_query m)) ≡ Some (item_of_query (codes "t2") names all ∷ [])
 second_item-items at m names all q r = (query_item-read at (codes "t2") (codes "t2") m names all q r).items_are
 
-second_item-query : (at : ℕ) (m : QueryMeant) (names : List (List ℕ)) (all : List Kind) (q : Query) → QueryRead m names all q
+pub second_item-query : (at : ℕ) (m : QueryMeant) (names : List (List ℕ)) (all : List Kind) (q : Query) → QueryRead m names all q
     → (item_meant at Plain (codes "t1" ∷ []) (codes "t2") (codes "t2") (read_query m)).query ≡ q
 second_item-query at m names all q r = (query_item-read at (codes "t2") (codes "t2") m names all q r).query_is
 
 module _ (c : Contents) (outer : List Scope) where
   -- the first item, a subquery
-  abbrev first_of_from : ℕ → QueryMeant → FromMeant
+  abbrev pub first_of_from : ℕ → QueryMeant → FromMeant
   first_of_from at m = first_item [] (item_meant at Plain [] (codes "t1") (codes "t1") (read_query m))
 
-  abbrev second_of_from : ℕ → QueryMeant → ItemMeant
+  abbrev pub second_of_from : ℕ → QueryMeant → ItemMeant
   second_of_from at m = item_meant at Plain (codes "t1" ∷ []) (codes "t2") (codes "t2") (read_query m)
 
-  from-joined : (item : FromItem) (step : JoinStep) → from_all outer (map (from_of c) (roll-FromTree (record { first = item; joins = step ∷ [] }) ∷ []))
+  pub from-joined : (item : FromItem) (step : JoinStep) → from_all outer (map (from_of c) (roll-FromTree (record { first = item; joins = step ∷ [] }) ∷ []))
       ≡ (let left = first_item [] ((from_item_of c item).means (in_from outer) []) in join_item outer left (join_of c step) (joined_item outer left (join_of c step)))
   unfolding token
   from-joined item step = ap (λ (part : FromPart). part.means outer []) (fromtree-record c item (step ∷ []))

@@ -1,5 +1,5 @@
 -- What columns, literals, and parts alone are read as.
-use Rattle.std.proofs.Common.{◌≡◌, ℕ, ◌+◌, true, false, ◌&&◌, List, [], ◌∷◌, map, pos, Some, refl, sym, ap, subst, ◌∙◌, true≢false, append-nil}
+use Rattle.std.proofs.Common.{◌≡◌, ℕ, ◌+◌, true, false, ◌&&◌, List, [], ◌∷◌, map, pos, Some, None, refl, sym, ap, subst, ◌∙◌, true≢false, append-nil}
 use Rattle.std.specs.Int.{is_negative}
 use Rattle.std.specs.Prelude.{ℤ, nat_lt, unsigned_abs}
 use Rattle.null_logic.specs.declared.operator.Operator.TheVariants as x
@@ -14,10 +14,12 @@ use Rattle.bag_algebra.specs.declared.expr.Expr.TheVariants.{Col, Lit}
 use Rattle.bag_algebra.specs.declared.query.Sublink.{Sublink}
 use Rattle.perm_catalog.specs.Contents.{Contents}
 use Rattle.sql_tree.specs.declared.expression.ExprTree.{ExprTree}
+use Rattle.sql_tree.specs.declared.name.ColRef.{ColRef}
 use Rattle.name_meaning.proofs.Forms.{means-column, means-integer, means-nullof, means-text, means-truth}
 use Rattle.name_meaning.specs.Expressions.{first_of, known, times}
 use Rattle.name_meaning.specs.Meanings.{Surroundings, broken_if, means_at}
 use Rattle.name_meaning.specs.Operands.{operand}
+use Rattle.name_meaning.specs.Scopes.{look_up}
 use Rattle.name_meaning.specs.Sublinks.{column_meant}
 use Rattle.name_meaning.specs.Trees.{part_of}
 use Rattle.name_meaning.specs.declared.need.Gives.TheVariants.{Always as always}
@@ -39,19 +41,26 @@ use Rattle.printed_names.proofs.ReadParts.{AreRead, IsRead, Meets, node-read, no
 module _ (c : Contents) (here : Surroundings) where
   -- ---- columns
 
-  pub column-read : (prefix : List ℕ) (scopes : List (List Kind)) (unread : List ℕ) → Finds prefix scopes unread here.scopes → here.argument ≡ false
-      → (level place : ℕ) (kind : Kind) → column_kind scopes level place ≡ Some kind → {tree : ExprTree}
-      → IsExpr (f.column (f.bare (column_name prefix level (place + 1)))) tree
-      → IsRead ((part_of c tree).means here) kind (λ n. Col level (before unread level + place)) []
+  pub reference-read : (name : List ℕ) (level place : ℕ) (kind : Kind)
+      → ((reference : ColRef) → reference.table ≡ None → reference.name.text ≡ name
+      → look_up 0 here.scopes reference ≡ found (record { level = level; place = Some place; kind = kind })) → here.argument ≡ false → {tree : ExprTree}
+      → IsExpr (f.column (f.bare name)) tree → IsRead ((part_of c tree).means here) kind (λ n. Col level place) []
   unfolding means_at
-  column-read prefix scopes unread finds outside level place kind h {tree = tree} (column_tree {x = reference} (bare_tree none named) is) =
-      read-same ((part_of c tree).means here) (column_meant here reference.at (found (record { level = level; place = Some (before unread level + place); kind = kind }))) kind (λ n. Col level (before unread level + place)) []
-      (means-column c here tree reference is ∙ ap (column_meant here reference.at) (finds level place kind h reference none named))
+  reference-read name level place kind finds outside {tree = tree} (column_tree {x = reference} (bare_tree none named) is) =
+      read-same ((part_of c tree).means here) (column_meant here reference.at (found (record { level = level; place = Some place; kind = kind }))) kind (λ n. Col level place) []
+      (means-column c here tree reference is ∙ ap (column_meant here reference.at) (finds reference none named))
       (record {
         breaks = ap (λ b. broken_if (b && nat_lt 0 level) rule.MisplacedAggregate reference.at) outside;
         kind_is = refl;
         make = λ wanted before. refl;
       })
+
+  pub column-read : (prefix : List ℕ) (scopes : List (List Kind)) (unread : List ℕ) → Finds prefix scopes unread here.scopes → here.argument ≡ false
+      → (level place : ℕ) (kind : Kind) → column_kind scopes level place ≡ Some kind → {tree : ExprTree}
+      → IsExpr (f.column (f.bare (column_name prefix level (place + 1)))) tree
+      → IsRead ((part_of c tree).means here) kind (λ n. Col level (before unread level + place)) []
+  column-read prefix scopes unread finds outside level place kind h d =
+      reference-read (column_name prefix level (place + 1)) level (before unread level + place) kind (finds level place kind h) outside d
 
   -- ---- literals
 

@@ -71,7 +71,7 @@ unnamed-append name [] more u v = v
 unnamed-append name (column ∷ front) more u v = (u.0, unnamed-append name front more u.1 v)
 
 module _ (name : List ℕ) where
-  passed : (start : ℕ) (front more : List ScopeColumn) → Unnamed name front
+  pub passed : (start : ℕ) (front more : List ScopeColumn) → Unnamed name front
       → filter (is_called name) (enumerate_from start (front ++ more)) ≡ filter (is_called name) (enumerate_from (start + length front) more)
   passed start [] more u = let none : start ≡ start + 0 = omega arith in ap (λ n. filter (is_called name) (enumerate_from n more)) none
   passed start (column ∷ front) more u =
@@ -253,7 +253,7 @@ place-bound (suc depth) (kinds ∷ more) (front ∷ unread) (scope ∷ scopes) s
     let bound = s.0.bound in let within = get-below kinds place kind e in omega (arith, bound, within)
 place-bound (suc depth) (kinds ∷ more) (front ∷ unread) (scope ∷ scopes) s (suc level) place kind e = place-bound depth more unread scopes s.1 level place kind e
 
-meant-bare : (reference : ColRef) (name : List ℕ) (scope : Scope) → reference.table ≡ None → reference.name.text ≡ name
+pub meant-bare : (reference : ColRef) (name : List ℕ) (scope : Scope) → reference.table ≡ None → reference.name.text ≡ name
     → meant_in reference scope ≡ if_some (columns_meant_by None name scope)
 meant-bare reference name scope none named = λ i. meant_by (none i) (named i) scope
 

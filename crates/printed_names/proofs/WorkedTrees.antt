@@ -17,7 +17,6 @@ use Rattle.sql_tree.specs.declared.query.SelectItem.{SelectItem}
 use Rattle.sql_tree.specs.declared.query.SelectItem.TheVariants.{Value}
 use Rattle.sql_tree.specs.declared.query.SetStep.{SetStep}
 use Rattle.sql_tree.specs.declared.query.SetTree.TheVariants as set
-use Rattle.sql_tree.specs.declared.query.SetWord.{SetWord}
 use Rattle.sql_tree.specs.declared.query.SetWord.TheVariants.{Intersect}
 use Rattle.sql_tree.specs.declared.source.FromItem.{FromItem}
 use Rattle.sql_tree.specs.declared.source.FromSource.{FromSource}
@@ -133,28 +132,25 @@ abbrev mutual
     having = condition_tree having;
   })
 
-  step_tree : SetWord → Bool → CoreForm → SetStep
-  step_tree operation all core = record { word = operation; all = all; at = 0; operand = set.Core (core_tree core) }
-
   union_trees : UnionForms → List SetStep
   union_trees f.no_unions = []
-  union_trees (f.a_union kind all core more) = step_tree (set_of kind) all core ∷ union_trees more
+  union_trees (f.a_union kind all core more) = record { word = set_of kind; all = all; at = 0; operand = set.Core (core_tree core) } ∷ union_trees more
 
   intersect_trees : IntersectForms → List SetStep
   intersect_trees f.no_intersects = []
-  intersect_trees (f.an_intersect all core more) = step_tree Intersect all core ∷ intersect_trees more
+  intersect_trees (f.an_intersect all core more) = record { word = Intersect; all = all; at = 0; operand = set.Core (core_tree core) } ∷ intersect_trees more
 
   pub query_tree : QueryForm → QueryTree
   query_tree (f.one core keys limit) = record { at = 0; body = set.Core (core_tree core); order = map key_tree keys; limit = limit_of limit }
   query_tree (f.united first kind all second more keys limit) = record {
     at = 0;
-    body = set.Chain (set.Core (core_tree first)) (step_tree (set_of kind) all second ∷ union_trees more);
+    body = set.Chain (set.Core (core_tree first)) (record { word = set_of kind; all = all; at = 0; operand = set.Core (core_tree second) } ∷ union_trees more);
     order = map key_tree keys;
     limit = limit_of limit;
   }
   query_tree (f.intersected first all second more keys limit) = record {
     at = 0;
-    body = set.Chain (set.Core (core_tree first)) (step_tree Intersect all second ∷ intersect_trees more);
+    body = set.Chain (set.Core (core_tree first)) (record { word = Intersect; all = all; at = 0; operand = set.Core (core_tree second) } ∷ intersect_trees more);
     order = map key_tree keys;
     limit = limit_of limit;
   }
