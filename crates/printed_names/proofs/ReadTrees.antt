@@ -107,6 +107,7 @@ single-read c around out first tree d =
 
     nothing-read : (trees : List FromTree) → AreSources f.no_from trees → FromRead (from_all around.outer (map (from_of c) trees)) [] Single
     nothing-read [] no_source_trees = record { breaks = refl; items_are = refl; query_is = refl }
+    nothing-read (first ∷ more) d = elim d [ ]
 
 -- ---- keys
 
@@ -159,7 +160,7 @@ range-within width start (suc count) h zero d within = omega (arith, h)
 range-within width start (suc count) h (suc k) d within = range-within width (start + 1) count (omega (arith, h)) k d (omega (arith, within))
 
 both-within : (width : ℕ) (first more : List Key) → KeysWithin width first → KeysWithin width more → KeysWithin width (first ++ more)
-both-within width [] more h g = g
+both-within width [] more h g k d within = g k d within
 both-within width (key ∷ first) more h g zero d within = h 0 d (omega arith)
 both-within width (key ∷ first) more h g (suc k) d within = both-within width first more (λ i e b. h (suc i) e (omega (arith, b))) g k d (omega (arith, within))
 
