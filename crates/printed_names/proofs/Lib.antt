@@ -1,6 +1,8 @@
+pub mod KindsOf
 pub mod OpenedCores
 pub mod PlainShown
 pub mod PlainTrees
+pub mod ReadArguments
 pub mod ReadArms
 pub mod ReadAsked
 pub mod ReadColumns

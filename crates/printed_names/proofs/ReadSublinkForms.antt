@@ -40,7 +40,7 @@ use Rattle.printed_names.proofs.ReadFroms.{listed_names}
 use Rattle.printed_names.proofs.ReadParts.{IsRead, read-same}
 use Rattle.printed_names.proofs.ReadScopes.{marks}
 
-none_taken : (numbers : List ℕ) → Below 0 numbers → taken [] numbers ≡ []
+pub none_taken : (numbers : List ℕ) → Below 0 numbers → taken [] numbers ≡ []
 none_taken [] below = refl
 none_taken (number ∷ numbers) below = let within = below.0 in absurd (omega (arith, within))
 

@@ -25,8 +25,7 @@ use Rattle.bag_algebra.specs.declared.query.SubKind.TheVariants as ask
 use Rattle.perm_catalog.specs.Contents.{Contents}
 use Rattle.perm_catalog.specs.declared.column.Column.{Column}
 use Rattle.sql_tree.specs.declared.query.QueryTree.{QueryTree}
-use Rattle.sql_tree.specs.declared.statement.StatementBody.TheVariants.{Select}
-use Rattle.name_meaning.specs.Statements.{name_breaks, query_meant}
+use Rattle.name_meaning.specs.Statements.{query_meant}
 use Rattle.name_meaning.specs.Meanings.{QueryMeant}
 use Rattle.name_meaning.proofs.Equations.{tree_equations, token-given}
 use Rattle.query_texts.specs.declared.tables.TableNames.{TableNames}
@@ -98,7 +97,7 @@ answer q names keys = record { query = printed_answer (source_in contents tables
 abbrev downward : Key
 downward = record { place = 1; descending = true }
 
-table-whole : name_breaks contents (Select (tree r (codes "x" ∷ codes "z" ∷ []) (downward ∷ []))) ≡ []
+table-whole : (query_meant contents (tree r (codes "x" ∷ codes "z" ∷ []) (downward ∷ []))).breaks ≡ []
 unfolding digits
 table-whole = simp tree_equations (rw token-given refl)
 
@@ -111,7 +110,7 @@ table-read = simp tree_equations (rw token-given refl)
 abbrev least : Query
 least = ProjectOf s (item (num (negsuc 9223372036854775807)) ∷ item (ChainOf (num (negsuc 4)) one (more_of-ChainStep Multiply (col 0) end_of-ChainStep)) ∷ []) none end_of-Sublink
 
-least-whole : name_breaks contents (Select (tree least (codes "x1" ∷ codes "x2" ∷ []) [])) ≡ []
+least-whole : (query_meant contents (tree least (codes "x1" ∷ codes "x2" ∷ []) [])).breaks ≡ []
 unfolding digits
 least-whole = simp tree_equations (rw token-given refl)
 
@@ -124,7 +123,7 @@ least-read = simp tree_equations (rw token-given refl)
 abbrev nothing : Query
 nothing = FilterOf (JoinOf join.Full Single s (compared compare.Less (col 0) (num (pos 3))) none end_of-Sublink) (IsNullOf (col 0)) none end_of-Sublink
 
-nothing-whole : name_breaks contents (Select (tree nothing (codes "x1" ∷ []) [])) ≡ []
+nothing-whole : (query_meant contents (tree nothing (codes "x1" ∷ []) [])).breaks ≡ []
 unfolding digits
 nothing-whole = simp tree_equations (rw token-given refl)
 
@@ -137,7 +136,7 @@ nothing-read = simp tree_equations (rw token-given refl)
 abbrev joined : Query
 joined = JoinOf join.Left s r (compared compare.Equal (col 0) (col 1)) none end_of-Sublink
 
-joined-whole : name_breaks contents (Select (tree joined (codes "x1" ∷ codes "x2" ∷ codes "x3" ∷ []) [])) ≡ []
+joined-whole : (query_meant contents (tree joined (codes "x1" ∷ codes "x2" ∷ codes "x3" ∷ []) [])).breaks ≡ []
 unfolding digits
 joined-whole = simp tree_equations (rw token-given refl)
 
@@ -150,7 +149,7 @@ joined-read = simp tree_equations (rw token-given refl)
 abbrev lateral : Query
 lateral = ApplyOf join.Left s (FilterOf s (compared compare.Equal (col 0) (Col 1 0)) none end_of-Sublink)
 
-lateral-whole : name_breaks contents (Select (tree lateral (codes "x1" ∷ codes "x2" ∷ []) [])) ≡ []
+lateral-whole : (query_meant contents (tree lateral (codes "x1" ∷ codes "x2" ∷ []) [])).breaks ≡ []
 unfolding digits
 lateral-whole = simp tree_equations (rw token-given refl)
 
@@ -163,7 +162,7 @@ lateral-read = simp tree_equations (rw token-given refl)
 abbrev sets : Query
 sets = ExceptOf true (UnionOf false s s) (IntersectOf true s (DistinctOf s))
 
-sets-whole : name_breaks contents (Select (tree sets (codes "x1" ∷ []) [])) ≡ []
+sets-whole : (query_meant contents (tree sets (codes "x1" ∷ []) [])).breaks ≡ []
 unfolding digits
 sets-whole = simp tree_equations (rw token-given refl)
 
@@ -176,7 +175,7 @@ sets-read = simp tree_equations (rw token-given refl)
 abbrev groups : Query
 groups = AggregateOf r (1 ∷ []) (record { function = agg.CountRows; argument = None; kind = kind.Integer } ∷ record { function = agg.Sum; argument = Some (col 0); kind = kind.Integer } ∷ [])
 
-groups-whole : name_breaks contents (Select (tree groups (codes "x1" ∷ codes "x2" ∷ codes "x3" ∷ []) [])) ≡ []
+groups-whole : (query_meant contents (tree groups (codes "x1" ∷ codes "x2" ∷ codes "x3" ∷ []) [])).breaks ≡ []
 unfolding digits
 groups-whole = simp tree_equations (rw token-given refl)
 
@@ -189,7 +188,7 @@ groups-read = simp tree_equations (rw token-given refl)
 abbrev one_group : Query
 one_group = ProjectOf (AggregateOf s [] []) (item (num (pos 1)) ∷ []) none end_of-Sublink
 
-one_group-whole : name_breaks contents (Select (tree one_group (codes "x1" ∷ []) [])) ≡ []
+one_group-whole : (query_meant contents (tree one_group (codes "x1" ∷ []) [])).breaks ≡ []
 unfolding digits
 one_group-whole = simp tree_equations (rw token-given refl)
 
@@ -202,7 +201,7 @@ one_group-read = simp tree_equations (rw token-given refl)
 abbrev limit : Query
 limit = LimitOf r (record { place = 1; descending = true } ∷ []) 2
 
-limit-whole : name_breaks contents (Select (tree limit (codes "x1" ∷ codes "x2" ∷ []) [])) ≡ []
+limit-whole : (query_meant contents (tree limit (codes "x1" ∷ codes "x2" ∷ []) [])).breaks ≡ []
 unfolding digits
 limit-whole = simp tree_equations (rw token-given refl)
 
@@ -215,7 +214,7 @@ limit-read = simp tree_equations (rw token-given refl)
 abbrev sublinks : Query
 sublinks = FilterOf s (OpOf op.And two (more_of-Expr (Sub 1) (more_of-Expr (Sub 1) end_of-Expr))) two (more_of-Sublink ask.Exists None r (more_of-Sublink (ask.Any compare.Equal) (Some (col 0)) (FilterOf s (compared compare.Less (Col 1 0) (col 0)) none end_of-Sublink) end_of-Sublink))
 
-sublinks-whole : name_breaks contents (Select (tree sublinks (codes "x1" ∷ []) [])) ≡ []
+sublinks-whole : (query_meant contents (tree sublinks (codes "x1" ∷ []) [])).breaks ≡ []
 unfolding digits
 sublinks-whole = simp tree_equations (rw token-given refl)
 
@@ -228,7 +227,7 @@ sublinks-read = simp tree_equations (rw token-given refl)
 abbrev scalar : Query
 scalar = ProjectOf s (item (Sub 1) ∷ []) two (more_of-Sublink (ask.All compare.NotEqual) (Some (num (pos 1))) s (more_of-Sublink ask.Scalar None s end_of-Sublink))
 
-scalar-whole : name_breaks contents (Select (tree scalar (codes "x1" ∷ []) [])) ≡ []
+scalar-whole : (query_meant contents (tree scalar (codes "x1" ∷ []) [])).breaks ≡ []
 unfolding digits
 scalar-whole = simp tree_equations (rw token-given refl)
 
@@ -241,7 +240,7 @@ scalar-read = simp tree_equations (rw token-given refl)
 abbrev cases : Query
 cases = ProjectOf r (item (CaseOf one (more_of-Arm (IsTruthOf Unknown (OpOf op.Like two (more_of-Expr (col 1) (more_of-Expr (Lit Null kind.Text) end_of-Expr)))) (OpOf op.Coalesce one (more_of-Expr (col 0) end_of-Expr)) end_of-Arm) (OpOf op.NullIf two (more_of-Expr (col 0) (more_of-Expr (num (pos 1)) end_of-Expr)))) ∷ truth (OpOf op.InList two (more_of-Expr (col 0) (more_of-Expr (num (pos 7)) end_of-Expr))) ∷ []) none end_of-Sublink
 
-cases-whole : name_breaks contents (Select (tree cases (codes "x1" ∷ codes "x2" ∷ []) [])) ≡ []
+cases-whole : (query_meant contents (tree cases (codes "x1" ∷ codes "x2" ∷ []) [])).breaks ≡ []
 unfolding digits
 cases-whole = simp tree_equations (rw token-given refl)
 
