@@ -63,8 +63,8 @@ columns prefix count = map f.column (own_columns prefix count)
 -- ---- what a SELECT is made of
 
 abbrev pub selected : Bool → Listed → FromForm → ConditionForm → List ColumnForm → CoreForm
-selected distinct list origin condition groups =
-    f.select distinct list.first list.name list.more origin condition groups f.no_condition
+selected distinct list origin test groups =
+    f.select distinct list.first list.name list.more origin test groups f.no_condition
 
 abbrev pub alone : CoreForm → QueryForm
 alone core = f.one core [] None
