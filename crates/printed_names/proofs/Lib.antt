@@ -1,7 +1,10 @@
+pub mod GroupedCores
 pub mod KindsOf
 pub mod OpenedCores
 pub mod PlainShown
 pub mod PlainTrees
+pub mod ReadAggregates
+pub mod ReadAnswers
 pub mod ReadArguments
 pub mod ReadArms
 pub mod ReadAsked
@@ -12,6 +15,7 @@ pub mod ReadCores
 pub mod ReadExpressions
 pub mod ReadForms
 pub mod ReadFroms
+pub mod ReadGroups
 pub mod ReadItems
 pub mod ReadJoins
 pub mod ReadLaterals
@@ -22,6 +26,7 @@ pub mod ReadOperators
 pub mod ReadPairs
 pub mod ReadParts
 pub mod ReadQueries
+pub mod ReadRows
 pub mod ReadScopes
 pub mod ReadSets
 pub mod ReadSublinkForms

@@ -44,7 +44,7 @@ known_columns [] all = []
 known_columns (name ∷ names) [] = []
 known_columns (name ∷ names) (kind ∷ more) = record { name = name; kind = kind } ∷ known_columns names more
 
-columns-settled : (names : List (List ℕ)) (all : List Kind) → settled_columns (out_columns names all) ≡ known_columns names all
+pub columns-settled : (names : List (List ℕ)) (all : List Kind) → settled_columns (out_columns names all) ≡ known_columns names all
 columns-settled [] all = refl
 columns-settled (name ∷ names) [] = refl
 columns-settled (name ∷ names) (kind ∷ more) = ap (λ others. record { name = name; kind = kind } ∷ others) (columns-settled names more)

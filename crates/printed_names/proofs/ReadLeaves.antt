@@ -1,5 +1,5 @@
 -- What columns, literals, and parts alone are read as.
-use Rattle.std.proofs.Common.{◌≡◌, ℕ, ◌+◌, true, false, ◌&&◌, List, [], ◌∷◌, map, pos, Some, None, refl, sym, ap, subst, ◌∙◌, true≢false, append-nil}
+use Rattle.std.proofs.Common.{◌≡◌, ℕ, ◌+◌, Bool, true, false, ◌&&◌, List, [], ◌∷◌, map, pos, Some, None, refl, sym, ap, subst, ◌∙◌, true≢false, append-nil}
 use Rattle.std.specs.Int.{is_negative}
 use Rattle.std.specs.Prelude.{ℤ, nat_lt, unsigned_abs}
 use Rattle.null_logic.specs.declared.operator.Operator.TheVariants as x
@@ -54,6 +54,25 @@ module _ (c : Contents) (here : Surroundings) where
         kind_is = refl;
         make = λ wanted before. refl;
       })
+
+  -- one of the nearest row, in an argument too
+  pub local-read : (name : List ℕ) (place : ℕ) (kind : Kind)
+      → ((reference : ColRef) → reference.table ≡ None → reference.name.text ≡ name
+      → look_up 0 here.scopes reference ≡ found (record { level = 0; place = Some place; kind = kind })) → {tree : ExprTree}
+      → IsExpr (f.column (f.bare name)) tree → IsRead ((part_of c tree).means here) kind (λ n. Col 0 place) []
+  unfolding means_at
+  local-read name place kind finds {tree = tree} (column_tree {x = reference} (bare_tree none named) is) =
+      read-same ((part_of c tree).means here) (column_meant here reference.at (found (record { level = 0; place = Some place; kind = kind }))) kind (λ n. Col 0 place) []
+      (means-column c here tree reference is ∙ ap (column_meant here reference.at) (finds reference none named))
+      (record {
+        breaks = ap (λ b. broken_if b rule.MisplacedAggregate reference.at) (nearest here.argument);
+        kind_is = refl;
+        make = λ wanted before. refl;
+      })
+    where
+      nearest : (b : Bool) → (b && nat_lt 0 0) ≡ false
+      nearest true = refl
+      nearest false = refl
 
   pub column-read : (prefix : List ℕ) (scopes : List (List Kind)) (unread : List ℕ) → Finds prefix scopes unread here.scopes → here.argument ≡ false
       → (level place : ℕ) (kind : Kind) → column_kind scopes level place ≡ Some kind → {tree : ExprTree}

@@ -78,7 +78,7 @@ pub record ListRead (has_from : Bool) (scope : Scope) (here : Surroundings) (par
 pub no_items-read : (has_from : Bool) (scope : Scope) (here : Surroundings) → ListRead has_from scope here [] [] [] (λ n. []) []
 no_items-read has_from scope here = record { plain = refl; breaks = refl; known = refl; make = λ wanted before. refl }
 
-known-next : (m : SelectMeant) (ms : List SelectMeant) (columns more : List Titled) → m.columns ≡ Some columns → all_known ms ≡ Some more
+pub known-next : (m : SelectMeant) (ms : List SelectMeant) (columns more : List Titled) → m.columns ≡ Some columns → all_known ms ≡ Some more
     → all_known (m ∷ ms) ≡ Some (columns ++ more)
 known-next m ms columns more e k =
     ap (λ found. elim found as (λ _. Option (List Titled)) [ None ↦ None | Some own ↦ option_map (λ others. own ++ others) (all_known ms) ]) e
@@ -91,10 +91,10 @@ made-next own items subs rest others more before is all =
     ap (λ (m : Made). made_before m (rest (behind before m.subs m.aggregates))) is ∙ ap (made_before (made_of items subs)) (all (behind before subs []))
 
 module _ (c : Contents) (has_from : Bool) (scope : Scope) (here : Surroundings) where
-  abbrev named_part : ExprTree → List ℕ → SelectPart
+  abbrev pub named_part : ExprTree → List ℕ → SelectPart
   named_part tree name = record { aggregating = (part_of c tree).aggregating; means = λ has_from scope here. value_meant (Some name) ((part_of c tree).means here) }
 
-  part-is : (tree : ExprTree) (name : Name) → item_of c (Value tree (Some name)) ≡ named_part tree name.text
+  pub part-is : (tree : ExprTree) (name : Name) → item_of c (Value tree (Some name)) ≡ named_part tree name.text
   unfolding token
   part-is tree name = selectitem-value c tree (Some name)
 

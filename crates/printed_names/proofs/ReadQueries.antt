@@ -21,7 +21,7 @@ use Rattle.name_meaning.specs.declared.rule.Rule.TheVariants as rule
 use Rattle.tree_texts.specs.Forms as f
 use Rattle.tree_texts.specs.Forms.{CoreForm}
 use Rattle.tree_texts.specs.Trees.{AreKeys, IsCore, IsQuery, a_key_tree, limit_of, no_key_trees, one_tree}
-use Rattle.query_forms.specs.ShownQueries.{key_form}
+use Rattle.query_forms.specs.ShownQueries.{alone, key_form}
 use Rattle.printed_names.proofs.ReadCores.{QueryRead}
 use Rattle.printed_names.proofs.ReadLists.{out_columns}
 
@@ -91,3 +91,13 @@ module _ (c : Contents) where
         make = λ wanted. λ i. limited (bounded i) (keys_are i) (own.1.make wanted i);
       } in
       (subst (λ meant. QueryRead meant names kinds (limited (limit_of limit) keys q)) (sym whole) result, ap (λ (meant : QueryMeant). meant.keys) whole ∙ keys_are)
+
+-- ---- one core alone
+
+-- what a core is read as
+abbrev pub CoreRead : Contents → Around → List (List ℕ) → List Kind → Query → Core → Type 0
+CoreRead c around names kinds q tree = ((core_of c tree).word ≡ None) × QueryRead ((core_of c tree).means around) names kinds q
+
+pub alone-read : (c : Contents) (around : Around) (core : CoreForm) (names : List (List ℕ)) (kinds : List Kind) (q : Query) → ((tree : Core) → IsCore core tree → CoreRead c around names kinds q tree)
+    → (tree : QueryTree) → IsQuery (alone core) tree → QueryRead ((query_of c tree).means around) names kinds q
+alone-read c around core names kinds q read tree d = (one-read c [] None around names kinds q (λ k e h. absurd (omega (arith, h))) d read).0

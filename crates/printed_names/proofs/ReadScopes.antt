@@ -203,7 +203,7 @@ ScopesAre (suc depth) (kinds ∷ more) (front ∷ unread) [] = ⊥
 ScopesAre (suc depth) (kinds ∷ more) (front ∷ unread) (scope ∷ scopes) = IsScope (suc depth) front kinds scope × ScopesAre depth more unread scopes
 
 -- the columns of a name in a scope
-meant-own : (depth front : ℕ) (kinds : List Kind) (scope : Scope) → IsScope depth front kinds scope → (place : ℕ) (kind : Kind) → slice_get kinds place ≡ Some kind
+pub meant-own : (depth front : ℕ) (kinds : List Kind) (scope : Scope) → IsScope depth front kinds scope → (place : ℕ) (kind : Kind) → slice_get kinds place ≡ Some kind
     → OneCalled (marks depth ++ decimal (place + 1)) (front + place) kind (columns_meant_by None (marks depth ++ decimal (place + 1)) scope)
 meant-own depth front kinds scope s place kind e =
     let turned : 1 + place ≡ place + 1 = omega arith in

@@ -46,12 +46,13 @@ use Rattle.printed_names.proofs.ReadConditions.{SubsRead}
 use Rattle.printed_names.proofs.ReadCopies.{columns-listed}
 use Rattle.printed_names.proofs.ReadCores.{FromRead, QueryRead, core-read}
 use Rattle.printed_names.proofs.ReadFroms.{item_of_query, listed_names, numbered_names, scope-over}
+use Rattle.printed_names.proofs.ReadGroups.{in_groups-read}
 use Rattle.printed_names.proofs.ReadItems.{kinds_of_items}
 use Rattle.printed_names.proofs.ReadJoins.{pair-scope}
 use Rattle.printed_names.proofs.ReadLaterals.{beside}
 use Rattle.printed_names.proofs.ReadLists.{out_columns}
 use Rattle.printed_names.proofs.ReadPairs.{join_core-read, lateral_core-read}
-use Rattle.printed_names.proofs.ReadQueries.{one-read}
+use Rattle.printed_names.proofs.ReadQueries.{CoreRead, alone-read, one-read}
 use Rattle.printed_names.proofs.ReadScopes.{ScopesAre, finds, marks}
 use Rattle.printed_names.proofs.ReadSets.{intersected-read, united-read}
 use Rattle.printed_names.proofs.ReadSublinkForms.{sublink-read}
@@ -73,14 +74,6 @@ plain-sub_forms tables prefix (more_of-Sublink kind tested query subs) =
     (plain-asked kind (tested_part prefix tested) (shown tables (deeper prefix) (own_naming (deeper prefix)) query) (plain-tested prefix tested), plain-sub_forms tables prefix subs)
 
 -- ---- one core
-
--- what a core is read as
-abbrev CoreRead : Contents → Around → List (List ℕ) → List Kind → Query → Core → Type 0
-CoreRead c around names kinds q tree = ((core_of c tree).word ≡ None) × QueryRead ((core_of c tree).means around) names kinds q
-
-alone-read : (c : Contents) (around : Around) (core : CoreForm) (names : List (List ℕ)) (kinds : List Kind) (q : Query) → ((tree : Core) → IsCore core tree → CoreRead c around names kinds q tree)
-    → (tree : QueryTree) → IsQuery (alone core) tree → QueryRead ((query_of c tree).means around) names kinds q
-alone-read c around core names kinds q read tree d = (one-read c [] None around names kinds q (λ k e h. absurd (omega (arith, h))) d read).0
 
 -- no FROM
 single-read : (c : Contents) (around : Around) (out first : ℕ) (tree : Core) → IsCore (selected false (listed (naming (marks out) first) one []) f.no_from f.no_condition []) tree
@@ -120,18 +113,6 @@ keys-shown count keys =
         ≡ map key_form (map (λ place. record { place = place; descending = false }) (range_with_len start count))
     places-shown start zero = refl
     places-shown start (suc count) = ap (λ more. record { position = start + 1; descending = false } ∷ more) (places-shown (start + 1) count)
-
--- ---- groups
-
--- what is asked of the SELECT with GROUP BY
-abbrev GroupsRead : Contents → Type 0
-GroupsRead c = (depth : ℕ) (outer : List (List Kind)) (unread : List ℕ) (around : Around) (own : List Kind) → Few own → ScopesAre depth outer unread around.outer
-    → (below : QueryForm) (q : Query) → InputRead c depth around.outer own below q → (groups : List ℕ) (aggregates : List Aggr) → PlacesIn (length own) groups
-    → AggregatesForm (own ∷ outer) aggregates → WritableAggregates aggregates → 1 + (length groups + length aggregates) < 2 ^ 64 → (out first : ℕ) (tree : Core)
-    → IsCore (writing.in_groups (marks (suc depth)) (naming (marks out) first) groups aggregates below) tree
-    → CoreRead c around (listed_names out first (kinds_in own groups ++ map (λ (aggregate : Aggr). aggregate.kind) aggregates))
-    (shown_kinds (kinds_in own groups ++ map (λ (aggregate : Aggr). aggregate.kind) aggregates))
-    (printing.in_groups (own ∷ outer) (0 ∷ unread) groups aggregates own q) tree
 
 -- ---- the right side of a set operation
 
@@ -176,7 +157,7 @@ keys-within (kind ∷ own) out first keys h =
 
 -- ---- all nodes
 
-module _ (c : Contents) (tables : List TableNames) (groups_read : GroupsRead c) where
+module _ (c : Contents) (tables : List TableNames) where
   abbrev source : ℕ → List Kind → Query
   source = source_in c tables
 
@@ -272,7 +253,7 @@ module _ (c : Contents) (tables : List TableNames) (groups_read : GroupsRead c) 
         let own = kinds_of input in
         let all = kinds_in own groups ++ map (λ (aggregate : Aggr). aggregate.kind) aggregates in
         alone-read c around _ (listed_names out first all) (shown_kinds all) (printed source outer unread (AggregateOf input groups aggregates))
-        (λ core e. groups_read depth outer unread around own narrow.0 s (shown tables (marks (suc depth)) (own_naming (marks (suc depth))) input) (printed source outer unread input)
+        (λ core e. in_groups-read c depth outer unread around own narrow.0 s (shown tables (marks (suc depth)) (own_naming (marks (suc depth))) input) (printed source outer unread input)
         (λ t g. query-read input depth outer unread (in_from around.outer) s form.input w.0 named narrow.2 (suc depth) 1 t g)
         groups aggregates form.groups form.aggregates w.1 narrow.1 out first core e) tree d
     query-read (LimitOf input keys count) depth outer unread around s form w named narrow out first tree d =
