@@ -26,9 +26,9 @@ pub fn a_printed_answer_is_read_back()
         → (names : List (List ℕ)) (keys : List Key) → length names ≡ length (kinds_of q)
         → KeysIn (length names) keys → (tree : QueryTree)
         → IsQuery (shown_answer tables q names keys) tree → IsReadAs c tree (record {
-            query = printed_answer (source_in c tables) q;
-            names = names;
-            keys = keys;
+          query = printed_answer (source_in c tables) q;
+          names = names;
+          keys = keys;
         }) }
 {}
 
