@@ -1,5 +1,5 @@
 -- The tree of an answer's form is read as the answer.
-use Rattle.std.proofs.Common.{◌≡◌, ℕ, suc, ◌+◌, Bool, false, List, [], ◌∷◌, length, map, Option, Some, None, refl, sym, ap, subst, ◌∙◌, arith}
+use Rattle.std.proofs.Common.{◌≡◌, ℕ, suc, ◌+◌, true, false, List, [], ◌∷◌, length, map, Option, Some, None, refl, sym, ap, subst, ◌∙◌, arith}
 use Rattle.std.specs.Option.{option_map_or}
 use Rattle.std.specs.Prelude.{codes, slice_get}
 use Rattle.perm_values.specs.Rows.{KeysWithin}
@@ -17,7 +17,7 @@ use Rattle.sql_tree.specs.declared.query.QueryTree.{QueryTree}
 use Rattle.sql_tree.specs.declared.query.SelectItem.{SelectItem}
 use Rattle.name_meaning.specs.Cores.{has_some}
 use Rattle.name_meaning.specs.Froms.{from_all, in_clause, in_from, names_of, settled_columns}
-use Rattle.name_meaning.specs.Meanings.{QueryMeant, Surroundings}
+use Rattle.name_meaning.specs.Meanings.{QueryMeant, Surroundings, query_means_at}
 use Rattle.name_meaning.specs.Scopes.{ScopeItem, scope_of}
 use Rattle.name_meaning.specs.Statements.{alone, columns_of, query_meant}
 use Rattle.name_meaning.specs.Trees.{core_of, from_of, item_of}
@@ -112,6 +112,7 @@ module _ (c : Contents) (tables : List TableNames) (q : Query) (kind : Kind) (mo
   pub answer-read : (names : List (List ℕ)) (keys : List Key) → length names ≡ length own → KeysIn (length names) keys → (tree : QueryTree)
       → IsQuery (shown_answer tables q names keys) tree
       → IsReadAs c tree (record { query = printed_answer (source_in c tables) q; names = names; keys = keys })
+  unfolding query_means_at
   answer-read [] keys same within tree d = let wider : length own ≡ suc (length more) = ap length some in absurd (omega (arith, same, wider))
   answer-read (name ∷ names) keys same within tree d =
       let all = name ∷ names in
