@@ -198,6 +198,10 @@ mutual
   joins_sound f.no_joins fit = tt
   joins_sound (f.a_join kind right on more) fit =
       (joining_sound kind (plan.source right) (expression (plan.expr on)) (source_sound right fit.0) (expr_sound on fit.1), joins_sound more fit.2)
+  joins_sound (f.a_lateral false q name more) fit =
+      ((tt, (tt, (tt, (tt, (query_sound q fit.0, (tt, (tt, (refl, fit.1)))))))), joins_sound more fit.2)
+  joins_sound (f.a_lateral true q name more) fit =
+      ((tt, (tt, ((tt, (tt, (query_sound q fit.0, (tt, (tt, (refl, fit.1)))))), (tt, tt)))), joins_sound more fit.2)
 
   sources_sound : (form : FromForm) → FitsFrom form → Sound (plan.sources form)
   sources_sound f.no_from fit = tt

@@ -63,6 +63,11 @@ example-join : query_text (plain (f.select true a (codes "x") (f.an_item (f.text
     ≡ codes "SELECT DISTINCT \"a\" AS \"x\" , '' AS \"y\" FROM \"r\" AS \"t1\" LEFT JOIN ( SELECT \"a\" AS \"c1\" FROM \"s\" ) AS \"t2\" ON ( \"a\" = \"b\" ) WHERE TRUE "
 example-join = refl
 
+example-lateral : query_text (plain (f.select false a (codes "x") f.no_items (f.from (f.table_as (codes "r") (codes "t1"))
+    (f.a_lateral true (plain (all_of (codes "s"))) (codes "t2") (f.a_lateral false (plain (all_of (codes "t"))) (codes "t3") f.no_joins))) f.no_condition [] f.no_condition))
+    ≡ codes "SELECT \"a\" AS \"x\" FROM \"r\" AS \"t1\" LEFT JOIN LATERAL ( SELECT \"a\" AS \"c1\" FROM \"s\" ) AS \"t2\" ON TRUE CROSS JOIN LATERAL ( SELECT \"a\" AS \"c1\" FROM \"t\" ) AS \"t3\" "
+example-lateral = refl
+
 example-groups : query_text (plain (f.select false a (codes "x") (f.an_item (f.folded f.sum b) (codes "y") (f.an_item f.count_rows (codes "z") f.no_items))
     (f.from (f.table (codes "r")) f.no_joins) f.no_condition (f.bare (codes "a") ∷ []) (f.condition (enclosed (f.is_null true (f.count_distinct b))))))
     ≡ codes "SELECT \"a\" AS \"x\" , SUM ( \"b\" ) AS \"y\" , COUNT ( * ) AS \"z\" FROM \"r\" GROUP BY \"a\" HAVING ( COUNT ( DISTINCT \"b\" ) IS NOT NULL ) "

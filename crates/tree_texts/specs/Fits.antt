@@ -87,6 +87,7 @@ abbrev mutual
   pub FitsJoins : JoinForms → Type 0
   FitsJoins f.no_joins = Unit {0}
   FitsJoins (f.a_join kind right on more) = FitsSource right × FitsExpr on × FitsJoins more
+  FitsJoins (f.a_lateral stays q name more) = FitsQuery q × IsUtf8 name × FitsJoins more
 
   pub FitsFrom : FromForm → Type 0
   FitsFrom f.no_from = Unit {0}

@@ -109,6 +109,8 @@ mutual
   pub data JoinForms : Type 0 where
     no_joins : JoinForms
     a_join : Joined → SourceForm → ExprForm → JoinForms → JoinForms
+    -- a query behind LATERAL, with its name; the Bool says whether a row on the left stays where the query has none
+    a_lateral : Bool → QueryForm → List ℕ → JoinForms → JoinForms
 
   pub data FromForm : Type 0 where
     no_from : FromForm

@@ -7,13 +7,13 @@ use Rattle.null_logic.specs.declared.truth.Truth.TheVariants as truths
 use Rattle.perm_values.specs.declared.kind.Kind.{Kind}
 use Rattle.perm_values.specs.declared.kind.Kind.TheVariants as kinds
 use Rattle.sql_lexer.specs.declared.token.TokenKind.TheVariants.{Quoted, Text}
-use Rattle.sql_grammar.specs.Grammar.{SqlRule}
+use Rattle.sql_grammar.specs.Grammar.{SqlRule, lateral}
 use Rattle.sql_grammar.specs.Rules.{word, token, ◌then◌, ◌or◌, optional, many, symbol}
 use Rattle.sql_grammar.specs.Symbols as n
 use Rattle.sql_grammar.specs.declared.sort.Sort.TheVariants as s
 use Rattle.sql_plans.specs.Blanks.{blank_symbol, left_out, none}
 use Rattle.sql_plans.specs.Levels.{a_name, number_token, to_sign, to_product, to_sum, to_ranged, to_compared, to_test, to_negated, to_both, to_expr, operand, tested, expression}
-use Rattle.sql_plans.specs.Plans.{Plan, here, there, a_word, a_choice, a_token, both, before, behind, first, second, front_second, absent, present, no_more, one_more, at_start, as_symbol}
+use Rattle.sql_plans.specs.Plans.{Plan, here, there, a_word, a_choice, a_token, both, before, behind, first, second, front_first, front_second, absent, present, no_more, one_more, at_start, as_symbol}
 use Rattle.sql_plans.specs.Written.{token_of}
 use Rattle.tree_texts.specs.Forms as f
 use Rattle.tree_texts.specs.Forms.{ColumnForm, Additive, Multiplicative, Folded, Joined, United, KeyForm}
@@ -219,6 +219,17 @@ joining f.left p on =
     as_symbol (second (first (as_symbol (both (a_word refl) (behind left_out (both (a_word refl) (front_second (both p (both (a_word refl) on)))))))))
 joining f.right p on = joined_on (as_symbol (second (both (a_choice {sort = s.Right} refl here) (behind left_out (a_word refl))))) p on
 joining f.full p on = joined_on (as_symbol (second (both (a_choice {sort = s.Full} refl (there here)) (behind left_out (a_word refl))))) p on
+
+-- LATERAL, a query in parentheses, and its name
+abbrev pub lateral_query : Plan (symbol n.Query) → List ℕ → Plan lateral
+lateral_query p name =
+    both (a_word refl) (at_start (both (a_word refl) (both p (both (a_word refl) (both (present (a_word refl)) (a_name name))))))
+
+abbrev pub joining_lateral : Bool → Plan (symbol n.Query) → List ℕ → Plan (symbol n.Join)
+joining_lateral false p name = as_symbol (second (second (as_symbol (both (a_word refl) (both (a_word refl) (front_first (lateral_query p name)))))))
+joining_lateral true p name =
+    as_symbol (second (first (as_symbol (both (a_word refl) (behind left_out (both (a_word refl)
+    (front_first (both (lateral_query p name) (both (a_word refl) (a_word refl))))))))))
 
 abbrev pub to_operand : Plan (symbol n.CoreOf) → Plan (symbol n.Operand)
 to_operand p = as_symbol (first p)

@@ -60,6 +60,10 @@ join_of f.left = join.Left
 join_of f.right = join.Right
 join_of f.full = join.Full
 
+abbrev pub lateral_of : Bool → JoinWord
+lateral_of false = join.CrossLateral
+lateral_of true = join.LeftLateral
+
 abbrev pub set_of : United → SetWord
 set_of f.union = Union
 set_of f.except = Except
@@ -192,6 +196,10 @@ mutual
         {steps : List JoinStep} → IsSource right item → IsExpr on x
         → step ≡ roll-JoinStep (record { word = join_of kind; item = item; condition = Some x }) → AreJoins more steps
         → AreJoins (f.a_join kind right on more) (step ∷ steps)
+    a_lateral_tree : {stays : Bool} {q : QueryForm} {name : List ℕ} {more : JoinForms} {tree : QueryTree} {alias : Name} {step : JoinStep}
+        {steps : List JoinStep} (item : FromItem) → step ≡ roll-JoinStep (record { word = lateral_of stays; item = item; condition = None })
+        → IsQuery q tree → item.source ≡ Inner tree → item.alias ≡ Some alias → alias.text ≡ name → item.mark ≡ Plain → AreJoins more steps
+        → AreJoins (f.a_lateral stays q name more) (step ∷ steps)
 
   pub data AreSources : FromForm → List FromTree → Type 0 where
     no_source_trees : AreSources f.no_from []

@@ -1,0 +1,4 @@
+pub mod Counted
+pub mod Opened
+pub mod OpenedUses
+pub mod Pieces

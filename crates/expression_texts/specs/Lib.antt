@@ -1,0 +1,5 @@
+pub mod ExpressionTexts
+pub mod Names
+pub mod Used
+pub mod Uses
+pub mod Words

@@ -1,0 +1,11 @@
+pub mod AskedNumbers
+pub mod MarkedBags
+pub mod PrintedValues
+pub mod ReadSublinks
+pub mod RelatedOutcomes
+pub mod ShownGroups
+pub mod ShownNodes
+pub mod ShownQueries
+pub mod ShownRows
+pub mod ShownSets
+pub mod TakenAnswers

@@ -1,0 +1,4 @@
+pub mod Carried
+pub mod Printed
+pub mod PrintedExpressions
+pub mod Writable

@@ -1,0 +1,6 @@
+pub mod Said
+pub mod SaidClauses
+pub mod SaidExpressions
+pub mod SaidLists
+pub mod SaidOperators
+pub mod SaidQueries

@@ -1,0 +1,3 @@
+pub mod OpenedQueries
+pub mod Projected
+pub mod Spared
