@@ -14,7 +14,7 @@ fn push_line(depth: usize, laid: &mut Bytes) -> Result<(), NoMemory>
     ensures { OnOk result (AddsGap laid.old laid.new) }
 {
     laid.add(b"\n")?;
-    for _ in 0..depth {
+    for _step in 0..depth {
         laid.add(b"  ")?;
     }
     Ok(())
