@@ -1,19 +1,18 @@
 -- What conditions, keys and the names of an answer say is their text.
-use Rattle.std.proofs.Common.{◌≡◌, ◌∙◌, ℕ, zero, suc, ◌+◌, Bool, true, false, List, [], ◌∷◌, ◌++◌, map, refl, sym, ap, ap₂, append_assoc, append-nil, arith, add-zero, add-one}
+use Rattle.std.proofs.Common.{◌≡◌, ◌∙◌, ℕ, zero, suc, ◌+◌, Bool, true, false, List, [], ◌∷◌, ◌++◌, map, refl, sym, ap, ap₂, append_assoc, append-nil, arith, add-zero}
 use Rattle.std.specs.Prelude.{codes, length}
 use Rattle.std.specs.List.{flat_map, range_with_len}
 use Rattle.perm_values.specs.declared.key.Key.{Key}
 use Rattle.perm_values.specs.declared.kind.Kind.{Kind}
 use Rattle.tree_texts.specs.FormPlans as plan
-use Rattle.tree_texts.specs.Forms as f
-use Rattle.tree_texts.specs.Forms.{ExprForm, ColumnForm, KeyForm}
-use Rattle.tree_texts.specs.Phrases.{direction, key, more_keys, ordered, grouped, more_groups, group_column}
+use Rattle.tree_texts.specs.Forms.{ExprForm, KeyForm}
+use Rattle.tree_texts.specs.Phrases.{direction, key, more_keys, ordered, grouped, more_groups}
 use Rattle.query_texts.specs.Names.{outermost}
 use Rattle.query_forms.specs.ShownExpressions.{never, never_arms, beside}
 use Rattle.query_forms.specs.ShownQueries.{own_column, own_columns, key_form, all_keys, called_from}
-use Rattle.expression_texts.specs.ExpressionTexts.{arm_text, arms_text}
+use Rattle.expression_texts.specs.ExpressionTexts.{arms_text}
 use Rattle.query_forms.specs.Pieces.{said, expr_said}
-use Rattle.query_texts.specs.QueryTexts.{comma, grouped_column, grouped_columns, grouped_text, direction_text, key_text, key_texts, position_text, position_texts, order_text, called_items, never_text, nevers_text, beside_text}
+use Rattle.query_texts.specs.QueryTexts.{comma, grouped_column, grouped_text, direction_text, key_text, key_texts, position_text, order_text, called_items, nevers_text, beside_text}
 use Rattle.expression_texts.specs.Words.{name_text, number_text, null_text, reference_text, unless_none}
 use Rattle.query_forms.proofs.SaidExpressions.{arm_said, cases_said}
 use Rattle.query_forms.proofs.SaidLists.{comma_next}

@@ -1,7 +1,6 @@
 -- What the form of an expression says is its text.
 use Rattle.std.proofs.Common.{◌≡◌, ◌∙◌, ℕ, zero, suc, Bool, true, false, List, [], ◌∷◌, ◌++◌, map, refl, sym, ap, ap₂, append_assoc, append-nil}
-use Rattle.std.specs.Prelude.{codes, slice_index_or, length}
-use Rattle.std.specs.List.{flat_map}
+use Rattle.std.specs.Prelude.{codes, slice_index_or}
 use Rattle.null_logic.specs.declared.truth.Truth.{Truth}
 use Rattle.null_logic.specs.declared.truth.Truth.TheVariants.{True, False, Unknown}
 use Rattle.bag_algebra.specs.WellFormed.{is_additive}
@@ -11,7 +10,7 @@ use Rattle.bag_algebra.specs.declared.expr.Expr.TheVariants.{Col, Lit, Sub}
 use Rattle.tree_texts.specs.FormPlans as plan
 use Rattle.tree_texts.specs.Forms.{ExprForm}
 use Rattle.query_forms.specs.ShownExpressions.{StepForm, ArmForm, chained, chain_of, terms, factors, cases, arms_of, truth_tested, unsaid, shown_expr, shown_parts, shown_steps, shown_arms}
-use Rattle.expression_texts.specs.ExpressionTexts.{StepText, ArmText, chained_text, steps_text, step_text, cases_text, arm_text, arms_text, operated_text, truth_front, truth_back, expr_bytes, part_texts, step_texts, arm_texts}
+use Rattle.expression_texts.specs.ExpressionTexts.{StepText, ArmText, chained_text, steps_text, cases_text, arm_text, arms_text, operated_text, truth_front, truth_back, expr_bytes, part_texts, step_texts, arm_texts}
 use Rattle.query_forms.specs.Pieces.{said, expr_said}
 use Rattle.expression_texts.specs.Words.{unsaid_text}
 use Rattle.query_forms.proofs.SaidOperators.{additive_said, multiplicative_said, literal_said, operated_said}

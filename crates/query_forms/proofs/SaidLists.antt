@@ -1,28 +1,21 @@
 -- What SELECT lists, keys and clauses say is their text.
-use Rattle.std.proofs.Common.{◌≡◌, ◌∙◌, ℕ, zero, suc, ◌+◌, Bool, true, false, List, [], ◌∷◌, ◌++◌, map, refl, sym, ap, ap₂, append_assoc, append-nil, arith, add-zero, add-one}
+use Rattle.std.proofs.Common.{◌≡◌, ◌∙◌, ℕ, zero, suc, ◌+◌, List, [], ◌∷◌, ◌++◌, map, refl, sym, ap, ap₂, append_assoc, arith, add-zero, add-one}
 use Rattle.std.specs.Prelude.{codes, length, Option, Some, None}
 use Rattle.std.specs.Fmt.{digits}
 use Rattle.std.specs.List.{flat_map, range_with_len}
-use Rattle.perm_values.specs.declared.key.Key.{Key}
-use Rattle.perm_values.specs.declared.kind.Kind.{Kind}
 use Rattle.bag_algebra.specs.declared.expr.Expr.{Expr}
-use Rattle.bag_algebra.specs.declared.expr.Item.{Item}
 use Rattle.bag_algebra.specs.declared.query.AggFn.{AggFn}
 use Rattle.bag_algebra.specs.declared.query.AggFn.TheVariants as agg
 use Rattle.bag_algebra.specs.declared.query.Aggr.{Aggr}
 use Rattle.tree_texts.specs.FormPlans as plan
 use Rattle.tree_texts.specs.Forms as f
-use Rattle.tree_texts.specs.Forms.{ExprForm, ColumnForm, KeyForm}
-use Rattle.tree_texts.specs.Phrases.{more_keys, ordered, grouped, more_groups}
-use Rattle.expression_texts.specs.Names.{column_name}
-use Rattle.query_texts.specs.Names.{Naming, own, outermost}
-use Rattle.query_forms.specs.ShownExpressions.{shown_expr, never_arms, beside, arms_of}
-use Rattle.query_forms.specs.ShownQueries.{own_column, own_columns, Listed, listed, named_from, columns, key_form, all_keys, aggregated, aggregates_from, argument, arguments, grouped_columns as group_forms, called_from}
-use Rattle.expression_texts.specs.ExpressionTexts.{expr_bytes, cases_text, arms_text}
+use Rattle.tree_texts.specs.Forms.{ExprForm, ColumnForm}
+use Rattle.query_texts.specs.Names.{Naming, own}
+use Rattle.query_forms.specs.ShownQueries.{own_column, Listed, listed, named_from, aggregated, aggregates_from, argument, arguments, grouped_columns as group_forms}
 use Rattle.query_forms.specs.Pieces.{said, expr_said}
-use Rattle.query_texts.specs.QueryTexts.{comma, as_text, item_text, unread_text, column_item, column_items, named_items, grouped_column, grouped_columns, grouped_text, group_items, argument_text, argument_items, aggregated_text, aggregate_items, direction_text, key_texts, position_text, position_texts, order_text, called_items, never_text, nevers_text, beside_text, expr_items}
-use Rattle.expression_texts.specs.Words.{name_text, number_text, reference_text, unless_none}
-use Rattle.query_forms.proofs.SaidExpressions.{expression_said, arm_said, cases_said}
+use Rattle.query_texts.specs.QueryTexts.{comma, item_text, unread_text, column_item, named_items, group_items, argument_text, argument_items, aggregated_text, aggregate_items}
+use Rattle.expression_texts.specs.Words.{name_text, reference_text}
+use Rattle.query_forms.proofs.SaidExpressions.{expression_said}
 
 -- ---- items
 

@@ -1,11 +1,9 @@
 -- What the form of a query says is its text.
-use Rattle.std.proofs.Common.{◌≡◌, ◌∙◌, ℕ, zero, suc, ◌+◌, Bool, true, false, List, [], ◌∷◌, ◌++◌, map, refl, sym, ap, ap₂, append_assoc, append-nil, arith}
+use Rattle.std.proofs.Common.{◌≡◌, ◌∙◌, ℕ, suc, ◌+◌, Bool, true, false, List, [], ◌∷◌, ◌++◌, map, refl, sym, ap, ap₂, append_assoc, append-nil, arith}
 use Rattle.std.specs.Prelude.{codes, length, cond, Option, Some, None}
-use Rattle.std.specs.Fmt.{digits}
 use Rattle.null_logic.specs.declared.compare.Compare.{Compare}
 use Rattle.null_logic.specs.declared.compare.Compare.TheVariants as compare
 use Rattle.perm_values.specs.declared.key.Key.{Key}
-use Rattle.perm_values.specs.declared.kind.Kind.{Kind}
 use Rattle.perm_values.specs.declared.kind.Kind.TheVariants as kinds
 use Rattle.bag_algebra.specs.Kinds.{width_of}
 use Rattle.bag_algebra.specs.built.Patterns.{BaseOf, FilterOf, ProjectOf, JoinOf, ApplyOf, UnionOf, IntersectOf, ExceptOf, DistinctOf, AggregateOf, LimitOf, ProvOf}
@@ -20,16 +18,15 @@ use Rattle.bag_algebra.specs.declared.query.SubKind.{SubKind}
 use Rattle.bag_algebra.specs.declared.query.SubKind.TheVariants as ask
 use Rattle.tree_texts.specs.FormPlans as plan
 use Rattle.tree_texts.specs.Forms as f
-use Rattle.tree_texts.specs.Forms.{ExprForm, ColumnForm, FromForm, ConditionForm, CoreForm, QueryForm, JoinForms}
+use Rattle.tree_texts.specs.Forms.{ExprForm, FromForm, CoreForm, QueryForm, JoinForms}
 use Rattle.tree_texts.specs.Phrases.{maybe_distinct, grouped, ordered}
 use Rattle.query_texts.specs.Names.{Naming, naming, own, deeper, names_of, outermost}
 use Rattle.query_forms.specs.ShownExpressions.{shown_expr, beside}
-use Rattle.query_forms.specs.ShownQueries.{own_columns, Listed, listed, named_from, one, columns, selected, alone, over, first_source, copied, of_table, tested_by, projected, joined, stays, in_groups, below_groups, aggregates_from, arguments, grouped_columns, all_keys, key_form, any_of, all_of, tested_part, asked, shown, sub_forms, called, called_from, shown_answer}
+use Rattle.query_forms.specs.ShownQueries.{own_columns, Listed, listed, one, columns, selected, alone, over, first_source, copied, of_table, tested_by, projected, joined, stays, in_groups, below_groups, aggregates_from, arguments, grouped_columns, key_form, any_of, all_of, tested_part, asked, shown, sub_forms, called, shown_answer}
 use Rattle.query_texts.specs.Unused.{used_in, items_use, spare}
 use Rattle.query_texts.specs.declared.tables.TableNames.{TableNames}
-use Rattle.expression_texts.specs.ExpressionTexts.{expr_bytes}
 use Rattle.query_forms.specs.Pieces.{said, expr_said, query_said}
-use Rattle.query_texts.specs.QueryTexts.{as_text, item_text, unread_text, column_items, columns_text, named_items, over_text, copied_text, table_text, beside_text, beside_joined, beside_lateral, condition_text, expr_items, projected_text, set_text, group_items, argument_items, aggregate_items, below_text, above_text, grouped_text, groups_text, order_text, any_text, all_text, part_text, tested_text, asked_text, query_bytes, sub_texts, answer_bytes, key_texts, called_items}
+use Rattle.query_texts.specs.QueryTexts.{as_text, item_text, unread_text, columns_text, named_items, over_text, copied_text, table_text, beside_text, beside_joined, beside_lateral, condition_text, expr_items, projected_text, set_text, below_text, groups_text, any_text, all_text, part_text, asked_text, query_bytes, sub_texts, answer_bytes, key_texts, called_items}
 use Rattle.expression_texts.specs.Words.{name_text, number_text, reference_text, unless_none}
 use Rattle.query_forms.proofs.SaidClauses.{beside_said, grouped_said, order_said, answer_order_said, called_said}
 use Rattle.query_forms.proofs.SaidExpressions.{expression_said}

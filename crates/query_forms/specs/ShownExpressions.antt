@@ -1,6 +1,6 @@
 -- How expressions are printed. What is made of parts stands in parentheses; each NULL is a CAST, so that its kind is known; and a
 -- form that PostgreSQL and SQLite read in the same way is taken where there is one.
-use Rattle.std.specs.Prelude.{ℕ, ◌+◌, ℤ, Bool, true, false, if◌then◌else◌, List, [], ◌∷◌, Option, Some, None, slice_index_or, unsigned_abs, ◌==◌}
+use Rattle.std.specs.Prelude.{ℕ, ◌+◌, Bool, true, false, if◌then◌else◌, List, [], ◌∷◌, slice_index_or, unsigned_abs, ◌==◌}
 use Rattle.std.specs.Int.{is_negative}
 use Rattle.null_logic.specs.declared.arith.Arith.{Arith}
 use Rattle.null_logic.specs.declared.arith.Arith.TheVariants.{Add, Subtract, Multiply, Divide, Remainder}

@@ -1,11 +1,10 @@
 -- How queries are printed: each node is a SELECT of its own over a subquery for each of its inputs. Columns are named by their place,
 -- so names of tables and of their columns stand at tables alone.
-use Rattle.std.specs.Prelude.{ℕ, suc, ◌+◌, Bool, true, false, List, [], ◌∷◌, ◌++◌, map, length, Option, Some, None, codes}
+use Rattle.std.specs.Prelude.{ℕ, ◌+◌, Bool, true, false, List, [], ◌∷◌, ◌++◌, map, length, Option, Some, None, codes}
 use Rattle.std.specs.List.{range_with_len}
 use Rattle.null_logic.specs.declared.compare.Compare.{Compare}
 use Rattle.null_logic.specs.declared.compare.Compare.TheVariants as compare
 use Rattle.perm_values.specs.declared.key.Key.{Key}
-use Rattle.perm_values.specs.declared.kind.Kind.{Kind}
 use Rattle.perm_values.specs.declared.kind.Kind.TheVariants as kinds
 use Rattle.bag_algebra.specs.Kinds.{width_of}
 use Rattle.bag_algebra.specs.built.Patterns.{BaseOf, FilterOf, ProjectOf, JoinOf, ApplyOf, UnionOf, IntersectOf, ExceptOf, DistinctOf, AggregateOf, LimitOf, ProvOf}
@@ -64,8 +63,8 @@ columns prefix count = map f.column (own_columns prefix count)
 -- ---- what a SELECT is made of
 
 abbrev pub selected : Bool → Listed → FromForm → ConditionForm → List ColumnForm → CoreForm
-selected distinct list origin condition groups =
-    f.select distinct list.first list.name list.more origin condition groups f.no_condition
+selected distinct list origin test groups =
+    f.select distinct list.first list.name list.more origin test groups f.no_condition
 
 abbrev pub alone : CoreForm → QueryForm
 alone core = f.one core [] None
