@@ -89,7 +89,7 @@ blanks_read at stop (b ∷ gap) more rest tokens all inner =
 
 -- ---- all tokens
 
-places_of : (at : ℕ) (tokens : List Token) (text : List ℕ) → IsLaid tokens text → Places
+abbrev places_of : (at : ℕ) (tokens : List Token) (text : List ℕ) → IsLaid tokens text → Places
 places_of at [] text laid i = record { start = at; end = at }
 places_of at (t ∷ tokens) text laid zero = record { start = at; end = at + length (shown t) }
 places_of at (t ∷ tokens) text laid (suc i) = places_of (at + length (shown t) + length laid.0) tokens laid.1 laid.4 i
