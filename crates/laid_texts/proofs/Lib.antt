@@ -1,1 +1,1 @@
-pub mod Weaving
+pub mod WovenTokens

@@ -1,5 +1,5 @@
 use Rattle.std.proofs.Common.{[], ◌∷◌, refl}
-use Rattle.laid_texts.proofs.Weaving.{longer}
+use Rattle.laid_texts.proofs.WovenTokens.{longer}
 use Rattle.laid_texts.proofs.weaving.push_line.Goals as goal
 
 pub loop-step-init : goal.loop-step-init

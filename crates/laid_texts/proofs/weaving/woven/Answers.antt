@@ -1,7 +1,7 @@
 use Rattle.std.proofs.Common.{◌∙◌, ◌+◌, [], ◌∷◌, ◌++◌, take, sym, ap, subst}
 use Rattle.std.proofs.lemmas.List.{take_all, take_more}
 use Rattle.laid_texts.specs.Woven.{IsWoven}
-use Rattle.laid_texts.proofs.Weaving.{woven_next}
+use Rattle.laid_texts.proofs.WovenTokens.{woven_next}
 use Rattle.laid_texts.proofs.weaving.woven.Goals as goal
 
 pub loop-number-preserved : goal.loop-number-preserved
