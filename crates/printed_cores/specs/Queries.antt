@@ -1,0 +1,24 @@
+-- What a query is read as, and how the columns of one that was printed are called.
+use Rattle.std.specs.Prelude.{◌≡◌, ℕ, suc, List, [], ◌∷◌, ◌++◌, Some, None}
+use Rattle.std.specs.Fmt.{decimal}
+use Rattle.perm_values.specs.declared.kind.Kind.{Kind}
+use Rattle.bag_algebra.specs.declared.query.Query.{Query}
+use Rattle.name_meaning.specs.Meanings.{OutColumn, QueryMeant}
+use Rattle.printed_expressions.specs.Scopes.{marks}
+
+abbrev pub out_columns : List (List ℕ) → List Kind → List OutColumn
+out_columns [] kinds = []
+out_columns (name ∷ names) [] = []
+out_columns (name ∷ names) (kind ∷ kinds) = record { name = name; kind = Some kind } ∷ out_columns names kinds
+
+-- a query breaks nothing, has these columns and is made to this query; it asks for no provenance
+pub record QueryRead (m : QueryMeant) (names : List (List ℕ)) (kinds : List Kind) (q : Query) : Type 0 where
+  pub breaks : m.breaks ≡ []
+  pub columns : m.columns ≡ Some (out_columns names kinds)
+  pub places : m.places ≡ None
+  pub make : (wanted : List Kind) → m.make wanted ≡ q
+
+-- names that are numbered from a number on
+abbrev pub numbered_names : ℕ → ℕ → List Kind → List (List ℕ)
+numbered_names depth number [] = []
+numbered_names depth number (kind ∷ more) = (marks depth ++ decimal number) ∷ numbered_names depth (suc number) more
