@@ -11,16 +11,15 @@ use Rattle.bag_algebra.specs.declared.query.Query.TheVariants.{Filter, Project}
 use Rattle.bag_algebra.specs.declared.query.Sublink.{Sublink}
 use Rattle.perm_catalog.specs.Contents.{Contents}
 use Rattle.sql_tree.specs.declared.query.Core.{Core}
-use Rattle.sql_tree.specs.declared.query.QueryTree.{QueryTree}
 use Rattle.name_meaning.specs.Cores.{distinct_if, has_some}
 use Rattle.name_meaning.specs.Froms.{from_all, in_clause, in_from}
 use Rattle.name_meaning.specs.Meanings.{Around, Surroundings}
 use Rattle.name_meaning.specs.Scopes.{scope_of}
-use Rattle.name_meaning.specs.Trees.{core_of, from_of, item_of, part_of, query_of}
+use Rattle.name_meaning.specs.Trees.{core_of, from_of, item_of, part_of}
 use Rattle.name_meaning.specs.declared.scope.Scope.{Scope}
 use Rattle.tree_texts.specs.Forms as f
 use Rattle.tree_texts.specs.Forms.{ExprForm, QueryForm}
-use Rattle.tree_texts.specs.Trees.{IsCore, IsQuery}
+use Rattle.tree_texts.specs.Trees.{IsCore}
 use Rattle.query_texts.specs.Names.{naming}
 use Rattle.query_texts.specs.Unused.{items_use, spare}
 use Rattle.query_forms.specs.ShownQueries.{columns, listed, one, over, projected, selected, tested_by}
@@ -32,7 +31,7 @@ use Rattle.printed_queries.proofs.ShownRows.{shown_kinds}
 use Rattle.printed_expressions.specs.Scopes.{ScopesAre, marks}
 use Rattle.printed_expressions.proofs.PlainShown.{AllPlain}
 use Rattle.printed_expressions.proofs.ReadScopes.{finds}
-use Rattle.printed_cores.specs.Queries.{QueryRead}
+use Rattle.printed_cores.specs.Queries.{FormRead, QueryRead}
 use Rattle.printed_cores.proofs.OpenedCores.{core_over_parts, opened-plain, opened-test}
 use Rattle.printed_cores.proofs.ReadConditions.{SubsRead, beside_from, condition-first, condition-read}
 use Rattle.printed_cores.proofs.ReadCopies.{columns-listed}
@@ -42,8 +41,7 @@ use Rattle.printed_cores.proofs.ReadItems.{kinds_of_items, projected-read}
 
 -- an input under these scopes, whose own columns are numbered from 1 on at this depth
 abbrev pub InputRead : Contents → ℕ → List Scope → List Kind → QueryForm → Query → Type 0
-InputRead c depth outer own form q = (tree : QueryTree) → IsQuery form tree
-    → QueryRead ((query_of c tree).means (in_from outer)) (listed_names (suc depth) 1 own) (shown_kinds own) q
+InputRead c depth outer own form q = FormRead c (in_from outer) (listed_names (suc depth) 1 own) (shown_kinds own) form q
 
 module _ (c : Contents) (depth : ℕ) (scopes : List (List Kind)) (unread : List ℕ) (around : Around) (own : List Kind) (bound : 1 + length own < 2 ^ 64)
     (outer : ScopesAre depth scopes unread around.outer) (form : QueryForm) (q : Query) (input : InputRead c depth around.outer own form q) where

@@ -3,7 +3,13 @@ use Rattle.std.specs.Prelude.{◌≡◌, ℕ, suc, List, [], ◌∷◌, ◌++◌
 use Rattle.std.specs.Fmt.{decimal}
 use Rattle.perm_values.specs.declared.kind.Kind.{Kind}
 use Rattle.bag_algebra.specs.declared.query.Query.{Query}
-use Rattle.name_meaning.specs.Meanings.{OutColumn, QueryMeant}
+use Rattle.perm_catalog.specs.Contents.{Contents}
+use Rattle.sql_tree.specs.declared.query.Core.{Core}
+use Rattle.sql_tree.specs.declared.query.QueryTree.{QueryTree}
+use Rattle.name_meaning.specs.Meanings.{Around, OutColumn, QueryMeant}
+use Rattle.name_meaning.specs.Trees.{core_of, query_of}
+use Rattle.tree_texts.specs.Forms.{CoreForm, QueryForm}
+use Rattle.tree_texts.specs.Trees.{IsCore, IsQuery}
 use Rattle.printed_expressions.specs.Scopes.{marks}
 
 abbrev pub out_columns : List (List ℕ) → List Kind → List OutColumn
@@ -17,6 +23,14 @@ pub record QueryRead (m : QueryMeant) (names : List (List ℕ)) (kinds : List Ki
   pub columns : m.columns ≡ Some (out_columns names kinds)
   pub places : m.places ≡ None
   pub make : (wanted : List Kind) → m.make wanted ≡ q
+
+-- each tree of a query's form is read as this query
+abbrev pub FormRead : Contents → Around → List (List ℕ) → List Kind → QueryForm → Query → Type 0
+FormRead c around names kinds form q = (tree : QueryTree) → IsQuery form tree → QueryRead ((query_of c tree).means around) names kinds q
+
+-- and each tree of a core's form
+abbrev pub CoreFormRead : Contents → Around → List (List ℕ) → List Kind → CoreForm → Query → Type 0
+CoreFormRead c around names kinds form q = (tree : Core) → IsCore form tree → QueryRead ((core_of c tree).means around) names kinds q
 
 -- names that are numbered from a number on
 abbrev pub numbered_names : ℕ → ℕ → List Kind → List (List ℕ)

@@ -40,6 +40,7 @@ use Rattle.printed_expressions.specs.Scopes.{marks}
 use Rattle.printed_expressions.proofs.ReadParts.{read-seen}
 use Rattle.printed_cores.specs.Queries.{numbered_names}
 use Rattle.printed_cores.proofs.ReadLists.{item_at, known-next, named_part, part-is, seen_in, titles}
+use Rattle.printed_groups.specs.Groups.{kinds_of_aggrs}
 
 -- ---- one expression over groups
 
@@ -200,9 +201,6 @@ module _ (c : Contents) (has_from : Bool) (scope : Scope) (here : Surroundings) 
   no_groups-read = record { breaks = refl; known = refl; make = λ wanted before. refl }
 
 -- ---- aggregates of the columns below, and grouped columns before them
-
-abbrev pub kinds_of_aggrs : List Aggr → List Kind
-kinds_of_aggrs aggregates = map (λ (aggregate : Aggr). aggregate.kind) aggregates
 
 abbrev pub named_columns : List ℕ → ℕ → ℕ → List ExprForm
 named_columns prefix number count = map f.column (map (own_column prefix) (range_with_len number count))

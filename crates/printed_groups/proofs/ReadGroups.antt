@@ -58,8 +58,9 @@ use Rattle.printed_cores.proofs.ReadFroms.{item_of_query, listed_names, scope-ov
 use Rattle.printed_cores.proofs.ReadItems.{kinds_of_items}
 use Rattle.printed_cores.proofs.ReadLists.{item_at, part-is}
 use Rattle.printed_cores.proofs.ReadQueries.{CoreRead, alone-read}
+use Rattle.printed_groups.specs.Groups.{kinds_of_aggrs}
 use Rattle.printed_groups.proofs.GroupedCores.{grouped_core-read, grouped_scope, opened-groups}
-use Rattle.printed_groups.proofs.ReadAggregates.{ColumnsRead, FitsArgument, Fitting, GroupedList, aggregates-read, behind_groups, counts, folds, grouped_item-read, groups-read, kinds_of_aggrs, named_columns, no_groups-read, rows-read}
+use Rattle.printed_groups.proofs.ReadAggregates.{ColumnsRead, FitsArgument, Fitting, GroupedList, aggregates-read, behind_groups, counts, folds, grouped_item-read, groups-read, named_columns, no_groups-read, rows-read}
 use Rattle.printed_groups.proofs.ReadArguments.{arguments-read, forms-append, grouped-read, listed-read}
 
 -- ---- the query below
