@@ -1,11 +1,13 @@
 use Rattle.statement_steps.proofs.Explained.{explained, plain-held, plain-sound}
 use Rattle.statement_steps.proofs.explaining.explain.Goals as goal
 
-pub print-text-requires-formed : goal.print-text-requires-formed
-print-text-requires-formed c = plain-sound c.args.catalog.now c.args.answer.now c.in_ok-plain.plain c.requires c.in_ok-plain.ensures
-
-pub print-text-requires-held : goal.print-text-requires-held
-print-text-requires-held c = plain-held c.args.catalog.now c.args.answer.now c.in_ok-plain.plain c.requires c.in_ok-plain.ensures
+pub print-text-requires : goal.print-text-requires
+print-text-requires c = record {
+  sound = c.requires.sound;
+  formed = plain-sound c.args.catalog.now c.args.answer.now c.in_ok-plain.plain c.requires c.in_ok-plain.ensures;
+  plain = c.in_ok-plain.ensures.query.plain;
+  held = plain-held c.args.catalog.now c.args.answer.now c.in_ok-plain.plain c.requires c.in_ok-plain.ensures;
+}
 
 pub returns : goal.returns
 returns c =
