@@ -143,7 +143,7 @@ same_explained : (c : Contents) (statement : Statement) (after : Contents) (answ
     → (Next : Contents → Ran → Type 0) → One (Next after) → One (GoesExplained c statement after answer Next)
 same_explained c statement after answer asks Next one a b (inl (text, rest, says, next, is)) (inl (text', rest', says', next', is')) u v =
     moved a b (after_text text rest) (after_text text' rest') is is'
-    (same_text text text' (explained asks says says') rest rest' (one rest rest' next next' (subst IsUnbroken is u) (subst IsUnbroken is' v)))
+    (same_text text text' (explained c after statement answer asks says says') rest rest' (one rest rest' next next' (subst IsUnbroken is u) (subst IsUnbroken is' v)))
 same_explained c statement after answer asks Next one a b (inl h) (inr is) u v = absurd (broken_off c statement b is v)
 same_explained c statement after answer asks Next one a b (inr is) k u v = absurd (broken_off c statement a is u)
 

@@ -29,7 +29,7 @@ pub data SameStop : Stop → Stop → Type 0 where
 -- one text, or two of a statement that is an EXPLAIN, which explain one answer over one content of the catalog
 pub data SameText (text other : List ℕ) : Type 0 where
   one : text ≡ other → SameText text other
-  explained : {c after : Contents} {statement : Statement} {answer : Answer} → asked c statement ≡ Explained after answer → Explains after answer text
+  explained : (c after : Contents) (statement : Statement) (answer : Answer) → asked c statement ≡ Explained after answer → Explains after answer text
       → Explains after answer other → SameText text other
 
 -- as many texts, the same each in its place

@@ -3,11 +3,11 @@ ghost use Rattle.std.specs.Prelude.{IfOk, IsTrue};
 ghost use Rattle.answer_texts.specs.Explains.{Explains};
 ghost use Rattle.bag_algebra.specs.Rewriting.{is_plain};
 ghost use Rattle.bag_algebra.specs.TablesRead.{EachTable};
-ghost use Rattle.permcatalog.specs.Sound.{IsSound, IsSoundAnswer};
+ghost use Rattle.perm_catalog.specs.Sound.{IsSound, IsSoundAnswer};
 ghost use Rattle.stored_provenance.specs.Held.{IsHeldTable};
 
 use bag_algebra::Answer;
-use permcatalog::Catalog;
+use perm_catalog::Catalog;
 use perm_values::{Bytes, NoMemory};
 use std::alloc::Global;
 
