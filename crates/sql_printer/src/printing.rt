@@ -1,0 +1,24 @@
+//! Prints the answer of a query as SQL.
+ghost use Rattle.std.specs.Prelude.{IfOk, IsTrue};
+ghost use Rattle.answer_texts.specs.Explains.{Explains};
+ghost use Rattle.bag_algebra.specs.Rewriting.{is_plain};
+ghost use Rattle.bag_algebra.specs.TablesRead.{EachTable};
+ghost use Rattle.perm_catalog.specs.Sound.{IsSound, IsSoundAnswer};
+ghost use Rattle.stored_provenance.specs.Held.{IsHeldTable};
+
+use bag_algebra::Answer;
+use perm_catalog::Catalog;
+use perm_values::{Bytes, NoMemory};
+use std::alloc::Global;
+
+/// The text of an answer without PROVENANCE, ended by `;` and a newline: a query over the catalog's tables
+/// that means what the answer means, whatever rows they have. It fails only for want of memory.
+pub fn print(alloc: Global, catalog: &Catalog, answer: &Answer) -> Result<Bytes, NoMemory>
+    requires sound { IsSound catalog.now }
+    requires formed { IsSoundAnswer answer.now }
+    requires plain { IsTrue (is_plain answer.now.query) }
+    requires held { EachTable (IsHeldTable catalog.now) answer.now.query }
+    ensures { IfOk result (λ text. Explains catalog.now answer.now text) }
+{
+    Err(NoMemory)
+}
