@@ -1,10 +1,13 @@
 -- How high at least a list is, one part after the other.
 use Rattle.std.specs.Prelude.{◌≡◌, ◌<◌, ◌+◌, ℕ, suc, max, List, [], ◌∷◌, ◌++◌, length, map, fold, take}
-use Rattle.std.proofs.Common.{ap, arith, get_or, refl, sym, length-map, length-take, ◌∙◌}
-use Rattle.std.proofs.lemmas.List.{map-append}
+use Rattle.std.proofs.Common.{ap, arith, get_or, refl, sym, length-take, ◌∙◌}
+use Rattle.std.proofs.lemmas.List.{length-map, map-append}
 use Rattle.std.proofs.lemmas.List.Sums.{fold_push}
 use Rattle.contribution.proofs.Added.{one_more}
 use Rattle.name_heights.specs.Least.{above_both, chain_least, sources_least}
+
+pub regrouped : (a b c both all : ℕ) → both ≡ max a b → all ≡ max both c → all ≡ max a (max b c)
+regrouped a b c both all first more = omega (arith, first, more)
 
 module _ {X : Type 0} (least : X → ℕ) (xs : List X) (i : ℕ) (x : X) (within : i < length xs) (is : x ≡ get_or xs i x) where
   mapped : map least (take (i + 1) xs) ≡ map least (take i xs) ++ least x ∷ []
@@ -24,7 +27,7 @@ module _ {X : Type 0} (least : X → ℕ) (xs : List X) (i : ℕ) (x : X) (withi
   grown-sources height part new first more of_part so_far = by (map least (take i xs)) so_far count ∙ ap sources_least (sym mapped)
     where
       count : length (map least (take i xs)) ≡ i
-      count = length-map least (take i xs) ∙ length-take i xs ∙ omega arith
+      count = length-map (take i xs) least ∙ omega (arith, length-take i xs, within)
 
       by : (heights : List ℕ) → height ≡ sources_least heights → length heights ≡ i → new ≡ sources_least (heights ++ least x ∷ [])
       by [] e none = first (sym none) ∙ of_part
