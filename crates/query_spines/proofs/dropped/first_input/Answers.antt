@@ -5,37 +5,37 @@ use Rattle.query_spines.proofs.Smaller.{first_smaller}
 use Rattle.query_spines.proofs.dropped.first_input.Goals as goal
 
 pub returns-in-Base : goal.returns-in-Base
-returns-in-Base c = first_smaller c.args.query _ _ _ c.into_inner.ensures (ap inputs_of (c.in-Base.is ∙ Base-is c.in-Base.input c.in-Base.places c.in-Base.label))
+returns-in-Base c = first_smaller c.args.query _ _ _ c.into_inner.ensures (ap inputs_of (c.in-Base.is ∙ Base-is c.in-Base.input c.in-Base._places c.in-Base._label))
 
 pub returns-in-Filter : goal.returns-in-Filter
-returns-in-Filter c = first_smaller c.args.query _ _ _ c.into_inner-in-Filter.ensures (ap inputs_of (c.in-Filter.is ∙ Filter-is c.in-Filter.input c.in-Filter.condition c.in-Filter.subs))
+returns-in-Filter c = first_smaller c.args.query _ _ _ c.into_inner-in-Filter.ensures (ap inputs_of (c.in-Filter.is ∙ Filter-is c.in-Filter.input c.in-Filter._condition c.in-Filter._subs))
 
 pub returns-in-Project : goal.returns-in-Project
-returns-in-Project c = first_smaller c.args.query _ _ _ c.into_inner-in-Project.ensures (ap inputs_of (c.in-Project.is ∙ Project_with-is c.in-Project.input c.in-Project.items c.in-Project.subs))
+returns-in-Project c = first_smaller c.args.query _ _ _ c.into_inner-in-Project.ensures (ap inputs_of (c.in-Project.is ∙ Project_with-is c.in-Project.input c.in-Project._items c.in-Project._subs))
 
 pub returns-in-Join : goal.returns-in-Join
-returns-in-Join c = first_smaller c.args.query _ _ _ c.into_inner-in-Join.ensures (ap inputs_of (c.in-Join.is ∙ Join-is c.in-Join.kind c.in-Join.left c.in-Join.right c.in-Join.condition c.in-Join.subs))
+returns-in-Join c = first_smaller c.args.query _ _ _ c.into_inner-in-Join.ensures (ap inputs_of (c.in-Join.is ∙ Join-is c.in-Join._kind c.in-Join.left c.in-Join._right c.in-Join._condition c.in-Join._subs))
 
 pub returns-in-Apply : goal.returns-in-Apply
-returns-in-Apply c = first_smaller c.args.query _ _ _ c.into_inner-in-Apply.ensures (ap inputs_of (c.in-Apply.is ∙ Apply-is c.in-Apply.kind c.in-Apply.left c.in-Apply.right))
+returns-in-Apply c = first_smaller c.args.query _ _ _ c.into_inner-in-Apply.ensures (ap inputs_of (c.in-Apply.is ∙ Apply-is c.in-Apply._kind c.in-Apply.left c.in-Apply._right))
 
 pub returns-in-Union : goal.returns-in-Union
-returns-in-Union c = first_smaller c.args.query _ _ _ c.into_inner-in-Union.ensures (ap inputs_of (c.in-Union.is ∙ Union-is c.in-Union.all c.in-Union.left c.in-Union.right))
+returns-in-Union c = first_smaller c.args.query _ _ _ c.into_inner-in-Union.ensures (ap inputs_of (c.in-Union.is ∙ Union-is c.in-Union._all c.in-Union.left c.in-Union._right))
 
 pub returns-in-Intersect : goal.returns-in-Intersect
-returns-in-Intersect c = first_smaller c.args.query _ _ _ c.into_inner-in-Intersect.ensures (ap inputs_of (c.in-Intersect.is ∙ Intersect-is c.in-Intersect.all c.in-Intersect.left c.in-Intersect.right))
+returns-in-Intersect c = first_smaller c.args.query _ _ _ c.into_inner-in-Intersect.ensures (ap inputs_of (c.in-Intersect.is ∙ Intersect-is c.in-Intersect._all c.in-Intersect.left c.in-Intersect._right))
 
 pub returns-in-Except : goal.returns-in-Except
-returns-in-Except c = first_smaller c.args.query _ _ _ c.into_inner-in-Except.ensures (ap inputs_of (c.in-Except.is ∙ Except-is c.in-Except.all c.in-Except.left c.in-Except.right))
+returns-in-Except c = first_smaller c.args.query _ _ _ c.into_inner-in-Except.ensures (ap inputs_of (c.in-Except.is ∙ Except-is c.in-Except._all c.in-Except.left c.in-Except._right))
 
 pub returns-in-Distinct : goal.returns-in-Distinct
 returns-in-Distinct c = first_smaller c.args.query _ _ _ c.into_inner-in-Distinct.ensures (ap inputs_of (c.in-Distinct.is ∙ Distinct-is c.in-Distinct.input))
 
 pub returns-in-Aggregate : goal.returns-in-Aggregate
-returns-in-Aggregate c = first_smaller c.args.query _ _ _ c.into_inner-in-Aggregate.ensures (ap inputs_of (c.in-Aggregate.is ∙ Aggregate-is c.in-Aggregate.input c.in-Aggregate.groups c.in-Aggregate.aggregates))
+returns-in-Aggregate c = first_smaller c.args.query _ _ _ c.into_inner-in-Aggregate.ensures (ap inputs_of (c.in-Aggregate.is ∙ Aggregate-is c.in-Aggregate.input c.in-Aggregate._groups c.in-Aggregate._aggregates))
 
 pub returns-in-Limit : goal.returns-in-Limit
-returns-in-Limit c = first_smaller c.args.query _ _ _ c.into_inner-in-Limit.ensures (ap inputs_of (c.in-Limit.is ∙ Limit-is c.in-Limit.input c.in-Limit.keys c.in-Limit.count))
+returns-in-Limit c = first_smaller c.args.query _ _ _ c.into_inner-in-Limit.ensures (ap inputs_of (c.in-Limit.is ∙ Limit-is c.in-Limit.input c.in-Limit._keys c.in-Limit._count))
 
 pub returns : goal.returns
 returns c = first_smaller c.args.query _ _ _ c.into_inner-in-Prov.ensures (ap inputs_of (c.in-Prov.is ∙ Prov-is c.in-Prov.input))
