@@ -93,6 +93,10 @@ CHAINS = [
     ("tables", chain("", "CREATE TABLE t (a TEXT);", "CREATE TABLE t%d (a TEXT);", ""), 0),
     ("views", chain(TABLE, "", "CREATE VIEW v%d AS SELECT a FROM r;", ""), 0),
     ("views over views", lambda room: over_views(room), 4),
+    *[(f"impact on {word.strip().lower()}", chain(TABLE, "IMPACT DELETE FROM r OF SELECT a FROM r", f" {word}SELECT a FROM r"), 4)
+      for word in ("UNION ", "EXCEPT ")],
+    ("impact on comma items", chain(TABLE, "IMPACT DELETE FROM r OF SELECT 1 FROM r x", ",r y%d"), 4),
+    ("impact on joins", chain(TABLE, "IMPACT DELETE FROM r OF SELECT 1 FROM r x", " LEFT JOIN r y%d ON TRUE"), 4),
     ("sublinks in one condition", chain(TABLE, "SELECT 1 FROM r WHERE TRUE", " AND EXISTS(SELECT 1)"), 4),
 ]
 

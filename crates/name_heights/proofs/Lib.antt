@@ -1,3 +1,5 @@
+pub mod Chains
+pub mod Equations
 pub mod Forms
 pub mod Nodes
 pub mod Operands

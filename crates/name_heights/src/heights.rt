@@ -1,6 +1,6 @@
 //! One walk over the tree of a query. What stands in the tables and views that are read isn't looked at, and of the nodes of a
 //! core only one is counted, so each answer is no more than the height.
-ghost use Rattle.std.specs.Prelude.{◌≡◌, ◌≤◌, ℕ, suc, max, Bool, List, [], ◌∷◌, map, flat_map, option_map};
+ghost use Rattle.std.specs.Prelude.{◌≡◌, ◌≤◌, ◌<◌, ℕ, suc, max, Bool, List, [], ◌∷◌, map, flat_map, option_map};
 ghost use Rattle.name_meaning.specs.Expressions.{arm_operands, else_operand, step_operand};
 ghost use Rattle.name_meaning.specs.Froms.{FromMeant, from_all, join_item, joined_item};
 ghost use Rattle.name_meaning.specs.Meanings.{Around, QueryMeant, Surroundings, means_at, query_means_at};
@@ -12,6 +12,7 @@ ghost use Rattle.name_meaning.specs.declared.scope.Scope.{Scope};
 ghost use Rattle.name_made_parts.specs.Cored.{items_meant};
 ghost use Rattle.perm_catalog.specs.Contents.{Contents};
 ghost use Rattle.perm_catalog.specs.Sound.{IsSound};
+ghost use Rattle.name_heights.specs.Least.{above, above_both, arm_least, chain_least, core_least, expr_least, from_least, highest, if_there, item_least, join_least, least_height, listed_least, operand_least, set_least, sources_least, step_least};
 ghost use Rattle.name_heights.specs.High.{FromHigh, ItemHigh, ListHigh, OperandsHigh, OptionalHigh, QueryHigh, SelectHigh, SubsHigh};
 
 use name_seen_parts::is_lateral;
@@ -26,7 +27,8 @@ const ENOUGH: u64 = 1024;
 
 /// One more than what a node stands over.
 fn above(height: u64) -> u64
-    ensures { result ≤ suc height }
+    ensures is { result ≡ above height }
+    ensures high { result ≤ suc height }
 {
     if height < ENOUGH {
         return height + 1;
@@ -36,7 +38,8 @@ fn above(height: u64) -> u64
 
 /// How high what is before a comma is with what is behind it, of as many parts before.
 fn beside(before: usize, left: u64, right: u64) -> u64
-    ensures first { before ≡ 0 → result ≤ right }
+    ensures first { before ≡ 0 → result ≡ right }
+    ensures behind { 0 < before → result ≡ above_both left right }
     ensures more { result ≤ suc (max left right) }
 {
     if before == 0 {
@@ -48,7 +51,8 @@ fn beside(before: usize, left: u64, right: u64) -> u64
 /// How high at least what the query is made to is, wherever it stands and breaks nothing. It takes no memory.
 #[cycle(height)]
 pub fn query_height(tree: &QueryTree) -> u64
-    ensures { (c : Contents) (around : Around) → IsSound c
+    ensures is { result ≡ least_height tree.now }
+    ensures high { (c : Contents) (around : Around) → IsSound c
         → QueryHigh result (query_means_at (query_of c tree.now) around) }
 {
     set_height(&tree.body)
@@ -56,7 +60,8 @@ pub fn query_height(tree: &QueryTree) -> u64
 
 #[cycle(height)]
 fn set_height(tree: &SetTree) -> u64
-    ensures { (c : Contents) (around : Around) → IsSound c
+    ensures is { result ≡ set_least tree.now }
+    ensures high { (c : Contents) (around : Around) → IsSound c
         → QueryHigh result ((set_of_tree c tree.now).means around) }
 {
     match tree {
@@ -72,7 +77,8 @@ fn set_height(tree: &SetTree) -> u64
 /// Set operations on what is so high.
 #[cycle(height)]
 fn chain_height(steps: &[SetStep], before: u64) -> u64
-    ensures { (c : Contents) (around : Around) (left : QueryMeant) → IsSound c → QueryHigh before left
+    ensures is { result ≡ chain_least before (map operand_least steps.now) }
+    ensures high { (c : Contents) (around : Around) (left : QueryMeant) → IsSound c → QueryHigh before left
         → QueryHigh result (set_chain around left (map (set_step_of c) steps.now)) }
 {
     let mut height = before;
@@ -84,7 +90,8 @@ fn chain_height(steps: &[SetStep], before: u64) -> u64
 
 #[cycle(height)]
 fn core_height(core: &Core) -> u64
-    ensures { (c : Contents) (around : Around) → IsSound c
+    ensures is { result ≡ core_least core.now }
+    ensures high { (c : Contents) (around : Around) → IsSound c
         → QueryHigh result ((core_of c core.now).means around) }
 {
     let input = sources_height(core.sources.as_slice());
@@ -96,7 +103,8 @@ fn core_height(core: &Core) -> u64
 
 #[cycle(height)]
 fn sources_height(sources: &[FromTree]) -> u64
-    ensures { (c : Contents) (outer : List Scope) → IsSound c
+    ensures is { result ≡ sources_least (map from_least sources.now) }
+    ensures high { (c : Contents) (outer : List Scope) → IsSound c
         → FromHigh result (from_all outer (map (from_of c) sources.now)) }
 {
     let mut height = 0;
@@ -108,7 +116,8 @@ fn sources_height(sources: &[FromTree]) -> u64
 
 #[cycle(height)]
 fn source_height(tree: &FromTree) -> u64
-    ensures { (c : Contents) (outer : List Scope) (earlier : List (List ℕ)) → IsSound c
+    ensures is { result ≡ from_least tree.now }
+    ensures high { (c : Contents) (outer : List Scope) (earlier : List (List ℕ)) → IsSound c
         → FromHigh result ((from_of c tree.now).means outer earlier) }
 {
     let mut height = item_height(&tree.first);
@@ -121,7 +130,8 @@ fn source_height(tree: &FromTree) -> u64
 /// One more join of what is so high.
 #[cycle(height)]
 fn join_height(step: &JoinStep, before: u64) -> u64
-    ensures { (c : Contents) (outer : List Scope) (left : FromMeant) → IsSound c → FromHigh before left
+    ensures is { result ≡ above_both before (join_least step.now) }
+    ensures high { (c : Contents) (outer : List Scope) (left : FromMeant) → IsSound c → FromHigh before left
         → FromHigh result (join_item outer left (join_of c step.now)
         (joined_item outer left (join_of c step.now))) }
 {
@@ -135,7 +145,8 @@ fn join_height(step: &JoinStep, before: u64) -> u64
 
 #[cycle(height)]
 fn item_height(item: &FromItem) -> u64
-    ensures { (c : Contents) (around : Around) (earlier : List (List ℕ)) → IsSound c
+    ensures is { result ≡ item_least item.now }
+    ensures high { (c : Contents) (around : Around) (earlier : List (List ℕ)) → IsSound c
         → ItemHigh result ((from_item_of c item.now).means around earlier) }
 {
     match &item.source {
@@ -147,7 +158,8 @@ fn item_height(item: &FromItem) -> u64
 /// The highest query of the sublinks of a condition.
 #[cycle(height)]
 fn condition_height(condition: &Option<ExprTree>) -> u64
-    ensures { (c : Contents) → IsSound c
+    ensures is { result ≡ if_there (option_map expr_least condition.now) }
+    ensures high { (c : Contents) → IsSound c
         → OptionalHigh result (option_map (part_of c) condition.now) }
 {
     match condition {
@@ -159,7 +171,8 @@ fn condition_height(condition: &Option<ExprTree>) -> u64
 /// The highest query of the sublinks of a SELECT list.
 #[cycle(height)]
 fn items_height(items: &[SelectItem]) -> u64
-    ensures { (c : Contents) (has_from : Bool) (scope : Scope) (here : Surroundings) → IsSound c
+    ensures is { result ≡ highest (map listed_least items.now) }
+    ensures high { (c : Contents) (has_from : Bool) (scope : Scope) (here : Surroundings) → IsSound c
         → ListHigh result (items_meant has_from scope here (map (item_of c) items.now)) }
 {
     let mut height: u64 = 0;
@@ -171,7 +184,8 @@ fn items_height(items: &[SelectItem]) -> u64
 
 #[cycle(height)]
 fn listed_height(item: &SelectItem) -> u64
-    ensures { (c : Contents) (has_from : Bool) (scope : Scope) (here : Surroundings) → IsSound c
+    ensures is { result ≡ listed_least item.now }
+    ensures high { (c : Contents) (has_from : Bool) (scope : Scope) (here : Surroundings) → IsSound c
         → SelectHigh result ((item_of c item.now).means has_from scope here) }
 {
     match item {
@@ -184,7 +198,8 @@ fn listed_height(item: &SelectItem) -> u64
 /// The highest query of the sublinks of an expression.
 #[cycle(height)]
 fn expression_height(tree: &ExprTree) -> u64
-    ensures { (c : Contents) (here : Surroundings) → IsSound c
+    ensures is { result ≡ expr_least tree.now }
+    ensures high { (c : Contents) (here : Surroundings) → IsSound c
         → SubsHigh result (means_at (part_of c tree.now) here) }
 {
     match &tree.body {
@@ -249,7 +264,8 @@ fn expression_height(tree: &ExprTree) -> u64
 
 #[cycle(height)]
 fn expressions_height(trees: &[ExprTree]) -> u64
-    ensures { (c : Contents) (here : Surroundings) (need : Needs) → IsSound c
+    ensures is { result ≡ highest (map expr_least trees.now) }
+    ensures high { (c : Contents) (here : Surroundings) (need : Needs) → IsSound c
         → OperandsHigh result (map (operand here need) (map (part_of c) trees.now)) }
 {
     let mut height: u64 = 0;
@@ -261,7 +277,8 @@ fn expressions_height(trees: &[ExprTree]) -> u64
 
 #[cycle(height)]
 fn steps_height(steps: &[ExprStep]) -> u64
-    ensures { (c : Contents) (here : Surroundings) → IsSound c
+    ensures is { result ≡ highest (map step_least steps.now) }
+    ensures high { (c : Contents) (here : Surroundings) → IsSound c
         → OperandsHigh result (map (step_operand here) (map (step_of c) steps.now)) }
 {
     let mut height: u64 = 0;
@@ -273,7 +290,8 @@ fn steps_height(steps: &[ExprStep]) -> u64
 
 #[cycle(height)]
 fn arms_height(arms: &[ArmTree]) -> u64
-    ensures { (c : Contents) (here : Surroundings) → IsSound c
+    ensures is { result ≡ highest (map arm_least arms.now) }
+    ensures high { (c : Contents) (here : Surroundings) → IsSound c
         → OperandsHigh result (flat_map (arm_operands here) (map (arm_of c) arms.now)) }
 {
     let mut height: u64 = 0;
@@ -287,7 +305,8 @@ fn arms_height(arms: &[ArmTree]) -> u64
 
 #[cycle(height)]
 fn otherwise_height(tree: &Option<Boxed<ExprTree>>) -> u64
-    ensures { (c : Contents) (here : Surroundings) → IsSound c
+    ensures is { result ≡ if_there (option_map expr_least tree.now) }
+    ensures high { (c : Contents) (here : Surroundings) → IsSound c
         → OperandsHigh result (else_operand here (option_map (part_of c) tree.now) ∷ []) }
 {
     match tree {

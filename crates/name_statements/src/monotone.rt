@@ -1,5 +1,5 @@
 //! The query of IMPACT: that it is monotone, and the whole query within the limits.
-ghost use Rattle.std.specs.Prelude.{◌≡◌, [], IfOk, map, not, true};
+ghost use Rattle.std.specs.Prelude.{◌≡◌, [], IfErr, IfOk, IsErrAnd, Ok, map, not, true};
 ghost use Rattle.monotone_queries.specs.Monotone as queries;
 ghost use Rattle.name_seen_parts.specs.Columns.{columns_of};
 ghost use Rattle.name_seen_parts.specs.Seen.{first_or};
@@ -9,19 +9,19 @@ ghost use Rattle.name_meaning.specs.Meanings.{QueryMeant, broken_if, query_means
 ghost use Rattle.name_meaning.specs.Queries.{key_of};
 ghost use Rattle.name_meaning.specs.Trees.{query_of};
 ghost use Rattle.name_meaning.specs.declared.rule.Rule.TheVariants as rule;
+ghost use Rattle.name_seen_parts.specs.declared.refusal.Refusal.TheVariants.{Break as Broken};
 ghost use Rattle.name_seen_from.specs.Queried.{QueryWhole};
 ghost use Rattle.name_statements.specs.Resolves.{AskedSeen, InsideSeen, IsMonotoneMade, MonotoneSeen};
 
-use crate::limits::within;
 use crate::queries::Whole;
 use crate::whole_queries::whole_with;
 use bag_algebra::Query;
-use monotone_queries::is_monotone;
 use name_inside::Gathered;
 use name_meaning::{Break, Rule};
 use name_seen_from::QueryShown;
 use name_seen_parts::{Around, Refusal};
 use perm_values::{Key, List, NoMemory};
+use query_spines::{is_monotone_along, let_go_along};
 use sql_tree::QueryTree;
 
 /// A query as it was made, whose tree stands at this offset, or that it isn't monotone.
@@ -30,14 +30,28 @@ pub fn monotone_made(at: usize, made: Result<Query, NoMemory>) -> Result<Query, 
 {
     let query = made?;
     let monotone = monotone_break(at, &query);
-    within(query, monotone)
+    query_within(query, monotone)
+}
+
+/// A query that keeps within a limit, or the break of the limit. It may be as high as a script is long, so it is let go by a loop.
+fn query_within(query: Query, limit: Result<(), Break>) -> Result<Query, Refusal>
+    ensures kept { IfOk result (λ same. (same ≡ query) × (limit ≡ Ok tt)) }
+    ensures broken { IfErr result (λ refusal. IsErrAnd limit (λ first. refusal ≡ Broken first)) }
+{
+    match limit {
+        Ok(()) => Ok(query),
+        Err(first) => {
+            let_go_along(query);
+            Err(Refusal::Break(first))
+        }
+    }
 }
 
 /// That the query, whose tree stands at this offset, isn't monotone.
 fn monotone_break(at: usize, query: &Query) -> Result<(), Break>
     ensures { result ≡ first_or (broken_if (not (queries.is_monotone query.now)) rule.NotMonotone at) tt }
 {
-    if is_monotone(query) {
+    if is_monotone_along(query) {
         return Ok(());
     }
     Err(Break {
@@ -71,7 +85,7 @@ pub fn monotone_with(
         Err(refusal) => {
             drop(shown);
             drop(keys);
-            drop(made);
+            let_go_along(made);
             Err(refusal)
         }
     }

@@ -7,7 +7,7 @@ pub returns-in-Ok : goal.returns-in-Ok
 returns-in-Ok c =
     let held = c.args.around.now.catalog.now in
     let place = around_of c.args.around.now in
-    c.low_enough.ensures (query_means_at (query_of held c.args.query.now) place) c.requires.whole (c.query_height.ensures held place c.requires.sound) c.in-Ok.ensures
+    c.low_enough.ensures (query_means_at (query_of held c.args.query.now) place) c.requires.whole (c.query_height.ensures.high held place c.requires.sound) c.in-Ok.ensures
 
 pub returns-in-Err : goal.returns-in-Err
 returns-in-Err c = c.in-Err.ensures
