@@ -1,0 +1,6 @@
+pub mod EndedTexts
+pub mod FitsExpressions
+pub mod FitsQueries
+pub mod PlainWords
+pub mod PrintableNodes
+pub mod WritableQueries
