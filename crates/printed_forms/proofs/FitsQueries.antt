@@ -48,11 +48,11 @@ outermost-ascii = deeper-ascii [] IsAscii-nil
 
 named : (tables : List TableNames) (id : ℕ) → AllByRecursion AreCharacters tables → AreCharacters (names_of tables id)
 named [] id all = record { name = IsUtf8-nil; columns = tt }
-named (table ∷ tables) id all = by (has_id id table)
+named (table ∷ tables) id all = by (has_id id table) (named tables id all.1)
   where
-    by : (b : Bool) → AreCharacters (unwrap_or (cond b (Some table) (find (has_id id) tables)) (nameless id))
-    by true = all.0
-    by false = named tables id all.1
+    by : (b : Bool) → AreCharacters (names_of tables id) → AreCharacters (unwrap_or (cond b (Some table) (find (has_id id) tables)) (nameless id))
+    by true later = all.0
+    by false later = later
 
 -- ---- lists
 
@@ -62,11 +62,11 @@ append-fits (form ∷ forms) others p q = (p.0, append-fits forms others p.1 q)
 
 spare-fits : (used : ℕ → Bool) (number : ℕ) (forms : List ExprForm) → AllFit forms → AllFit (spare used number forms)
 spare-fits used number [] p = tt
-spare-fits used number (form ∷ forms) p = by (used number)
+spare-fits used number (form ∷ forms) p = by (used number) (spare-fits used (number + 1) forms p.1)
   where
-    by : (b : Bool) → AllFit (cond b (spare used (number + 1) forms) (form ∷ spare used (number + 1) forms))
-    by true = spare-fits used (number + 1) forms p.1
-    by false = (p.0, spare-fits used (number + 1) forms p.1)
+    by : (b : Bool) → AllFit (spare used (number + 1) forms) → AllFit (cond b (spare used (number + 1) forms) (form ∷ spare used (number + 1) forms))
+    by true later = later
+    by false later = (p.0, later)
 
 abbrev FitsListed : Listed → Type 0
 FitsListed list = FitsExpr list.first × IsUtf8 list.name × FitsItems list.more
@@ -90,12 +90,12 @@ keys-fit : (width : ℕ) (keys : List Key) → 1 + width < 2 ^ 63 → KeysIn wid
 keys-fit width [] short within = tt
 keys-fit width (key ∷ keys) short within =
     let here : key.place < width = All-head (λ (k : Key). k.place < width) key keys within in
-    (omega arith, keys-fit width keys short (All-tail (λ (k : Key). k.place < width) key keys within))
+    (omega (arith, here, short), keys-fit width keys short (All-tail (λ (k : Key). k.place < width) key keys within))
 
 positions-fit : (from count : ℕ) → from + count < 2 ^ 63
     → AllByRecursion FitsKey (map (λ number. record { position = number; descending = false }) (range_with_len from count))
 positions-fit from zero short = tt
-positions-fit from (suc count) short = (omega arith, positions-fit (from + 1) count (omega arith))
+positions-fit from (suc count) short = (omega (arith, short), positions-fit (from + 1) count (omega (arith, short)))
 
 both-fit : (keys others : List KeyForm) → AllByRecursion FitsKey keys → AllByRecursion FitsKey others → AllByRecursion FitsKey (keys ++ others)
 both-fit [] others p q = q

@@ -1,5 +1,5 @@
 -- A query without PROVENANCE that can be printed can be written.
-use Rattle.std.proofs.Common.{◌≡◌, true, true≢false, sym}
+use Rattle.std.proofs.Common.{◌≡◌, ◌&&◌, true, true≢false, sym}
 use Rattle.bag_algebra.specs.Rewriting.{is_plain, subs_plain}
 use Rattle.bag_algebra.specs.built.Patterns.{BaseOf, FilterOf, ProjectOf, JoinOf, ApplyOf, UnionOf, IntersectOf, ExceptOf, DistinctOf, AggregateOf, LimitOf, ProvOf}
 use Rattle.bag_algebra.specs.declared.query.Query.{Query, Row_of-Sublink, more_of-Sublink, end_of-Sublink}
@@ -20,9 +20,9 @@ mutual
       (printable-writable input (left-true (is_plain input) (subs_plain subs) e) p.2, p.1,
       subs-writable subs (right-true (is_plain input) (subs_plain subs) e) p.3)
   printable-writable (JoinOf kind left right condition _ subs) e p =
-      let rest = right-true (is_plain left) _ e in
-      (printable-writable left (left-true (is_plain left) _ e) p.2, printable-writable right (left-true (is_plain right) (subs_plain subs) rest) p.3, p.1,
-      subs-writable subs (right-true (is_plain right) (subs_plain subs) rest) p.4)
+      let sides = left-true (is_plain left && is_plain right) (subs_plain subs) e in
+      (printable-writable left (left-true (is_plain left) (is_plain right) sides) p.2, printable-writable right (right-true (is_plain left) (is_plain right) sides) p.3, p.1,
+      subs-writable subs (right-true (is_plain left && is_plain right) (subs_plain subs) e) p.4)
   printable-writable (ApplyOf kind left right) e p =
       (printable-writable left (left-true (is_plain left) (is_plain right) e) p.1, printable-writable right (right-true (is_plain left) (is_plain right) e) p.2)
   printable-writable (UnionOf all left right) e p =

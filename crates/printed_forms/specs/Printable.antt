@@ -5,6 +5,8 @@ use Rattle.std.specs.Str.{IsUtf8}
 use Rattle.perm_values.specs.declared.kind.Kind.{Kind}
 use Rattle.bag_algebra.specs.Kinds.{kinds_in, kinds_of, place_kinds, shape}
 use Rattle.bag_algebra.specs.built.Patterns.{BaseOf, FilterOf, ProjectOf, JoinOf, ApplyOf, UnionOf, IntersectOf, ExceptOf, DistinctOf, AggregateOf, LimitOf, ProvOf}
+use Rattle.bag_algebra.specs.declared.expr.Arm.{Arm}
+use Rattle.bag_algebra.specs.declared.expr.ChainStep.{ChainStep}
 use Rattle.bag_algebra.specs.declared.expr.Item.{Item}
 use Rattle.bag_algebra.specs.declared.query.Aggr.{Aggr}
 use Rattle.bag_algebra.specs.declared.query.Query.{Query, Row_of-Sublink, more_of-Sublink, end_of-Sublink}
@@ -16,6 +18,16 @@ use Rattle.printed_queries.specs.Writable.{Writable, WritableAggregates, Writabl
 -- so few columns that one more has a number below 2^63
 abbrev pub Short : List Kind → Type 0
 Short kinds = 1 + length kinds < 2 ^ 63
+
+-- ---- parts, as code holds them
+
+abbrev pub WritableStep : ChainStep → Type 0
+WritableStep step = Writable step.part
+
+abbrev pub WritableArm : Arm → Type 0
+WritableArm arm = Writable arm.condition × Writable arm.value
+
+-- ---- queries
 
 -- the literals of a node's own expressions
 abbrev pub OwnWritable : Query → Type 0
