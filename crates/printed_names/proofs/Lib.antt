@@ -1,37 +1,5 @@
-pub mod GroupedCores
-pub mod KindsOf
-pub mod OpenedCores
-pub mod PlainShown
-pub mod PlainTrees
-pub mod ReadAggregates
-pub mod ReadAnswers
-pub mod ReadArguments
-pub mod ReadArms
-pub mod ReadAsked
-pub mod ReadColumns
-pub mod ReadConditions
-pub mod ReadCopies
-pub mod ReadCores
-pub mod ReadExpressions
-pub mod ReadForms
-pub mod ReadFroms
-pub mod ReadGroups
-pub mod ReadItems
-pub mod ReadJoins
-pub mod ReadLaterals
-pub mod ReadLeaves
-pub mod ReadLists
-pub mod ReadNodes
-pub mod ReadOperators
-pub mod ReadPairs
-pub mod ReadParts
-pub mod ReadQueries
-pub mod ReadRows
-pub mod ReadScopes
-pub mod ReadSets
-pub mod ReadSublinkForms
-pub mod ReadTableCores
-pub mod ReadTables
-pub mod ReadTrees
-pub mod WorkedRows
-pub mod WorkedTrees
+mod ReadAnswers
+mod ReadRows
+mod ReadTableCores
+mod ReadTables
+mod ReadTrees

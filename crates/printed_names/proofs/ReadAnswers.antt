@@ -1,5 +1,5 @@
 -- The tree of an answer's form is read as the answer.
-use Rattle.std.proofs.Common.{◌≡◌, ℕ, suc, ◌+◌, Bool, true, false, List, [], ◌∷◌, length, map, Option, Some, None, refl, sym, ap, subst, ◌∙◌, arith}
+use Rattle.std.proofs.Common.{◌≡◌, ℕ, suc, ◌+◌, Bool, true, false, List, [], ◌∷◌, length, map, Some, None, refl, sym, ap, subst, ◌∙◌, arith}
 use Rattle.std.specs.Option.{option_map_or}
 use Rattle.std.specs.Prelude.{codes, slice_get}
 use Rattle.perm_values.specs.Rows.{KeysWithin}
@@ -17,10 +17,10 @@ use Rattle.sql_tree.specs.declared.query.QueryTree.{QueryTree}
 use Rattle.sql_tree.specs.declared.query.SelectItem.{SelectItem}
 use Rattle.name_meaning.specs.Cores.{has_some}
 use Rattle.name_meaning.specs.Froms.{from_all, in_clause, in_from, names_of, settled_columns}
-use Rattle.name_meaning.specs.Meanings.{QueryMeant, Surroundings, query_means_at}
+use Rattle.name_meaning.specs.Meanings.{Surroundings, query_means_at}
 use Rattle.name_meaning.specs.Scopes.{ScopeItem, scope_of}
 use Rattle.name_meaning.specs.Statements.{alone, columns_of, query_meant}
-use Rattle.name_meaning.specs.Trees.{core_of, from_of, item_of}
+use Rattle.name_meaning.specs.Trees.{from_of, item_of}
 use Rattle.name_meaning.specs.declared.scope.Scope.{Scope}
 use Rattle.tree_texts.specs.Forms as f
 use Rattle.tree_texts.specs.Trees.{AreItems, IsCore, IsQuery, an_item_tree, no_item_trees}
@@ -31,16 +31,18 @@ use Rattle.printed_queries.specs.Printed.{columns_from, copied, or_unread, print
 use Rattle.printed_queries.specs.PrintedExpressions.{before}
 use Rattle.printed_queries.specs.Writable.{WritableQuery}
 use Rattle.printed_queries.proofs.ShownRows.{shown_kinds}
-use Rattle.printed_names.specs.ReadAs.{Few, IsNamed, IsReadAs, Narrow, source_in}
-use Rattle.printed_names.proofs.OpenedCores.{core_over_parts, opened-plain}
-use Rattle.printed_names.proofs.PlainTrees.{plain-tree}
-use Rattle.printed_names.proofs.ReadColumns.{Finds}
-use Rattle.printed_names.proofs.ReadCores.{QueryRead, core-read}
-use Rattle.printed_names.proofs.ReadFroms.{columns-settled, item_of_query, known_columns, listed_names, scope-over, subquery-read}
-use Rattle.printed_names.proofs.ReadLeaves.{column-read}
-use Rattle.printed_names.proofs.ReadLists.{ListRead, item-read, no_items-read, out_columns}
-use Rattle.printed_names.proofs.ReadQueries.{CoreRead, one-read}
-use Rattle.printed_names.proofs.ReadScopes.{finds, marks}
+use Rattle.printed_expressions.specs.Reading.{Finds}
+use Rattle.printed_expressions.specs.Scopes.{Few, marks}
+use Rattle.printed_expressions.proofs.PlainTrees.{plain-tree}
+use Rattle.printed_expressions.proofs.ReadLeaves.{column-read}
+use Rattle.printed_expressions.proofs.ReadScopes.{finds}
+use Rattle.printed_cores.specs.Queries.{QueryRead, out_columns}
+use Rattle.printed_cores.proofs.OpenedCores.{core_over_parts, opened-plain}
+use Rattle.printed_cores.proofs.ReadCores.{core-read}
+use Rattle.printed_cores.proofs.ReadFroms.{columns-settled, item_of_query, known_columns, listed_names, scope-over, subquery-read}
+use Rattle.printed_cores.proofs.ReadLists.{ListRead, item-read, no_items-read}
+use Rattle.printed_cores.proofs.ReadQueries.{CoreRead, one-read}
+use Rattle.printed_names.specs.ReadAs.{IsNamed, IsReadAs, Narrow, source_in}
 use Rattle.printed_names.proofs.ReadTrees.{query-read}
 
 -- ---- columns under given names

@@ -1,5 +1,6 @@
 -- What the tree of an answer's form is read as has the rows of the answer.
-use Rattle.std.proofs.Common.{◌≡◌, ℕ, zero, suc, ◌<◌, Bool, true, false, ◌&&◌, All, List, [], ◌∷◌, length, Option, Some, None, refl, sym, ap, subst, ◌∙◌, true≢false, arith}
+use Rattle.std.proofs.Common.{◌≡◌, ℕ, zero, suc, true, All, List, [], ◌∷◌, length, Option, Some, None, refl, sym, ap, subst, ◌∙◌, arith}
+use Rattle.std.proofs.lemmas.Bool.{and_parts}
 use Rattle.std.specs.List.{list_all}
 use Rattle.std.specs.Option.{option_map_or}
 use Rattle.perm_values.specs.Rows.{row_fits}
@@ -18,14 +19,14 @@ use Rattle.bag_algebra.specs.WellFormed.{WellFormed}
 use Rattle.bag_algebra.specs.built.Openings.{meaning-Base}
 use Rattle.bag_algebra.specs.declared.query.Answer.{Answer}
 use Rattle.bag_algebra.specs.declared.query.Query.{Query}
-use Rattle.bag_algebra.specs.declared.query.Query.TheVariants.{Base, Single, Table}
+use Rattle.bag_algebra.specs.declared.query.Query.TheVariants.{Single, Table}
 use Rattle.contribution.proofs.RowKinds.{row_fits-length}
 use Rattle.perm_catalog.specs.Columns.{column_kinds}
 use Rattle.perm_catalog.specs.Contents.{Contents}
 use Rattle.perm_catalog.specs.declared.entries.Mark.{Mark}
 use Rattle.perm_catalog.specs.declared.entries.TableEntry.{TableEntry}
 use Rattle.sql_tree.specs.declared.query.QueryTree.{QueryTree}
-use Rattle.name_meaning.specs.Froms.{external, names_of, table_columns, table_plain}
+use Rattle.name_meaning.specs.Froms.{table_plain}
 use Rattle.answer_texts.specs.Explains.{GivesTables, MeansTheSame, read_as}
 use Rattle.query_texts.specs.Names.{names_of as table_names}
 use Rattle.query_texts.specs.declared.tables.TableNames.{TableNames}
@@ -37,16 +38,10 @@ use Rattle.printed_names.specs.ReadAs.{IsNamed, IsReadAs, source_in}
 
 -- ---- rows of a table
 
-both : (a b : Bool) → (a && b) ≡ true → (a ≡ true) × (b ≡ true)
-both true true e = (refl, refl)
-both true false e = absurd (true≢false (sym e))
-both false true e = absurd (true≢false (sym e))
-both false false e = absurd (true≢false (sym e))
-
 rows-wide : (rows : List Row) (all : List Kind) → list_all (λ row. row_fits row all) rows ≡ true → All (λ (row : Row). length row ≡ length all) rows
 rows-wide [] all e k d low = absurd (omega (arith, low))
-rows-wide (row ∷ rows) all e zero d low = row_fits-length row all (both (row_fits row all) (list_all (λ row. row_fits row all) rows) e).0
-rows-wide (row ∷ rows) all e (suc k) d low = rows-wide rows all (both (row_fits row all) (list_all (λ row. row_fits row all) rows) e).1 k d (omega (arith, low))
+rows-wide (row ∷ rows) all e zero d low = row_fits-length row all (and_parts (row_fits row all) (list_all (λ row. row_fits row all) rows) e).0
+rows-wide (row ∷ rows) all e (suc k) d low = rows-wide rows all (and_parts (row_fits row all) (list_all (λ row. row_fits row all) rows) e).1 k d (omega (arith, low))
 
 plain-rows : (db : Database) (env : List Row) (name : List ℕ) (table : TableEntry) → meaning (table_plain name table) db env ≡ Good (db table.id)
 plain-rows db env name table = by table.stored

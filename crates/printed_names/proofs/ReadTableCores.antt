@@ -32,15 +32,16 @@ use Rattle.query_forms.specs.ShownQueries.{listed, of_table, one, selected}
 use Rattle.printed_queries.specs.Printed.{columns_from, copied, or_unread, unread_item}
 use Rattle.printed_queries.specs.PrintedExpressions.{integer}
 use Rattle.printed_queries.proofs.ShownRows.{shown_kinds}
-use Rattle.printed_names.specs.ReadAs.{IsNamed, source_in}
-use Rattle.printed_names.proofs.OpenedCores.{core_over_parts, opened-plain}
-use Rattle.printed_names.proofs.PlainTrees.{plain-tree}
-use Rattle.printed_names.proofs.ReadCores.{FromRead, QueryRead, core-read}
-use Rattle.printed_names.proofs.ReadFroms.{from-is, item_from, listed_names}
-use Rattle.printed_names.proofs.ReadLeaves.{integer-read}
-use Rattle.printed_names.proofs.ReadLists.{ListRead, item-read, no_items-read}
-use Rattle.printed_names.proofs.ReadScopes.{marks}
+use Rattle.printed_expressions.specs.Scopes.{marks}
+use Rattle.printed_expressions.proofs.PlainTrees.{plain-tree}
+use Rattle.printed_expressions.proofs.ReadLeaves.{integer-read}
+use Rattle.printed_cores.specs.Queries.{QueryRead}
+use Rattle.printed_cores.proofs.OpenedCores.{core_over_parts, opened-plain}
+use Rattle.printed_cores.proofs.ReadCores.{FromRead, core-read}
+use Rattle.printed_cores.proofs.ReadFroms.{from-is, item_from, listed_names}
+use Rattle.printed_cores.proofs.ReadLists.{ListRead, item-read, no_items-read}
 use Rattle.printed_names.proofs.ReadTables.{kinds_of_columns, names, table_columns-read}
+use Rattle.printed_names.specs.ReadAs.{IsNamed, source_in}
 
 -- ---- FROM over a table
 

@@ -23,11 +23,12 @@ use Rattle.tree_texts.specs.Forms as f
 use Rattle.tree_texts.specs.Trees.{AreItems, an_item_tree, no_item_trees}
 use Rattle.query_forms.specs.ShownQueries.{named_from}
 use Rattle.printed_queries.specs.Printed.{columns_from}
-use Rattle.printed_names.proofs.PlainTrees.{plain-tree}
-use Rattle.printed_names.proofs.ReadFroms.{numbered_names}
-use Rattle.printed_names.proofs.ReadLeaves.{reference-read}
-use Rattle.printed_names.proofs.ReadLists.{ListRead, item-read, no_items-read}
-use Rattle.printed_names.proofs.ReadScopes.{Unnamed, differ, marks, meant-bare, none-called, passed}
+use Rattle.printed_expressions.specs.Scopes.{marks}
+use Rattle.printed_expressions.proofs.PlainTrees.{plain-tree}
+use Rattle.printed_expressions.proofs.ReadLeaves.{reference-read}
+use Rattle.printed_expressions.proofs.ReadScopes.{Unnamed, differ, meant-bare, none-called, passed}
+use Rattle.printed_cores.specs.Queries.{numbered_names}
+use Rattle.printed_cores.proofs.ReadLists.{ListRead, item-read, no_items-read}
 
 -- ---- names that differ
 

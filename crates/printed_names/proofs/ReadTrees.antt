@@ -1,5 +1,6 @@
 -- The tree of a query's form is read as what is printed of the query: each node over its inputs and sublinks.
-use Rattle.std.proofs.Common.{◌≡◌, ℕ, zero, suc, ◌+◌, ◌<◌, ◌≤◌, ◌^◌, Bool, true, false, cond, List, [], ◌∷◌, ◌++◌, length, map, Option, Some, None, refl, sym, ap, subst, ◌∙◌, arith}
+use Rattle.std.proofs.Common.{◌≡◌, ℕ, zero, suc, ◌+◌, ◌≤◌, Bool, true, false, cond, List, [], ◌∷◌, ◌++◌, length, map, Some, None, refl, sym, ap, subst, ◌∙◌, arith}
+use Rattle.std.proofs.lemmas.Option.{none-some}
 use Rattle.std.proofs.lemmas.List.{length-append, map-append}
 use Rattle.std.specs.List.{range_with_len}
 use Rattle.std.specs.Prelude.{codes}
@@ -8,7 +9,7 @@ use Rattle.perm_values.specs.declared.key.Key.{Key}
 use Rattle.perm_values.specs.declared.kind.Kind.{Kind}
 use Rattle.bag_algebra.specs.Kinds.{kinds_in, kinds_of, width_of}
 use Rattle.bag_algebra.specs.TablesRead.{EachSubTable, EachTable}
-use Rattle.bag_algebra.specs.WellFormed.{AggregatesForm, KeysIn, PlacesIn, SubsForm, WellFormed, column_kind, sub_kinds}
+use Rattle.bag_algebra.specs.WellFormed.{KeysIn, SubsForm, WellFormed, column_kind, sub_kinds}
 use Rattle.bag_algebra.specs.built.Patterns.{BaseOf, FilterOf, ProjectOf, JoinOf, ApplyOf, UnionOf, IntersectOf, ExceptOf, DistinctOf, AggregateOf, LimitOf, ProvOf}
 use Rattle.bag_algebra.specs.declared.query.Aggr.{Aggr}
 use Rattle.bag_algebra.specs.declared.query.Query.{Query, Row_of-Sublink, more_of-Sublink, end_of-Sublink}
@@ -23,40 +24,40 @@ use Rattle.name_meaning.specs.Meanings.{Around, Surroundings}
 use Rattle.name_meaning.specs.Queries.{may_not_ask}
 use Rattle.name_meaning.specs.Scopes.{scope_of}
 use Rattle.name_meaning.specs.Sublinks.{around_of}
-use Rattle.name_meaning.specs.Trees.{core_of, from_of, item_of, query_of}
-use Rattle.name_meaning.specs.declared.scope.Scope.{Scope}
+use Rattle.name_meaning.specs.Trees.{from_of, item_of, query_of}
 use Rattle.tree_texts.specs.Forms as f
-use Rattle.tree_texts.specs.Forms.{CoreForm, ExprForm, QueryForm}
+use Rattle.tree_texts.specs.Forms.{ExprForm, QueryForm}
 use Rattle.tree_texts.specs.Trees.{AreSources, IsCore, IsQuery, no_source_trees}
 use Rattle.query_texts.specs.Names.{deeper, naming, own as own_naming}
 use Rattle.query_texts.specs.Unused.{items_use, spare}
 use Rattle.query_texts.specs.declared.tables.TableNames.{TableNames}
 use Rattle.query_forms.specs.ShownQueries as writing
-use Rattle.query_forms.specs.ShownQueries.{alone, key_form, listed, one, selected, shown, sub_forms, tested_part}
+use Rattle.query_forms.specs.ShownQueries.{key_form, listed, one, selected, shown, sub_forms, tested_part}
 use Rattle.printed_queries.specs.Printed as printing
 use Rattle.printed_queries.specs.Printed.{copied, printed, printed_subs, unread_of}
-use Rattle.printed_queries.specs.Writable.{WritableAggregates, WritableQuery, WritableSubs}
+use Rattle.printed_queries.specs.Writable.{WritableQuery, WritableSubs}
 use Rattle.printed_queries.proofs.ShownRows.{shown_kinds}
-use Rattle.printed_names.specs.ReadAs.{Few, IsNamed, Narrow, NarrowSubs, source_in}
-use Rattle.printed_names.proofs.OpenedCores.{opened-plain}
-use Rattle.printed_names.proofs.PlainShown.{AllPlain, plain-asked, plain-tested}
-use Rattle.printed_names.proofs.PlainTrees.{Plain}
-use Rattle.printed_names.proofs.ReadArms.{InputRead, copies-read, filter-read, project-read}
-use Rattle.printed_names.proofs.ReadConditions.{SubsRead}
-use Rattle.printed_names.proofs.ReadCopies.{columns-listed}
-use Rattle.printed_names.proofs.ReadCores.{FromRead, QueryRead, core-read}
-use Rattle.printed_names.proofs.ReadFroms.{item_of_query, listed_names, numbered_names, scope-over}
-use Rattle.printed_names.proofs.ReadGroups.{in_groups-read}
-use Rattle.printed_names.proofs.ReadItems.{kinds_of_items}
-use Rattle.printed_names.proofs.ReadJoins.{pair-scope}
-use Rattle.printed_names.proofs.ReadLaterals.{beside}
-use Rattle.printed_names.proofs.ReadLists.{out_columns}
-use Rattle.printed_names.proofs.ReadPairs.{join_core-read, lateral_core-read}
-use Rattle.printed_names.proofs.ReadQueries.{CoreRead, alone-read, one-read}
-use Rattle.printed_names.proofs.ReadScopes.{ScopesAre, finds, marks}
-use Rattle.printed_names.proofs.ReadSets.{intersected-read, united-read}
-use Rattle.printed_names.proofs.ReadSublinkForms.{sublink-read}
+use Rattle.printed_expressions.specs.Scopes.{Few, ScopesAre, marks}
+use Rattle.printed_expressions.proofs.PlainShown.{AllPlain, plain-asked, plain-tested}
+use Rattle.printed_expressions.proofs.PlainTrees.{Plain}
+use Rattle.printed_expressions.proofs.ReadScopes.{finds}
+use Rattle.printed_cores.specs.Queries.{QueryRead, numbered_names, out_columns}
+use Rattle.printed_cores.proofs.OpenedCores.{opened-plain}
+use Rattle.printed_cores.proofs.ReadArms.{InputRead, copies-read, filter-read, project-read}
+use Rattle.printed_cores.proofs.ReadConditions.{SubsRead}
+use Rattle.printed_cores.proofs.ReadCopies.{columns-listed}
+use Rattle.printed_cores.proofs.ReadCores.{FromRead, core-read}
+use Rattle.printed_cores.proofs.ReadFroms.{item_of_query, listed_names, scope-over}
+use Rattle.printed_cores.proofs.ReadItems.{kinds_of_items}
+use Rattle.printed_cores.proofs.ReadJoins.{pair-scope}
+use Rattle.printed_cores.proofs.ReadLaterals.{beside}
+use Rattle.printed_cores.proofs.ReadPairs.{join_core-read, lateral_core-read}
+use Rattle.printed_cores.proofs.ReadQueries.{CoreRead, alone-read, one-read}
+use Rattle.printed_cores.proofs.ReadSets.{intersected-read, united-read}
+use Rattle.printed_cores.proofs.ReadSublinkForms.{sublink-read}
 use Rattle.printed_names.proofs.ReadTableCores.{table-read}
+use Rattle.printed_groups.proofs.ReadGroups.{in_groups-read}
+use Rattle.printed_names.specs.ReadAs.{IsNamed, Narrow, NarrowSubs, source_in}
 
 -- ---- forms without aggregates
 
@@ -83,7 +84,7 @@ single-read c around out first tree d =
     let has = has_some (map (from_of c) o.sources) in
     let scope = scope_of [] in
     let here = in_clause scope around.outer true in
-    let list = columns-listed c has scope here 0 [] [] [] (λ level place kind e reference none named. absurd (no_columns level place kind e)) refl out first [] (λ i kind e. absurd (none_some kind e)) o.first o.rest in
+    let list = columns-listed c has scope here 0 [] [] [] (λ level place kind e reference none named. absurd (no_columns level place kind e)) refl out first [] (λ i kind e. absurd (none-some kind e)) o.first o.rest in
     let from = nothing-read o.sources o.from in (
       o.unasked,
       subst (λ m. QueryRead m (listed_names out first []) (shown_kinds []) (copied [] Single)) (sym (o.means around))
@@ -91,12 +92,9 @@ single-read c around out first tree d =
           (listed_names out first []) (shown_kinds []) (λ n. printing.or_unread printing.unread_item (printing.columns_from 0 [])) [] tt list),
     )
   where
-    none_some : (kind : Kind) → None ≡ Some kind → ⊥
-    none_some kind e = cc
-
     no_columns : (level place : ℕ) (kind : Kind) → column_kind ([] ∷ []) level place ≡ Some kind → ⊥
-    no_columns zero place kind e = none_some kind e
-    no_columns (suc level) place kind e = none_some kind e
+    no_columns zero place kind e = none-some kind e
+    no_columns (suc level) place kind e = none-some kind e
 
     nothing-read : (trees : List FromTree) → AreSources f.no_from trees → FromRead (from_all around.outer (map (from_of c) trees)) [] Single
     nothing-read [] no_source_trees = record { breaks = refl; items_are = refl; query_is = refl }

@@ -19,6 +19,7 @@ use Rattle.name_meaning.specs.Statements.{name_breaks, repeats}
 use Rattle.query_texts.specs.Names.{names_of}
 use Rattle.query_texts.specs.declared.tables.TableNames.{TableNames}
 use Rattle.answer_texts.specs.Explains.{read_as}
+pub use Rattle.printed_expressions.specs.Scopes.{Few}
 
 -- what the name of the table of an identity stands for
 abbrev pub source_in : Contents → List TableNames → ℕ → List Kind → Query
@@ -40,9 +41,6 @@ pub record IsReadAs (c : Contents) (tree : QueryTree) (answer : Answer) : Type 0
   pub same : read_as c tree ≡ answer
 
 -- so few columns that their numbers are read back, at each node and in what joins
-abbrev pub Few : List Kind → Type 0
-Few kinds = 1 + length kinds < 2 ^ 64
-
 abbrev mutual
   pub Narrow : Query → Type 0
   Narrow (Table id kinds) = Few kinds

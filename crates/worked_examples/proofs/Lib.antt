@@ -6,6 +6,7 @@ pub mod BrokenStatements
 pub mod ImpactStatements
 pub mod Impacts
 pub mod KeptInputs
+pub mod PrintedAnswers
 pub mod Provenance
 pub mod Refused
 pub mod ResolvedItems

@@ -5,6 +5,7 @@ pub mod Deletions
 pub mod DependentRows
 pub mod FileRows
 pub mod ForcedTruths
+pub mod FormTrees
 pub mod Forms
 pub mod GroupRows
 pub mod HeldRows

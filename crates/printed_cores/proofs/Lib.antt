@@ -1,0 +1,15 @@
+pub mod OpenedCores
+pub mod ReadArms
+pub mod ReadAsked
+pub mod ReadConditions
+pub mod ReadCopies
+pub mod ReadCores
+pub mod ReadFroms
+pub mod ReadItems
+pub mod ReadJoins
+pub mod ReadLaterals
+pub mod ReadLists
+pub mod ReadPairs
+pub mod ReadQueries
+pub mod ReadSets
+pub mod ReadSublinkForms

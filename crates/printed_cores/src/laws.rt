@@ -1,0 +1,29 @@
+//! Each law is the contract of a function that does nothing.
+ghost use Rattle.std.specs.Prelude.{ℕ, suc, Bool, List, [], ◌∷◌, length};
+ghost use Rattle.perm_values.specs.declared.kind.Kind.{Kind};
+ghost use Rattle.bag_algebra.specs.declared.query.Query.{Query};
+ghost use Rattle.perm_catalog.specs.Contents.{Contents};
+ghost use Rattle.name_meaning.specs.Cores.{distinct_if};
+ghost use Rattle.name_meaning.specs.Froms.{in_from};
+ghost use Rattle.name_meaning.specs.Meanings.{Around};
+ghost use Rattle.tree_texts.specs.Forms.{QueryForm, no_condition};
+ghost use Rattle.query_texts.specs.Names.{naming};
+ghost use Rattle.query_forms.specs.ShownQueries.{columns, listed, one, over, selected};
+ghost use Rattle.printed_queries.specs.Printed.{copied};
+ghost use Rattle.printed_expressions.specs.Scopes.{Few, ScopesAre, marks};
+ghost use Rattle.printed_cores.specs.Queries.{CoreFormRead, FormRead, numbered_names};
+
+/// The SELECT, or SELECT DISTINCT, of all columns of a printed query is read as a copy of what that
+/// query is read as.
+pub fn a_printed_copy_is_read_back()
+    ensures { (c : Contents) (depth : ℕ) (scopes : List (List Kind)) (unread : List ℕ)
+        (around : Around) (kind : Kind) (more : List Kind) → Few (kind ∷ more)
+        → ScopesAre depth scopes unread around.outer → (form : QueryForm) (q : Query)
+        → FormRead c (in_from around.outer) (numbered_names (suc depth) 1 (kind ∷ more))
+        (kind ∷ more) form q
+        → (distinct : Bool) (out first : ℕ)
+        → CoreFormRead c around (numbered_names out first (kind ∷ more)) (kind ∷ more)
+        (selected distinct (listed (naming (marks out) first) one
+        (columns (marks (suc depth)) (length (kind ∷ more)))) (over form) no_condition [])
+        (distinct_if distinct (copied (kind ∷ more) q)) }
+{}

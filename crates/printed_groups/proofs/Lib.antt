@@ -1,0 +1,4 @@
+mod GroupedCores
+mod ReadAggregates
+mod ReadArguments
+pub mod ReadGroups
