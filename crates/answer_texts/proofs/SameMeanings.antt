@@ -62,6 +62,7 @@ first_query (statement ∷ more) other = query_in statement.body other
 
 pub one_query : (text : List ℕ) (start begin : ℕ) (tree other : QueryTree) → IsTextOf n.ScriptOf text (one_select start tree)
     → IsTextOf n.ScriptOf text (one_select begin other) → tree ≡ other
+unfolding first_query query_in
 one_query text start begin tree other a b =
     let same : b.tokens ≡ a.tokens = one_list text b.tokens a.tokens b.lexes a.lexes in
     let scripts : one_select start tree ≡ one_select begin other =

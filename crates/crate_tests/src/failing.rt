@@ -19,7 +19,7 @@ const MOST_CALLS: u64 = 40;
 const STORED: &[u8] =
     b"CREATE TABLE r (a INTEGER, b TEXT); COPY r FROM 'c'; CREATE TABLE k AS SELECT PROVENANCE b FROM r; COPY r FROM 'c'; SHOW FRESH k; SELECT a FROM k";
 
-/// A table, rows that are inserted and taken away, a query with PROVENANCE, and one that isn't carried out.
+/// A table, rows that are inserted and taken away, a query with PROVENANCE, and what one means as SQL.
 const CHANGED: &[u8] =
     b"CREATE TABLE r (a INTEGER); INSERT INTO r VALUES (1), (2); DELETE FROM r WHERE a = 1; SELECT PROVENANCE a FROM r; EXPLAIN REWRITE SELECT a FROM r";
 

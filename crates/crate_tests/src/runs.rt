@@ -88,8 +88,8 @@ const SCRIPTS: [(&[u8], &str, Status); 9] = [
         Status::RunFault,
     ),
     (
-        b"CREATE TABLE r (a TEXT);; EXPLAIN REWRITE SELECT a FROM r; SELECT a FROM r",
-        "CREATE TABLE\nerror E29 at 26\n",
+        b"CREATE TABLE r (a TEXT);; EXPLAIN REWRITE SELECT b FROM r; SELECT a FROM r",
+        "CREATE TABLE\nerror E11 at 49\n",
         Status::Refused,
     ),
 ];

@@ -1,7 +1,8 @@
 -- Every run is told by the headline.
-use Rattle.std.proofs.Common.{◌+◌, ◌≡◌, ◌⊎◌, ◌∙◌, ◌≤◌, ◌<◌, ◌-◌, ◌^◌, ℕ, suc, List, [], ◌∷◌, length, Option, Some, Ok, refl, true≢false, sym, ap, subst, inl, inr, arith}
+use Rattle.std.proofs.Common.{◌+◌, ◌≡◌, ◌≢◌, ◌⊎◌, ◌∙◌, ◌≤◌, ◌<◌, ◌-◌, ◌^◌, ℕ, suc, List, [], ◌∷◌, length, Option, Some, Ok, refl, true≢false, sym, ap, subst, inl, inr, arith}
 use Rattle.std.proofs.lemmas.Option.{slice_get_within}
 use Rattle.std.specs.List.{slice_get}
+use Rattle.bag_algebra.specs.declared.query.Answer.{Answer}
 use Rattle.name_meaning.specs.Statements.{answer_of, breaks, query_meant}
 use Rattle.name_meaning.specs.declared.answer.Break.{Break}
 use Rattle.perm_catalog.specs.Changes.{nothing_held}
@@ -19,10 +20,11 @@ use Rattle.sql_tree.specs.declared.statement.Script.{Script}
 use Rattle.sql_tree.specs.declared.statement.Statement.{Statement}
 use Rattle.sql_tree.specs.declared.statement.StatementBody.TheVariants as st
 use Rattle.catalog_laws.proofs.Soundness.{sound-empty}
-use Rattle.statement_laws.specs.Asks.{HasWord}
+use Rattle.statement_laws.specs.Asks.{AsksToExplain, HasWord}
 use Rattle.statement_meaning.specs.Answers.{Files, TakesTurn, can_be, file_limit}
 use Rattle.statement_meaning.specs.Asking.{asked}
 use Rattle.statement_meaning.specs.declared.refusal.StepRefusal.{StepRefusal}
+use Rattle.statement_meaning.specs.declared.refusal.StepRefusal.TheVariants as refusal
 use Rattle.run_meaning.proofs.Reasons.{caused}
 use Rattle.run_meaning.proofs.Turns.{after_none}
 use Rattle.run_meaning.proofs.Widening.{script-counted}
@@ -39,13 +41,14 @@ use Rattle.run_meaning.specs.declared.status.Status.TheVariants as status
 use Rattle.headline_laws.proofs.Besides.{answers-beside}
 use Rattle.headline_laws.proofs.Counting.{first-cause, statements-few, tokens-few}
 use Rattle.headline_laws.proofs.Courses.{course-files, course-of}
+use Rattle.headline_laws.proofs.Explaining.{explains-query, explained-kept}
 use Rattle.headline_laws.proofs.Losing.{answers-lost, lost-kept}
 use Rattle.headline_laws.proofs.Queries.{answers-rows, asks-resolved, selects}
 use Rattle.headline_laws.proofs.Refusing.{refuses-first}
 use Rattle.headline_laws.proofs.Steps.{Keeps, contains-at, done-accepted, sound-at}
 use Rattle.headline_laws.proofs.Storing.{Freshens, stores-answer}
 use Rattle.headline_laws.specs.Answers.{AnswersBeside, AnswersRows}
-use Rattle.headline_laws.specs.Course.{Course, EndsBehind, EndsIn}
+use Rattle.headline_laws.specs.Course.{BreaksOff, Course, EndsBehind, EndsIn}
 use Rattle.headline_laws.specs.Headline.{Accepts, Headline, HeadlineOfFile, HeadlineOfScript, HeadlineOfStatements, HeadlineOver, IsTold, RefusesFirst}
 use Rattle.headline_laws.specs.Words.{LacksWord}
 
@@ -79,6 +82,8 @@ module _ (freshens : Freshens) (Can : List ℕ → Found → Type 0) (c after : 
         stored = λ table tree is. stores-answer freshens Can c after statement table tree text sound regular is done;
         lost = λ table condition tree is. answers-lost Can c after statement table condition tree text sound regular is done;
         undeleted = λ table condition tree is. lost-kept Can c after statement table condition tree text is done;
+        explained = λ tree is. explains-query Can c after statement tree text is done;
+        unchanged = λ tree is. explained-kept Can c after statement tree text is done;
       }
 
 -- ---- the statements of a script
@@ -118,25 +123,48 @@ module _ (keeps : Keeps) (freshens : Freshens) (Can : List ℕ → Found → Typ
   RefusesAt c statement refused =
       (c ≡ met.left (length ran.texts)) × (slice_get statements (length ran.texts) ≡ Some statement) × RefusesFirst Can c statement refused
 
-  refuses-by : EndsBehind statements ran ⊎ EndsIn Can (met.left (length ran.texts)) statements ran
-      → (c : Contents) (statement : Statement) (refused : StepRefusal) → ran.stop ≡ At c statement refused → RefusesAt c statement refused
-  refuses-by (inl end) c statement refused e = absurd (end≢at c statement refused (sym end.stop ∙ e))
-  refuses-by (inr end) c statement refused e =
+  abbrev Ending : Type 0
+  Ending =
+      EndsBehind statements ran ⊎ (EndsIn Can (met.left (length ran.texts)) statements ran ⊎ BreaksOff (met.left (length ran.texts)) statements ran)
+
+  refuses-by : Ending → (c : Contents) (statement : Statement) (refused : StepRefusal) → refused ≢ refusal.NoMemory → ran.stop ≡ At c statement refused
+      → RefusesAt c statement refused
+  refuses-by (inl end) c statement refused told e = absurd (end≢at c statement refused (sym end.stop ∙ e))
+  refuses-by (inr (inl end)) c statement refused told e =
       let left = met.left (length ran.texts) in
       let same = sym end.stop ∙ e in
       subst (λ (p : Contents × Statement × StepRefusal). RefusesAt p.0 p.1 p.2)
       (λ i. (at-contents left c end.statement statement end.refused refused same i, at-statement left c end.statement statement end.refused refused same i, at-refusal left c end.statement statement end.refused refused same i))
       (refl, end.met, refuses-first Can left end.statement end.refused end.told end.turn)
+  refuses-by (inr (inr end)) c statement refused told e =
+      absurd (told (sym (at-refusal (met.left (length ran.texts)) c end.statement statement refusal.NoMemory refused (sym end.stop ∙ e))))
 
-  numbered-by : EndsBehind statements ran ⊎ EndsIn Can (met.left (length ran.texts)) statements ran → length statements < 2 ^ 64 - 2
-      → (c : Contents) (statement : Statement) (refused : StepRefusal) → ran.stop ≡ At c statement refused → IsFirst c statement refused
-  numbered-by (inl end) few c statement refused e = absurd (end≢at c statement refused (sym end.stop ∙ e))
-  numbered-by (inr end) few c statement refused e =
+  numbered-by : Ending → length statements < 2 ^ 64 - 2 → (c : Contents) (statement : Statement) (refused : StepRefusal) → refused ≢ refusal.NoMemory
+      → ran.stop ≡ At c statement refused → IsFirst c statement refused
+  numbered-by (inl end) few c statement refused told e = absurd (end≢at c statement refused (sym end.stop ∙ e))
+  numbered-by (inr (inl end)) few c statement refused told e =
       let left = met.left (length ran.texts) in
       let same = sym end.stop ∙ e in
       subst (λ (p : Contents × Statement × StepRefusal). IsFirst p.0 p.1 p.2)
       (λ i. (at-contents left c end.statement statement end.refused refused same i, at-statement left c end.statement statement end.refused refused same i, at-refusal left c end.statement statement end.refused refused same i))
       (first-cause Can statements ran met few end.statement end.refused end.told end.turn)
+  numbered-by (inr (inr end)) few c statement refused told e =
+      absurd (told (sym (at-refusal (met.left (length ran.texts)) c end.statement statement refusal.NoMemory refused (sym end.stop ∙ e))))
+
+  abbrev BreaksAt : Contents → Statement → Type 0
+  BreaksAt c statement =
+      (c ≡ met.left (length ran.texts)) × (slice_get statements (length ran.texts) ≡ Some statement) × ((answer : Answer) × AsksToExplain c statement answer)
+
+  breaks-by : Ending → (c : Contents) (statement : Statement) → ran.stop ≡ At c statement refusal.NoMemory → BreaksAt c statement
+  breaks-by (inl end) c statement e = absurd (end≢at c statement refusal.NoMemory (sym end.stop ∙ e))
+  breaks-by (inr (inl end)) c statement e =
+      absurd (end.told (at-refusal (met.left (length ran.texts)) c end.statement statement end.refused refusal.NoMemory (sym end.stop ∙ e)))
+  breaks-by (inr (inr end)) c statement e =
+      let left = met.left (length ran.texts) in
+      let same = sym end.stop ∙ e in
+      subst (λ (p : Contents × Statement). BreaksAt p.0 p.1)
+      (λ i. (at-contents left c end.statement statement refusal.NoMemory refusal.NoMemory same i, at-statement left c end.statement statement refusal.NoMemory refusal.NoMemory same i))
+      (refl, end.met, (end.answer, end.asks))
 
   pub statements-told : HeadlineOfStatements Can statements ran
   statements-told = record {
@@ -145,6 +173,7 @@ module _ (keeps : Keeps) (freshens : Freshens) (Can : List ℕ → Found → Typ
     regular = λ k statement is. regular statement (contains-at statements k statement is);
     accepts = accepts-at;
     refuses = refuses-by met.ends;
+    breaks_off = breaks-by met.ends;
     numbered = numbered-by met.ends;
   }
 

@@ -1,6 +1,7 @@
 pub mod Besides
 pub mod Counting
 pub mod Courses
+pub mod Explaining
 pub mod Fronts
 pub mod Headlines
 pub mod Lacking

@@ -28,7 +28,7 @@ use Rattle.statement_laws.specs.Asks.{AsksFor}
 use Rattle.statement_laws.specs.Printed.{ListsBag}
 use Rattle.statement_meaning.proofs.Asked.{asked-by_breaks}
 use Rattle.statement_meaning.specs.Answers.{TakesTurn}
-use Rattle.statement_meaning.specs.Asking.{Asked, Settled, asked, is_unbuilt}
+use Rattle.statement_meaning.specs.Asking.{Asked, Settled, asked}
 use Rattle.statement_meaning.specs.Turns.{Accepted, Refused, Broken, answer_text, answered, on_good}
 use Rattle.headline_laws.proofs.Fronts.{IsPlain, plain-front, seen-plain, set-plain}
 use Rattle.headline_laws.proofs.Lacking.{lacked}
@@ -51,7 +51,7 @@ pub refused-or-asks : (c : Contents) (statement : Statement) (tree : QueryTree) 
 refused-or-asks c statement tree is = chosen (breaks c statement) refl where
   chosen : (found : List Break) → breaks c statement ≡ found → RefusedOrAsks c statement
   chosen [] e = inr (answer_of (query_meant c tree), asks-resolved c statement tree is e)
-  chosen (first ∷ more) e = inl (first, more, e, asked-by_breaks c statement (first ∷ more) (ap is_unbuilt is) e)
+  chosen (first ∷ more) e = inl (first, more, e, asked-by_breaks c statement (first ∷ more) e)
 
 -- ---- without the word no PROVENANCE stands in front
 

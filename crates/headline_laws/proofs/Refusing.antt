@@ -16,7 +16,7 @@ use Rattle.statement_laws.proofs.Answered.{asked-select}
 use Rattle.statement_laws.proofs.Lost.{asked-impact, before-meets}
 use Rattle.statement_laws.specs.Lost.{AsksImpact, MeetsLost}
 use Rattle.statement_meaning.specs.Answers.{Names, TakesTurn}
-use Rattle.statement_meaning.specs.Asking.{Asked, Settled, Begins, asked, asks, unless_broken}
+use Rattle.statement_meaning.specs.Asking.{Asked, Settled, Begins, Explained, asked, asks, unless_broken}
 use Rattle.statement_meaning.specs.Turns.{Refused, Broken, Meets, answered, answer_text, identity_of, on_good, rows_before, rows_lost}
 use Rattle.statement_meaning.specs.declared.refusal.StepRefusal.{StepRefusal}
 use Rattle.statement_meaning.specs.declared.refusal.StepRefusal.TheVariants as refusal
@@ -107,6 +107,7 @@ module _ (c : Contents) (name : List ℕ) (condition : Option Expr) (answer : An
 unchanged : (Can : List ℕ → Found → Type 0) (a : Asked) (old new : Contents) (refused : StepRefusal) → TakesTurn Can a old new (Err refused) → new ≡ old
 unchanged Can (Settled turn) old new refused h = h.1
 unchanged Can (Begins name after) old new refused h = h.2.1
+unchanged Can (Explained after answer) old new refused h = h.1
 
 pub refuses-first : (Can : List ℕ → Found → Type 0) (c : Contents) (statement : Statement) (refused : StepRefusal) → refused ≢ refusal.NoMemory
     → IsRefused Can (asked c statement) refused → RefusesFirst Can c statement refused

@@ -1,5 +1,5 @@
 -- A statement that is accepted breaks no rule, and leaves a sound catalog.
-use Rattle.std.proofs.Common.{◌≡◌, ◌≤◌, ℕ, zero, suc, Bool, true, false, cond, List, [], ◌∷◌, length, get_or, Some, Ok, Contains, refl, sym, subst, arith}
+use Rattle.std.proofs.Common.{◌≡◌, ◌≤◌, ℕ, zero, suc, List, [], ◌∷◌, length, get_or, Some, Ok, Contains, refl, sym, subst, arith}
 use Rattle.std.proofs.lemmas.Option.{get_or_from_slice_get, slice_get-get_or, slice_get_within}
 use Rattle.std.specs.List.{slice_get}
 use Rattle.perm_catalog.specs.Contents.{Contents}
@@ -11,7 +11,7 @@ use Rattle.name_meaning.specs.Statements.{breaks, resolved}
 use Rattle.name_meaning.specs.declared.answer.Break.{Break}
 use Rattle.name_meaning.specs.declared.answer.Resolved.{Resolved}
 use Rattle.statement_meaning.specs.Answers.{TakesTurn}
-use Rattle.statement_meaning.specs.Asking.{Asked, all_breaks, asked, asks, is_unbuilt, unbuilt, unless_broken}
+use Rattle.statement_meaning.specs.Asking.{Asked, asked, asks, unless_broken}
 use Rattle.statement_meaning.specs.Ready.{IsReady}
 use Rattle.statement_laws.proofs.Adds.{whole-adds}
 use Rattle.statement_laws.proofs.Ready.{whole-ready}
@@ -27,23 +27,16 @@ unbroken-taken : (Can : List ℕ → Found → Type 0) (bs : List Break) (a : As
 unbroken-taken Can [] a c after text h = (refl, h)
 unbroken-taken Can (first ∷ more) a c after text h = absurd (cc h)
 
--- all breaks of a form that is run are those of names and kinds
-pub none-built : (is_not_run : Bool) (b : Break) (bs : List Break) → cond is_not_run (b ∷ []) bs ≡ [] → (is_not_run ≡ false) × (bs ≡ [])
-none-built true b bs e = absurd (cc e)
-none-built false b bs e = (refl, e)
-
 -- the statement breaks no rule, and what it asks for has become of it
 pub record IsDone (Can : List ℕ → Found → Type 0) (c after : Contents) (statement : Statement) (text : List ℕ) : Type 0 where
-  pub run : is_unbuilt statement.body ≡ false
   pub whole : breaks c statement ≡ []
   pub turn : TakesTurn Can (asks c statement.at (resolved c statement)) c after (Ok text)
 
 pub done-accepted : (Can : List ℕ → Found → Type 0) (c after : Contents) (statement : Statement) (text : List ℕ)
     → TakesTurn Can (asked c statement) c after (Ok text) → IsDone Can c after statement text
 done-accepted Can c after statement text h =
-    let taken = unbroken-taken Can (all_breaks c statement) (asks c statement.at (resolved c statement)) c after text h in
-    let none = none-built (is_unbuilt statement.body) (unbuilt statement.at) (breaks c statement) taken.0 in
-    record { run = none.0; whole = none.1; turn = taken.1 }
+    let taken = unbroken-taken Can (breaks c statement) (asks c statement.at (resolved c statement)) c after text h in
+    record { whole = taken.0; turn = taken.1 }
 
 -- ---- what it leaves is sound
 

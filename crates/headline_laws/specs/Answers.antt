@@ -1,5 +1,7 @@
--- What a query that is met answers, without the word PROVENANCE and with it, what CREATE TABLE AS stores, and what IMPACT answers.
+-- What a query that is met answers, without the word PROVENANCE and with it, what CREATE TABLE AS stores, and what IMPACT and EXPLAIN
+-- REWRITE answer.
 use Rattle.std.specs.Prelude.{◌≡◌, ◌≢◌, ◌↔◌, ℕ, Bool, true, List, [], ◌++◌, length, take, codes, Option, Some, IsTrue}
+use Rattle.answer_texts.specs.Explains.{Explains}
 use Rattle.bag_algebra.specs.Bags.{Row, Bag, member}
 use Rattle.bag_algebra.specs.Kinds.{width_of}
 use Rattle.bag_algebra.specs.Meaning.{meaning}
@@ -88,6 +90,18 @@ pub record StoresAnswer (c after : Contents) (statement : Statement) (table : Na
   pub beside : (at : ℕ) → HasWord at tree.body
       → (shown : List ℕ) × (a : AnswersBeside c (asking statement tree) tree shown) × (rows ≡ a.lists.rows)
   pub fresh : (at : ℕ) → HasWord at tree.body → StoresFresh table.text answer.query after
+
+-- over these contents EXPLAIN REWRITE answers a text that means what its query means
+pub record ExplainsQuery (c : Contents) (statement : Statement) (tree : QueryTree) (text : List ℕ) : Type 0 where
+  -- the query breaks no rule as a statement of its own, limits included, and this is what it is resolved to
+  pub answer : Answer
+  pub asks : AsksFor c (asking statement tree) answer
+  -- the text is one query without PROVENANCE, which breaks no rule of names and kinds and means the same, by the same names and keys, on
+  -- every database that gives the catalog's tables rows
+  pub explains : Explains c answer text
+  -- with the word that is the PROVENANCE of the same query without it
+  pub beside : (at : ℕ) → HasWord at tree.body
+      → (body : SetTree) × (plain : Answer) × WithoutWord tree.body body × AsksFor c (asking statement (with_body tree body)) plain × (answer.query ≡ Prov plain.query)
 
 -- over these contents an IMPACT answers, once each, the rows of its query that would vanish if the rows of its table that meet its
 -- condition were deleted

@@ -1,5 +1,5 @@
 -- The headline: what a run over a command line and files has written, and why it ended.
-use Rattle.std.specs.Prelude.{true, ◌≡◌, ◌⊎◌, ℕ, suc, ◌≤◌, ◌<◌, ◌-◌, ◌^◌, List, [], ◌∷◌, length, Option, Some, Ok, Err}
+use Rattle.std.specs.Prelude.{true, ◌≡◌, ◌≢◌, ◌⊎◌, ℕ, suc, ◌≤◌, ◌<◌, ◌-◌, ◌^◌, List, [], ◌∷◌, length, Option, Some, Ok, Err}
 use Rattle.std.specs.List.{slice_get}
 use Rattle.bag_algebra.specs.Meaning.{meaning}
 use Rattle.bag_algebra.specs.Outcome.{Faults, Bad, has}
@@ -22,10 +22,10 @@ use Rattle.sql_tree.specs.declared.query.QueryTree.{QueryTree}
 use Rattle.sql_tree.specs.declared.statement.Script.{Script}
 use Rattle.sql_tree.specs.declared.statement.Statement.{Statement}
 use Rattle.sql_tree.specs.declared.statement.StatementBody.TheVariants as st
-use Rattle.statement_laws.specs.Asks.{AsksFor, HasWord}
+use Rattle.statement_laws.specs.Asks.{AsksFor, AsksToExplain, HasWord}
 use Rattle.statement_laws.specs.Lost.{AsksImpact, MeetsLost}
 use Rattle.statement_meaning.specs.Answers.{Files, TakesTurn, can_be}
-use Rattle.statement_meaning.specs.Asking.{all_breaks, asked, asks}
+use Rattle.statement_meaning.specs.Asking.{asked, asks}
 use Rattle.statement_meaning.specs.Turns.{identity_of}
 use Rattle.statement_meaning.specs.declared.refusal.StepRefusal.{StepRefusal}
 use Rattle.statement_meaning.specs.declared.refusal.StepRefusal.TheVariants as refusal
@@ -37,7 +37,7 @@ use Rattle.run_meaning.specs.Run.{Ran, IsRefusedWhole}
 use Rattle.run_meaning.specs.Scripts.{IsScriptOf, IsMisspelled}
 use Rattle.run_meaning.specs.Stops.{Misused, NoFile, LongFile, FailedFile, NoScript, At, IsFirst, IsRefused}
 use Rattle.run_meaning.specs.declared.status.Status.{Status}
-use Rattle.headline_laws.specs.Answers.{AnswersBeside, AnswersLost, AnswersRows, StoresAnswer}
+use Rattle.headline_laws.specs.Answers.{AnswersBeside, AnswersLost, AnswersRows, ExplainsQuery, StoresAnswer}
 use Rattle.headline_laws.specs.Course.{Course}
 use Rattle.headline_laws.specs.Words.{LacksWord}
 
@@ -61,13 +61,17 @@ pub record Accepts (Can : List ℕ → Found → Type 0) (c after : Contents) (s
   pub lost : (table : Name) (condition : Option ExprTree) (tree : QueryTree) → statement.body ≡ st.Impact table condition tree → AnswersLost c statement table tree text
   -- and deletes nothing
   pub undeleted : (table : Name) (condition : Option ExprTree) (tree : QueryTree) → statement.body ≡ st.Impact table condition tree → after ≡ c
+  -- EXPLAIN REWRITE answers a query without PROVENANCE that means what its query means
+  pub explained : (tree : QueryTree) → statement.body ≡ st.Explain tree → ExplainsQuery c statement tree text
+  -- and changes nothing
+  pub unchanged : (tree : QueryTree) → statement.body ≡ st.Explain tree → after ≡ c
 
 -- a statement that is refused like this over the contents c
 pub record RefusesFirst (Can : List ℕ → Found → Type 0) (c : Contents) (statement : Statement) (refused : StepRefusal) : Type 0 where
   -- the first rule that it breaks is the cause, where it breaks any
-  pub first : (b : Break) (more : List Break) → all_breaks c statement ≡ b ∷ more → refused ≡ refusal.Break b
+  pub first : (b : Break) (more : List Break) → breaks c statement ≡ b ∷ more → refused ≡ refusal.Break b
   -- otherwise it is what it meets while it is carried out
-  pub met : all_breaks c statement ≡ [] → IsRefused Can (asks c statement.at (resolved c statement)) refused
+  pub met : breaks c statement ≡ [] → IsRefused Can (asks c statement.at (resolved c statement)) refused
   -- a query that breaks no rule is refused with a fault that it meets on the catalog's tables
   pub fault : (answer : Answer) → AsksFor c statement answer
       → (faults : Faults) × (fault : RunFault) × (meaning answer.query (rows_in c.rows) [] ≡ Bad faults) × (has faults fault ≡ true)
@@ -91,12 +95,15 @@ pub record HeadlineOfStatements (Can : List ℕ → Found → Type 0) (statement
   -- a statement that has a text is accepted
   pub accepts : (k : ℕ) (text : List ℕ) (statement : Statement) → slice_get ran.texts k ≡ Some text → slice_get statements k ≡ Some statement
       → Accepts Can (course.left k) (course.left (suc k)) statement text
-  -- a statement by which the run ends is refused
-  pub refuses : (c : Contents) (statement : Statement) (refused : StepRefusal) → ran.stop ≡ At c statement refused
+  -- a statement by which the run ends is refused, where memory sufficed for it
+  pub refuses : (c : Contents) (statement : Statement) (refused : StepRefusal) → refused ≢ refusal.NoMemory → ran.stop ≡ At c statement refused
       → (c ≡ course.left (length ran.texts)) × (slice_get statements (length ran.texts) ≡ Some statement) × RefusesFirst Can c statement refused
+  -- otherwise it is an EXPLAIN that breaks no rule, for whose text memory was wanting
+  pub breaks_off : (c : Contents) (statement : Statement) → ran.stop ≡ At c statement refusal.NoMemory
+      → (c ≡ course.left (length ran.texts)) × (slice_get statements (length ran.texts) ≡ Some statement) × ((answer : Answer) × AsksToExplain c statement answer)
   -- where it is a break, it is the first of that statement, and no want of a number to draw, of which there are 2^64 - 2
-  pub numbered : length statements < 2 ^ 64 - 2 → (c : Contents) (statement : Statement) (refused : StepRefusal) → ran.stop ≡ At c statement refused
-      → IsFirst c statement refused
+  pub numbered : length statements < 2 ^ 64 - 2 → (c : Contents) (statement : Statement) (refused : StepRefusal) → refused ≢ refusal.NoMemory
+      → ran.stop ≡ At c statement refused → IsFirst c statement refused
 
 -- the greatest length of a script, and of a file of rows, in bytes: 2^20 and 2^26
 abbrev pub most_script_bytes : ℕ

@@ -10,9 +10,10 @@
 //! | one statement after another | `Session::step` in `run_statements` | `RunsFrom`, `asked` |
 //! | what its names name | `resolve`, below `Session::step` | `breaks`, `resolved` |
 //! | what it does | `carried_out`, `step`, and of a query `select` | `asks`, `Turn` |
-//! | a query without PROVENANCE, and a simpler one | `eliminate` and `simplify`, below `select` | `Stands` |
+//! | a query without PROVENANCE, and a simpler one | `eliminate` and `simplify`, below `select` and `explain` | `Stands` |
 //! | its rows | `run_hashed`, below `Runner::run` | `meaning` |
 //! | their order and their text | `in_order`, and `answer_text` behind it | `answer_text` |
+//! | or the text of the query itself | `print`, below `explain` | `Explains` |
 //! | why the run ends | `finish`, `refuse`, `stop` | `Ends` |
 ghost use Rattle.std.specs.Prelude.{◌≡◌, ◌⊎◌, true, false};
 ghost use Rattle.command_words.specs.Requests.{request_of};

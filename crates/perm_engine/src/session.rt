@@ -10,15 +10,14 @@ ghost use Rattle.statement_meaning.specs.declared.refusal.StepRefusal.TheVariant
 ghost use Rattle.name_statements.specs.Own.{own_breaks};
 ghost use Rattle.name_meaning.specs.Statements.{resolved};
 ghost use Rattle.statement_steps.specs.Running.{KeepsRun};
-ghost use Rattle.run_meaning.specs.Resolving.{IsDue, Resolves, ResolvesBuilt};
-ghost use Rattle.perm_engine.specs.Due.{due_breaks};
+ghost use Rattle.run_meaning.specs.Resolving.{IsDue, Resolves};
 ghost use Rattle.perm_engine.specs.Sessions.{begun_with};
 
 use catalog_laws::catalogs_stay_sound;
 use name_analysis::resolve;
-use name_meaning::{Break, Resolved, Rule};
+use name_meaning::Resolved;
 use name_seen_parts::Refusal;
-use name_statements::{let_catalog_go, let_resolved_go, let_statement_go};
+use name_statements::{let_catalog_go, let_resolved_go};
 use perm_catalog::Catalog;
 use perm_io::Files;
 use perm_values::Bytes;
@@ -28,7 +27,7 @@ use statement_laws::{
     statements_keep_catalogs_sound, whole_statements_add_soundly, whole_statements_are_ready,
 };
 use statement_meaning::StepRefusal;
-use statement_steps::{Runner, is_unbuilt};
+use statement_steps::Runner;
 use std::alloc::Global;
 use std::marker::Model;
 
@@ -103,9 +102,9 @@ impl Session {
         self.runner.let_go();
     }
 
-    /// Runs a statement and gives its text. A statement of a form that isn't run is refused with 29 at its offset, before
-    /// all else; then the first rule that it breaks refuses it, and then what it meets while it runs. A COPY that breaks no
-    /// rule begins its file, and no other statement begins any. After a refusal the catalog is as before.
+    /// Runs a statement and gives its text. The first rule that it breaks refuses it, and then what it meets while it runs.
+    /// A COPY that breaks no rule begins its file, and no other statement begins any. After a refusal the catalog is as
+    /// before.
     ///
     /// The rows that a query answers, and those that CREATE TABLE AS stores, are those of the last run, of a query without
     /// PROVENANCE that stands for it; those that an IMPACT answers are of a query that tells which rows vanish.
@@ -121,8 +120,8 @@ impl Session {
             result (over (F.told files.old) (F.told files.new)) }
         ensures sound { IsSound self.new.contents }
 
-        // What its form or its own names break is answered however little memory there is.
-        ensures due { IsDue (due_breaks self.old.contents statement) result }
+        // What its own names break is answered however little memory there is.
+        ensures due { IsDue (own_breaks self.old.contents statement.body) result }
 
         // The file is begun, unless memory was wanting before.
         ensures begun { IsTrue (begins (asked self.old.contents statement))
@@ -144,7 +143,7 @@ impl Session {
 }
 
 /// The statement with its names looked up, which can be carried out and keeps the catalog sound; or why it can't stand: it
-/// is of a form that isn't run, or breaks a rule of names and kinds.
+/// breaks a rule of names and kinds.
 fn resolved_statement(
     alloc: Global,
     catalog: &Catalog,
@@ -153,29 +152,6 @@ fn resolved_statement(
     requires sound { IsSound catalog.now }
     requires regular { RegularStatement statement }
     ensures resolves { Resolves catalog.now statement result }
-    ensures due { IsDue (due_breaks catalog.now statement) result }
-{
-    let at = statement.at;
-    if is_unbuilt(&statement) {
-        let_statement_go(statement);
-        Err(StepRefusal::Break(Break {
-            rule: Rule::UnbuiltForm,
-            at,
-        }))
-    } else {
-        looked_up(alloc, catalog, statement)
-    }
-}
-
-/// The same of a form that is run.
-fn looked_up(
-    alloc: Global,
-    catalog: &Catalog,
-    statement: Statement,
-) -> Result<Resolved, StepRefusal>
-    requires sound { IsSound catalog.now }
-    requires regular { RegularStatement statement }
-    ensures resolves { ResolvesBuilt catalog.now statement result }
     ensures due { IsDue (own_breaks catalog.now statement.body) result }
 {
     whole_statements_are_ready();

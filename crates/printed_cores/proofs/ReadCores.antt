@@ -19,6 +19,7 @@ use Rattle.name_meaning.specs.declared.scope.Scope.{Scope}
 use Rattle.name_meaning.specs.declared.rule.Rule.TheVariants as rule
 use Rattle.printed_expressions.specs.Reading.{IsRead}
 use Rattle.printed_expressions.proofs.ReadParts.{read-seen}
+use Rattle.printed_cores.specs.Queries.{QueryRead}
 use Rattle.printed_cores.proofs.ReadLists.{ListRead, made_of, titles-named}
 
 -- ---- what is read

@@ -24,7 +24,7 @@ use Rattle.tree_texts.specs.Forms.{QueryForm}
 use Rattle.tree_texts.specs.Trees.{AreSources, IsQuery, no_join_trees, source_trees, subquery_tree}
 use Rattle.printed_queries.proofs.ShownRows.{shown_kinds}
 use Rattle.printed_expressions.specs.Scopes.{IsScope, Numbered, marks}
-use Rattle.printed_cores.specs.Queries.{QueryRead, out_columns}
+use Rattle.printed_cores.specs.Queries.{QueryRead, numbered_names, out_columns}
 use Rattle.printed_cores.proofs.ReadCores.{FromRead}
 
 -- ---- names of columns

@@ -22,6 +22,7 @@ use Rattle.tree_texts.specs.Trees.{IsExpr, IsItem, item_tree}
 use Rattle.printed_expressions.specs.Reading.{IsRead}
 use Rattle.printed_expressions.proofs.PlainTrees.{PlainTree}
 use Rattle.printed_expressions.proofs.ReadParts.{read-seen}
+use Rattle.printed_cores.specs.Queries.{out_columns}
 
 -- ---- columns
 

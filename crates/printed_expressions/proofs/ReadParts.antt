@@ -9,6 +9,7 @@ use Rattle.name_meaning.specs.Operands.{BuiltParts, Operand, alike_wanted, behin
 use Rattle.name_meaning.specs.declared.need.Gives.{Gives}
 use Rattle.name_meaning.specs.declared.need.Need.{Need}
 use Rattle.name_meaning.specs.declared.need.Need.TheVariants.{OfKind as of_kind, Alike as alike, Free as free}
+use Rattle.printed_expressions.specs.Reading.{IsRead, built}
 
 pub read-same : (m other : Meant) (kind : Kind) (made : ℕ → Expr) (subs : List Sublink) → m ≡ other → IsRead other kind made subs → IsRead m kind made subs
 read-same m other kind made subs e r = subst (λ x. IsRead x kind made subs) (sym e) r

@@ -20,6 +20,7 @@ use Rattle.name_meaning.specs.declared.scope.Found.TheVariants.{Column}
 use Rattle.name_meaning.specs.declared.scope.Scope.{Scope}
 use Rattle.name_meaning.specs.declared.scope.ScopeColumn.{ScopeColumn}
 use Rattle.printed_expressions.specs.Reading.{Finds}
+use Rattle.printed_expressions.specs.Scopes.{IsScope, Numbered, ScopesAre, Unread, marks}
 
 -- ---- names
 

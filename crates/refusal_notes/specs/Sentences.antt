@@ -36,8 +36,7 @@ abbrev pub limit_sentence : ℕ → List ℕ
 limit_sentence code =
     cond (code == 26) (codes "a table may have 256 columns, and a query 1,024")
     (cond (code == 27) (codes "this query is too large, with what its views stand for")
-    (cond (code == 28) (codes "this query may gain rows where a table loses some")
-    (cond (code == 29) (codes "this form isn't built yet") [])))
+    (cond (code == 28) (codes "this query may gain rows where a table loses some") []))
 
 -- a fault that a statement meets
 abbrev pub fault_sentence : ℕ → List ℕ

@@ -67,7 +67,7 @@ fn kind_sentence(code: u8) -> &'static [u8]
     }
 }
 
-/// The sentence of a break of limits or of forms.
+/// The sentence of a break of limits.
 fn limit_sentence(code: u8) -> &'static [u8]
     ensures { result.now ≡ limit_sentence code }
 {
@@ -75,7 +75,6 @@ fn limit_sentence(code: u8) -> &'static [u8]
         26 => b"a table may have 256 columns, and a query 1,024",
         27 => b"this query is too large, with what its views stand for",
         28 => b"this query may gain rows where a table loses some",
-        29 => b"this form isn't built yet",
         _ => b"",
     }
 }

@@ -20,12 +20,12 @@ use Rattle.perm_io.specs.Found.{Found}
 use Rattle.perm_io.specs.Found as found
 use Rattle.sql_tree.specs.declared.statement.Statement.{Statement}
 use Rattle.name_meaning.specs.Meanings.{broken}
-use Rattle.name_meaning.specs.Statements.{resolved}
+use Rattle.name_meaning.specs.Statements.{breaks, resolved}
 use Rattle.name_meaning.specs.declared.answer.Break.{Break}
 use Rattle.name_meaning.specs.declared.answer.Resolved.{Resolved}
 use Rattle.name_meaning.specs.declared.answer.Resolved.TheVariants as r
 use Rattle.statement_meaning.specs.Answers.{Names}
-use Rattle.statement_meaning.specs.Asking.{Asked, Settled, Begins, all_breaks, asked, asks, unbuilt, unless_broken}
+use Rattle.statement_meaning.specs.Asking.{Asked, Settled, Begins, Explained, asked, asks, unless_broken}
 use Rattle.statement_meaning.specs.Turns.{Turn, Accepted, Refused, Broken, on_good, drawing, counting, identity_of, add_rows, add_unbroken, answered, copy, goes, reads, row_value, rows_before, rows_deleted, rows_going, rows_lost, store_answer, with_added, with_answer}
 use Rattle.statement_meaning.specs.declared.refusal.StepRefusal.{StepRefusal}
 use Rattle.statement_meaning.specs.declared.refusal.StepRefusal.TheVariants as refusal
@@ -111,6 +111,7 @@ copy-named c at name kinds null_field header found.Failed = (refusal.ReadFault, 
 abbrev pub AsksNamed : Asked → Type 0
 AsksNamed (Settled turn) = HasName turn
 AsksNamed (Begins name after) = (file : Found) → HasName (after file)
+AsksNamed (Explained after answer) = Unit {0}
 
 asks-named : (c : Contents) (at : ℕ) (statement : Resolved) → AsksNamed (asks c at statement)
 asks-named c at (r.CreateTable name columns) = drawing-named c at (codes "CREATE TABLE\n") (with_table c name columns [] None)
@@ -134,7 +135,7 @@ asks-named c at (r.DropTable name) = tt
 asks-named c at (r.DropView name) = tt
 asks-named c at (r.Select answer) =
     on_good-named at (meaning answer.query (rows_in c.rows) []) (answered c answer) (caused-denote answer.query (rows_in c.rows) []) (λ rows. tt)
-asks-named c at (r.Explain answer) = broken-named (unbuilt at)
+asks-named c at (r.Explain answer) = tt
 asks-named c at (r.ShowFresh name) = tt
 asks-named c at (r.Impact name condition answer) =
     let id : ℕ = identity_of c name in
@@ -147,4 +148,4 @@ unless-named (first ∷ more) a h = broken-named first
 
 pub asked-named : (c : Contents) (statement : Statement) → AsksNamed (asked c statement)
 asked-named c statement =
-    unless-named (all_breaks c statement) (asks c statement.at (resolved c statement)) (asks-named c statement.at (resolved c statement))
+    unless-named (breaks c statement) (asks c statement.at (resolved c statement)) (asks-named c statement.at (resolved c statement))

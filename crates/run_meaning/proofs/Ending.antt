@@ -248,8 +248,8 @@ module _ (statements : List Statement) (start : Contents) (statement : Statement
       (Ends-files count line 0 (written after end faults_after faults unflushed) s e)
       (Opens-ended (At now statement refused) count begun_now files.begun_after s counted)
       (λ _. record {
-        turn = refused-turn (can_be files) (asked now statement) now next refused turn;
-        first = stops-first (can_be files) now statement refused few told (refused-turn (can_be files) (asked now statement) now next refused turn);
+        turn = refused-turn (can_be files) (asked now statement) now next refused told turn;
+        first = stops-first (can_be files) now statement refused few told (refused-turn (can_be files) (asked now statement) now next refused told turn);
         rests = rests;
       })
 

@@ -10,11 +10,11 @@ use Rattle.perm_io.specs.Found.{Found, Read, Missing, TooLong, Failed, CanBe}
 use Rattle.perm_io.specs.declared.named_file.NamedFile.{NamedFile}
 use Rattle.null_logic.specs.declared.run_fault.RunFault.{RunFault}
 use Rattle.sql_tree.specs.declared.statement.Statement.{Statement}
-use Rattle.name_meaning.specs.Statements.{resolved}
+use Rattle.name_meaning.specs.Statements.{breaks, resolved}
 use Rattle.name_meaning.specs.declared.answer.Break.{Break}
 use Rattle.statement_steps.proofs.Unfiled.{of_file, Unfiled, asks-unfiled}
 use Rattle.statement_meaning.specs.Answers.{Files, Names, can_be, file_limit}
-use Rattle.statement_meaning.specs.Asking.{Asked, Settled, Begins, all_breaks, asked, asks, unless_broken}
+use Rattle.statement_meaning.specs.Asking.{Asked, Settled, Begins, Explained, asked, asks, unless_broken}
 use Rattle.statement_meaning.specs.Turns.{Turn, Accepted, Refused}
 use Rattle.statement_meaning.specs.declared.refusal.StepRefusal.{StepRefusal}
 use Rattle.statement_meaning.specs.declared.refusal.StepRefusal.TheVariants as refusal
@@ -270,7 +270,7 @@ unless-unfiled [] a h = h
 unless-unfiled (first ∷ more) a h = refl
 
 asked-unfiled : (c : Contents) (statement : Statement) → Unfiled (asked c statement)
-asked-unfiled c statement = unless-unfiled (all_breaks c statement) (asks c statement.at (resolved c statement)) (asks-unfiled c statement.at (resolved c statement))
+asked-unfiled c statement = unless-unfiled (breaks c statement) (asks c statement.at (resolved c statement)) (asks-unfiled c statement.at (resolved c statement))
 
 filed : (turn : Turn) (refused : StepRefusal) → is_of_data refused ≡ true → Names turn refused → of_file turn ≡ true
 filed turn (refusal.Break b) data_is h = no_other data_is
@@ -306,6 +306,9 @@ module _ (Can : List ℕ → Found → Type 0) where
   asks-begun c statement (Settled turn) Next none on ran h = goes-begun c statement turn Next none on ran h
   asks-begun c statement (Begins name after) Next none on ran (found, rest, can, next, is) =
       subst HasBegun (sym is) (λ data_is. let all = sum-more 1 rest.begun in omega (arith, all))
+  asks-begun c statement (Explained after answer) Next none on ran (inl (text, rest, explains, next, is)) =
+      subst HasBegun (sym is) (λ data_is. let some = on after rest next data_is in let all = sum-cons 0 rest.begun in omega (arith, some, all))
+  asks-begun c statement (Explained after answer) Next none on ran (inr is) = subst HasBegun (sym is) (λ data_is. no_other data_is)
 
   runs-begun : (c : Contents) (statements : List Statement) (ran : Ran) → RunsFrom Can c statements ran → HasBegun ran
   runs-begun c [] ran is = subst HasBegun (sym is) (λ data_is. no_other data_is)

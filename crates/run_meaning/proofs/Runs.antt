@@ -1,4 +1,4 @@
--- Over told files of which none fails there is one run, but for which fault is named.
+-- Over told files of which none fails there is one run, but for which fault is named, which texts explain, and one that breaks off.
 use Rattle.std.proofs.Common.{◌≡◌, ◌≢◌, ◌∙◌, ℕ, ◌+◌, ◌≤◌, ◌<◌, true, List, [], ◌∷◌, length, Option, Some, None, IsSomeAnd, refl, sym, ap, subst, inl, inr, arith}
 use Rattle.command_words.specs.Requests.{request_of}
 use Rattle.command_words.specs.declared.wanted.Wanted.{Wanted}
@@ -6,6 +6,7 @@ use Rattle.command_words.specs.declared.wanted.Wanted.TheVariants.{Script as OfF
 use Rattle.generated_scripts.specs.Generated.{generated}
 use Rattle.null_logic.specs.declared.run_fault.RunFault.{RunFault}
 use Rattle.bag_algebra.specs.Outcome.{Faults, has}
+use Rattle.bag_algebra.specs.declared.query.Answer.{Answer}
 use Rattle.perm_catalog.specs.Changes.{nothing_held}
 use Rattle.perm_catalog.specs.Contents.{Contents}
 use Rattle.perm_io.specs.Found.{Found, Read, Missing, TooLong, Failed, CanBe}
@@ -15,17 +16,17 @@ use Rattle.sql_tree.specs.declared.statement.Script.{Script}
 use Rattle.sql_tree.specs.declared.statement.Statement.{Statement}
 use Rattle.name_meaning.specs.declared.answer.Break.{Break}
 use Rattle.statement_meaning.specs.Answers.{Names, file_limit}
-use Rattle.statement_meaning.specs.Asking.{Asked, Settled, Begins, asked}
+use Rattle.statement_meaning.specs.Asking.{Asked, Settled, Begins, Explained, asked}
 use Rattle.statement_meaning.specs.Turns.{Turn, Accepted, Refused, Cause, Broken, Meets, Unfit}
 use Rattle.statement_meaning.specs.Turns as cause
 use Rattle.statement_meaning.specs.declared.refusal.StepRefusal.{StepRefusal}
 use Rattle.statement_meaning.specs.declared.refusal.StepRefusal.TheVariants as refusal
 use Rattle.statement_changes.proofs.SomeFound.{some_found}
 use Rattle.run_meaning.proofs.Turns.{some_run}
-use Rattle.run_meaning.specs.Run.{Ran, Runs, RunsNamed, RunsFile, RunsScript, RunsFrom, RunsWanted, Asks, GoesOn, ended, after_text, after_files, with_more}
+use Rattle.run_meaning.specs.Run.{Ran, Runs, RunsNamed, RunsFile, RunsScript, RunsFrom, RunsWanted, Asks, GoesOn, GoesExplained, ended, after_text, after_files, with_more}
 use Rattle.run_meaning.specs.Scripts.{IsScriptOf, IsMisspelled}
 use Rattle.run_meaning.specs.Stops.{Stop, ToTheEnd, Misused, NoFile, LongFile, NoScript, At, script_limit}
-use Rattle.run_meaning.specs.Same.{MeetsFaults, SameStop, alike, by_faults, SameRun}
+use Rattle.run_meaning.specs.Same.{MeetsFaults, SameStop, alike, by_faults, SameText, one as one_text, explained, SameTexts, IsUnbroken, SameRun}
 use Rattle.run_meaning.proofs.Breaks.{Spelled}
 
 -- ---- what became of a file
@@ -110,10 +111,10 @@ module _ (c : Contents) (statement : Statement) (why : Cause) (meets : (met : Fa
 -- ---- runs
 
 abbrev same_ended : (s t : Stop) → SameStop s t → SameRun (ended s) (ended t)
-same_ended s t h = record { texts = refl; stop = h; begun = refl }
+same_ended s t h = record { texts = tt; stop = h; begun = refl }
 
-same_text : (text : List ℕ) (a b : Ran) → SameRun a b → SameRun (after_text text a) (after_text text b)
-same_text text a b h = record { texts = ap (λ (ts : List (List ℕ)). text ∷ ts) h.texts; stop = h.stop; begun = ap (λ (ns : List ℕ). 0 ∷ ns) h.begun }
+same_text : (text other : List ℕ) → SameText text other → (a b : Ran) → SameRun a b → SameRun (after_text text a) (after_text other b)
+same_text text other same a b h = record { texts = (same, h.texts); stop = h.stop; begun = ap (λ (ns : List ℕ). 0 ∷ ns) h.begun }
 
 same_files : (n : ℕ) (a b : Ran) → SameRun a b → SameRun (after_files n a) (after_files n b)
 same_files n a b h = record { texts = h.texts; stop = h.stop; begun = ap (with_more n) h.begun }
@@ -122,16 +123,29 @@ moved : (a b a' b' : Ran) → a ≡ a' → b ≡ b' → SameRun a' b' → SameRu
 moved a b a' b' p q h = subst (λ (r : Ran). SameRun r b) (sym p) (subst (λ (r : Ran). SameRun a' r) (sym q) h)
 
 abbrev One : (Ran → Type 0) → Type 0
-One Is = (a b : Ran) → Is a → Is b → SameRun a b
+One Is = (a b : Ran) → Is a → Is b → IsUnbroken a → IsUnbroken b → SameRun a b
 
 same_goes : (c : Contents) (statement : Statement) (turn : Turn) → ((met : Faults) (at : ℕ) → turn ≡ Refused (Meets met at) → MeetsFaults (asked c statement) met at)
     → (Next : Contents → Ran → Type 0) → ((after : Contents) → One (Next after)) → One (GoesOn c statement turn Next)
-same_goes c statement (Refused why) meets Next one a b (r, names, some, is) (s, names', more, is') =
+same_goes c statement (Refused why) meets Next one a b (r, names, some, is) (s, names', more, is') u v =
     moved a b (ended (At c statement r)) (ended (At c statement s)) is is'
     (same_ended (At c statement r) (At c statement s)
     (same_stop c statement why (λ met at e. meets met at (ap Refused e)) r s some more (named why r names some) (named why s names' more)))
-same_goes c statement (Accepted text after) meets Next one a b (rest, next, is) (rest', next', is') =
-    moved a b (after_text text rest) (after_text text rest') is is' (same_text text rest rest' (one after rest rest' next next'))
+same_goes c statement (Accepted text after) meets Next one a b (rest, next, is) (rest', next', is') u v =
+    moved a b (after_text text rest) (after_text text rest') is is'
+    (same_text text text (one_text refl) rest rest' (one after rest rest' next next' (subst IsUnbroken is u) (subst IsUnbroken is' v)))
+
+-- a run that breaks off isn't whole
+broken_off : (c : Contents) (statement : Statement) (a : Ran) → a ≡ ended (At c statement refusal.NoMemory) → IsUnbroken a → ⊥
+broken_off c statement a is u = subst IsUnbroken is u refl
+
+same_explained : (c : Contents) (statement : Statement) (after : Contents) (answer : Answer) → asked c statement ≡ Explained after answer
+    → (Next : Contents → Ran → Type 0) → One (Next after) → One (GoesExplained c statement after answer Next)
+same_explained c statement after answer asks Next one a b (inl (text, rest, says, next, is)) (inl (text', rest', says', next', is')) u v =
+    moved a b (after_text text rest) (after_text text' rest') is is'
+    (same_text text text' (explained c after statement answer asks says says') rest rest' (one rest rest' next next' (subst IsUnbroken is u) (subst IsUnbroken is' v)))
+same_explained c statement after answer asks Next one a b (inl h) (inr is) u v = absurd (broken_off c statement b is v)
+same_explained c statement after answer asks Next one a b (inr is) k u v = absurd (broken_off c statement a is u)
 
 module _ (held : List NamedFile) where
   abbrev Can : List ℕ → Found → Type 0
@@ -139,47 +153,48 @@ module _ (held : List NamedFile) where
 
   same_asks : (c : Contents) (statement : Statement) (a : Asked) → asked c statement ≡ a → (Next : Contents → Ran → Type 0) → ((after : Contents) → One (Next after))
       → One (Asks Can c statement a Next)
-  same_asks c statement (Settled turn) asks Next one x y h k =
-      same_goes c statement turn (λ met at e. subst (λ (a : Asked). MeetsFaults a met at) (sym asks) e) Next one x y h k
-  same_asks c statement (Begins name after) asks Next one x y (f, rest, can, goes, is) (g, rest', can', goes', is') =
+  same_asks c statement (Settled turn) asks Next one x y h k u v =
+      same_goes c statement turn (λ met at e. subst (λ (a : Asked). MeetsFaults a met at) (sym asks) e) Next one x y h k u v
+  same_asks c statement (Begins name after) asks Next one x y (f, rest, can, goes, is) (g, rest', can', goes', is') u v =
       moved x y (after_files 1 rest) (after_files 1 rest') is is'
       (same_files 1 rest rest' (same_goes c statement (after g) (λ met at e. subst (λ (a : Asked). MeetsFaults a met at) (sym asks) (g, e)) Next one rest rest'
-      (subst (λ (found : Found). GoesOn c statement (after found) Next rest) (same_found file_limit held name f g can can') goes) goes'))
+      (subst (λ (found : Found). GoesOn c statement (after found) Next rest) (same_found file_limit held name f g can can') goes) goes' (subst IsUnbroken is u) (subst IsUnbroken is' v)))
+  same_asks c statement (Explained after answer) asks Next one x y h k u v = same_explained c statement after answer asks Next (one after) x y h k u v
 
   same_from : (statements : List Statement) (c : Contents) → One (RunsFrom Can c statements)
-  same_from [] c a b h k = moved a b (ended ToTheEnd) (ended ToTheEnd) h k (same_ended ToTheEnd ToTheEnd alike)
-  same_from (statement ∷ statements) c a b h k =
-      same_asks c statement (asked c statement) refl (λ after rest. RunsFrom Can after statements rest) (λ after. same_from statements after) a b h k
+  same_from [] c a b h k u v = moved a b (ended ToTheEnd) (ended ToTheEnd) h k (same_ended ToTheEnd ToTheEnd alike)
+  same_from (statement ∷ statements) c a b h k u v =
+      same_asks c statement (asked c statement) refl (λ after rest. RunsFrom Can after statements rest) (λ after. same_from statements after) a b h k u v
 
   module _ (one_script : (bytes : List ℕ) (s t : Script) → IsScriptOf bytes s → IsScriptOf bytes t → s ≡ t)
       (neither : (bytes : List ℕ) (script : Script) (b : Break) → IsScriptOf bytes script → IsMisspelled bytes b → ⊥)
       (one_break : (bytes : List ℕ) (a b : Break) → IsMisspelled bytes a → IsMisspelled bytes b → a ≡ b) where
     same_script : (bytes : List ℕ) → One (RunsScript Can bytes)
-    same_script bytes a b (inl (s, is, runs)) (inl (t, is', runs')) =
+    same_script bytes a b (inl (s, is, runs)) (inl (t, is', runs')) u v =
         same_from t.statements (nothing_held 1) a b
-        (subst (λ (script : Script). RunsFrom Can (nothing_held 1) script.statements a) (one_script bytes s t is is') runs) runs'
-    same_script bytes a b (inl (s, is, runs)) (inr (d, wrong, e)) = absurd (neither bytes s d is wrong)
-    same_script bytes a b (inr (d, wrong, e)) (inl (s, is, runs)) = absurd (neither bytes s d is wrong)
-    same_script bytes a b (inr (d, wrong, e)) (inr (d', wrong', e')) =
+        (subst (λ (script : Script). RunsFrom Can (nothing_held 1) script.statements a) (one_script bytes s t is is') runs) runs' u v
+    same_script bytes a b (inl (s, is, runs)) (inr (d, wrong, e)) u v = absurd (neither bytes s d is wrong)
+    same_script bytes a b (inr (d, wrong, e)) (inl (s, is, runs)) u v = absurd (neither bytes s d is wrong)
+    same_script bytes a b (inr (d, wrong, e)) (inr (d', wrong', e')) u v =
         moved a b (ended (NoScript d)) (ended (NoScript d')) e e'
         (same_ended (NoScript d) (NoScript d') (subst (λ (x : Break). SameStop (NoScript d) (NoScript x)) (one_break bytes d d' wrong wrong') alike))
 
     same_file : (found : Found) (name : List ℕ) → CanBe script_limit (Some held) ⊥ name found → One (RunsFile Can found)
-    same_file (Read bytes) name can a b h k = same_script bytes a b h k
-    same_file Missing name can a b h k = moved a b (ended NoFile) (ended NoFile) h k (same_ended NoFile NoFile alike)
-    same_file TooLong name can a b h k = moved a b (ended LongFile) (ended LongFile) h k (same_ended LongFile LongFile alike)
-    same_file Failed name can a b h k = absurd can
+    same_file (Read bytes) name can a b h k u v = same_script bytes a b h k u v
+    same_file Missing name can a b h k u v = moved a b (ended NoFile) (ended NoFile) h k (same_ended NoFile NoFile alike)
+    same_file TooLong name can a b h k u v = moved a b (ended LongFile) (ended LongFile) h k (same_ended LongFile LongFile alike)
+    same_file Failed name can a b h k u v = absurd can
 
     same_named : (name : List ℕ) → One (RunsNamed (Some held) ⊥ name)
-    same_named name a b (f, rest, can, runs, is) (g, rest', can', runs', is') =
+    same_named name a b (f, rest, can, runs, is) (g, rest', can', runs', is') u v =
         moved a b (after_files 1 rest) (after_files 1 rest') is is'
         (same_files 1 rest rest' (same_file g name can' rest rest'
-        (subst (λ (found : Found). RunsFile Can found rest) (same_found script_limit held name f g can can') runs) runs'))
+        (subst (λ (found : Found). RunsFile Can found rest) (same_found script_limit held name f g can can') runs) runs' (subst IsUnbroken is u) (subst IsUnbroken is' v)))
 
     same_wanted : (wanted : Wanted) → One (RunsWanted wanted (Some held) ⊥)
-    same_wanted (OfFile name) a b h k = same_named name a b h k
-    same_wanted (Generated rows) a b h k = same_script (generated rows) a b h k
-    same_wanted Misworded a b h k = moved a b (ended Misused) (ended Misused) h k (same_ended Misused Misused alike)
+    same_wanted (OfFile name) a b h k u v = same_named name a b h k u v
+    same_wanted (Generated rows) a b h k u v = same_script (generated rows) a b h k u v
+    same_wanted Misworded a b h k u v = moved a b (ended Misused) (ended Misused) h k (same_ended Misused Misused alike)
 
     pub same_run : (words : List (List ℕ)) → One (Runs words (Some held) ⊥)
     same_run words = same_wanted (request_of words)

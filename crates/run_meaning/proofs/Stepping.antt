@@ -1,5 +1,5 @@
 -- A step of a run: by the statement's breaks, and by what carries it out.
-use Rattle.std.proofs.Common.{◌≡◌, ◌⊎◌, ◌∙◌, ℕ, true, false, true≢false, cond, List, [], ◌∷◌, Option, Result, Ok, Err, refl, sym, ap, subst, inr, IsTrue}
+use Rattle.std.proofs.Common.{◌≡◌, ◌⊎◌, ◌∙◌, ℕ, true, false, true≢false, List, [], ◌∷◌, Option, Result, Ok, Err, refl, sym, ap, subst, inr, IsTrue}
 use Rattle.perm_catalog.specs.Contents.{Contents}
 use Rattle.perm_catalog.specs.Sound.{IsSound}
 use Rattle.perm_io.specs.Counts.{HasRisen, CountsFault, next_count}
@@ -15,24 +15,16 @@ use Rattle.statement_steps.specs.declared.ran.Ran.{Ran}
 use Rattle.statement_steps.specs.Running.{KeepsRun}
 use Rattle.statement_laws.specs.Sounder.{StandsSound, KeepsSound}
 use Rattle.statement_meaning.specs.Answers.{Files, TakesTurn, IsTurn, IsBacked, begins, can_be, has_failed, file_limit}
-use Rattle.statement_meaning.specs.Asking.{Asked, Settled, Begins, all_breaks, asked, asks, is_unbuilt, unbuilt, unless_broken}
+use Rattle.statement_meaning.specs.Asking.{Asked, Settled, Begins, Explained, asked, asks, unless_broken}
 use Rattle.statement_meaning.specs.Ready.{IsReady}
 use Rattle.statement_meaning.specs.Turns.{Turn, Refused, Broken}
 use Rattle.statement_meaning.specs.declared.refusal.StepRefusal.{StepRefusal}
 use Rattle.statement_meaning.specs.declared.refusal.StepRefusal.TheVariants as refusal
 use Rattle.statement_meaning.specs.Carrying.{IsCarriedOut}
-use Rattle.run_meaning.specs.Resolving.{IsDue, IsMade, Resolves, ResolvesBuilt, ResolvesBy}
+use Rattle.run_meaning.specs.Resolving.{IsDue, IsMade, Resolves}
 use Rattle.run_meaning.proofs.Causes.{refuses_with}
 
 -- ---- resolving
-
--- of a form that is run, all breaks are those of names and kinds
-pub resolves-built : (c : Contents) (statement : Statement) (result : Result Resolved StepRefusal) → is_unbuilt statement.body ≡ false → ResolvesBuilt c statement result → Resolves c statement result
-resolves-built c statement result e h =
-    subst (λ b. ResolvesBy (cond b (unbuilt statement.at ∷ []) (breaks c statement)) c statement result) (sym e) h
-
-pub resolves-unbuilt : (c : Contents) (statement : Statement) → is_unbuilt statement.body ≡ true → first_or (all_breaks c statement) (tt {0}) ≡ Err (unbuilt statement.at)
-resolves-unbuilt c statement e = ap (λ b. first_or (cond b (unbuilt statement.at ∷ []) (breaks c statement)) (tt {0})) e
 
 same_break : (first b : Break) → first_or (first ∷ []) (tt {0}) ≡ Err b → first ≡ b
 same_break first b e = cc
@@ -42,10 +34,6 @@ refuses_resolved refused = Err refused
 
 abbrev resolves_to : Resolved → Result Resolved StepRefusal
 resolves_to made = Ok made
-
--- the only break is due
-pub only-due : {X : Type 0} (b : Break) → IsDue {X = X} (b ∷ []) (Err (refusal.Break b))
-only-due b first e = ap (λ d. Err (refusal.Break d)) (same_break b first e)
 
 -- what is due of a statement's resolution is due of the statement
 made≢broken : (made : Resolved) (b : Break) → resolves_to made ≡ refuses_resolved (refusal.Break b) → ⊥
@@ -62,7 +50,7 @@ due-refused breaks refused h first e = ap Err (same_refusal refused first (h fir
 
 -- ---- what becomes of it
 
-pub asked-made : (c : Contents) (statement : Statement) (made : Resolved) → IsMade (all_breaks c statement) c statement made → asked c statement ≡ asks c statement.at made
+pub asked-made : (c : Contents) (statement : Statement) (made : Resolved) → IsMade (breaks c statement) c statement made → asked c statement ≡ asks c statement.at made
 asked-made c statement made h =
     ap (λ bs. unless_broken bs (asks c statement.at (resolved c statement))) h.whole ∙ ap (asks c statement.at) (sym h.is)
 
@@ -70,8 +58,8 @@ broken-first : (all : List Break) (a : Asked) (b : Break) → first_or all (tt {
 broken-first [] a b e = absurd cc
 broken-first (first ∷ more) a b e = ap (λ d. Settled (Refused (Broken d))) (same_break first b e)
 
-asked-broken : (c : Contents) (statement : Statement) (b : Break) → first_or (all_breaks c statement) (tt {0}) ≡ Err b → asked c statement ≡ Settled (Refused (Broken b))
-asked-broken c statement b e = broken-first (all_breaks c statement) (asks c statement.at (resolved c statement)) b e
+asked-broken : (c : Contents) (statement : Statement) (b : Break) → first_or (breaks c statement) (tt {0}) ≡ Err b → asked c statement ≡ Settled (Refused (Broken b))
+asked-broken c statement b e = broken-first (breaks c statement) (asks c statement.at (resolved c statement)) b e
 
 -- ---- a refusal before the statement is carried out
 
@@ -80,6 +68,7 @@ module _ (c : Contents) (statement : Statement) (files : Files) where
   nothing-taken (Settled turn) = (tt, refl)
   nothing-taken (Begins name after) =
       let f = some_found file_limit files.held (HasRisen files.faults files.faults_after) name in (f.0, f.1, (tt, refl))
+  nothing-taken (Explained after answer) = (refl, refl)
 
   pub refused-takes : (refused : StepRefusal) → Resolves c statement (Err refused) → TakesTurn (can_be files) (asked c statement) c c (Err refused)
   refused-takes (refusal.Break b) h = subst (λ a. TakesTurn (can_be files) a c c (Err (refusal.Break b))) (sym (asked-broken c statement b h)) (refl, refl)
@@ -128,6 +117,8 @@ turn-sound turn old new (Err refused) sound keeps h = subst IsSound (sym h.1) so
 pub taken-sound : (Can : List ℕ → Found → Type 0) (a : Asked) (old new : Contents) (result : Result (List ℕ) StepRefusal) → IsSound old → KeepsSound a → TakesTurn Can a old new result → IsSound new
 taken-sound Can (Settled turn) old new result sound keeps h = turn-sound turn old new result sound keeps h
 taken-sound Can (Begins name after) old new result sound keeps (found, can, h) = turn-sound (after found) old new result sound (keeps found) h
+taken-sound Can (Explained after answer) old new (Ok text) sound keeps h = subst IsSound (sym h.1) keeps
+taken-sound Can (Explained after answer) old new (Err refused) sound keeps h = subst IsSound (sym h.1) sound
 
 -- what name analysis makes of a statement that breaks nothing
 pub made-whole : (c : Contents) (statement : Statement) (made : Resolved) → breaks c statement ≡ [] → made ≡ resolved c statement → IsReady c (resolved c statement) →
@@ -137,12 +128,12 @@ made-whole c statement made whole is ready sound =
 
 -- what was asked for has become of the statement
 pub asked-carried : (c new : Contents) (statement : Statement) (made : Resolved) (result : Result (List ℕ) StepRefusal) (files : Files) →
-    IsMade (all_breaks c statement) c statement made → IsCarriedOut (asks c statement.at made) c new result files → IsCarriedOut (asked c statement) c new result files
+    IsMade (breaks c statement) c statement made → IsCarriedOut (asks c statement.at made) c new result files → IsCarriedOut (asked c statement) c new result files
 asked-carried c new statement made result files m h =
     subst (λ a. IsCarriedOut a c new result files) (sym (asked-made c statement made m)) h
 
 -- what was asked for begins a file where the statement does, and there alone
-pub begins-made : (c : Contents) (statement : Statement) (made : Resolved) → IsMade (all_breaks c statement) c statement made
+pub begins-made : (c : Contents) (statement : Statement) (made : Resolved) → IsMade (breaks c statement) c statement made
     → begins (asks c statement.at made) ≡ begins (asked c statement)
 begins-made c statement made m = ap begins (sym (asked-made c statement made m))
 
@@ -164,5 +155,5 @@ refused-ran c (r.ShowFresh name) refused last = refl
 refused-ran c (r.Impact name condition answer) refused last = tt
 
 pub made-ran : (c : Contents) (statement : Statement) (made : Resolved) (result : Result (List ℕ) StepRefusal) (before after : Option Ran) →
-    IsMade (all_breaks c statement) c statement made → KeepsRun c made result before after → KeepsRun c (resolved c statement) result before after
+    IsMade (breaks c statement) c statement made → KeepsRun c made result before after → KeepsRun c (resolved c statement) result before after
 made-ran c statement made result before after m h = subst (λ s. KeepsRun c s result before after) m.is h

@@ -1,4 +1,4 @@
--- What a statement that ran makes of the runs behind it, and that every start has some run.
+-- What a statement that ran makes of the runs behind it, and that every start has some run, be it one that breaks off at an EXPLAIN.
 use Rattle.std.proofs.Common.{◌≡◌, ◌≢◌, ◌⊎◌, ℕ, ◌+◌, ◌≤◌, Bool, true, false, List, [], ◌∷◌, length, Option, Ok, Err, refl, sym, ap, subst, inl, inr, arith, IsTrue}
 use Rattle.perm_catalog.specs.Contents.{Contents}
 use Rattle.perm_io.specs.Counts.{HasRisen, CountsFault, next_count}
@@ -7,7 +7,7 @@ use Rattle.perm_io.specs.declared.named_file.NamedFile.{NamedFile}
 use Rattle.sql_tree.specs.declared.statement.Statement.{Statement}
 use Rattle.statement_changes.proofs.SomeFound.{some_found}
 use Rattle.statement_meaning.specs.Answers.{Names, TakesTurn, begins, file_limit}
-use Rattle.statement_meaning.specs.Asking.{Asked, Settled, Begins, asked}
+use Rattle.statement_meaning.specs.Asking.{Asked, Settled, Begins, Explained, asked}
 use Rattle.statement_meaning.specs.Turns.{Turn, Accepted, Refused}
 use Rattle.statement_meaning.specs.declared.refusal.StepRefusal.{StepRefusal}
 use Rattle.statement_meaning.specs.declared.refusal.StepRefusal.TheVariants as r
@@ -21,6 +21,7 @@ use Rattle.run_meaning.proofs.Causes.{HasName, AsksNamed, asked-named}
 abbrev pub files_of : Asked → ℕ
 files_of (Settled turn) = 0
 files_of (Begins name after) = 1
+files_of (Explained after answer) = 0
 
 -- the same list, where it has an item
 more_none : (counts : List ℕ) → 1 ≤ length counts → with_more 0 counts ≡ counts
@@ -52,6 +53,8 @@ module _ (Can : List ℕ → Found → Type 0) (CanStep : List ℕ → Found →
       subst (λ t. GoesOn now statement t Next (after_files 0 (after_text text rest))) (sym e) (rest, n, after_none (after_text text rest) (omega arith))
   asks-stands (Begins name after) now statement next text Next rest (found, can, e) n =
       (found, after_text text rest, widen name found can, subst (λ t. GoesOn now statement t Next (after_text text rest)) (sym e) (rest, n, refl), refl)
+  asks-stands (Explained after answer) now statement next text Next rest e n =
+      inl (text, rest, e.0, subst (λ (d : Contents). Next d rest) e.1 n, after_none (after_text text rest) (omega arith))
 
   -- a statement that was refused ends the run
   pub asks-ends : (a : Asked) (now : Contents) (statement : Statement) (next : Contents) (refused : StepRefusal) (Next : Contents → Ran → Type 0) → refused ≢ r.NoMemory →
@@ -60,6 +63,7 @@ module _ (Can : List ℕ → Found → Type 0) (CanStep : List ℕ → Found →
       subst (GoesOn now statement turn Next) (sym (after_none (ended (At now statement refused)) (omega arith))) (goes-stops now statement turn refused Next told h.0)
   asks-ends (Begins name after) now statement next refused Next told (found, can, h) =
       (found, ended (At now statement refused), widen name found can, goes-stops now statement (after found) refused Next told h.0, refl)
+  asks-ends (Explained after answer) now statement next refused Next told h = absurd (told h.0)
 
 -- ---- every start has some run
 
@@ -76,6 +80,7 @@ module _ (held : Option (List NamedFile)) (fault : Type 0) where
       let f = some_found file_limit held fault name in
       let g = some_goes c statement (after f.0) Next (named f.0) later in
       (after_files 1 g.0, (f.0, g.0, f.1, g.1, refl), first-begun g.0)
+  some_asks c statement (Explained after answer) Next named later = (ended (At c statement r.NoMemory), inr refl, omega arith)
 
   pub some_run : (c : Contents) (statements : List Statement) → (ran : Ran) × RunsFrom (CanBe file_limit held fault) c statements ran
   some_run c [] = (ended ToTheEnd, refl)
@@ -100,6 +105,7 @@ begun-told (Begins name after) old new Short h k told = either (h refl)
     either : ((new ≡ next_count old) ⊎ (Short × (new ≡ old))) → new ≡ next_count old
     either (inl one) = one
     either (inr (wanting, same)) = absurd (told wanting)
+begun-told (Explained after answer) old new Short h k told = k refl
 
 -- that or none
 pub begun-short : (a : Asked) (old new : ℕ) (Short : Type 0) → (IsTrue (begins a) → (new ≡ next_count old) ⊎ (Short × (new ≡ old))) →
@@ -110,6 +116,7 @@ begun-short (Begins name after) old new Short h k = either (h refl)
     either : ((new ≡ next_count old) ⊎ (Short × (new ≡ old))) → (files : ℕ) × (files ≤ 1) × (new ≡ opened files old)
     either (inl one) = (1, omega arith, one)
     either (inr (wanting, same)) = (0, omega arith, same)
+begun-short (Explained after answer) old new Short h k = (0, omega arith, k refl)
 
 -- a count that has come to its end stands there
 pub still_risen : (before now : ℕ) (failed : Bool) → CountsFault before now failed → HasRisen before before → HasRisen before now

@@ -8,7 +8,7 @@ use Rattle.perm_io.specs.declared.named_file.NamedFile.{NamedFile}
 use Rattle.csv_tables.specs.declared.data_error.DataError.TheVariants as broken_rule
 use Rattle.sql_tree.specs.declared.statement.Statement.{Statement}
 use Rattle.statement_meaning.specs.Answers.{Files, RestsOn, TakesTurn}
-use Rattle.statement_meaning.specs.Asking.{Asked, Settled, Begins, asked}
+use Rattle.statement_meaning.specs.Asking.{Asked, Settled, Begins, Explained, asked}
 use Rattle.statement_meaning.specs.Turns.{Turn, Accepted, Refused}
 use Rattle.statement_meaning.specs.declared.refusal.StepRefusal.{StepRefusal}
 use Rattle.statement_meaning.specs.declared.refusal.StepRefusal.TheVariants as refusal
@@ -54,10 +54,12 @@ module _ (Can Could : List ℕ → Found → Type 0) (widen : (name : List ℕ) 
   pub takes-wider : (a : Asked) (old new : Contents) (result : Result (List ℕ) StepRefusal) → TakesTurn Can a old new result → TakesTurn Could a old new result
   takes-wider (Settled turn) old new result h = h
   takes-wider (Begins name after) old new result (found, can, h) = (found, widen name found can, h)
+  takes-wider (Explained after answer) old new result h = h
 
   refused-wider : (a : Asked) (refused : StepRefusal) → IsRefused Can a refused → IsRefused Could a refused
   refused-wider (Settled turn) refused h = h
   refused-wider (Begins name after) refused (found, can, h) = (found, widen name found can, h)
+  refused-wider (Explained after answer) refused h = h
 
   goes-wider : (c : Contents) (statement : Statement) (turn : Turn) (P Q : Contents → Ran → Type 0) → ((after : Contents) (ran : Ran) → P after ran → Q after ran) → (ran : Ran) →
       GoesOn c statement turn P ran → GoesOn c statement turn Q ran
@@ -69,6 +71,8 @@ module _ (Can Could : List ℕ → Found → Type 0) (widen : (name : List ℕ) 
   asks-wider c statement (Settled turn) P Q on ran h = goes-wider c statement turn P Q on ran h
   asks-wider c statement (Begins name after) P Q on ran (found, rest, can, next, is) =
       (found, rest, widen name found can, goes-wider c statement (after found) P Q on rest next, is)
+  asks-wider c statement (Explained after answer) P Q on ran (inl (text, rest, explains, next, is)) = inl (text, rest, explains, on after rest next, is)
+  asks-wider c statement (Explained after answer) P Q on ran (inr short) = inr short
 
   runs-wider : (c : Contents) (statements : List Statement) (ran : Ran) → RunsFrom Can c statements ran → RunsFrom Could c statements ran
   runs-wider c [] ran h = h
@@ -112,6 +116,8 @@ module _ (Holds : Ran → Type 0) (at_end : Holds (ended ToTheEnd)) (at_refusal 
   asks-holds c statement (Settled turn) Next on ran h = goes-holds c statement turn Next on ran h
   asks-holds c statement (Begins name after) Next on ran (found, rest, can, next, is) =
       subst Holds (sym is) (behind_file rest (goes-holds c statement (after found) Next on rest next))
+  asks-holds c statement (Explained after answer) Next on ran (inl (text, rest, explains, next, is)) = subst Holds (sym is) (behind_text text rest (on after rest next))
+  asks-holds c statement (Explained after answer) Next on ran (inr is) = subst Holds (sym is) (at_refusal c statement refusal.NoMemory)
 
   pub runs-holds : (c : Contents) (statements : List Statement) (ran : Ran) → RunsFrom Can c statements ran → Holds ran
   runs-holds c [] ran is = subst Holds (sym is) at_end

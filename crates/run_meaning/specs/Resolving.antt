@@ -7,7 +7,7 @@ use Rattle.name_meaning.specs.Statements.{breaks, resolved}
 use Rattle.name_meaning.specs.declared.answer.Break.{Break}
 use Rattle.name_meaning.specs.declared.answer.Resolved.{Resolved}
 use Rattle.statement_laws.specs.Sounder.{KeepsSound}
-use Rattle.statement_meaning.specs.Asking.{all_breaks, asks}
+use Rattle.statement_meaning.specs.Asking.{asks}
 use Rattle.statement_meaning.specs.Ready.{IsReady}
 use Rattle.statement_meaning.specs.declared.refusal.StepRefusal.{StepRefusal}
 use Rattle.statement_meaning.specs.declared.refusal.StepRefusal.TheVariants as refusal
@@ -31,11 +31,7 @@ ResolvesBy breaks c statement (Err refusal.ReadFault) = ⊥
 ResolvesBy breaks c statement (Err refusal.NoMemory) = Unit {0}
 
 abbrev pub Resolves : Contents → Statement → Result Resolved StepRefusal → Type 0
-Resolves c statement result = ResolvesBy (all_breaks c statement) c statement result
-
--- of a form that is run
-abbrev pub ResolvesBuilt : Contents → Statement → Result Resolved StepRefusal → Type 0
-ResolvesBuilt c statement result = ResolvesBy (breaks c statement) c statement result
+Resolves c statement result = ResolvesBy (breaks c statement) c statement result
 
 -- where there are such breaks, the first of them is the answer
 abbrev pub IsDue : {X : Type 0} → List Break → Result X StepRefusal → Type 0

@@ -1,6 +1,8 @@
 -- What a run over a command line and files writes, and why it ends.
 use Rattle.std.specs.Prelude.{◌≡◌, ◌≢◌, ◌⊎◌, ℕ, ◌+◌, List, [], ◌∷◌, ◌++◌, take, Option}
 use Rattle.std.specs.List.{flat_map, sum}
+use Rattle.answer_texts.specs.Explains.{Explains}
+use Rattle.bag_algebra.specs.declared.query.Answer.{Answer}
 use Rattle.command_words.specs.Requests.{request_of}
 use Rattle.command_words.specs.declared.wanted.Wanted.{Wanted}
 use Rattle.command_words.specs.declared.wanted.Wanted.TheVariants.{Script as Named, Generated, Misworded}
@@ -13,7 +15,7 @@ use Rattle.sql_tree.specs.declared.statement.Script.{Script}
 use Rattle.sql_tree.specs.declared.statement.Statement.{Statement}
 use Rattle.name_meaning.specs.declared.answer.Break.{Break}
 use Rattle.statement_meaning.specs.Answers.{Names, file_limit}
-use Rattle.statement_meaning.specs.Asking.{Asked, Settled, Begins, asked}
+use Rattle.statement_meaning.specs.Asking.{Asked, Settled, Begins, Explained, asked}
 use Rattle.statement_meaning.specs.Turns.{Turn, Accepted, Refused}
 use Rattle.statement_meaning.specs.declared.refusal.StepRefusal.{StepRefusal}
 use Rattle.statement_meaning.specs.declared.refusal.StepRefusal.TheVariants as refusal
@@ -67,11 +69,19 @@ GoesOn c statement (Refused cause) Next ran =
     (refused : StepRefusal) × Names (Refused cause) refused × (refused ≢ refusal.NoMemory) × (ran ≡ ended (At c statement refused))
 GoesOn c statement (Accepted text after) Next ran = (rest : Ran) × Next after rest × (ran ≡ after_text text rest)
 
+-- any text that explains the answer comes before what the statements behind it make; or memory is wanting for one, and the run breaks
+-- off there, without a line
+abbrev pub GoesExplained : Contents → Statement → Contents → Answer → (Contents → Ran → Type 0) → Ran → Type 0
+GoesExplained c statement after answer Next ran =
+    ((text : List ℕ) × (rest : Ran) × Explains after answer text × Next after rest × (ran ≡ after_text text rest))
+    ⊎ (ran ≡ ended (At c statement refusal.NoMemory))
+
 -- a file that is begun is found to be what it can be
 abbrev pub Asks : (List ℕ → Found → Type 0) → Contents → Statement → Asked → (Contents → Ran → Type 0) → Ran → Type 0
 Asks Can c statement (Settled turn) Next ran = GoesOn c statement turn Next ran
 Asks Can c statement (Begins name after) Next ran =
     (found : Found) × (rest : Ran) × Can name found × GoesOn c statement (after found) Next rest × (ran ≡ after_files 1 rest)
+Asks Can c statement (Explained after answer) Next ran = GoesExplained c statement after answer Next ran
 
 -- the statements in order, up to the first that is refused
 abbrev pub RunsFrom : (List ℕ → Found → Type 0) → Contents → List Statement → Ran → Type 0
@@ -115,6 +125,7 @@ StopsBy (Accepted text after) next b = next after
 abbrev pub StopsAsked : Asked → (Contents → Type 0) → Break → Type 0
 StopsAsked (Settled turn) next b = StopsBy turn next b
 StopsAsked (Begins name after) next b = (found : Found) × StopsBy (after found) next b
+StopsAsked (Explained after answer) next b = next after
 
 abbrev pub StopsAt : Contents → List Statement → Break → Type 0
 StopsAt c [] b = ⊥

@@ -2,6 +2,7 @@
 use Rattle.std.specs.Prelude.{◌≡◌, ◌≢◌, ℕ, ◌<◌, List, [], Err, codes, IsTrue}
 use Rattle.csv_tables.specs.Lines.{data_line, error_line}
 use Rattle.name_seen_parts.specs.Seen.{first_or}
+use Rattle.name_meaning.specs.Statements.{breaks}
 use Rattle.name_meaning.specs.declared.answer.Break.{Break}
 use Rattle.null_logic.specs.declared.run_fault.RunFault.{RunFault}
 use Rattle.null_logic.specs.declared.run_fault.RunFault.TheVariants.{DivideByZero, OutOfRange, SeveralRows}
@@ -10,7 +11,7 @@ use Rattle.perm_io.specs.Counts.{HasRisen, next_count}
 use Rattle.perm_io.specs.Found.{Found}
 use Rattle.sql_tree.specs.declared.statement.Statement.{Statement}
 use Rattle.statement_meaning.specs.Answers.{Files, Names, RestsOn}
-use Rattle.statement_meaning.specs.Asking.{Asked, Settled, Begins, all_breaks, asked}
+use Rattle.statement_meaning.specs.Asking.{Asked, Settled, Begins, Explained, asked}
 use Rattle.statement_meaning.specs.declared.refusal.StepRefusal.{StepRefusal}
 use Rattle.statement_meaning.specs.declared.refusal.StepRefusal.TheVariants as refusal
 use Rattle.run_meaning.specs.declared.script.TheConstants.{SCRIPT_LIMIT}
@@ -78,14 +79,16 @@ status_of (At c statement refused) = refusal_status refused
 
 -- ---- what the end rests on, whether or not the files and the output tell their bytes
 
--- the statement is refused like this, where its file can be what it was found to be; of the faults that it meets one is named
+-- the statement is refused like this, where its file can be what it was found to be; of the faults that it meets one is named. For the
+-- text of an EXPLAIN no more than memory can be wanting
 abbrev pub IsRefused : (List ℕ → Found → Type 0) → Asked → StepRefusal → Type 0
 IsRefused Can (Settled turn) refused = Names turn refused
 IsRefused Can (Begins name after) refused = (found : Found) × Can name found × Names (after found) refused
+IsRefused Can (Explained after answer) refused = ⊥
 
 -- a break is the first of the statement, and no want of a number to draw; want of memory ends no run
 abbrev pub IsFirst : Contents → Statement → StepRefusal → Type 0
-IsFirst c statement (refusal.Break b) = (first_or (all_breaks c statement) (tt {0}) ≡ Err b) × (b.rule ≢ NumbersSpent)
+IsFirst c statement (refusal.Break b) = (first_or (breaks c statement) (tt {0}) ≡ Err b) × (b.rule ≢ NumbersSpent)
 IsFirst c statement (refusal.Run fault at) = Unit {0}
 IsFirst c statement (refusal.Missing at) = Unit {0}
 IsFirst c statement (refusal.TooLarge at) = Unit {0}

@@ -26,8 +26,8 @@ use Rattle.sql_tree.specs.declared.statement.Statement.{Statement}
 use Rattle.sql_tree.specs.declared.statement.StatementBody.{StatementBody}
 use Rattle.sql_tree.specs.declared.statement.StatementBody.TheVariants as st
 use Rattle.sql_tree.specs.declared.statement.ValuesRow.{ValuesRow}
-use Rattle.name_meaning.specs.Froms.{named_so, names_of, settled_columns}
-use Rattle.name_meaning.specs.Meanings.{Meant, OutColumn, QueryMeant, means_at, broken, broken_if, is_whole, is_same_kind, seen_kind, settled, unites}
+use Rattle.name_meaning.specs.Froms.{named_so, names_of}
+use Rattle.name_meaning.specs.Meanings.{Meant, QueryMeant, means_at, broken, broken_if, is_whole, is_same_kind, seen_kind, settled, unites}
 use Rattle.name_meaning.specs.Statements.{alone, bare, breaks, columns_of, defined_columns, kinds_of_table, made_alone, name_breaks, named_query_breaks, on_table, query_meant, repeated_columns, repeats, resolved, resolved_body, row_breaks, row_made, rows_made, taken, value_breaks, values_breaks, view_entry}
 use Rattle.name_meaning.specs.Sublinks.{nothing_before}
 use Rattle.name_meaning.specs.Trees.{part_of}
@@ -35,9 +35,9 @@ use Rattle.name_meaning.specs.declared.answer.Break.{Break}
 use Rattle.name_laws.proofs.Every.{front-none, back-none}
 use Rattle.name_laws.specs.Formed.{IsAnswer, IsFormedExpr}
 use Rattle.name_laws.specs.Standing.{StandAt, AggregatesStand}
-use Rattle.name_laws.proofs.TreeLaws.{expr-formed, query-answer, query-closed, query-wide}
+use Rattle.name_laws.proofs.TreeLaws.{expr-formed, query-answer}
 use Rattle.name_laws.proofs.Named.{view-reads}
-use Rattle.statement_laws.proofs.Ready.{names-whole, unbroken, not-false, left-false, right-false}
+use Rattle.statement_laws.proofs.Ready.{names-whole, sound-answer, unbroken, not-false, left-false, right-false}
 use Rattle.statement_laws.proofs.Stored.{answer-adds}
 use Rattle.statement_laws.specs.Sounder.{AddsSoundly, HaveKinds, RowsHaveKinds}
 use Rattle.name_meaning.specs.declared.rule.Rule.TheVariants as rule
@@ -106,10 +106,6 @@ united-settled k (Some other) e = same-kind k other e
 seen-whole : (m : Meant) → m.breaks ≡ [] → seen_kind m ≡ m.kind
 seen-whole m whole = ap (λ (breaks : List Break). cond (is_whole breaks) m.kind None) whole
 
-length-names : (columns : List OutColumn) → length (names_of (settled_columns columns)) ≡ length columns
-length-names [] = refl
-length-names (column ∷ columns) = ap suc (length-names columns)
-
 module _ (c : Contents) (sound : IsSound c) where
   made-kind : (k : Kind) (tree : ExprTree) → RegularExpr tree
       → value_breaks k (part_of c tree).at (means_at (part_of c tree) (bare [])) ≡ []
@@ -169,16 +165,7 @@ module _ (c : Contents) (sound : IsSound c) where
   view-sound tree regular whole =
       let m : QueryMeant = query_meant c tree in
       let a : IsAnswer m = query-answer c tree alone sound regular whole in
-      record {
-        answer = record {
-          closed = (query-closed c tree alone sound regular whole refl []).0;
-          some = query-wide c tree alone sound regular whole [];
-          named = ap (λ (o : Option (List OutColumn)). length (names_of (option_map_or settled_columns o []))) a.known ∙ length-names a.columns ∙ a.named [];
-          keys = a.keys [];
-        };
-        places = a.places;
-        reads = view-reads c sound tree;
-      }
+      record { answer = sound-answer c tree sound regular whole; places = a.places; reads = view-reads c sound tree }
 
   body-adds : (body : StatementBody) → RegularStatementBody body → name_breaks c body ≡ [] → AddsSoundly c (resolved_body c body)
   body-adds (st.CreateTable table columns) regular whole =

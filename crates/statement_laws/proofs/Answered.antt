@@ -1,5 +1,5 @@
 -- What becomes of a query that breaks no rule.
-use Rattle.std.proofs.Common.{◌≡◌, ◌∙◌, ℕ, false, List, [], refl, sym, ap}
+use Rattle.std.proofs.Common.{◌≡◌, ◌∙◌, ℕ, List, [], refl, sym, ap}
 use Rattle.perm_values.specs.RowLaws.{printed_total}
 use Rattle.perm_values.specs.Rows.{printed_cmp}
 use Rattle.bag_algebra.proofs.SortedBags.{same_bag-sorted}
@@ -18,7 +18,7 @@ use Rattle.sql_tree.specs.declared.statement.StatementBody.TheVariants as st
 use Rattle.name_meaning.specs.Statements.{answer_of, query_meant, resolved_body}
 use Rattle.name_meaning.specs.declared.answer.Resolved.TheVariants as r
 use Rattle.statement_meaning.proofs.Asked.{asked-by_breaks}
-use Rattle.statement_meaning.specs.Asking.{Settled, asked, asks, is_unbuilt}
+use Rattle.statement_meaning.specs.Asking.{Settled, asked, asks}
 use Rattle.statement_meaning.specs.Turns.{Accepted, Refused, Meets, answer_text, answered, on_good, select}
 use Rattle.statement_laws.specs.Asks.{AsksFor}
 use Rattle.statement_laws.specs.Printed.{IsTextOf, ListsBag}
@@ -26,7 +26,7 @@ use Rattle.statement_laws.specs.Printed.{IsTextOf, ListsBag}
 pub same_answer : (a b : Answer) → r.Select a ≡ r.Select b → a ≡ b
 same_answer a b e = cc
 
--- a statement that is resolved to a query is one, and is run
+-- a statement that is resolved to a query is one
 pub query-of : (c : Contents) (body : StatementBody) (answer : Answer) → resolved_body c body ≡ r.Select answer
     → (tree : QueryTree) × (body ≡ st.Select tree) × (answer_of (query_meant c tree) ≡ answer)
 query-of c (st.CreateTable table columns) answer e = absurd (cc e)
@@ -43,11 +43,8 @@ query-of c (st.ShowFresh table) answer e = absurd (cc e)
 query-of c (st.Impact table condition query) answer e = absurd (cc e)
 
 module _ (c : Contents) (statement : Statement) (answer : Answer) (asked_for : AsksFor c statement answer) where
-  run : is_unbuilt statement.body ≡ false
-  run = ap is_unbuilt (query-of c statement.body answer asked_for.is).1
-
   pub asked-select : asked c statement ≡ Settled (select c statement.at answer)
-  asked-select = asked-by_breaks c statement [] run asked_for.whole ∙ ap (asks c statement.at) asked_for.is
+  asked-select = asked-by_breaks c statement [] asked_for.whole ∙ ap (asks c statement.at) asked_for.is
 
   pub asked-meaning : (o : Outcome Bag) → meaning answer.query (rows_in c.rows) [] ≡ o → asked c statement ≡ Settled (on_good statement.at o (answered c answer))
   asked-meaning o e = asked-select ∙ ap (λ (found : Outcome Bag). Settled (on_good statement.at found (answered c answer))) e

@@ -8,7 +8,7 @@ use Rattle.bag_algebra.specs.declared.query.Answer.{Answer}
 use Rattle.perm_catalog.specs.Contents.{Contents}
 use Rattle.sql_tree.specs.declared.statement.Statement.{Statement}
 use Rattle.statement_meaning.specs.Answers.{Files, IsTurn, TakesTurn, can_be}
-use Rattle.statement_meaning.specs.Asking.{Asked, Settled, Begins, asked}
+use Rattle.statement_meaning.specs.Asking.{Asked, Settled, Begins, Explained, asked}
 use Rattle.statement_meaning.specs.Turns.{Turn, Cause, Accepted, Refused, answered, on_good}
 use Rattle.statement_meaning.specs.declared.refusal.StepRefusal.{StepRefusal}
 use Rattle.statement_laws.proofs.Answered.{asked-select}
@@ -25,6 +25,7 @@ pub files-keep : (files : Files) (asks : Asked) (old new : Contents) (refusal : 
     → TakesTurn (can_be files) asks old new (Err refusal) → new ≡ old
 files-keep files (Settled turn) old new refusal h = h.1
 files-keep files (Begins name after) old new refusal h = h.2.1
+files-keep files (Explained c answer) old new refusal h = h.1
 
 same_contents : (text other : List ℕ) (c new : Contents) → Accepted text c ≡ Accepted other new → new ≡ c
 same_contents text other c new e = sym (let same : c ≡ new = cc in same)

@@ -18,7 +18,7 @@ use Rattle.name_meaning.specs.Meanings.{broken}
 use Rattle.name_meaning.specs.declared.answer.Resolved.{Resolved}
 use Rattle.name_meaning.specs.declared.answer.Resolved.TheVariants as r
 use Rattle.name_meaning.specs.declared.rule.Rule.TheVariants as rule
-use Rattle.statement_meaning.specs.Asking.{Asked, Settled, Begins, asks}
+use Rattle.statement_meaning.specs.Asking.{Asked, Settled, Begins, Explained, asks}
 use Rattle.statement_meaning.specs.Turns.{Turn, Accepted, Refused, Broken, add_rows, add_unbroken, answered, copy, counting, drawing, goes, identity_of, on_good, row_value, rows_before, rows_deleted, rows_lost, store_answer, with_added, with_answer}
 use Rattle.contribution.proofs.WhereGood.{WhereGood}
 use Rattle.statement_laws.specs.Leaving.{Leaves, TurnLeaves}
@@ -81,7 +81,7 @@ module _ (P : Contents → Type 0) where
   leaves c at (r.DropTable name) h = h
   leaves c at (r.DropView name) h = h
   leaves c at (r.Select answer) h = leaves-on_good at (meaning answer.query (rows_in c.rows) []) (answered c answer) (λ rows. h)
-  leaves c at (r.Explain answer) h = tt
+  leaves c at (r.Explain answer) h = h
   leaves c at (r.ShowFresh name) h = h
   leaves c at (r.Impact name condition answer) h =
       let id : ℕ = identity_of c name in
@@ -96,6 +96,7 @@ module _ (P : Contents → Type 0) where
   pub sound-leaves : (a : Asked) → KeepsSound a → Leaves (λ d. IsSound d → P d) a → Leaves P a
   sound-leaves (Settled turn) sound h = sound-turn turn sound h
   sound-leaves (Begins name after) sound h = λ found. sound-turn (after found) (sound found) (h found)
+  sound-leaves (Explained c answer) sound h = h sound
 
 module _ (P Q : Contents → Type 0) (weaker : (d : Contents) → P d → Q d) where
   turn-weaker : (turn : Turn) → TurnLeaves P turn → TurnLeaves Q turn
@@ -105,6 +106,7 @@ module _ (P Q : Contents → Type 0) (weaker : (d : Contents) → P d → Q d) w
   pub leaves-weaker : (a : Asked) → Leaves P a → Leaves Q a
   leaves-weaker (Settled turn) h = turn-weaker turn h
   leaves-weaker (Begins name after) h = λ found. turn-weaker (after found) (h found)
+  leaves-weaker (Explained c answer) h = weaker c h
 
 -- where it holds of what a good outcome leads to
 pub leaves-good : {X : Type 0} (P : Contents → Type 0) (Q : X → Type 0) (at : ℕ) (o : Outcome X) (next : X → Turn) → WhereGood Q o

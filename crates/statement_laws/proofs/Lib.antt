@@ -1,5 +1,6 @@
 pub mod Adds
 pub mod Answered
+pub mod Explained
 pub mod Freshened
 pub mod Freshness
 pub mod Headline

@@ -23,12 +23,9 @@ use Rattle.sql_tree.specs.declared.name.Name.{Name}
 use Rattle.sql_tree.specs.declared.query.QueryTree.{QueryTree}
 use Rattle.sql_tree.specs.declared.statement.Statement.{Statement}
 use Rattle.sql_tree.specs.declared.statement.StatementBody.{StatementBody}
-use Rattle.sql_tree.specs.declared.statement.StatementBody.TheVariants as st
-use Rattle.name_meaning.specs.Statements.{resolved_body}
-use Rattle.name_meaning.specs.declared.answer.Resolved.TheVariants as r
 use Rattle.statement_meaning.proofs.Asked.{asked-by_breaks}
 use Rattle.statement_meaning.proofs.Lost.{lost-vanish}
-use Rattle.statement_meaning.specs.Asking.{Settled, asked, asks, is_unbuilt}
+use Rattle.statement_meaning.specs.Asking.{Settled, asked, asks}
 use Rattle.statement_meaning.specs.Turns.{Turn, Accepted, Refused, Meets, answer_text, answered, goes, identity_of, impact, on_good, reads, rows_before, rows_going, rows_lost}
 use Rattle.statement_laws.proofs.Answered.{listed-text, same_text}
 use Rattle.statement_laws.proofs.Provenance.{same_bag-holds}
@@ -36,26 +33,10 @@ use Rattle.statement_laws.specs.Lost.{AsksImpact, ListsLost, MeetsLost, of_query
 
 -- ---- what it asks for
 
--- a statement that is resolved to an IMPACT is run
-run-of : (c : Contents) (body : StatementBody) (name : List ℕ) (condition : Option Expr) (answer : Answer) → resolved_body c body ≡ r.Impact name condition answer
-    → is_unbuilt body ≡ false
-run-of c (st.CreateTable table columns) name condition answer e = refl
-run-of c (st.CreateTableAs table query) name condition answer e = refl
-run-of c (st.CreateView view query) name condition answer e = refl
-run-of c (st.Copy table file header null_field) name condition answer e = refl
-run-of c (st.Insert table rows) name condition answer e = refl
-run-of c (st.Delete table tree) name condition answer e = refl
-run-of c (st.DropTable table) name condition answer e = refl
-run-of c (st.DropView view) name condition answer e = refl
-run-of c (st.Select query) name condition answer e = refl
-run-of c (st.Explain query) name condition answer e = absurd (cc e)
-run-of c (st.ShowFresh table) name condition answer e = refl
-run-of c (st.Impact table tree query) name condition answer e = refl
-
 pub asked-impact : (c : Contents) (statement : Statement) (name : List ℕ) (condition : Option Expr) (answer : Answer) → AsksImpact c statement name condition answer
     → asked c statement ≡ Settled (impact c statement.at name condition answer)
 asked-impact c statement name condition answer asked_for =
-    asked-by_breaks c statement [] (run-of c statement.body name condition answer asked_for.is) asked_for.whole ∙ ap (asks c statement.at) asked_for.is
+    asked-by_breaks c statement [] asked_for.whole ∙ ap (asks c statement.at) asked_for.is
 
 -- ---- the rows
 

@@ -1,13 +1,17 @@
 -- A statement that breaks no rule names what is there, and its query can run.
-use Rattle.std.proofs.Common.{◌≡◌, ℕ, Bool, true, false, cond, not, ◌||◌, List, [], ◌∷◌, ◌++◌, Option, Some, None, IsSome, refl, sym, ap, subst}
+use Rattle.std.proofs.Common.{◌≡◌, ◌∙◌, ℕ, suc, Bool, true, false, cond, not, ◌||◌, List, [], ◌∷◌, ◌++◌, length, Option, Some, None, IsSome, refl, sym, ap, subst}
+use Rattle.std.proofs.lemmas.List.Elements.{All-contains}
 use Rattle.std.specs.Option.{option_map_or}
 use Rattle.std.specs.Prelude.{is_none, is_some}
+use Rattle.bag_algebra.proofs.TablesRead.{each_table-from_told}
+use Rattle.bag_algebra.specs.TablesRead.{EachTable, TableRead, tables_read}
 use Rattle.monotone_queries.specs.Conditions.{ConditionFits}
 use Rattle.perm_catalog.specs.Changes.{table_named, view_named, is_free}
 use Rattle.perm_catalog.specs.Contents.{Contents}
 use Rattle.perm_catalog.specs.Lookups.{first_user}
-use Rattle.perm_catalog.specs.Sound.{IsSound}
+use Rattle.perm_catalog.specs.Sound.{IsHeldRead, IsSound, IsSoundAnswer}
 use Rattle.perm_catalog.specs.declared.entries.TableEntry.{TableEntry}
+use Rattle.perm_catalog.specs.declared.entries.ViewEntry.{ViewEntry}
 use Rattle.sql_tree.specs.Regular.{RegularStatement, RegularStatementBody, RegularQuery}
 use Rattle.sql_tree.specs.declared.expression.ExprTree.{ExprTree}
 use Rattle.sql_tree.specs.declared.name.Name.{Name}
@@ -15,16 +19,19 @@ use Rattle.sql_tree.specs.declared.query.QueryTree.{QueryTree}
 use Rattle.sql_tree.specs.declared.statement.Statement.{Statement}
 use Rattle.sql_tree.specs.declared.statement.StatementBody.{StatementBody}
 use Rattle.sql_tree.specs.declared.statement.StatementBody.TheVariants as st
-use Rattle.name_meaning.specs.Meanings.{broken, broken_if, is_whole}
-use Rattle.name_meaning.specs.Froms.{names_of}
+use Rattle.name_meaning.specs.Meanings.{OutColumn, QueryMeant, broken, broken_if, is_whole}
+use Rattle.name_meaning.specs.Froms.{names_of, settled_columns}
 use Rattle.name_meaning.specs.Queries.{may_not_ask}
-use Rattle.name_meaning.specs.Statements.{alone, answer_of, columns_of, delete_made, has_boolean, impact_query, query_meant, breaks, name_breaks, limit_breaks, named_query_breaks, on_table, repeated_columns, repeats, resolved, resolved_body, taken, unknown_table, unknown_view, used}
+use Rattle.name_meaning.specs.Statements.{alone, answer_of, columns_of, delete_made, has_boolean, impact_query, query_meant, breaks, name_breaks, limit_breaks, named_query_breaks, on_table, repeated_columns, repeats, resolved, resolved_body, taken, unknown_table, unknown_view, used, view_entry}
 use Rattle.name_meaning.specs.declared.answer.Break.{Break}
 use Rattle.name_laws.proofs.Every.{front-none, back-none}
 use Rattle.name_laws.proofs.Impacts.{impact-stands}
-use Rattle.name_laws.proofs.TreeLaws.{query-closed}
+use Rattle.name_laws.proofs.Named.{view-reads}
+use Rattle.name_laws.proofs.TreeLaws.{query-answer, query-closed, query-wide}
 use Rattle.name_laws.proofs.FittingTables.{tables-fit}
-use Rattle.statement_meaning.specs.Ready.{CanLose, CanRun, IsReady}
+use Rattle.name_laws.specs.Formed.{IsAnswer}
+use Rattle.stored_provenance.specs.Held.{IsHeldTable}
+use Rattle.statement_meaning.specs.Ready.{CanExplain, CanLose, CanRun, IsReady}
 use Rattle.name_meaning.specs.declared.rule.Rule.TheVariants as rule
 use Rattle.name_meaning.specs.declared.rule.Rule.{Rule}
 
@@ -59,6 +66,10 @@ nothing : {X : Type 0} (o : Option X) → is_some o ≡ false → o ≡ None
 nothing None e = refl
 nothing (Some x) e = absurd (cc e)
 
+pub names-long : (columns : List OutColumn) → length (names_of (settled_columns columns)) ≡ length columns
+names-long [] = refl
+names-long (column ∷ columns) = ap suc (names-long columns)
+
 module _ (c : Contents) where
   free : (name : Name) → taken c name ≡ [] → is_free c name.text ≡ true
   free name e = not-false (is_free c name.text) (unbroken (not (is_free c name.text)) rule.TakenName name.at e)
@@ -84,6 +95,32 @@ module _ (c : Contents) where
     formed = (query-closed c tree alone sound regular whole refl []).0;
     fitting = tables-fit c tree alone sound [];
   }
+
+  -- what it reads is held
+  held-read : (view : ViewEntry) (read : TableRead) → IsHeldRead c view read → IsHeldTable c read.id read.kinds
+  held-read view read h = record { name = h.name; table = h.table; named = h.named; same = h.id; kinds_are = h.kinds }
+
+  pub tables-held : (tree : QueryTree) → IsSound c → EachTable (IsHeldTable c) ((query_meant c tree).make [])
+  tables-held tree sound =
+      let m : QueryMeant = query_meant c tree in
+      each_table-from_told (IsHeldTable c) (m.make [])
+      (λ read among. held-read (view_entry m) read
+      (All-contains (IsHeldRead c (view_entry m)) (tables_read (m.make [])) read (view-reads c sound tree) among))
+
+  -- it has as many names as columns, and its keys are among these
+  pub sound-answer : (tree : QueryTree) → IsSound c → RegularQuery tree → (query_meant c tree).breaks ≡ [] → IsSoundAnswer (answer_of (query_meant c tree))
+  sound-answer tree sound regular whole =
+      let a : IsAnswer (query_meant c tree) = query-answer c tree alone sound regular whole in
+      record {
+        closed = (query-closed c tree alone sound regular whole refl []).0;
+        some = query-wide c tree alone sound regular whole [];
+        named = ap (λ (o : Option (List OutColumn)). length (names_of (option_map_or settled_columns o []))) a.known ∙ names-long a.columns ∙ a.named [];
+        keys = a.keys [];
+      }
+
+  can_explain : (tree : QueryTree) → IsSound c → RegularQuery tree → (query_meant c tree).breaks ≡ [] → CanExplain c (answer_of (query_meant c tree))
+  can_explain tree sound regular whole =
+      record { sound = sound; is = sound-answer tree sound regular whole; held = tables-held tree sound }
 
   -- what breaks no rule of CREATE TABLE AS
   pub named-whole : (table : Name) (tree : QueryTree) → name_breaks c (st.CreateTableAs table tree) ≡ []
@@ -128,7 +165,7 @@ module _ (c : Contents) where
   body-ready (st.DropView view) sound regular whole =
       (known-view view (front-none (unknown_view c view) (used c view) whole), unused view (back-none (unknown_view c view) (used c view) whole))
   body-ready (st.Select query) sound regular whole = can_run query sound regular whole
-  body-ready (st.Explain query) sound regular whole = tt
+  body-ready (st.Explain query) sound regular whole = can_explain query sound regular whole
   body-ready (st.ShowFresh table) sound regular whole = known table whole
   body-ready (st.Impact table condition query) sound regular whole = can_lose table condition query sound regular whole
 

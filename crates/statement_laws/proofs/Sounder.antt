@@ -199,7 +199,7 @@ module _ (new_mark : NewMark) (c : Contents) (sound : IsSound c) where
   keeps-sound at (r.Select answer) ready adds =
       leaves-good IsSound (λ (rows : Bag). Unit {0}) at (meaning answer.query (rows_in c.rows) []) (answered c answer)
       (any_value (meaning answer.query (rows_in c.rows) [])) (λ rows h. sound)
-  keeps-sound at (r.Explain answer) ready adds = tt
+  keeps-sound at (r.Explain answer) ready adds = sound
   keeps-sound at (r.ShowFresh name) ready adds = sound
   keeps-sound at (r.Impact name condition answer) ready adds =
       let id : ℕ = identity_of c name in

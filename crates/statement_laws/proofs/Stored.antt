@@ -1,24 +1,21 @@
 -- What CREATE TABLE AS adds, where it breaks no rule: columns of a table, and what a query gives that reads the catalog's tables.
 use Rattle.std.proofs.Common.{◌≡◌, ◌≢◌, ◌∙◌, ℕ, suc, ◌<◌, Bool, true, false, cond, List, [], ◌∷◌, ◌++◌, length, Option, Some, None, IfSome, refl, sym, ap, subst, arith}
-use Rattle.std.proofs.lemmas.List.Elements.{All-nil, All-cons, All-contains}
+use Rattle.std.proofs.lemmas.List.Elements.{All-nil, All-cons}
 use Rattle.std.specs.Cmp.Lexicographic.{pointwise}
 use Rattle.std.specs.List.{All, AllByRecursion, IsDistinct, list_any}
 use Rattle.std.specs.Option.{option_map_or}
 use Rattle.std.specs.Prelude.{nat_eq, ℤ}
 use Rattle.perm_values.specs.declared.kind.Kind.{Kind}
 use Rattle.perm_values.specs.declared.kind.Kind.TheVariants as kind
-use Rattle.bag_algebra.proofs.TablesRead.{each_table-from_told}
 use Rattle.bag_algebra.specs.Kinds.{kinds_of, width_of}
-use Rattle.bag_algebra.specs.TablesRead.{EachTable, TableRead, tables_read}
 use Rattle.bag_algebra.specs.WellFormed.{PlacesIn}
 use Rattle.bag_algebra.specs.built.Openings.{Prov-is}
 use Rattle.bag_algebra.specs.built.Patterns.{ProvOf}
 use Rattle.bag_algebra.specs.declared.query.Query.{Query}
 use Rattle.perm_catalog.specs.Columns.{AreTableColumns, column_kinds, column_names}
 use Rattle.perm_catalog.specs.Contents.{Contents}
-use Rattle.perm_catalog.specs.Sound.{IsHeldRead, IsSound}
+use Rattle.perm_catalog.specs.Sound.{IsSound}
 use Rattle.perm_catalog.specs.declared.column.Column.{Column}
-use Rattle.perm_catalog.specs.declared.entries.ViewEntry.{ViewEntry}
 use Rattle.sql_tree.specs.Regular.{RegularQuery}
 use Rattle.sql_tree.specs.declared.name.Name.{Name}
 use Rattle.sql_tree.specs.declared.query.OrderTree.{OrderTree}
@@ -29,18 +26,16 @@ use Rattle.name_meaning.specs.Froms.{named_so, names_of, settled_columns}
 use Rattle.name_meaning.specs.Meanings.{Around, OutColumn, QueryMeant, broken_if}
 use Rattle.name_meaning.specs.Queries.{asks_provenance, keys_of, limited, plain_query, query_seen, query_with_provenance}
 use Rattle.name_meaning.specs.Scopes.{KnownColumn}
-use Rattle.name_meaning.specs.Statements.{alone, columns_of, has_boolean, name_breaks, named_query_breaks, query_meant, repeats, stored_columns, taken, view_entry}
+use Rattle.name_meaning.specs.Statements.{alone, columns_of, has_boolean, name_breaks, named_query_breaks, query_meant, repeats, stored_columns, taken}
 use Rattle.name_meaning.specs.Trees.{set_of_tree}
 use Rattle.name_meaning.specs.declared.rule.Rule.TheVariants as rule
 use Rattle.name_laws.proofs.Every.{back-none}
 use Rattle.name_laws.proofs.KindsOf.{kinds-settled_columns}
-use Rattle.name_laws.proofs.Named.{view-reads}
 use Rattle.name_laws.proofs.TreeLaws.{query-answer, query-closed, query-wide}
 use Rattle.name_laws.proofs.Trees.{query-known}
 use Rattle.name_laws.specs.Formed.{IsAnswer}
 use Rattle.name_laws.specs.Known.{HasItsKinds, column_kinds_of}
-use Rattle.stored_provenance.specs.Held.{IsHeldTable}
-use Rattle.statement_laws.proofs.Ready.{left-false, right-false, named-whole, query-whole, unbroken}
+use Rattle.statement_laws.proofs.Ready.{left-false, right-false, named-whole, query-whole, tables-held, unbroken}
 use Rattle.statement_laws.proofs.Words.{opened}
 use Rattle.statement_laws.specs.Sounder.{AddsAnswer, AsksAt}
 
@@ -161,20 +156,12 @@ module _ (c : Contents) (sound : IsSound c) (table : Name) (tree : QueryTree) (r
       ∙ ap column_kinds_of (sym (ap (λ (o : Option (List OutColumn)). option_map_or settled_columns o []) shown.known))
       ∙ sym (kinds-stored (columns_of m))
 
-  held-read : (view : ViewEntry) (read : TableRead) → IsHeldRead c view read → IsHeldTable c read.id read.kinds
-  held-read view read h = record { name = h.name; table = h.table; named = h.named; same = h.id; kinds_are = h.kinds }
-
-  tables-held : EachTable (IsHeldTable c) (m.make [])
-  tables-held = each_table-from_told (IsHeldTable c) (m.make [])
-      (λ read among. held-read (view_entry m) read
-      (All-contains (IsHeldRead c (view_entry m)) (tables_read (m.make [])) read (view-reads c sound tree) among))
-
   pub answer-adds : AddsAnswer c columns (m.make []) m.places
   answer-adds = record {
     columns_are = columns-are;
     closed = (query-closed c tree alone sound regular query_none refl []).0;
     kinds = kinds-are;
-    held = tables-held;
+    held = tables-held c tree sound;
     asks = asks-at columns (m.make []) (width_of (m.make [])) m.places wide
         (subst AsksWhereMarked (sym (opened c tree)) (asks-seen alone tree.at (set_of_tree c tree.body) tree.order tree.limit)) answer.places;
   }

@@ -1,6 +1,5 @@
 -- A query's rows are as wide as its header.
 use Rattle.std.proofs.Common.{◌≡◌, ◌∙◌, List, [], length, refl, sym, ap, subst}
-use Rattle.std.proofs.lemmas.List.{length-map}
 use Rattle.std.specs.Option.{option_map_or}
 use Rattle.bag_algebra.proofs.MembersByIndex.{contains-from_in}
 use Rattle.bag_algebra.specs.Bags.{Row, Bag}
@@ -24,13 +23,10 @@ use Rattle.name_meaning.specs.Meanings.{Around, OutColumn, query_means_at}
 use Rattle.name_meaning.specs.Statements.{alone, answer_of, name_breaks}
 use Rattle.name_meaning.specs.Trees.{query_of}
 use Rattle.name_laws.proofs.TreeLaws.{query-answer}
-use Rattle.statement_laws.proofs.Ready.{names-whole}
+use Rattle.statement_laws.proofs.Ready.{names-long, names-whole}
 use Rattle.statement_laws.proofs.Answered.{query-of}
 use Rattle.statement_laws.proofs.Provenance.{fitting-query}
 use Rattle.statement_laws.specs.Asks.{AsksFor}
-
-names-long : (columns : List OutColumn) → length (names_of (settled_columns columns)) ≡ length columns
-names-long columns = simp (length-map) refl
 
 pub tree-named : (c : Contents) (tree : QueryTree) (around : Around) → IsSound c → RegularQuery tree → (query_means_at (query_of c tree) around).breaks ≡ []
     → length (answer_of (query_means_at (query_of c tree) around)).names ≡ width_of (answer_of (query_means_at (query_of c tree) around)).query

@@ -19,6 +19,11 @@ pub record AsksFor (c : Contents) (statement : Statement) (answer : Answer) : Ty
   pub whole : breaks c statement ≡ []
   pub is : resolved c statement ≡ r.Select answer
 
+-- the statement is an EXPLAIN that breaks no rule, limits included, and this is what its query is resolved to
+pub record AsksToExplain (c : Contents) (statement : Statement) (answer : Answer) : Type 0 where
+  pub whole : breaks c statement ≡ []
+  pub is : resolved c statement ≡ r.Explain answer
+
 -- the word PROVENANCE stands at this offset behind the first SELECT, which is that of the one core, or of the first operand
 -- of set operations
 pub data HasWord (at : ℕ) : SetTree → Type 0 where

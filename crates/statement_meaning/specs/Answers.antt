@@ -1,6 +1,8 @@
 -- What a call answers that carries a statement out.
 use Rattle.std.specs.Prelude.{◌≡◌, ℕ, ◌<◌, Bool, true, false, List, Option, Result, Ok, Err, IsTrue}
+use Rattle.answer_texts.specs.Explains.{Explains}
 use Rattle.bag_algebra.specs.Outcome.{Faults, has}
+use Rattle.bag_algebra.specs.declared.query.Answer.{Answer}
 use Rattle.csv_tables.specs.declared.data_error.DataError.TheVariants as broken_rule
 use Rattle.perm_catalog.specs.Contents.{Contents}
 use Rattle.perm_io.specs.Counts.{HasRisen}
@@ -9,7 +11,7 @@ use Rattle.perm_io.specs.Told.{FilesTold}
 use Rattle.perm_io.specs.declared.named_file.NamedFile.{NamedFile}
 use Rattle.row_values.specs.declared.error.ExecError.{ExecError}
 use Rattle.row_values.specs.declared.error.ExecError.TheVariants as exec
-use Rattle.statement_meaning.specs.Asking.{Asked, Settled, Begins}
+use Rattle.statement_meaning.specs.Asking.{Asked, Settled, Begins, Explained}
 use Rattle.statement_meaning.specs.Turns.{Turn, Accepted, Refused, Broken, Meets, Missing, TooLarge, Unfit, Failed}
 use Rattle.statement_meaning.specs.declared.limits.TheConstants.{FILE_LIMIT}
 use Rattle.statement_meaning.specs.declared.refusal.StepRefusal.{StepRefusal}
@@ -35,6 +37,11 @@ abbrev pub IsText : Turn → Contents → Result (List ℕ) StepRefusal → Type
 IsText turn c (Ok text) = turn ≡ Accepted text c
 IsText turn c (Err refusal) = Names turn refusal
 
+-- the text explains the answer over these contents, which stay; or memory was wanting, and the catalog holds what it held
+abbrev pub IsExplained : Contents → Answer → Contents → Contents → Result (List ℕ) StepRefusal → Type 0
+IsExplained c answer old new (Ok text) = Explains c answer text × (new ≡ c)
+IsExplained c answer old new (Err refused) = (refused ≡ refusal.NoMemory) × (new ≡ old)
+
 -- the refusal of a statement at an offset, of which an evaluation names a fault
 abbrev pub met : ℕ → ExecError → StepRefusal
 met at (exec.Fault fault) = refusal.Run fault at
@@ -48,10 +55,12 @@ file_limit = FILE_LIMIT
 abbrev pub TakesTurn : (List ℕ → Found → Type 0) → Asked → Contents → Contents → Result (List ℕ) StepRefusal → Type 0
 TakesTurn Can (Settled turn) old new result = IsTurn turn old new result
 TakesTurn Can (Begins name after) old new result = (found : Found) × Can name found × IsTurn (after found) old new result
+TakesTurn Can (Explained c answer) old new result = IsExplained c answer old new result
 
 abbrev pub begins : Asked → Bool
 begins (Settled turn) = false
 begins (Begins name after) = true
+begins (Explained c answer) = false
 
 -- ---- files before and after a call
 

@@ -2,6 +2,7 @@
 use Rattle.std.specs.Prelude.{◌≡◌, ℕ, true, List, [], Option, None, IsSome}
 use Rattle.bag_algebra.specs.Fits.{TablesFit}
 use Rattle.bag_algebra.specs.TableRows.{rows_in}
+use Rattle.bag_algebra.specs.TablesRead.{EachTable}
 use Rattle.bag_algebra.specs.WellFormed.{WellFormed}
 use Rattle.bag_algebra.specs.declared.expr.Expr.{Expr}
 use Rattle.bag_algebra.specs.declared.query.Answer.{Answer}
@@ -10,6 +11,8 @@ use Rattle.monotone_queries.specs.Monotone.{is_monotone}
 use Rattle.perm_catalog.specs.Changes.{table_named, view_named, is_free}
 use Rattle.perm_catalog.specs.Contents.{Contents}
 use Rattle.perm_catalog.specs.Lookups.{first_user}
+use Rattle.perm_catalog.specs.Sound.{IsSound, IsSoundAnswer}
+use Rattle.stored_provenance.specs.Held.{IsHeldTable}
 use Rattle.name_meaning.specs.declared.answer.Resolved.{Resolved}
 use Rattle.name_meaning.specs.declared.answer.Resolved.TheVariants as r
 use Rattle.statement_meaning.specs.Turns.{identity_of}
@@ -18,6 +21,13 @@ use Rattle.statement_meaning.specs.Turns.{identity_of}
 pub record CanRun (c : Contents) (answer : Answer) : Type 0 where
   pub formed : WellFormed [] answer.query
   pub fitting : TablesFit (rows_in c.rows) answer.query
+
+-- over a sound catalog: a query that can run and has a column, whose tables are the catalog's, with as many names as columns, and keys
+-- among these
+pub record CanExplain (c : Contents) (answer : Answer) : Type 0 where
+  pub sound : IsSound c
+  pub is : IsSoundAnswer answer
+  pub held : EachTable (IsHeldTable c) answer.query
 
 -- a monotone query that can run, a table that is known, and a condition that is a truth on the rows of it that the query reads
 pub record CanLose (c : Contents) (name : List ℕ) (condition : Option Expr) (answer : Answer) : Type 0 where
@@ -36,6 +46,6 @@ IsReady c (r.Delete name condition) = IsSome (table_named c name)
 IsReady c (r.DropTable name) = IsSome (table_named c name) × (first_user c name ≡ None)
 IsReady c (r.DropView name) = IsSome (view_named c name) × (first_user c name ≡ None)
 IsReady c (r.Select answer) = CanRun c answer
-IsReady c (r.Explain answer) = Unit {0}
+IsReady c (r.Explain answer) = CanExplain c answer
 IsReady c (r.ShowFresh name) = IsSome (table_named c name)
 IsReady c (r.Impact name condition answer) = CanLose c name condition answer

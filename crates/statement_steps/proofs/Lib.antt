@@ -1,3 +1,4 @@
+mod Explained
 mod Lost
 pub mod Selected
 pub mod Unfiled

@@ -18,7 +18,7 @@ use Rattle.name_meaning.specs.Meanings.{broken}
 use Rattle.name_meaning.specs.declared.answer.Resolved.{Resolved}
 use Rattle.name_meaning.specs.declared.answer.Resolved.TheVariants as r
 use Rattle.statement_meaning.specs.Answers.{Files, Names, IsTurn, IsText, IsBacked, RestsOn, TakesTurn, can_be, failed, has_failed, over}
-use Rattle.statement_meaning.specs.Asking.{Asked, Settled, Begins, asks}
+use Rattle.statement_meaning.specs.Asking.{Asked, Settled, Begins, Explained, asks}
 use Rattle.statement_meaning.specs.Carrying.{IsCarriedOut}
 use Rattle.statement_meaning.specs.Turns.{Turn, Accepted, Refused, Broken, Meets, Missing, TooLarge, Unfit, Failed, on_good, drawing, counting, identity_of, add_rows, answered, goes, row_value, rows_before, rows_deleted, rows_lost, store_answer, with_added, with_answer}
 use Rattle.statement_meaning.specs.declared.refusal.StepRefusal.{StepRefusal}
@@ -48,6 +48,7 @@ waited at (Bad faults) next h = refl
 abbrev pub Unfiled : Asked → Type 0
 Unfiled (Settled turn) = of_file turn ≡ false
 Unfiled (Begins name after) = Unit {0}
+Unfiled (Explained c answer) = Unit {0}
 
 pub asks-unfiled : (c : Contents) (at : ℕ) (statement : Resolved) → Unfiled (asks c at statement)
 asks-unfiled c at (r.CreateTable name columns) = drawn c at (codes "CREATE TABLE\n") (with_table c name columns [] None)
@@ -66,7 +67,7 @@ asks-unfiled c at (r.Delete name condition) =
 asks-unfiled c at (r.DropTable name) = refl
 asks-unfiled c at (r.DropView name) = refl
 asks-unfiled c at (r.Select answer) = waited at (meaning answer.query (rows_in c.rows) []) (answered c answer) (λ rows. refl)
-asks-unfiled c at (r.Explain answer) = refl
+asks-unfiled c at (r.Explain answer) = tt
 asks-unfiled c at (r.ShowFresh name) = refl
 asks-unfiled c at (r.Impact name condition answer) =
     let id : ℕ = identity_of c name in
@@ -102,16 +103,21 @@ settled-backed : (asked : Asked) (old new : Contents) (result : Result (List ℕ
 settled-backed (Settled turn) old new (Ok text) none takes seen = tt
 settled-backed (Settled turn) old new (Err refused) none takes seen = rests turn refused none takes.0 seen
 settled-backed (Begins name after) old new result none takes seen = absurd takes
+settled-backed (Explained c answer) old new (Ok text) none takes seen = tt
+settled-backed (Explained c answer) old new (Err refused) none takes seen = subst (λ (r : StepRefusal). RestsOn r seen) (sym takes.0) tt
 
 settled-unfailed : (asked : Asked) (old new : Contents) (result : Result (List ℕ) StepRefusal) → Unfiled asked → IsSettled asked old new result → has_failed result ≡ false
 settled-unfailed (Settled turn) old new (Ok text) none takes = refl
 settled-unfailed (Settled turn) old new (Err refused) none takes = stands_still turn refused none takes.0
 settled-unfailed (Begins name after) old new result none takes = absurd takes
+settled-unfailed (Explained c answer) old new (Ok text) none takes = refl
+settled-unfailed (Explained c answer) old new (Err refused) none takes = ap failed takes.0
 
 settled-takes : (Can : List ℕ → Found → Type 0) (asked : Asked) (old new : Contents) (result : Result (List ℕ) StepRefusal) → IsSettled asked old new result
     → TakesTurn Can asked old new result
 settled-takes Can (Settled turn) old new result takes = takes
 settled-takes Can (Begins name after) old new result takes = absurd takes
+settled-takes Can (Explained c answer) old new result takes = takes
 
 pub settled-carried : (asked : Asked) (old new : Contents) (result : Result (List ℕ) StepRefusal) → Unfiled asked → IsSettled asked old new result
     → (told : FilesTold) → IsCarriedOut asked old new result (over told told)

@@ -1,3 +1,4 @@
+pub mod Explaining
 pub mod Fresh
 pub mod Printed
 pub mod Running

@@ -6,14 +6,13 @@ ghost use Rattle.statement_meaning.specs.Turns.{create_table_as, select, store_a
 ghost use Rattle.statement_steps.specs.Printed.{IsPrinted};
 ghost use Rattle.statement_steps.specs.Runs.{IsAnswered, IsRun, Runs};
 
+use crate::plain::plain_query;
 use crate::runner::Runner;
 use bag_algebra::Answer;
 use csv_tables::answer_text;
 use perm_catalog::Catalog;
 use perm_values::{Bytes, Chars};
-use rewrite_driver::eliminate;
 use row_values::ExecError;
-use simplifier::simplify;
 use statement_changes::{NewTable, store_answer};
 use statement_meaning::StepRefusal;
 use std::alloc::Global;
@@ -67,9 +66,8 @@ fn run(
     requires { CanRun catalog.now answer.now }
     ensures { Runs catalog.now answer.now result runner.new }
 {
-    let plain = eliminate(alloc, &answer.query)?;
-    let simpler = simplify(alloc, plain)?;
-    runner.run(alloc, simpler, answer.keys.as_slice(), catalog.tables())
+    let plain = plain_query(alloc, &answer.query)?;
+    runner.run(alloc, plain, answer.keys.as_slice(), catalog.tables())
 }
 
 /// A table of the last run's rows in their order.

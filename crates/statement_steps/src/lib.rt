@@ -2,16 +2,17 @@
 #![tactic(auto)]
 
 mod answering;
-mod forms;
+mod explaining;
 mod fresh;
 mod losing;
 mod order;
+mod plain;
 mod ran;
 mod runner;
 mod stepping;
 
 pub use answering::{create_table_as, select};
-pub use forms::is_unbuilt;
+pub use explaining::explain;
 pub use fresh::show_fresh;
 pub use losing::impact;
 pub use ran::Ran;

@@ -9,10 +9,11 @@ ghost use Rattle.statement_steps.specs.Running.{KeepsRun};
 ghost use Rattle.statement_steps.specs.Settling.{IsSettled};
 
 use crate::answering::{create_table_as, select};
+use crate::explaining::explain;
 use crate::fresh::show_fresh;
 use crate::losing::impact;
 use crate::runner::Runner;
-use name_meaning::{Break, Resolved, Rule};
+use name_meaning::Resolved;
 use perm_catalog::Catalog;
 use perm_io::Files;
 use perm_values::Bytes;
@@ -124,10 +125,7 @@ fn settled(
         Resolved::DropTable { name } => drop_table(alloc, catalog, name),
         Resolved::DropView { name } => drop_view(alloc, catalog, name),
         Resolved::Select { answer } => select(alloc, catalog, at, answer, runner),
-        Resolved::Explain { .. } => Err(StepRefusal::Break(Break {
-            rule: Rule::UnbuiltForm,
-            at,
-        })),
+        Resolved::Explain { answer } => Ok(explain(alloc, catalog, answer)?),
         Resolved::ShowFresh { name } => Ok(show_fresh(alloc, catalog, name)?),
         Resolved::Impact {
             name,

@@ -10,7 +10,7 @@ use Rattle.bag_algebra.specs.declared.query.Query.{Query}
 use Rattle.null_logic.specs.declared.operator.Operator.TheVariants as op
 use Rattle.bag_algebra.specs.declared.expr.Expr.{more_of-Expr, end_of-Expr}
 use Rattle.name_meaning.specs.declared.answer.Resolved.TheVariants as r
-use Rattle.statement_meaning.specs.Asking.{Settled, asks}
+use Rattle.statement_meaning.specs.Asking.{Settled, Explained, asks}
 use Rattle.statement_meaning.specs.Turns.{Accepted}
 use Rattle.worked_examples.specs.HeldRows.{answering, column, holding, item, number, reckoned, select, selected, source_r, source_s, whole, word}
 
@@ -33,6 +33,12 @@ pub once :
 unfolding digits
 once =
     selected ((whole 1 ∷ word (codes "x") ∷ []) ∷ (whole 1 ∷ word (codes "x") ∷ []) ∷ []) [] 0 (answering (ProvOf select_a) (codes "a" ∷ codes "prov_r_a" ∷ codes "prov_r_b" ∷ []) [])
+
+-- any text will do that explains it, and nothing is run: EXPLAIN REWRITE SELECT PROVENANCE a FROM r
+pub explained :
+    asks (holding [] []) 0 (r.Explain (answering (ProvOf select_a) (codes "a" ∷ codes "prov_r_a" ∷ codes "prov_r_b" ∷ []) []))
+    ≡ Explained (holding [] []) (answering (ProvOf select_a) (codes "a" ∷ codes "prov_r_a" ∷ codes "prov_r_b" ∷ []) [])
+explained = refl
 
 -- DESC turns the order of its key, so NULL comes first: SELECT a, b FROM r ORDER BY b DESC, 1
 pub in_order :

@@ -5,7 +5,7 @@ ghost use Rattle.run_meaning.specs.Run.{Ran, Runs};
 ghost use Rattle.run_meaning.specs.Scripts.{IsScriptOf, IsMisspelled};
 ghost use Rattle.perm_io.specs.declared.named_file.NamedFile.{NamedFile};
 ghost use Rattle.sql_tree.specs.declared.statement.Script.{Script};
-ghost use Rattle.run_meaning.specs.Same.{SameRun};
+ghost use Rattle.run_meaning.specs.Same.{IsUnbroken, SameRun};
 
 use crate::laws::bytes_are_one_script;
 use sql_lexer::lexing_is_unique;
@@ -22,13 +22,14 @@ pub fn a_misspelling_has_one_break()
     tokens_spell_a_script_or_one_is_unexpected();
 }
 
-/// A command line has a run over files whose bytes are told and of which none fails, and no two, but for which of the faults is
-/// named that a statement meets.
+/// A command line has a run over files whose bytes are told and of which none fails, though maybe one that breaks off at an EXPLAIN
+/// for want of memory; and of the others no two, but for which of the faults is named that a statement meets, and by which texts
+/// EXPLAIN statements are answered, which explain the same answers.
 pub fn told_files_have_one_run()
     ensures some { (words : List (List ℕ)) (held : List NamedFile)
         → (ran : Ran) × Runs words (Some held) ⊥ ran }
     ensures one { (words : List (List ℕ)) (held : List NamedFile) (a b : Ran)
-        → Runs words (Some held) ⊥ a → Runs words (Some held) ⊥ b → SameRun a b }
+        → Runs words (Some held) ⊥ a → Runs words (Some held) ⊥ b → IsUnbroken a → IsUnbroken b → SameRun a b }
 {
     a_misspelling_has_one_break();
     bytes_are_one_script();

@@ -1,5 +1,6 @@
 //! Each law is the contract of a function that does nothing.
-ghost use Rattle.std.specs.Prelude.{◌≡◌, ◌↔◌, ℕ, true, List, [], ◌∷◌, ◌++◌, length, take, Option, Result, Err};
+ghost use Rattle.std.specs.Prelude.{◌≡◌, ◌↔◌, ℕ, true, List, [], ◌∷◌, ◌++◌, length, take, Option, Result, Ok, Err};
+ghost use Rattle.answer_texts.specs.Explains.{Explains};
 ghost use Rattle.bag_algebra.specs.Bags.{Row, Bag};
 ghost use Rattle.bag_algebra.specs.Kinds.{width_of};
 ghost use Rattle.bag_algebra.specs.Meaning.{Database, meaning, witnesses};
@@ -22,8 +23,9 @@ ghost use Rattle.sql_tree.specs.declared.statement.StatementBody.TheVariants as 
 ghost use Rattle.statement_meaning.specs.Answers.{Files, IsTurn, TakesTurn, can_be};
 ghost use Rattle.statement_meaning.specs.Asking.{Asked, Settled, asked};
 ghost use Rattle.statement_meaning.specs.Turns.{Turn, Cause, Accepted, Refused, Meets, identity_of, rows_before};
+ghost use Rattle.statement_meaning.specs.declared.refusal.StepRefusal.TheVariants.{NoMemory as OutOfMemory};
 ghost use Rattle.statement_meaning.specs.declared.refusal.StepRefusal.{StepRefusal};
-ghost use Rattle.statement_laws.specs.Asks.{AsksFor, HasWord, IsResolved, WithoutWord, shown_names, with_body};
+ghost use Rattle.statement_laws.specs.Asks.{AsksFor, AsksToExplain, HasWord, IsResolved, WithoutWord, shown_names, with_body};
 ghost use Rattle.statement_laws.specs.Beside.{IsBeside};
 ghost use Rattle.statement_laws.specs.Lost.{AsksImpact, ListsLost, MeetsLost};
 ghost use Rattle.statement_laws.specs.Printed.{ListsBag, ListsBeside};
@@ -161,4 +163,16 @@ pub fn an_impact_answers_the_rows_that_vanish()
     ensures one_text { (answer : Answer) (id : ℕ) (condition : Option Expr) (db : Database)
         (text other : List ℕ)
         → ListsLost answer id condition db text → ListsLost answer id condition db other → text ≡ other }
+{}
+
+/// An EXPLAIN that breaks no rule: a text that answers it explains what its query is resolved to, and nothing but want of memory
+/// refuses it; and the catalog is as before.
+pub fn an_explanation_means_what_its_query_means()
+    ensures text { (files : Files) (c new : Contents) (statement : Statement) (answer : Answer)
+        → AsksToExplain c statement answer → (text : List ℕ)
+        → TakesTurn (can_be files) (asked c statement) c new (Ok text) → Explains c answer text × (new ≡ c) }
+    ensures refused { (files : Files) (c new : Contents) (statement : Statement) (answer : Answer)
+        → AsksToExplain c statement answer → (refusal : StepRefusal)
+        → TakesTurn (can_be files) (asked c statement) c new (Err refusal)
+        → (refusal ≡ OutOfMemory) × (new ≡ c) }
 {}

@@ -3,7 +3,7 @@ use Rattle.std.proofs.lemmas.Result.{err_from_is_err_and}
 use Rattle.name_meaning.specs.Statements.{resolved}
 use Rattle.statement_meaning.specs.Answers.{over}
 use Rattle.run_meaning.proofs.Stepping.{asked-carried, begins-made, due-carried, due-refused, made-ran, refused-ran, refused-takes, refused-backed, refused-unfailed, refused-unbegun}
-use Rattle.perm_engine.specs.Due.{due_breaks}
+use Rattle.name_statements.specs.Own.{own_breaks}
 use Rattle.perm_engine.proofs.session.Session.step.Goals as goal
 
 pub resolved_statement-requires : goal.resolved_statement-requires
@@ -26,7 +26,7 @@ returns-in_err-resolved g c =
         held = refl;
       };
       sound = c.self.invariant;
-      due = due-refused (due_breaks held statement) refused c.in_err-resolved.ensures.due;
+      due = due-refused (own_breaks held statement.body) refused c.in_err-resolved.ensures.due;
       begun = refused-unbegun held statement files refused h (g.F.Files.told f).begun;
       unbegun = λ none. refl;
       ran = refused-ran held (resolved held statement) refused c.self.inside.runner;
@@ -50,7 +50,7 @@ returns g c =
       done = asked-carried c.self.inside.catalog c.carried_out-told.new.catalog c.args.statement c.in_ok-resolved.resolved c.carried_out-told.result files
           resolves c.carried_out-told.ensures.done;
       sound = c.carried_out-told.ensures.sound;
-      due = due-carried (due_breaks c.self.inside.catalog c.args.statement) c.in_ok-resolved.resolved c.carried_out-told.result c.in_ok-resolved.ensures.due;
+      due = due-carried (own_breaks c.self.inside.catalog c.args.statement.body) c.in_ok-resolved.resolved c.carried_out-told.result c.in_ok-resolved.ensures.due;
       begun = λ some. inl (c.carried_out-told.ensures.begun (subst IsTrue (sym begins) some));
       unbegun = λ none. c.carried_out-told.ensures.unbegun (begins ∙ none);
       ran = made-ran c.self.inside.catalog c.args.statement c.in_ok-resolved.resolved c.carried_out-told.result c.self.inside.runner c.carried_out-told.new.runner
