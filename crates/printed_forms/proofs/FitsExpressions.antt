@@ -6,7 +6,7 @@ use Rattle.std.specs.Prelude.{◌==◌, slice_index_or}
 use Rattle.std.specs.Str.{IsAscii, IsUtf8}
 use Rattle.std.proofs.lemmas.Bool.Decides.{nat_tests}
 use Rattle.std.proofs.lemmas.Str.{IsAscii-drop, IsUtf8-append, IsUtf8-from_ascii}
-use Rattle.core.proofs.fmt.DigitsParse.{digits-IsUtf8}
+use Rattle.std.proofs.DigitsParse.{digits-IsUtf8}
 use Rattle.null_logic.specs.Arithmetic.{fits_64}
 use Rattle.null_logic.specs.declared.compare.Compare.TheVariants as compare
 use Rattle.null_logic.specs.declared.operator.Operator.{Operator}

@@ -317,9 +317,9 @@ mutual
   intersects_plain (f.an_intersect every right more) = ((tt, (all_plain every, core_plain right)), intersects_plain more)
 
   query_plain : (form : QueryForm) → Plain (plan.query form)
-  query_plain (f.one first keys number) = (core_plain first, (tt, (tt, (keys_plain keys, limit_plain number))))
-  query_plain (f.united first kind every right more keys number) = (
-    core_plain first,
+  query_plain (f.one lone keys number) = (core_plain lone, (tt, (tt, (keys_plain keys, limit_plain number))))
+  query_plain (f.united lone kind every right more keys number) = (
+    core_plain lone,
     (
       tt,
       (
@@ -328,8 +328,8 @@ mutual
       ),
     ),
   )
-  query_plain (f.intersected first every right more keys number) = (
-    core_plain first,
+  query_plain (f.intersected lone every right more keys number) = (
+    core_plain lone,
     (
       ((tt, (all_plain every, core_plain right)), intersects_plain more),
       (tt, (keys_plain keys, limit_plain number)),
@@ -337,9 +337,9 @@ mutual
   )
 
   nested_plain : (form : QueryForm) → Plain (plan.nested form)
-  nested_plain (f.one first keys number) = (core_plain first, (tt, (tt, (keys_plain keys, limit_plain number))))
-  nested_plain (f.united first kind every right more keys number) = (
-    core_plain first,
+  nested_plain (f.one lone keys number) = (core_plain lone, (tt, (tt, (keys_plain keys, limit_plain number))))
+  nested_plain (f.united lone kind every right more keys number) = (
+    core_plain lone,
     (
       tt,
       (
@@ -348,8 +348,8 @@ mutual
       ),
     ),
   )
-  nested_plain (f.intersected first every right more keys number) = (
-    core_plain first,
+  nested_plain (f.intersected lone every right more keys number) = (
+    core_plain lone,
     (
       ((tt, (all_plain every, core_plain right)), intersects_plain more),
       (tt, (keys_plain keys, limit_plain number)),

@@ -20,7 +20,7 @@ inputs_printable-returns-in-One t c =
 pub inputs_printable-returns-in_ok-printable-in-Two : goal.inputs_printable-returns-in_ok-printable-in-Two
 inputs_printable-returns-in_ok-printable-in-Two t c =
     when-ok c.printable-in-Two-2.result c.printable-in-Two-2.ensures
-    (λ p. subst (λ inputs. AllByRecursion Printable (given inputs)) (sym c.in-Two.is) (c.in_ok-printable-in-Two.ensures, p, tt))
+    (λ p. subst (λ inputs. AllByRecursion Printable (given inputs)) (sym c.in-Two.is) (c.in_ok-printable-in-Two.ensures, (p, tt)))
 
 pub sublinks_printable-loop-sub-preserved : goal.sublinks_printable-loop-sub-preserved
 sublinks_printable-loop-sub-preserved t c = λ rest.

@@ -49,4 +49,4 @@ see_steps-loop-step-preserved t c = λ rest.
 pub see_arms-loop-arm-preserved : goal.see_arms-loop-arm-preserved
 see_arms-loop-arm-preserved t c = λ rest.
     owed-here (AllByRecursion WritableArm) c.args.arms.now c.loop-arm.arm-index c.arm-item.result c.loop-arm-test.true c.arm-item.is
-    c.loop-arm.invariant ((c.see.ensures, c.see-2.ensures), rest)
+    c.loop-arm.invariant ((c.see.ensures, c.see-in-loop-arm.ensures), rest)
