@@ -1,5 +1,5 @@
 -- The form of a query can be written where the query can be printed.
-use Rattle.std.proofs.Common.{◌≡◌, ℕ, ◌<◌, ◌≤◌, ◌^◌, ◌+◌, zero, suc, Bool, true, false, cond, List, [], ◌∷◌, ◌++◌, length, map, Option, Some, None, arith, append_assoc}
+use Rattle.std.proofs.Common.{ℕ, ◌<◌, ◌^◌, ◌+◌, zero, suc, Bool, true, false, cond, List, [], ◌∷◌, ◌++◌, length, map, Option, Some, None, arith}
 use Rattle.std.specs.List.{AllByRecursion, find, range_with_len}
 use Rattle.std.specs.Prelude.{unwrap_or}
 use Rattle.std.specs.Str.{IsAscii, IsUtf8}
@@ -19,14 +19,14 @@ use Rattle.bag_algebra.specs.declared.query.Aggr.{Aggr}
 use Rattle.bag_algebra.specs.declared.query.Query.{Query, Row_of-Sublink, more_of-Sublink, end_of-Sublink}
 use Rattle.bag_algebra.specs.declared.query.Query.TheVariants.{Table, Single}
 use Rattle.perm_values.specs.declared.kind.Kind.{Kind}
-use Rattle.tree_texts.specs.Fits.{FitsColumn, FitsCondition, FitsCore, FitsEnd, FitsExpr, FitsFrom, FitsItems, FitsKey, FitsQuery}
+use Rattle.tree_texts.specs.Fits.{FitsColumn, FitsCore, FitsExpr, FitsFrom, FitsItems, FitsKey, FitsQuery}
 use Rattle.tree_texts.specs.Forms as f
 use Rattle.tree_texts.specs.Forms.{ColumnForm, ConditionForm, ExprForm, FromForm, KeyForm, QueryForm}
 use Rattle.query_texts.specs.Names.{Naming, deeper, has_id, names_of, nameless, naming, outermost, own}
 use Rattle.query_texts.specs.Unused.{items_use, spare, used_in}
 use Rattle.query_texts.specs.declared.tables.TableNames.{TableNames}
 use Rattle.query_forms.specs.ShownExpressions.{beside, shown_expr}
-use Rattle.query_forms.specs.ShownQueries.{Listed, aggregated, aggregates_from, all_keys, argument, arguments, below_groups, called, called_from, columns, copied, grouped_columns, in_groups, key_form, listed, named_from, one, over, own_column, own_columns, projected, selected, shown, shown_answer, sub_forms, tested_by, tested_part}
+use Rattle.query_forms.specs.ShownQueries.{Listed, aggregated, aggregates_from, argument, arguments, below_groups, called, called_from, columns, copied, grouped_columns, in_groups, key_form, listed, named_from, one, over, own_column, projected, shown, shown_answer, sub_forms, tested_by, tested_part}
 use Rattle.printed_queries.specs.Writable.{Writable, WritableAggregates, WritableItems, WritableOption}
 use Rattle.printed_forms.specs.Printable.{AreCharacters, Printable, PrintableSubs}
 use Rattle.printed_forms.proofs.FitsExpressions.{AllFit, fits-asked, fits-beside, fits-name, fits-shown, fits-tested}
@@ -164,9 +164,10 @@ module _ (prefix : List ℕ) (ascii : IsAscii prefix) (out : Naming) (named_so :
       listed-fits out named_so (beside kinds.Integer unused one) (fits-beside kinds.Integer unused one spared (omega arith)) [] tt
   projected-fits forms unused all spared (item ∷ items) w =
       listed-fits out named_so one (omega arith)
-      (beside item.kind unused (shown_expr prefix forms item.expr) ∷ map (λ (item : Item). shown_expr prefix forms item.expr) items)
-      (fits-beside item.kind unused (shown_expr prefix forms item.expr) spared (fits-shown prefix ascii forms all item.expr w.0),
-      projections-fit prefix ascii forms all items w.1)
+      (beside item.kind unused (shown_expr prefix forms item.expr) ∷ map (λ (item : Item). shown_expr prefix forms item.expr) items) (
+        fits-beside item.kind unused (shown_expr prefix forms item.expr) spared (fits-shown prefix ascii forms all item.expr w.0),
+        projections-fit prefix ascii forms all items w.1,
+      )
 
   groups-fit : (groups : List ℕ) (aggregates : List Aggr) (q : QueryForm) → WritableAggregates aggregates → FitsQuery q
       → FitsCore (in_groups prefix out groups aggregates q)
@@ -175,10 +176,15 @@ module _ (prefix : List ℕ) (ascii : IsAscii prefix) (out : Naming) (named_so :
       (append-fits (grouped_columns prefix groups) (arguments prefix aggregates) (grouped-fit prefix ascii groups) (arguments-fit prefix ascii aggregates w)) in
       let list = listed-fits out named_so f.count_rows tt (columns prefix (length groups) ++ aggregates_from prefix (length groups + 1) aggregates)
       (append-fits (columns prefix (length groups)) (aggregates_from prefix (length groups + 1) aggregates) (columns-fit prefix ascii (length groups))
-      (aggregates-fit prefix ascii (length groups + 1) aggregates)) in
-      (list.0, list.1, list.2,
-      over-fits (below_groups prefix groups aggregates q) ((below.0, below.1, below.2, over-fits q p, tt, tt, tt), (tt, tt)),
-      tt, own-columns-fit prefix ascii (range_with_len 1 (length groups)), tt)
+      (aggregates-fit prefix ascii (length groups + 1) aggregates)) in (
+        list.0,
+        list.1,
+        list.2,
+        over-fits (below_groups prefix groups aggregates q) ((below.0, below.1, below.2, over-fits q p, tt, tt, tt), (tt, tt)),
+        tt,
+        own-columns-fit prefix ascii (range_with_len 1 (length groups)),
+        tt,
+      )
 
 -- ---- queries
 
@@ -197,63 +203,120 @@ module _ (tables : List TableNames) (all : AllByRecursion AreCharacters tables) 
     shown-fits prefix ascii out to (BaseOf input places label) outer form p = shown-fits prefix ascii out to input outer form.input p.1
     shown-fits prefix ascii out to (FilterOf input condition _ subs) outer form p =
         let forms = sub_forms tables prefix subs in
-        let list = listed-fits out to one (omega arith) (columns prefix (width_of input)) (columns-fit prefix ascii (width_of input)) in
-        ((list.0, list.1, list.2, over-fits (shown tables prefix (own prefix) input) (shown-fits prefix ascii (own prefix) ascii input outer form.input p.2),
-        tested-fits prefix ascii forms (subs-fit prefix ascii subs (kinds_of input ∷ outer) form.subs p.3) condition p.1, tt, tt), (tt, tt))
+        let list = listed-fits out to one (omega arith) (columns prefix (width_of input)) (columns-fit prefix ascii (width_of input)) in (
+          (
+            list.0,
+            list.1,
+            list.2,
+            over-fits (shown tables prefix (own prefix) input) (shown-fits prefix ascii (own prefix) ascii input outer form.input p.2),
+            tested-fits prefix ascii forms (subs-fit prefix ascii subs (kinds_of input ∷ outer) form.subs p.3) condition p.1,
+            tt,
+            tt,
+          ),
+          (tt, tt),
+        )
     shown-fits prefix ascii out to (ProjectOf input items _ subs) outer form p =
         let forms = sub_forms tables prefix subs in
         let fit = subs-fit prefix ascii subs (kinds_of input ∷ outer) form.subs p.3 in
-        let list = projected-fits prefix ascii out to forms (spare (items_use items) 0 forms) fit (spare-fits (items_use items) 0 forms fit) items p.1 in
-        ((list.0, list.1, list.2, over-fits (shown tables prefix (own prefix) input) (shown-fits prefix ascii (own prefix) ascii input outer form.input p.2),
-        tt, tt, tt), (tt, tt))
+        let list = projected-fits prefix ascii out to forms (spare (items_use items) 0 forms) fit (spare-fits (items_use items) 0 forms fit) items p.1 in (
+          (
+            list.0,
+            list.1,
+            list.2,
+            over-fits (shown tables prefix (own prefix) input) (shown-fits prefix ascii (own prefix) ascii input outer form.input p.2),
+            tt,
+            tt,
+            tt,
+          ),
+          (tt, tt),
+        )
     shown-fits prefix ascii out to (JoinOf kind left right condition _ subs) outer form p =
         let forms = sub_forms tables prefix subs in
         let count = width_of left + width_of right in
-        let list = listed-fits out to one (omega arith) (columns prefix count) (columns-fit prefix ascii count) in
-        ((list.0, list.1, list.2,
-        ((shown-fits prefix ascii (own prefix) ascii left outer form.left p.2, first-name),
-        ((shown-fits prefix ascii (naming prefix (width_of left + 1)) ascii right outer form.right p.3, second-name),
-        tested-fits prefix ascii forms (subs-fit prefix ascii subs ((kinds_of left ++ kinds_of right) ∷ outer) form.subs p.4) condition p.1, tt)),
-        tt, tt, tt), (tt, tt))
+        let list = listed-fits out to one (omega arith) (columns prefix count) (columns-fit prefix ascii count) in (
+          (
+            list.0,
+            list.1,
+            list.2,
+            (
+              (shown-fits prefix ascii (own prefix) ascii left outer form.left p.2, first-name),
+              (
+                (shown-fits prefix ascii (naming prefix (width_of left + 1)) ascii right outer form.right p.3, second-name),
+                tested-fits prefix ascii forms (subs-fit prefix ascii subs ((kinds_of left ++ kinds_of right) ∷ outer) form.subs p.4) condition p.1,
+                tt,
+              ),
+            ),
+            tt,
+            tt,
+            tt,
+          ),
+          (tt, tt),
+        )
     shown-fits prefix ascii out to (ApplyOf kind left right) outer form p =
         let count = width_of left + width_of right in
-        let list = listed-fits out to one (omega arith) (columns prefix count) (columns-fit prefix ascii count) in
-        ((list.0, list.1, list.2,
-        ((shown-fits prefix ascii (own prefix) ascii left outer form.left p.1, first-name),
-        (shown-fits (deeper prefix) (deeper-ascii prefix ascii) (naming prefix (width_of left + 1)) ascii right (kinds_of left ∷ outer) form.right p.2,
-        second-name, tt)),
-        tt, tt, tt), (tt, tt))
-    shown-fits prefix ascii out to (UnionOf every left right) outer form p =
-        (copied-fits prefix ascii out to (width_of left) (shown tables prefix (own prefix) left) (shown-fits prefix ascii (own prefix) ascii left outer form.left_side p.1),
-        copied-fits prefix ascii out to (width_of right) (shown tables prefix (own prefix) right) (shown-fits prefix ascii (own prefix) ascii right outer form.right_side p.2),
-        tt, (tt, tt))
-    shown-fits prefix ascii out to (IntersectOf every left right) outer form p =
-        (copied-fits prefix ascii out to (width_of left) (shown tables prefix (own prefix) left) (shown-fits prefix ascii (own prefix) ascii left outer form.left_side p.1),
-        copied-fits prefix ascii out to (width_of right) (shown tables prefix (own prefix) right) (shown-fits prefix ascii (own prefix) ascii right outer form.right_side p.2),
-        tt, (tt, tt))
-    shown-fits prefix ascii out to (ExceptOf every left right) outer form p =
-        (copied-fits prefix ascii out to (width_of left) (shown tables prefix (own prefix) left) (shown-fits prefix ascii (own prefix) ascii left outer form.left_side p.1),
-        copied-fits prefix ascii out to (width_of right) (shown tables prefix (own prefix) right) (shown-fits prefix ascii (own prefix) ascii right outer form.right_side p.2),
-        tt, (tt, tt))
+        let list = listed-fits out to one (omega arith) (columns prefix count) (columns-fit prefix ascii count) in (
+          (
+            list.0,
+            list.1,
+            list.2,
+            (
+              (shown-fits prefix ascii (own prefix) ascii left outer form.left p.1, first-name),
+              (
+                shown-fits (deeper prefix) (deeper-ascii prefix ascii) (naming prefix (width_of left + 1)) ascii right (kinds_of left ∷ outer) form.right p.2,
+                second-name,
+                tt,
+              ),
+            ),
+            tt,
+            tt,
+            tt,
+          ),
+          (tt, tt),
+        )
+    shown-fits prefix ascii out to (UnionOf every left right) outer form p = (
+      copied-fits prefix ascii out to (width_of left) (shown tables prefix (own prefix) left) (shown-fits prefix ascii (own prefix) ascii left outer form.left_side p.1),
+      copied-fits prefix ascii out to (width_of right) (shown tables prefix (own prefix) right) (shown-fits prefix ascii (own prefix) ascii right outer form.right_side p.2),
+      tt,
+      (tt, tt),
+    )
+    shown-fits prefix ascii out to (IntersectOf every left right) outer form p = (
+      copied-fits prefix ascii out to (width_of left) (shown tables prefix (own prefix) left) (shown-fits prefix ascii (own prefix) ascii left outer form.left_side p.1),
+      copied-fits prefix ascii out to (width_of right) (shown tables prefix (own prefix) right) (shown-fits prefix ascii (own prefix) ascii right outer form.right_side p.2),
+      tt,
+      (tt, tt),
+    )
+    shown-fits prefix ascii out to (ExceptOf every left right) outer form p = (
+      copied-fits prefix ascii out to (width_of left) (shown tables prefix (own prefix) left) (shown-fits prefix ascii (own prefix) ascii left outer form.left_side p.1),
+      copied-fits prefix ascii out to (width_of right) (shown tables prefix (own prefix) right) (shown-fits prefix ascii (own prefix) ascii right outer form.right_side p.2),
+      tt,
+      (tt, tt),
+    )
     shown-fits prefix ascii out to (DistinctOf input) outer form p =
         let list = listed-fits out to one (omega arith) (columns prefix (width_of input)) (columns-fit prefix ascii (width_of input)) in
         ((list.0, list.1, list.2, over-fits (shown tables prefix (own prefix) input) (shown-fits prefix ascii (own prefix) ascii input outer form p.1), tt, tt, tt), (tt, tt))
-    shown-fits prefix ascii out to (AggregateOf input groups aggregates) outer form p =
-        (groups-fit prefix ascii out to groups aggregates (shown tables prefix (own prefix) input) p.1
-        (shown-fits prefix ascii (own prefix) ascii input outer form.input p.2), (tt, tt))
-    shown-fits prefix ascii out to (LimitOf input keys count) outer form p =
-        (copied-fits prefix ascii out to (width_of input) (shown tables prefix (own prefix) input) (shown-fits prefix ascii (own prefix) ascii input outer form.input p.1),
-        (both-fit (map key_form keys) (map (λ number. record { position = number; descending = false }) (range_with_len 1 (width_of input)))
-        (keys-fit (width_of input) keys p.0 form.keys) (positions-fit 1 (width_of input) p.0), form.bound))
+    shown-fits prefix ascii out to (AggregateOf input groups aggregates) outer form p = (
+      groups-fit prefix ascii out to groups aggregates (shown tables prefix (own prefix) input) p.1
+          (shown-fits prefix ascii (own prefix) ascii input outer form.input p.2),
+      (tt, tt),
+    )
+    shown-fits prefix ascii out to (LimitOf input keys count) outer form p = (
+      copied-fits prefix ascii out to (width_of input) (shown tables prefix (own prefix) input) (shown-fits prefix ascii (own prefix) ascii input outer form.input p.1),
+      (
+        both-fit (map key_form keys) (map (λ number. record { position = number; descending = false }) (range_with_len 1 (width_of input)))
+            (keys-fit (width_of input) keys p.0 form.keys) (positions-fit 1 (width_of input) p.0),
+        form.bound,
+      ),
+    )
     shown-fits prefix ascii out to (ProvOf input) outer form p = shown-fits prefix ascii out to input outer form p.1
 
     subs-fit : (prefix : List ℕ) → IsAscii prefix → {m : _} (subs : Row_of-Sublink m) (scopes : List (List Kind)) → SubsForm scopes subs
         → PrintableSubs subs → AllFit (sub_forms tables prefix subs)
     subs-fit prefix ascii end_of-Sublink scopes form p = tt
-    subs-fit prefix ascii (more_of-Sublink kind tested query subs) scopes form p =
-        (fits-asked kind (tested_part prefix tested) (shown tables (deeper prefix) (own (deeper prefix)) query) (fits-tested prefix ascii tested p.0.0)
-        (shown-fits (deeper prefix) (deeper-ascii prefix ascii) (own (deeper prefix)) (deeper-ascii prefix ascii) query scopes form.query p.0.1),
-        subs-fit prefix ascii subs scopes form.others p.1)
+    subs-fit prefix ascii (more_of-Sublink kind tested query subs) scopes form p = (
+      fits-asked kind (tested_part prefix tested) (shown tables (deeper prefix) (own (deeper prefix)) query) (fits-tested prefix ascii tested p.0.0)
+          (shown-fits (deeper prefix) (deeper-ascii prefix ascii) (own (deeper prefix)) (deeper-ascii prefix ascii) query scopes form.query p.0.1),
+      subs-fit prefix ascii subs scopes form.others p.1,
+    )
 
   -- ---- answers
 
@@ -268,6 +331,15 @@ module _ (tables : List TableNames) (all : AllByRecursion AreCharacters tables) 
   pub answer-fits : (q : Query) (names : List (List ℕ)) (keys : List Key) → WellFormed [] q → Printable q
       → AllByRecursion IsUtf8 names → KeysIn (width_of q) keys → FitsQuery (shown_answer tables q names keys)
   answer-fits q names keys form p named_so within =
-      let list = called-fits names named_so in
-      ((list.0, list.1, list.2, over-fits (shown tables outermost (own outermost) q) (shown-fits outermost outermost-ascii (own outermost) outermost-ascii q [] form p),
-      tt, tt, tt), (keys-fit (width_of q) keys (printable-short q p) within, tt))
+      let list = called-fits names named_so in (
+        (
+          list.0,
+          list.1,
+          list.2,
+          over-fits (shown tables outermost (own outermost) q) (shown-fits outermost outermost-ascii (own outermost) outermost-ascii q [] form p),
+          tt,
+          tt,
+          tt,
+        ),
+        (keys-fit (width_of q) keys (printable-short q p) within, tt),
+      )

@@ -19,7 +19,6 @@ use Rattle.sql_grammar.specs.declared.sort.Sort.{Sort}
 use Rattle.sql_grammar.specs.declared.sort.Sort.TheVariants as s
 use Rattle.sql_plans.specs.Levels.{expression}
 use Rattle.sql_plans.specs.Plans.{Plan, a_word, a_choice, a_token, both, before, behind, first, second, front_first, front_second, absent, present, no_more, one_more, one_last, at_start, as_symbol, tokens_of}
-use Rattle.sql_plans.specs.Written.{token_for}
 use Rattle.sql_plans.proofs.Written.{sorted}
 use Rattle.tree_texts.specs.FormPlans as plan
 use Rattle.tree_texts.specs.Forms as f

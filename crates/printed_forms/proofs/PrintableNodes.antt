@@ -1,5 +1,4 @@
 -- When a query can be printed, by the children of its topmost node.
-use Rattle.std.specs.Prelude.{List}
 use Rattle.std.specs.List.{AllByRecursion}
 use Rattle.bag_algebra.specs.Inputs.{inputs_of, sublinks_of}
 use Rattle.bag_algebra.specs.Kinds.{kinds_of}

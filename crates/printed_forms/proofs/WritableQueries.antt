@@ -13,16 +13,23 @@ mutual
   printable-writable (Table id kinds) e p = tt
   printable-writable Single e p = tt
   printable-writable (BaseOf input places label) e p = printable-writable input e p.1
-  printable-writable (FilterOf input condition _ subs) e p =
-      (printable-writable input (left-true (is_plain input) (subs_plain subs) e) p.2, p.1,
-      subs-writable subs (right-true (is_plain input) (subs_plain subs) e) p.3)
-  printable-writable (ProjectOf input items _ subs) e p =
-      (printable-writable input (left-true (is_plain input) (subs_plain subs) e) p.2, p.1,
-      subs-writable subs (right-true (is_plain input) (subs_plain subs) e) p.3)
+  printable-writable (FilterOf input condition _ subs) e p = (
+    printable-writable input (left-true (is_plain input) (subs_plain subs) e) p.2,
+    p.1,
+    subs-writable subs (right-true (is_plain input) (subs_plain subs) e) p.3,
+  )
+  printable-writable (ProjectOf input items _ subs) e p = (
+    printable-writable input (left-true (is_plain input) (subs_plain subs) e) p.2,
+    p.1,
+    subs-writable subs (right-true (is_plain input) (subs_plain subs) e) p.3,
+  )
   printable-writable (JoinOf kind left right condition _ subs) e p =
-      let sides = left-true (is_plain left && is_plain right) (subs_plain subs) e in
-      (printable-writable left (left-true (is_plain left) (is_plain right) sides) p.2, printable-writable right (right-true (is_plain left) (is_plain right) sides) p.3, p.1,
-      subs-writable subs (right-true (is_plain left && is_plain right) (subs_plain subs) e) p.4)
+      let sides = left-true (is_plain left && is_plain right) (subs_plain subs) e in (
+        printable-writable left (left-true (is_plain left) (is_plain right) sides) p.2,
+        printable-writable right (right-true (is_plain left) (is_plain right) sides) p.3,
+        p.1,
+        subs-writable subs (right-true (is_plain left && is_plain right) (subs_plain subs) e) p.4,
+      )
   printable-writable (ApplyOf kind left right) e p =
       (printable-writable left (left-true (is_plain left) (is_plain right) e) p.1, printable-writable right (right-true (is_plain left) (is_plain right) e) p.2)
   printable-writable (UnionOf all left right) e p =

@@ -1,5 +1,5 @@
 -- Which queries can be printed: each integer has 64 bits, each text is of characters, and no node has 2^63 columns.
-use Rattle.std.specs.Prelude.{ℕ, ◌+◌, ◌<◌, ◌^◌, List, [], ◌++◌, map, length}
+use Rattle.std.specs.Prelude.{◌+◌, ◌<◌, ◌^◌, List, [], ◌++◌, map, length}
 use Rattle.std.specs.List.{AllByRecursion}
 use Rattle.std.specs.Str.{IsUtf8}
 use Rattle.perm_values.specs.declared.kind.Kind.{Kind}

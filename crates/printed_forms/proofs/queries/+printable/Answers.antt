@@ -1,4 +1,4 @@
-use Rattle.std.proofs.Common.{drop, sym, subst}
+use Rattle.std.proofs.Common.{sym, subst}
 use Rattle.std.specs.List.{AllByRecursion}
 use Rattle.bag_algebra.specs.Inputs.{given}
 use Rattle.expression_texts.proofs.Pieces.{when-ok}

@@ -1,4 +1,4 @@
-use Rattle.std.proofs.Common.{drop, sym, subst}
+use Rattle.std.proofs.Common.{sym, subst}
 use Rattle.std.specs.List.{AllByRecursion}
 use Rattle.printed_queries.specs.Writable.{Writable}
 use Rattle.printed_forms.specs.Printable.{WritableArm, WritableStep}
