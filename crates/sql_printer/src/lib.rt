@@ -1,6 +1,7 @@
 //! Prints the answer of a query as SQL.
 #![tactic(auto)]
 
+mod naming;
 mod printing;
 
 pub use printing::print;

@@ -6,9 +6,12 @@ ghost use Rattle.bag_algebra.specs.TablesRead.{EachTable};
 ghost use Rattle.perm_catalog.specs.Sound.{IsSound, IsSoundAnswer};
 ghost use Rattle.stored_provenance.specs.Held.{IsHeldTable};
 
+use crate::naming::tables_named;
 use bag_algebra::Answer;
 use perm_catalog::Catalog;
 use perm_values::{Bytes, NoMemory};
+use printed_forms::{printable, see_names, see_tables};
+use query_texts::query_text;
 use std::alloc::Global;
 
 /// The text of an answer without PROVENANCE, ended by `;` and a newline: a query over the catalog's tables
@@ -20,5 +23,11 @@ pub fn print(alloc: Global, catalog: &Catalog, answer: &Answer) -> Result<Bytes,
     requires held { EachTable (IsHeldTable catalog.now) answer.now.query }
     ensures { IfOk result (λ text. Explains catalog.now answer.now text) }
 {
-    Err(NoMemory)
+    let tables = tables_named(alloc, catalog, &answer.query)?;
+    printable(&answer.query)?;
+    see_tables(tables.as_slice());
+    see_names(answer.names.as_slice());
+    let mut text = query_text(alloc, tables.as_slice(), answer)?;
+    text.add(b";\n")?;
+    Ok(text)
 }

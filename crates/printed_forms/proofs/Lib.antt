@@ -1,0 +1,7 @@
+pub mod EndedTexts
+pub mod FitsExpressions
+pub mod FitsQueries
+pub mod OpenedExpressions
+pub mod PlainWords
+pub mod PrintableNodes
+pub mod WritableQueries

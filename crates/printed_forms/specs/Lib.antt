@@ -1,0 +1,2 @@
+pub mod EndedTexts
+pub mod Printable

@@ -1,0 +1,3 @@
+pub mod NamedTables
+pub mod NarrowQueries
+pub mod PrintedAnswers
