@@ -87,6 +87,7 @@ module _ (c : Contents) where
       under : (name : List ℕ) (o : Option TableEntry) → option_map (named_under id name) o ≡ Some n → n.id ≡ id
       under name None e = none-found n e
       under name (Some table) e = sym (ap (λ (t : TableNames). t.id) (some_same (named_under id name table) n e))
+
       by : (o : Option (List ℕ)) → option_and_then (λ name. option_map (named_under id name) (table_named c name)) o ≡ Some n → n.id ≡ id
       by None e = none-found n e
       by (Some name) e = under name (table_named c name) e
@@ -106,6 +107,7 @@ module _ (c : Contents) where
       last (Some n) e h =
           let same = one-found other n t (has_id other n) refl h in
           ap (names_now c) (sym same.0 ∙ names-id id n e) ∙ e ∙ ap Some same.1
+
       by : (b : Bool) → list_any (has_id other) tables ≡ b → names_now c other ≡ Some t
       by true e =
           let before = there other tables e in

@@ -18,8 +18,13 @@ short-few kinds s = omega (arith, s)
 groups-few : (kinds : List Kind) (groups : List ℕ) (aggregates : List Aggr)
     → Short (kinds_in kinds groups ++ map (λ (aggregate : Aggr). aggregate.kind) aggregates) → 1 + (length groups + length aggregates) < 2 ^ 64
 groups-few kinds groups aggregates s =
-    omega (arith, s, length-append (kinds_in kinds groups) (map (λ (aggregate : Aggr). aggregate.kind) aggregates), length-map (kind_in kinds) groups,
-    length-map (λ (aggregate : Aggr). aggregate.kind) aggregates)
+    omega (
+      arith,
+      s,
+      length-append (kinds_in kinds groups) (map (λ (aggregate : Aggr). aggregate.kind) aggregates),
+      length-map groups (kind_in kinds),
+      length-map aggregates (λ (aggregate : Aggr). aggregate.kind),
+    )
 
 mutual
   pub printable-narrow : (q : Query) → Printable q → Narrow q
