@@ -3,12 +3,14 @@ use Rattle.std.proofs.Common.{◌≡◌, ℕ, ◌<◌, true, List, [], ◌∷◌
 use Rattle.std.specs.Prelude.{codes}
 use Rattle.std.specs.List.{AllByRecursion}
 use Rattle.std.specs.Str.{IsUtf8}
+use Rattle.perm_values.specs.declared.key.Key.{Key}
 use Rattle.perm_values.specs.declared.kind.Kind.{Kind}
 use Rattle.bag_algebra.specs.Kinds.{kinds_of, width_of}
 use Rattle.bag_algebra.specs.Rewriting.{is_plain}
 use Rattle.bag_algebra.specs.TablesRead.{EachTable}
-use Rattle.bag_algebra.specs.WellFormed.{KeysIn}
+use Rattle.bag_algebra.specs.WellFormed.{KeysIn, WellFormed}
 use Rattle.bag_algebra.specs.declared.query.Answer.{Answer}
+use Rattle.bag_algebra.specs.declared.query.Query.{Query}
 use Rattle.perm_catalog.specs.Contents.{Contents}
 use Rattle.perm_catalog.specs.Sound.{IsSoundAnswer}
 use Rattle.query_texts.specs.QueryTexts.{answer_bytes}
@@ -16,19 +18,21 @@ use Rattle.query_texts.specs.declared.tables.TableNames.{TableNames}
 use Rattle.tree_texts.specs.FormPlans as plan
 use Rattle.tree_texts.specs.Forms.{QueryForm}
 use Rattle.tree_texts.specs.Texts.{query_text}
+use Rattle.tree_texts.specs.Trees.{IsQuery}
 use Rattle.query_forms.specs.ShownQueries.{shown_answer}
 use Rattle.query_forms.proofs.Said.{said_is}
 use Rattle.query_forms.proofs.SaidQueries.{answer_said}
-use Rattle.answer_texts.specs.Explains.{Explains}
+use Rattle.sql_tree.specs.declared.query.QueryTree.{QueryTree}
+use Rattle.answer_texts.specs.Explains.{Explains, MeansTheSame, read_as}
+use Rattle.printed_queries.specs.Printed.{printed_answer}
+use Rattle.printed_queries.specs.Writable.{WritableQuery}
 use Rattle.printed_forms.specs.EndedTexts.{ended_text}
 use Rattle.printed_forms.specs.Printable.{AreCharacters, Printable}
 use Rattle.printed_forms.proofs.EndedTexts.{ended-form}
 use Rattle.printed_forms.proofs.FitsQueries.{answer-fits}
 use Rattle.printed_forms.proofs.PrintableNodes.{printable-short}
 use Rattle.printed_forms.proofs.WritableQueries.{printable-writable}
-use Rattle.printed_names.specs.ReadAs.{IsNamed}
-use Rattle.printed_names.proofs.ReadAnswers.{answer-read}
-use Rattle.printed_names.proofs.ReadRows.{means-answer}
+use Rattle.printed_names.specs.ReadAs.{Few, IsNamed, IsReadAs, Narrow, source_in}
 use Rattle.sql_printer.proofs.NarrowQueries.{printable-narrow, short-few}
 
 record IsSome (kinds : List Kind) : Type 0 where
@@ -40,32 +44,51 @@ some-kinds : (kinds : List Kind) → 0 < length kinds → IsSome kinds
 some-kinds [] some = absurd (omega (arith, some))
 some-kinds (kind ∷ kinds) some = record { first = kind; more = kinds; is = refl }
 
-module _ (c : Contents) (tables : List TableNames) (answer : Answer) (sound : IsSoundAnswer answer) (plain : is_plain answer.query ≡ true)
-    (named : EachTable (IsNamed c tables) answer.query) (printable : Printable answer.query) (characters : AllByRecursion AreCharacters tables)
-    (names : AllByRecursion IsUtf8 answer.names) where
+-- a law of the tree of a printed answer
+abbrev IsLaw : (Contents → List TableNames → Answer → QueryTree → Type 0) → Type 0
+IsLaw Holds = (c : Contents) (tables : List TableNames) (q : Query) (kind : Kind) (more : List Kind) → kinds_of q ≡ kind ∷ more
+    → WellFormed [] q → WritableQuery q → EachTable (IsNamed c tables) q → Narrow q → Few (kinds_of q)
+    → (names : List (List ℕ)) (keys : List Key) → length names ≡ length (kinds_of q) → KeysIn (length names) keys → (tree : QueryTree)
+    → IsQuery (shown_answer tables q names keys) tree → Holds c tables (record { query = q; names = names; keys = keys }) tree
+
+-- it is read as what is printed, and means the answer
+abbrev ReadsBack : Contents → List TableNames → Answer → QueryTree → Type 0
+ReadsBack c tables answer tree =
+    IsReadAs c tree (record { query = printed_answer (source_in c tables) answer.query; names = answer.names; keys = answer.keys })
+
+abbrev Means : Contents → List TableNames → Answer → QueryTree → Type 0
+Means c tables answer tree = MeansTheSame c answer (read_as c tree)
+
+module _ (reads_back : IsLaw ReadsBack) (means : IsLaw Means) (c : Contents) (tables : List TableNames) (answer : Answer)
+    (sound : IsSoundAnswer answer) (plain : is_plain answer.query ≡ true) (named : EachTable (IsNamed c tables) answer.query)
+    (printable : Printable answer.query) (characters : AllByRecursion AreCharacters tables) (names : AllByRecursion IsUtf8 answer.names) where
   abbrev form : QueryForm
   form = shown_answer tables answer.query answer.names answer.keys
 
   written : answer_bytes tables answer.query answer.names answer.keys ≡ query_text form
   written = sym (said_is (plan.query form) ∙ answer_said tables answer.query answer.names answer.keys)
 
+  -- what a law says of the tree of this answer
+  applied : (Holds : Contents → List TableNames → Answer → QueryTree → Type 0) → IsLaw Holds → (tree : QueryTree) → IsQuery form tree
+      → Holds c tables answer tree
+  applied Holds law tree is =
+      let some = some-kinds (kinds_of answer.query) sound.some in
+      law c tables answer.query some.first some.more some.is sound.closed (printable-writable answer.query plain printable) named
+      (printable-narrow answer.query printable) (short-few (kinds_of answer.query) (printable-short answer.query printable)) answer.names answer.keys
+      sound.named (subst (λ n. KeysIn n answer.keys) (sym sound.named) sound.keys) tree is
+
   explained : Explains c answer (ended_text form)
   explained =
       let text = ended-form form (answer-fits tables characters answer.query answer.names answer.keys sound.closed printable names sound.keys) in
-      let some = some-kinds (kinds_of answer.query) sound.some in
-      let writable = printable-writable answer.query plain printable in
-      let keys = subst (λ n. KeysIn n answer.keys) (sym sound.named) sound.keys in
-      let read = answer-read c tables answer.query some.first some.more some.is sound.closed writable named (printable-narrow answer.query printable)
-      (short-few (kinds_of answer.query) (printable-short answer.query printable)) answer.names answer.keys sound.named keys text.tree text.is in
       record {
         start = text.start;
         tree = text.tree;
         spelled = text.spelled;
         plain = text.plain;
-        front = answer_bytes tables answer.query answer.names answer.keys;
-        ended = sym (ap (λ bytes. bytes ++ codes ";\n") written);
-        whole = read.whole;
-        means = means-answer c tables answer.query some.first some.more some.is sound.closed writable named answer.names answer.keys text.tree read;
+        front = query_text form;
+        ended = refl;
+        whole = (applied ReadsBack reads_back text.tree text.is).whole;
+        means = applied Means means text.tree text.is;
       }
 
   pub printed : (text : List ℕ) → text ≡ answer_bytes tables answer.query answer.names answer.keys ++ codes ";\n" → Explains c answer text

@@ -11,6 +11,7 @@ use bag_algebra::Answer;
 use perm_catalog::Catalog;
 use perm_values::{Bytes, NoMemory};
 use printed_forms::{printable, see_names, see_tables};
+use printed_names::{a_printed_answer_is_read_back, a_printed_answer_means_the_answer};
 use query_texts::query_text;
 use std::alloc::Global;
 
@@ -23,6 +24,8 @@ pub fn print(alloc: Global, catalog: &Catalog, answer: &Answer) -> Result<Bytes,
     requires held { EachTable (IsHeldTable catalog.now) answer.now.query }
     ensures { IfOk result (λ text. Explains catalog.now answer.now text) }
 {
+    a_printed_answer_is_read_back();
+    a_printed_answer_means_the_answer();
     let tables = tables_named(alloc, catalog, &answer.query)?;
     printable(&answer.query)?;
     see_tables(tables.as_slice());
