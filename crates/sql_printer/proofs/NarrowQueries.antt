@@ -22,13 +22,8 @@ groups-few kinds groups aggregates s =
       arith,
       s,
       length-append (kinds_in kinds groups) (map (λ (aggregate : Aggr). aggregate.kind) aggregates),
-<<<<<<< HEAD
-      length-map (kind_in kinds) groups,
-      length-map (λ (aggregate : Aggr). aggregate.kind) aggregates,
-=======
       length-map groups (kind_in kinds),
       length-map aggregates (λ (aggregate : Aggr). aggregate.kind),
->>>>>>> 8d93e9f7200bcf5d3a67cf3d3f58d32e9481078c
     )
 
 mutual
