@@ -1,5 +1,5 @@
 -- A query that can be printed has few columns at each node.
-use Rattle.std.proofs.Common.{◌≡◌, ℕ, ◌<◌, ◌^◌, ◌+◌, List, ◌++◌, length, map, arith}
+use Rattle.std.proofs.Common.{ℕ, ◌<◌, ◌^◌, ◌+◌, List, ◌++◌, length, map, arith}
 use Rattle.std.proofs.lemmas.List.{length-append, length-map}
 use Rattle.perm_values.specs.declared.kind.Kind.{Kind}
 use Rattle.bag_algebra.specs.Kinds.{kind_in, kinds_in, kinds_of}
