@@ -1,5 +1,5 @@
 -- The answers of queries as statements, worked out.
-use Rattle.std.proofs.Common.{◌≡◌, true, false, [], ◌∷◌, None, codes}
+use Rattle.std.proofs.Common.{◌≡◌, true, false, [], ◌∷◌, None, codes, refl}
 use Rattle.std.specs.Fmt.{digits}
 use Rattle.null_logic.specs.declared.arith.Arith.TheVariants.{Divide}
 use Rattle.perm_values.specs.declared.kind.Kind.TheVariants as kind

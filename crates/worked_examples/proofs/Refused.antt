@@ -80,10 +80,6 @@ unknown_fresh = refl
 pub unknown_impact : asked (holding [] []) (standing 7 (st.Impact (name 26 (codes "nosuch")) None (query 36 (core (tree.select 36 (tree.item (tree.number 43 1) ∷ []) []))))) ≡ refused (Broken (broken rule.UnknownRelation 26))
 unknown_impact = refl
 
--- EXPLAIN REWRITE SELECT 1 FROM nosuch
-pub unknown_explain : asked (holding [] []) (standing 7 (st.Explain (query 23 (core (tree.select 23 (tree.item (tree.number 30 1) ∷ []) (from (table 37 (codes "nosuch")) [] ∷ [])))))) ≡ refused (Broken (broken rule.UnknownRelation 37))
-unknown_explain = refl
-
 -- ---- faults, at the statement's offset
 
 -- the values of all rows are evaluated: INSERT INTO r VALUES (1 / 0, 'x'), (9223372036854775807 + 1, 'y')
