@@ -121,13 +121,13 @@ abbrev mutual
   condition_tree (f.condition a) = Some (expr_tree a)
 
   core_tree : CoreForm → Core
-  core_tree (f.select distinct a name more origin condition groups having) = roll-Core (record {
+  core_tree (f.select distinct a name more origin tested groups having) = roll-Core (record {
     at = 0;
     provenance = None;
     distinct = distinct;
     items = Value (expr_tree a) (Some (named name)) ∷ item_trees more;
     sources = from_trees origin;
-    condition = condition_tree condition;
+    condition = condition_tree tested;
     groups = map reference groups;
     having = condition_tree having;
   })
