@@ -1,6 +1,6 @@
 -- The rows that are left, and these place by place.
 use Rattle.std.proofs.Common.{◌≡◌, ℕ, zero, suc, ◌+◌, ◌<◌, Bool, true, false, cond, not, List, [], ◌∷◌, ◌++◌, length, take, take_all, get_or, Option, None, Some, Result, Ok, Err, IsErrAnd, refl, sym, ap, ◌∙◌, subst, arith}
-use Rattle.std.specs.Prelude.{slice_get, count_by}
+use Rattle.std.specs.Prelude.{slice_get, filter}
 use Rattle.perm_values.specs.Marked.{unmarked}
 use Rattle.bag_algebra.specs.Bags.{Row, Bag}
 use Rattle.bag_algebra.specs.Outcome.{Outcome, Good, both, each}
@@ -76,7 +76,8 @@ left_with screened at u here =
 
 none-more : (flags : List Bool) (rows : Bag) (at : ℕ) → cond (get_or flags at true) None (slice_get rows at) ≡ None → unmarked flags (take (suc at) rows) ≡ unmarked flags (take at rows)
 none-more [] rows at none = refl
-none-more (f ∷ flags) [] at none = refl
+none-more (f ∷ flags) [] zero none = refl
+none-more (f ∷ flags) [] (suc at) none = refl
 none-more (true ∷ flags) (v ∷ rows) zero none = unmarked-none flags
 none-more (false ∷ flags) (v ∷ rows) zero none = absurd (cc none)
 none-more (f ∷ flags) (v ∷ rows) (suc at) none = ap (λ l. cond f l (v ∷ l)) (none-more flags rows at none)
@@ -139,8 +140,12 @@ module _ {Y : Type 0} (f : Row → Outcome Y) (u : Row) (error : ExecError) (ref
 
 -- ---- how many are left
 
-pub count-unmarked : (flags : List Bool) (rows : Bag) → length flags ≡ length rows → count_by not flags ≡ length (unmarked flags rows)
-count-unmarked [] rows same = refl
-count-unmarked (f ∷ flags) [] same = absurd (omega arith)
-count-unmarked (true ∷ flags) (v ∷ rows) same = count-unmarked flags rows (omega arith)
-count-unmarked (false ∷ flags) (v ∷ rows) same = ap suc (count-unmarked flags rows (omega arith))
+unset-left : (flags : List Bool) (rows : Bag) → length flags ≡ length rows → length (filter not flags) ≡ length (unmarked flags rows)
+unset-left [] rows same = refl
+unset-left (f ∷ flags) [] same = absurd (omega arith)
+unset-left (true ∷ flags) (v ∷ rows) same = unset-left flags rows (omega arith)
+unset-left (false ∷ flags) (v ∷ rows) same = ap suc (unset-left flags rows (omega arith))
+
+pub flagged_count : (screened : Screened) (flags : List Bool) → screened.doomed ≡ Some flags → HasFlags screened → length (filter not flags) ≡ length (rows_left screened)
+flagged_count screened flags is has =
+    unset-left flags screened.rows (subst (λ d. FlagsEach d screened.rows) is has) ∙ ap (λ d. length (left_by d screened.rows)) (sym is)

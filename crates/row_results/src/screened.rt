@@ -1,5 +1,5 @@
 //! Rows of which some are left out, where they lie.
-ghost use Rattle.std.specs.Prelude.{◌≡◌, None, Some, IfOk, count_by, get_or, length, not, true};
+ghost use Rattle.std.specs.Prelude.{◌≡◌, None, Some, IfOk, filter, get_or, length, not, true};
 ghost use Rattle.std.specs.Option.{option_copied};
 ghost use Rattle.row_results.specs.Screened.{HasFlags, is_out, row_left, rows_left};
 
@@ -84,7 +84,7 @@ impl<'a> Screened<'a> {
 
 /// How many flags aren't set.
 fn unset(flags: &[bool]) -> usize
-    ensures { result ≡ count_by not flags.now }
+    ensures { result ≡ length (filter not flags.now) }
 {
     flags.iter().filter(|flag| !**flag).count()
 }
