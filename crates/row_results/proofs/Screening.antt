@@ -1,5 +1,5 @@
 -- The rows that are left, and these place by place.
-use Rattle.std.proofs.Common.{◌≡◌, ℕ, zero, suc, ◌+◌, ◌<◌, Bool, true, false, cond, not, List, [], ◌∷◌, ◌++◌, length, take, take_all, get_or, Option, None, Some, Result, Ok, Err, IsErrAnd, refl, sym, ap, ◌∙◌, subst, arith}
+use Rattle.std.proofs.Common.{◌≡◌, ℕ, zero, suc, ◌+◌, ◌≤◌, Bool, true, false, cond, not, List, [], ◌∷◌, ◌++◌, length, take, take_all, get_or, Option, None, Some, Result, Ok, Err, IsErrAnd, refl, sym, ap, ◌∙◌, subst, arith}
 use Rattle.std.specs.Prelude.{slice_get, filter}
 use Rattle.perm_values.specs.Marked.{unmarked}
 use Rattle.bag_algebra.specs.Bags.{Row, Bag}
@@ -106,7 +106,7 @@ started (Some flags) = unmarked-none flags
 pub left_start : (screened : Screened) → left_before screened 0 ≡ []
 left_start screened = started screened.doomed
 
-pub left_all : (screened : Screened) (at : ℕ) → (at < length screened.rows → ⊥) → left_before screened at ≡ rows_left screened
+pub left_all : (screened : Screened) (at : ℕ) → length screened.rows ≤ at → left_before screened at ≡ rows_left screened
 left_all screened at behind = ap (left_by screened.doomed) (take_all at screened.rows behind)
 
 -- ---- a row that refuses

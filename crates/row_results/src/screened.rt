@@ -75,9 +75,10 @@ impl<'a> Screened<'a> {
         requires { HasFlags self }
         ensures { IfOk result (λ rows. rows ≡ rows_left self.entry) }
     {
-        match self.doomed {
-            Some(flags) => Ok(Input::made(self.rows.without(alloc, flags.as_slice())?)),
-            None => Ok(self.rows),
+        let Screened { rows, doomed } = self;
+        match doomed {
+            Some(flags) => Ok(Input::made(rows.without(alloc, flags.as_slice())?)),
+            None => Ok(rows),
         }
     }
 }
