@@ -3,7 +3,7 @@ use Rattle.std.proofs.Common.{◌≡◌, ℕ, zero, suc, ◌+◌, ◌≤◌, Boo
 use Rattle.std.specs.Prelude.{slice_get, filter}
 use Rattle.perm_values.specs.Marked.{unmarked}
 use Rattle.bag_algebra.specs.Bags.{Row, Bag}
-use Rattle.bag_algebra.specs.Outcome.{Outcome, Good, both, each}
+use Rattle.bag_algebra.specs.Outcome.{Outcome, each}
 use Rattle.row_values.specs.Answers.{Refuses}
 use Rattle.row_values.specs.declared.error.ExecError.{ExecError}
 use Rattle.row_values.proofs.Outcomes.{both_first, both_second}
