@@ -1,5 +1,7 @@
 -- The rows that are left, and these place by place.
 use Rattle.std.proofs.Common.{◌≡◌, ℕ, zero, suc, ◌+◌, ◌≤◌, Bool, true, false, cond, not, List, [], ◌∷◌, ◌++◌, length, take, take_all, get_or, Option, None, Some, Result, Ok, Err, IsErrAnd, refl, sym, ap, ◌∙◌, subst, arith}
+use Rattle.std.specs.Borrow.{Bor}
+use Rattle.std.specs.Option.{option_copied}
 use Rattle.std.specs.Prelude.{slice_get, filter}
 use Rattle.perm_values.specs.Marked.{unmarked}
 use Rattle.bag_algebra.specs.Bags.{Row, Bag}
@@ -108,6 +110,11 @@ left_start screened = started screened.doomed
 
 pub left_all : (screened : Screened) (at : ℕ) → length screened.rows ≤ at → left_before screened at ≡ rows_left screened
 left_all screened at behind = ap (left_by screened.doomed) (take_all at screened.rows behind)
+
+-- what code answers where no row is there
+pub no_row : (found : Option (Bor Row)) → ((r : Bor Row) → found ≡ Some r → ⊥) → option_copied found ≡ None
+no_row None none = refl
+no_row (Some r) none = absurd (none r refl)
 
 -- ---- a row that refuses
 
