@@ -1,6 +1,6 @@
 use Rattle.std.proofs.Common.{length, ap, ◌∙◌}
 use Rattle.statement_meaning.specs.Turns.{goes}
-use Rattle.row_executor.proofs.Sublinks.{each_long}
+use Rattle.row_results.proofs.Sublinks.{each_long}
 use Rattle.statement_changes.proofs.deleting.delete.Goals as goal
 
 pub remove-requires-clause-flags : goal.remove-requires-clause-flags
