@@ -7,6 +7,8 @@ mod calls;
 #[cfg(test)]
 mod disk;
 #[cfg(test)]
+mod explained;
+#[cfg(test)]
 mod failing;
 #[cfg(test)]
 mod impacts;
