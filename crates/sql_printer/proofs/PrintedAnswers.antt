@@ -1,9 +1,10 @@
 -- What is printed of an answer explains it.
 use Rattle.std.proofs.Common.{◌≡◌, ℕ, ◌<◌, true, List, [], ◌∷◌, ◌++◌, length, refl, sym, ap, subst, ◌∙◌, arith}
-use Rattle.std.specs.Prelude.{codes}
 use Rattle.std.specs.List.{AllByRecursion}
 use Rattle.std.specs.Str.{IsUtf8}
 use Rattle.perm_values.specs.declared.kind.Kind.{Kind}
+use Rattle.sql_lexer.specs.declared.token.Token.{Token}
+use Rattle.sql_plans.specs.Plans.{tokens_of}
 use Rattle.bag_algebra.specs.Kinds.{kinds_of, width_of}
 use Rattle.bag_algebra.specs.Rewriting.{is_plain}
 use Rattle.bag_algebra.specs.TablesRead.{EachTable}
@@ -15,12 +16,15 @@ use Rattle.query_texts.specs.QueryTexts.{answer_bytes}
 use Rattle.query_texts.specs.declared.tables.TableNames.{TableNames}
 use Rattle.tree_texts.specs.FormPlans as plan
 use Rattle.tree_texts.specs.Forms.{QueryForm}
-use Rattle.tree_texts.specs.Texts.{query_text}
+use Rattle.tree_texts.specs.Standing.{CanStand}
+use Rattle.tree_texts.specs.Texts.{query_text, shown_tokens}
+use Rattle.tree_texts.proofs.FormsSound.{query_sound}
+use Rattle.tree_texts.proofs.Standing.{all_stand}
+use Rattle.laid_texts.specs.Lines.{EndsScript}
 use Rattle.query_forms.specs.ShownQueries.{shown_answer}
 use Rattle.query_forms.proofs.Said.{said_is}
 use Rattle.query_forms.proofs.SaidQueries.{answer_said}
 use Rattle.answer_texts.specs.Explains.{Explains}
-use Rattle.printed_forms.specs.EndedTexts.{ended_text}
 use Rattle.printed_forms.specs.Printable.{AreCharacters, Printable}
 use Rattle.printed_forms.proofs.EndedTexts.{ended-form}
 use Rattle.printed_forms.proofs.FitsQueries.{answer-fits}
@@ -49,24 +53,28 @@ module _ (c : Contents) (tables : List TableNames) (answer : Answer) (sound : Is
   written : answer_bytes tables answer.query answer.names answer.keys ≡ query_text form
   written = sym (said_is (plan.query form) ∙ answer_said tables answer.query answer.names answer.keys)
 
-  explained : Explains c answer (ended_text form)
-  explained =
-      let text = ended-form form (answer-fits tables characters answer.query answer.names answer.keys sound.closed printable names sound.keys) in
+  -- what the text has to be: of the tokens of what is written, where these can stand
+  abbrev pub IsLaidOut : List ℕ → Type 0
+  IsLaidOut text = (tokens : List Token) → AllByRecursion CanStand tokens
+      → answer_bytes tables answer.query answer.names answer.keys ≡ shown_tokens tokens → EndsScript tokens text
+
+  pub printed : (text : List ℕ) → IsLaidOut text → Explains c answer text
+  printed text laid =
+      let fit = answer-fits tables characters answer.query answer.names answer.keys sound.closed printable names sound.keys in
+      let ends = laid (tokens_of (plan.query form)) (all_stand (plan.query form) (query_sound form fit)) written in
+      let read_text = ended-form form text ends in
       let some = some-kinds (kinds_of answer.query) sound.some in
       let writable = printable-writable answer.query plain printable in
       let keys = subst (λ n. KeysIn n answer.keys) (sym sound.named) sound.keys in
       let read = answer-read c tables answer.query some.first some.more some.is sound.closed writable named (printable-narrow answer.query printable)
-      (short-few (kinds_of answer.query) (printable-short answer.query printable)) answer.names answer.keys sound.named keys text.tree text.is in
+      (short-few (kinds_of answer.query) (printable-short answer.query printable)) answer.names answer.keys sound.named keys read_text.tree read_text.is in
       record {
-        start = text.start;
-        tree = text.tree;
-        spelled = text.spelled;
-        plain = text.plain;
-        front = answer_bytes tables answer.query answer.names answer.keys;
-        ended = sym (ap (λ bytes. bytes ++ codes ";\n") written);
+        start = read_text.start;
+        tree = read_text.tree;
+        spelled = read_text.spelled;
+        plain = read_text.plain;
+        front = ends.front;
+        ended = ends.ended;
         whole = read.whole;
-        means = means-answer c tables answer.query some.first some.more some.is sound.closed writable named answer.names answer.keys text.tree read;
+        means = means-answer c tables answer.query some.first some.more some.is sound.closed writable named answer.names answer.keys read_text.tree read;
       }
-
-  pub printed : (text : List ℕ) → text ≡ answer_bytes tables answer.query answer.names answer.keys ++ codes ";\n" → Explains c answer text
-  printed text is = subst (Explains c answer) (sym (is ∙ ap (λ bytes. bytes ++ codes ";\n") written)) explained
