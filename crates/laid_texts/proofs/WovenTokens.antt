@@ -1,5 +1,5 @@
 -- Tokens with gaps behind each: one token more, and what they are read as once `;` stands behind them.
-use Rattle.std.proofs.Common.{◌≡◌, ℕ, ℤ, pos, ◌+◌, ◌-◌, ◌⊎◌, ⊎_elim, inl, inr, Bool, true, false, List, [], ◌∷◌, ◌++◌, length, take, drop, refl, sym, ap, subst, ◌∙◌, arith, append_assoc}
+use Rattle.std.proofs.Common.{◌≡◌, ℕ, ℤ, ◌+◌, ◌-◌, ◌⊎◌, ⊎_elim, Bool, true, false, List, [], ◌∷◌, ◌++◌, length, take, drop, refl, sym, ap, subst, ◌∙◌, arith, append_assoc}
 use Rattle.std.specs.List.{list_all, AllByRecursion, slice_range}
 use Rattle.std.specs.Prelude.{codes}
 use Rattle.std.proofs.Math.Seq.{take-append_seam, drop-append_seam}
@@ -19,7 +19,7 @@ use Rattle.tree_texts.specs.Standing.{Span, at_span, standing, CanStand}
 use Rattle.tree_texts.specs.Texts.{shown_by, shown, shown_tokens, places_from}
 use Rattle.tree_texts.proofs.Shown.{shifted}
 use Rattle.laid_texts.specs.Lines.{EndsScript}
-use Rattle.laid_texts.specs.Woven.{is_free, IsFree, BeginsFree, MayTouch, IsGap, AddsBlanks, AddsGap, IsWoven}
+use Rattle.laid_texts.specs.Woven.{IsFree, BeginsFree, IsGap, AddsBlanks, AddsGap, IsWoven}
 use Rattle.laid_texts.proofs.LaidRead.{IsLaid, laid_is_read}
 use Rattle.laid_texts.proofs.Touching.{blank_apart, free_apart, stops, free_stops}
 
@@ -113,6 +113,13 @@ stops_at t span places tokens [] rest can is laid =
 stops_at t span places tokens (b ∷ gap) rest can is laid =
     (and_true (is_blank b) (list_all is_blank gap) is.0 is.1, stops t.kind t.spelled t.number b can.0 (blank_apart b is.0))
 
+semicolon_can : CanStand semicolon
+semicolon_can = ((refl, refl), one_utf8 59 (omega arith))
+
+all_can : (tokens : List Token) → AllByRecursion CanStand tokens → AllByRecursion CanStand (tokens ++ semicolon ∷ [])
+all_can [] all = (semicolon_can, tt)
+all_can (t ∷ tokens) all = (all.0, all_can tokens all.1)
+
 module _ (text : List ℕ) where
   woven_laid : (at : ℕ) (tokens : List Token) (laid : List ℕ) → AllByRecursion CanStand tokens → drop at text ≡ shown_tokens tokens
       → IsWoven text (standing (places_from at tokens) 0 tokens) [] laid → IsLaid (tokens ++ semicolon ∷ []) (laid ++ codes ";\n")
@@ -145,13 +152,6 @@ module _ (text : List ℕ) where
             ∙ ap (λ r. slice_range text at (at + width) ++ r) (append_assoc gap woven.1 (codes ";\n")) ∙ ap (λ s. s ++ (gap ++ rest)) sliced,
         inner,
       )
-
-  semicolon_can : CanStand semicolon
-  semicolon_can = ((refl, refl), one_utf8 59 (omega arith))
-
-  all_can : (tokens : List Token) → AllByRecursion CanStand tokens → AllByRecursion CanStand (tokens ++ semicolon ∷ [])
-  all_can [] all = (semicolon_can, tt)
-  all_can (t ∷ tokens) all = (all.0, all_can tokens all.1)
 
   pub woven_script : (tokens : List Token) (laid after : List ℕ) → AllByRecursion CanStand tokens → text ≡ shown_tokens tokens
       → IsWoven text (standing (places_from 0 tokens) 0 tokens) [] laid → after ≡ laid ++ codes ";\n" → EndsScript tokens after

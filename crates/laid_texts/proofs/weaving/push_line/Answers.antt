@@ -1,4 +1,4 @@
-use Rattle.std.proofs.Common.{[], ◌∷◌, refl}
+use Rattle.std.proofs.Common.{[], refl}
 use Rattle.laid_texts.proofs.WovenTokens.{longer}
 use Rattle.laid_texts.proofs.weaving.push_line.Goals as goal
 
