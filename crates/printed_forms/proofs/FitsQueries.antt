@@ -21,7 +21,7 @@ use Rattle.bag_algebra.specs.declared.query.Query.TheVariants.{Table, Single}
 use Rattle.perm_values.specs.declared.kind.Kind.{Kind}
 use Rattle.tree_texts.specs.Fits.{FitsColumn, FitsCore, FitsExpr, FitsFrom, FitsItems, FitsKey, FitsQuery}
 use Rattle.tree_texts.specs.Forms as f
-use Rattle.tree_texts.specs.Forms.{ColumnForm, ConditionForm, ExprForm, FromForm, KeyForm, QueryForm}
+use Rattle.tree_texts.specs.Forms.{ExprForm, KeyForm, QueryForm}
 use Rattle.query_texts.specs.Names.{Naming, deeper, has_id, names_of, nameless, naming, outermost, own}
 use Rattle.query_texts.specs.Unused.{items_use, spare, used_in}
 use Rattle.query_texts.specs.declared.tables.TableNames.{TableNames}

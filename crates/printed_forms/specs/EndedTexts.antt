@@ -1,16 +1,12 @@
--- The text of a form as it is printed: `;` and a newline end it.
-use Rattle.std.specs.Prelude.{◌≡◌, ℕ, true, List, ◌++◌, codes}
+-- The text of a form.
+use Rattle.std.specs.Prelude.{◌≡◌, ℕ, true, List}
 use Rattle.std.specs.List.{list_all}
 use Rattle.sql_grammar.specs.Symbols as n
 use Rattle.sql_parser.specs.Texts.{IsTextOf}
 use Rattle.sql_tree.specs.declared.query.QueryTree.{QueryTree}
 use Rattle.tree_texts.specs.Forms.{QueryForm}
-use Rattle.tree_texts.specs.Texts.{query_text}
 use Rattle.tree_texts.specs.Trees.{IsQuery}
 use Rattle.answer_texts.specs.Explains.{is_plain_word, one_select}
-
-abbrev pub ended_text : QueryForm → List ℕ
-ended_text form = query_text form ++ codes ";\n"
 
 -- the text is one query of the form, without the words PROVENANCE and BASERELATION
 pub record IsTextOfForm (form : QueryForm) (text : List ℕ) : Type 0 where

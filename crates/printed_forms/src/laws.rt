@@ -6,11 +6,14 @@ ghost use Rattle.perm_values.specs.declared.key.Key.{Key};
 ghost use Rattle.bag_algebra.specs.Kinds.{width_of};
 ghost use Rattle.bag_algebra.specs.WellFormed.{KeysIn, WellFormed};
 ghost use Rattle.bag_algebra.specs.declared.query.Query.{Query};
+ghost use Rattle.sql_plans.specs.Plans.{tokens_of};
 ghost use Rattle.tree_texts.specs.Fits.{FitsQuery};
+ghost use Rattle.tree_texts.specs.FormPlans as plan;
 ghost use Rattle.tree_texts.specs.Forms.{QueryForm};
+ghost use Rattle.laid_texts.specs.Lines.{EndsScript};
 ghost use Rattle.query_texts.specs.declared.tables.TableNames.{TableNames};
 ghost use Rattle.query_forms.specs.ShownQueries.{shown_answer};
-ghost use Rattle.printed_forms.specs.EndedTexts.{IsTextOfForm, ended_text};
+ghost use Rattle.printed_forms.specs.EndedTexts.{IsTextOfForm};
 ghost use Rattle.printed_forms.specs.Printable.{AreCharacters, Printable};
 
 /// The form of an answer can be written where its query can be printed.
@@ -21,8 +24,8 @@ pub fn a_printed_answer_can_be_written()
         → FitsQuery (shown_answer tables q names keys) }
 {}
 
-/// The text of a form, ended by `;` and a newline, is one query of the form, without the words PROVENANCE
-/// and BASERELATION.
+/// A script of the tokens of a form is one query of the form, without the words PROVENANCE and BASERELATION.
 pub fn an_ended_text_is_one_query()
-    ensures { (form : QueryForm) → FitsQuery form → IsTextOfForm form (ended_text form) }
+    ensures { (form : QueryForm) (text : List ℕ) → EndsScript (tokens_of (plan.query form)) text
+        → IsTextOfForm form text }
 {}

@@ -1,10 +1,11 @@
 -- What is printed of an answer explains it.
-use Rattle.std.proofs.Common.{◌≡◌, ℕ, ◌<◌, true, List, [], ◌∷◌, ◌++◌, length, refl, sym, ap, subst, ◌∙◌, arith}
-use Rattle.std.specs.Prelude.{codes}
+use Rattle.std.proofs.Common.{◌≡◌, ℕ, ◌<◌, true, List, [], ◌∷◌, length, refl, sym, subst, ◌∙◌, arith}
 use Rattle.std.specs.List.{AllByRecursion}
 use Rattle.std.specs.Str.{IsUtf8}
 use Rattle.perm_values.specs.declared.key.Key.{Key}
 use Rattle.perm_values.specs.declared.kind.Kind.{Kind}
+use Rattle.sql_lexer.specs.declared.token.Token.{Token}
+use Rattle.sql_plans.specs.Plans.{tokens_of}
 use Rattle.bag_algebra.specs.Kinds.{kinds_of}
 use Rattle.bag_algebra.specs.Rewriting.{is_plain}
 use Rattle.bag_algebra.specs.TablesRead.{EachTable}
@@ -17,8 +18,12 @@ use Rattle.query_texts.specs.QueryTexts.{answer_bytes}
 use Rattle.query_texts.specs.declared.tables.TableNames.{TableNames}
 use Rattle.tree_texts.specs.FormPlans as plan
 use Rattle.tree_texts.specs.Forms.{QueryForm}
-use Rattle.tree_texts.specs.Texts.{query_text}
+use Rattle.tree_texts.specs.Standing.{CanStand}
+use Rattle.tree_texts.specs.Texts.{query_text, shown_tokens}
 use Rattle.tree_texts.specs.Trees.{IsQuery}
+use Rattle.tree_texts.proofs.FormsSound.{query_sound}
+use Rattle.tree_texts.proofs.Standing.{all_stand}
+use Rattle.laid_texts.specs.Lines.{EndsScript}
 use Rattle.query_forms.specs.ShownQueries.{shown_answer}
 use Rattle.query_forms.proofs.Said.{said_is}
 use Rattle.query_forms.proofs.SaidQueries.{answer_said}
@@ -26,7 +31,6 @@ use Rattle.sql_tree.specs.declared.query.QueryTree.{QueryTree}
 use Rattle.answer_texts.specs.Explains.{Explains, MeansTheSame, read_as}
 use Rattle.printed_queries.specs.Printed.{printed_answer}
 use Rattle.printed_queries.specs.Writable.{WritableQuery}
-use Rattle.printed_forms.specs.EndedTexts.{ended_text}
 use Rattle.printed_forms.specs.Printable.{AreCharacters, Printable}
 use Rattle.printed_forms.proofs.EndedTexts.{ended-form}
 use Rattle.printed_forms.proofs.FitsQueries.{answer-fits}
@@ -77,19 +81,23 @@ module _ (reads_back : IsLaw ReadsBack) (means : IsLaw Means) (c : Contents) (ta
       (printable-narrow answer.query printable) (short-few (kinds_of answer.query) (printable-short answer.query printable)) answer.names answer.keys
       sound.named (subst (λ n. KeysIn n answer.keys) (sym sound.named) sound.keys) tree is
 
-  explained : Explains c answer (ended_text form)
-  explained =
-      let text = ended-form form (answer-fits tables characters answer.query answer.names answer.keys sound.closed printable names sound.keys) in
-      record {
-        start = text.start;
-        tree = text.tree;
-        spelled = text.spelled;
-        plain = text.plain;
-        front = query_text form;
-        ended = refl;
-        whole = (applied ReadsBack reads_back text.tree text.is).whole;
-        means = applied Means means text.tree text.is;
-      }
+  -- what the text is: a script of the tokens of what is written, where these can stand
+  abbrev pub IsScriptOfAnswer : List ℕ → Type 0
+  IsScriptOfAnswer text = (tokens : List Token) → AllByRecursion CanStand tokens
+      → answer_bytes tables answer.query answer.names answer.keys ≡ shown_tokens tokens → EndsScript tokens text
 
-  pub printed : (text : List ℕ) → text ≡ answer_bytes tables answer.query answer.names answer.keys ++ codes ";\n" → Explains c answer text
-  printed text is = subst (Explains c answer) (sym (is ∙ ap (λ bytes. bytes ++ codes ";\n") written)) explained
+  pub printed : (text : List ℕ) → IsScriptOfAnswer text → Explains c answer text
+  printed text laid =
+      let fit = answer-fits tables characters answer.query answer.names answer.keys sound.closed printable names sound.keys in
+      let ends = laid (tokens_of (plan.query form)) (all_stand (plan.query form) (query_sound form fit)) written in
+      let read = ended-form form text ends in
+      record {
+        start = read.start;
+        tree = read.tree;
+        spelled = read.spelled;
+        plain = read.plain;
+        front = ends.front;
+        ended = ends.ended;
+        whole = (applied ReadsBack reads_back read.tree read.is).whole;
+        means = applied Means means read.tree read.is;
+      }

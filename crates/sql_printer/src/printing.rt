@@ -8,6 +8,7 @@ ghost use Rattle.stored_provenance.specs.Held.{IsHeldTable};
 
 use crate::naming::tables_named;
 use bag_algebra::Answer;
+use laid_texts::in_lines;
 use perm_catalog::Catalog;
 use perm_values::{Bytes, NoMemory};
 use printed_forms::{printable, see_names, see_tables};
@@ -15,8 +16,8 @@ use printed_names::{a_printed_answer_is_read_back, a_printed_answer_means_the_an
 use query_texts::query_text;
 use std::alloc::Global;
 
-/// The text of an answer without PROVENANCE, ended by `;` and a newline: a query over the catalog's tables
-/// that means what the answer means, whatever rows they have. It fails only for want of memory.
+/// The text of an answer without PROVENANCE, in lines, ended by `;` and a newline: a query over the catalog's
+/// tables that means what the answer means, whatever rows they have. It fails only for want of memory.
 pub fn print(alloc: Global, catalog: &Catalog, answer: &Answer) -> Result<Bytes, NoMemory>
     requires sound { IsSound catalog.now }
     requires formed { IsSoundAnswer answer.now }
@@ -30,7 +31,6 @@ pub fn print(alloc: Global, catalog: &Catalog, answer: &Answer) -> Result<Bytes,
     printable(&answer.query)?;
     see_tables(tables.as_slice());
     see_names(answer.names.as_slice());
-    let mut text = query_text(alloc, tables.as_slice(), answer)?;
-    text.add(b";\n")?;
-    Ok(text)
+    let text = query_text(alloc, tables.as_slice(), answer)?;
+    in_lines(alloc, text.as_slice())
 }

@@ -1,0 +1,3 @@
+pub mod LaidRead
+pub mod Touching
+pub mod WovenTokens
