@@ -135,7 +135,8 @@ class Server(Postgres):
     def read(rows, ended):
         if not ended.startswith("false"):
             return Unsaid(ended.split(" ", 2)[2].split("\n")[0] if ended.count(" ") > 1 else ended)
-        return [tuple(None if value == NOTHING else value for value in row) for row in csv.reader(rows.splitlines())]
+        # A line without anything is a row of one empty text.
+        return [tuple(None if value == NOTHING else value for value in row or [""]) for row in csv.reader(rows.splitlines())]
 
 
 def statements_of(tables, integer):

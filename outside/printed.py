@@ -18,9 +18,9 @@ sys.path.append(str(TOP / "tools"))
 import scripts  # noqa: E402
 
 SECONDS = 60
-ANSWERED, REFUSED, FAULT = 0, 4, 5
-# What the text's own nesting or size may break where the query's doesn't.
-OF_SIZE = (b"E06", b"E27")
+ANSWERED, FAULT, UNREAD = 0, 5, (3, 6)
+# What the text's own nesting, height or length may break where the query's doesn't.
+OF_SIZE = (b"E06", b"E27", b"E41")
 
 
 def run(script, folder):
@@ -37,8 +37,10 @@ def is_query(statement):
     return next((word.is_word(b"select") for word in statement.tokens if not word.is_mark(b"(")), False)
 
 
-def code(line):
-    return line.split(b" ")[1]
+def code(answer):
+    """The code of a refusal; None where the answer is none."""
+    words = answer.split(b" ")
+    return words[1] if words[0] == b"error" else None
 
 
 def outcome(before, query, folder, told):
@@ -49,14 +51,13 @@ def outcome(before, query, folder, told):
     if ended != ANSWERED:
         return "refused alike" if status == ended and code(answer) == code(printed) else "not printed"
     again, back = run(before + printed, folder)
-    again = again[len(told):]
+    # A script that is too long or nests too deeply is refused as a whole.
+    again = again if back in UNREAD else again[len(told):]
     if (again, back) == (answer, status):
         return "the same"
     if status == back == FAULT and code(again) == code(answer):
         return "the same fault"
-    if back == REFUSED or code(again) in OF_SIZE:
-        return "the text is too large" if code(again) in OF_SIZE else "differs"
-    return "differs"
+    return "the text is too large" if code(again) in OF_SIZE else "differs"
 
 
 def outcomes(path):
