@@ -167,6 +167,11 @@ SHOW FRESH figures;
 DROP TABLE figures;
 DROP TABLE copied;
 
+-- texts of rewritten queries
+EXPLAIN REWRITE SELECT total FROM totals ORDER BY total DESC LIMIT 1;
+EXPLAIN REWRITE SELECT PROVENANCE total FROM totals WHERE k = 1;
+EXPLAIN REWRITE SELECT PROVENANCE k FROM s WHERE EXISTS (SELECT 1 FROM totals WHERE totals.k = s.k AND total > v) OR t = 'o''k';
+
 DROP VIEW traced;
 DROP VIEW totals;
 DROP TABLE s
