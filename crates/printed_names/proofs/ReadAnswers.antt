@@ -24,8 +24,8 @@ use Rattle.name_meaning.specs.Trees.{core_of, from_of, item_of}
 use Rattle.name_meaning.specs.declared.scope.Scope.{Scope}
 use Rattle.tree_texts.specs.Forms as f
 use Rattle.tree_texts.specs.Trees.{AreItems, IsCore, IsQuery, an_item_tree, no_item_trees}
-use Rattle.query_texts.specs.Names.{outermost, own as own_naming}
-use Rattle.query_texts.specs.declared.tables.TableNames.{TableNames}
+use Rattle.clause_texts.specs.Names.{outermost, own as own_naming}
+use Rattle.clause_texts.specs.declared.tables.TableNames.{TableNames}
 use Rattle.query_forms.specs.ShownQueries.{called, called_from, over, selected, shown, shown_answer}
 use Rattle.printed_queries.specs.Printed.{columns_from, copied, or_unread, printed, printed_answer, unread_item}
 use Rattle.printed_queries.specs.PrintedExpressions.{before}

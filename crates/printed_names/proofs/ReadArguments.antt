@@ -21,7 +21,7 @@ use Rattle.name_meaning.specs.declared.scope.Scope.{Scope}
 use Rattle.tree_texts.specs.Forms as f
 use Rattle.tree_texts.specs.Forms.{ExprForm}
 use Rattle.tree_texts.specs.Trees.{AreItems, IsExpr, IsItem, an_item_tree, no_item_trees}
-use Rattle.query_texts.specs.Names.{naming}
+use Rattle.clause_texts.specs.Names.{naming}
 use Rattle.query_forms.specs.ShownExpressions.{shown_expr}
 use Rattle.query_forms.specs.ShownQueries as writing
 use Rattle.query_forms.specs.ShownQueries.{listed, named_from, one, own_column}

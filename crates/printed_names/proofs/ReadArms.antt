@@ -21,8 +21,8 @@ use Rattle.name_meaning.specs.declared.scope.Scope.{Scope}
 use Rattle.tree_texts.specs.Forms as f
 use Rattle.tree_texts.specs.Forms.{ExprForm, QueryForm}
 use Rattle.tree_texts.specs.Trees.{IsCore, IsQuery}
-use Rattle.query_texts.specs.Names.{naming}
-use Rattle.query_texts.specs.Unused.{items_use, spare}
+use Rattle.clause_texts.specs.Names.{naming}
+use Rattle.clause_texts.specs.Unused.{items_use, spare}
 use Rattle.query_forms.specs.ShownQueries.{columns, listed, one, over, projected, selected, tested_by}
 use Rattle.printed_queries.specs.Printed.{asked_by, columns_from, condition_subs, copied, idle, idle_in, or_unread, printed_condition, taken, unread_item}
 use Rattle.printed_queries.specs.PrintedExpressions.{printed_expr}

@@ -42,7 +42,7 @@ use Rattle.name_meaning.specs.declared.scope.Scope.{Scope}
 use Rattle.tree_texts.specs.Forms as f
 use Rattle.tree_texts.specs.Forms.{ColumnForm, ExprForm, QueryForm}
 use Rattle.tree_texts.specs.Trees.{AreColumns, AreItems, IsCore, IsExpr, IsItem, IsQuery, a_column_tree, an_item_tree, bare_tree, count_distinct_tree, count_rows_tree, count_tree, folded_tree, item_tree, no_column_trees, no_item_trees}
-use Rattle.query_texts.specs.Names.{naming, own as own_naming}
+use Rattle.clause_texts.specs.Names.{naming, own as own_naming}
 use Rattle.query_forms.specs.ShownQueries as writing
 use Rattle.query_forms.specs.ShownQueries.{Listed, below_groups, listed, named_from, one, over, own_column, own_columns, selected}
 use Rattle.printed_queries.specs.Printed as printing

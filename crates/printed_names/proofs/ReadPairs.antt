@@ -24,7 +24,7 @@ use Rattle.name_meaning.specs.declared.scope.Scope.{Scope}
 use Rattle.tree_texts.specs.Forms as f
 use Rattle.tree_texts.specs.Forms.{ExprForm, FromForm, QueryForm}
 use Rattle.tree_texts.specs.Trees.{AreSources, IsCore, IsExpr, IsQuery}
-use Rattle.query_texts.specs.Names.{naming}
+use Rattle.clause_texts.specs.Names.{naming}
 use Rattle.query_forms.specs.ShownQueries.{columns, first_source, joined, listed, one, selected, stays, tested_by}
 use Rattle.printed_queries.specs.Printed.{columns_from, condition_subs, idle_in, lateral_kind, or_unread, paired, printed_condition, unread_item, unread_of}
 use Rattle.printed_queries.specs.PrintedExpressions.{printed_expr}

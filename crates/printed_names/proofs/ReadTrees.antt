@@ -28,9 +28,9 @@ use Rattle.name_meaning.specs.declared.scope.Scope.{Scope}
 use Rattle.tree_texts.specs.Forms as f
 use Rattle.tree_texts.specs.Forms.{CoreForm, ExprForm, QueryForm}
 use Rattle.tree_texts.specs.Trees.{AreSources, IsCore, IsQuery, no_source_trees}
-use Rattle.query_texts.specs.Names.{deeper, naming, own as own_naming}
-use Rattle.query_texts.specs.Unused.{items_use, spare}
-use Rattle.query_texts.specs.declared.tables.TableNames.{TableNames}
+use Rattle.clause_texts.specs.Names.{deeper, naming, own as own_naming}
+use Rattle.clause_texts.specs.Unused.{items_use, spare}
+use Rattle.clause_texts.specs.declared.tables.TableNames.{TableNames}
 use Rattle.query_forms.specs.ShownQueries as writing
 use Rattle.query_forms.specs.ShownQueries.{alone, key_form, listed, one, selected, shown, sub_forms, tested_part}
 use Rattle.printed_queries.specs.Printed as printing

@@ -18,10 +18,10 @@ use Rattle.bag_algebra.specs.declared.query.Query.{Query, more_of-Sublink, end_o
 use Rattle.bag_algebra.specs.declared.query.Query.TheVariants.{Table, Single}
 use Rattle.bag_algebra.specs.declared.query.SubKind.TheVariants as ask
 use Rattle.tree_texts.specs.Texts.{expr_text, query_text, script_text}
-use Rattle.query_texts.specs.Names.{own, outermost}
+use Rattle.clause_texts.specs.Names.{own, outermost}
 use Rattle.query_forms.specs.ShownExpressions.{shown_expr}
 use Rattle.query_forms.specs.ShownQueries.{shown, shown_answer}
-use Rattle.query_texts.specs.declared.tables.TableNames.{TableNames}
+use Rattle.clause_texts.specs.declared.tables.TableNames.{TableNames}
 
 -- ---- words of the examples
 
@@ -104,6 +104,23 @@ example-join : text (JoinOf join.Left s r (compared compare.Equal (col 0) (col 1
 unfolding digits
 example-join = refl
 
+-- a projection over a filter over joins is one SELECT
+example-block : text (ProjectOf (FilterOf (JoinOf join.Inner (JoinOf join.Left s r (compared compare.Equal (col 0) (col 1)) none end_of-Sublink) s (compared compare.Equal (col 1) (col 3)) none end_of-Sublink) (compared compare.Less (col 0) (num (pos 3))) none end_of-Sublink) (item (col 2) ∷ []) none end_of-Sublink)
+    ≡ codes "SELECT \"c3\" AS \"c1\" FROM ( SELECT \"c\" AS \"c1\" FROM \"s\" ) AS \"t1\" LEFT JOIN ( SELECT \"a\" AS \"c2\" , \"b\" AS \"c3\" FROM \"r\" ) AS \"t2\" ON ( \"c1\" = \"c2\" ) JOIN ( SELECT \"c\" AS \"c4\" FROM \"s\" ) AS \"t3\" ON ( \"c2\" = \"c4\" ) WHERE ( \"c1\" < 3 ) "
+unfolding digits
+example-block = refl
+
+-- no join follows a source without columns
+example-no_columns : text (JoinOf join.Inner (JoinOf join.Inner s Single (Lit (Boolean true) kind.Boolean) none end_of-Sublink) s (compared compare.Equal (col 0) (col 1)) none end_of-Sublink)
+    ≡ codes "SELECT \"c1\" AS \"c1\" , \"c2\" AS \"c2\" FROM ( SELECT \"c1\" AS \"c1\" FROM ( SELECT \"c\" AS \"c1\" FROM \"s\" ) AS \"t1\" JOIN ( SELECT 1 AS \"c0\" ) AS \"t2\" ON TRUE ) AS \"t1\" JOIN ( SELECT \"c\" AS \"c2\" FROM \"s\" ) AS \"t2\" ON ( \"c1\" = \"c2\" ) "
+unfolding digits
+example-no_columns = refl
+
+example-distinct : text (DistinctOf (ProjectOf s (item (col 0) ∷ []) none end_of-Sublink))
+    ≡ codes "SELECT DISTINCT \"c1\" AS \"c1\" FROM ( SELECT \"c\" AS \"c1\" FROM \"s\" ) AS \"t1\" "
+unfolding digits
+example-distinct = refl
+
 -- the query on the right sees the row on the left
 example-lateral : text (ApplyOf join.Inner s (FilterOf s (compared compare.Equal (col 0) (Col 1 0)) none end_of-Sublink))
     ≡ codes "SELECT \"c1\" AS \"c1\" , \"c2\" AS \"c2\" FROM ( SELECT \"c\" AS \"c1\" FROM \"s\" ) AS \"t1\" CROSS JOIN LATERAL ( SELECT \"cc1\" AS \"c2\" FROM ( SELECT \"c\" AS \"cc1\" FROM \"s\" ) AS \"t1\" WHERE ( \"cc1\" = \"c1\" ) ) AS \"t2\" "
@@ -111,7 +128,7 @@ unfolding digits
 example-lateral = refl
 
 example-except : text (ExceptOf true s (DistinctOf s))
-    ≡ codes "SELECT \"c1\" AS \"c1\" FROM ( SELECT \"c\" AS \"c1\" FROM \"s\" ) AS \"t1\" EXCEPT ALL SELECT \"c1\" AS \"c1\" FROM ( SELECT DISTINCT \"c1\" AS \"c1\" FROM ( SELECT \"c\" AS \"c1\" FROM \"s\" ) AS \"t1\" ) AS \"t1\" "
+    ≡ codes "SELECT \"c\" AS \"c1\" FROM \"s\" EXCEPT ALL SELECT \"c1\" AS \"c1\" FROM ( SELECT DISTINCT \"c\" AS \"c1\" FROM \"s\" ) AS \"t1\" "
 unfolding digits
 example-except = refl
 
@@ -125,7 +142,7 @@ unfolding digits
 example-one_group = refl
 
 example-limit : text (LimitOf s (record { place = 0; descending = true } ∷ []) 2)
-    ≡ codes "SELECT \"c1\" AS \"c1\" FROM ( SELECT \"c\" AS \"c1\" FROM \"s\" ) AS \"t1\" ORDER BY 1 DESC , 1 LIMIT 2 "
+    ≡ codes "SELECT \"c\" AS \"c1\" FROM \"s\" ORDER BY 1 DESC , 1 LIMIT 2 "
 unfolding digits
 example-limit = refl
 

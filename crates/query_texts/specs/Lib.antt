@@ -1,4 +1,3 @@
-pub mod Frames
-pub mod Names
 pub mod QueryTexts
-pub mod Unused
+pub mod Sources
+pub mod built

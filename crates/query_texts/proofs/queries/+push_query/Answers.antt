@@ -3,8 +3,8 @@ use Rattle.std.specs.Prelude.{codes}
 use Rattle.std.proofs.lemmas.List.{take_all}
 use Rattle.bag_algebra.specs.declared.query.Query.TheVariants.{Union, Intersect, Except}
 use Rattle.expression_texts.proofs.Pieces.{laid3, laid6, mapped_next, when-ok}
-use Rattle.query_texts.specs.Frames.{called_in}
-use Rattle.query_texts.specs.Names.{deeper, naming, own}
+use Rattle.clause_texts.specs.Frames.{called_in}
+use Rattle.clause_texts.specs.Names.{deeper, naming, own}
 use Rattle.query_texts.specs.QueryTexts.{above_text, below_text, grouped_text, join_text, lateral_back, lateral_text, over_text, query_bytes, sub_text, subs_texts}
 use Rattle.query_texts.proofs.OpenedQueries.{aggregate_pushed, apply_pushed, base_pushed, distinct_pushed, except_text, filter_pushed, intersect_text, join_pushed, limit_pushed, project_pushed, prov_pushed, set_pushed, sub_joined, union_text}
 use Rattle.query_texts.proofs.queries.+push_query.Goals as goal
