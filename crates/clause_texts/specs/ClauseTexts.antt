@@ -57,7 +57,7 @@ named_items out number (name ∷ names) = item_text out number (name_text name) 
 -- ---- clauses
 
 abbrev pub over_text : List ℕ → List ℕ
-over_text q = codes "FROM ( " ++ (q ++ codes ") AS \"t1\" ")
+over_text q = codes "FROM ( " ++ (q ++ codes ") AS \"t\" ")
 
 -- the columns of a table
 abbrev pub listed_text : Naming → List ℕ → List (List ℕ) → List ℕ
@@ -127,7 +127,7 @@ lateral_on join.Left = codes "ON TRUE "
 lateral_on join.Right = []
 lateral_on join.Full = []
 
--- AS and the name of the source of a number
+-- AS and the name of the source whose columns begin with a number
 abbrev pub source_text : ℕ → List ℕ
 source_text number = codes ") AS " ++ reference_text source_prefix 0 number
 

@@ -26,7 +26,7 @@ own prefix = naming prefix 1
 abbrev pub unread : List ℕ → List ℕ
 unread prefix = column_name prefix 0 0
 
--- what the names of the sources of a FROM begin with
+-- what the names of the sources of a FROM begin with: the first is called so, any other by the number of its first column too
 abbrev pub source_prefix : List ℕ
 source_prefix = 116 ∷ []
 

@@ -7,7 +7,7 @@ use bag_algebra::JoinKind;
 use expression_texts::Draft;
 use perm_values::NoMemory;
 
-/// What ends the source of a number: its name.
+/// What ends the source whose columns begin with a number: its name.
 pub fn push_source(number: usize, draft: &mut Draft) -> Result<(), NoMemory>
     ensures { OnOk result (draft.new ≡ draft.old ++ source_text number) }
 {

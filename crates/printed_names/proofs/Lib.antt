@@ -6,7 +6,8 @@ pub mod PlainTrees
 pub mod ReadAggregates
 pub mod ReadAnswers
 pub mod ReadArguments
-pub mod ReadArms
+pub mod ReadBlocks
+pub mod ReadChains
 pub mod ReadAsked
 pub mod ReadColumns
 pub mod ReadConditions
@@ -23,7 +24,6 @@ pub mod ReadLeaves
 pub mod ReadLists
 pub mod ReadNodes
 pub mod ReadOperators
-pub mod ReadPairs
 pub mod ReadParts
 pub mod ReadQueries
 pub mod ReadRows

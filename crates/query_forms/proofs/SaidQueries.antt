@@ -23,7 +23,6 @@ use Rattle.tree_texts.specs.Forms.{ExprForm, FromForm, ConditionForm, CoreForm, 
 use Rattle.tree_texts.specs.Phrases.{maybe_distinct, joining, joining_lateral, grouped, ordered}
 use Rattle.query_texts.specs.QueryTexts as texts
 use Rattle.query_texts.specs.QueryTexts.{Written, written, select, sub_texts, answer_bytes}
-use Rattle.query_texts.specs.Sources.{sources_of}
 use Rattle.clause_texts.specs.Names.{Naming, naming, own, deeper, names_of, outermost}
 use Rattle.query_forms.specs.ShownExpressions.{shown_expr, beside}
 use Rattle.query_forms.specs.ShownQueries.{own_columns, Listed, listed, one, columns, selected, alone, Chain, sources, just, then_joins, joined_to, source_name, Framed, copied, a_whole, a_select, a_block, of_table, tested_by, projected, joined, stays, in_groups, below_groups, aggregates_from, arguments, grouped_columns, key_form, any_of, all_of, tested_part, asked, framed, sub_forms, called, shown_answer}
@@ -49,7 +48,7 @@ alone_said : (core : CoreForm) → query_said (alone core) ≡ said (plan.core c
 alone_said core = append-nil (said (plan.core core))
 
 just_said : (q : QueryForm) → said (plan.sources (sources (just q))) ≡ over_text (query_said q)
-just_said q = ap (λ t. codes "FROM ( " ++ t) (append-nil (query_said q ++ codes ") AS \"t1\" "))
+just_said q = ap (λ t. codes "FROM ( " ++ t) (append-nil (query_said q ++ codes ") AS \"t\" "))
 
 nested_said : (q : QueryForm) → said (plan.nested q) ≡ query_said q
 nested_said (f.one first keys number) = refl
@@ -409,7 +408,7 @@ module _ (tables : List TableNames) where
         ∙ ap (λ texts. projected_text prefix out texts (spare (items_use items) 0 texts) items) (subs_said prefix subs))
         (form_says prefix input).block)
     form_says prefix (JoinOf kind left right condition _ subs) =
-        let number = sources_of left + 1 in
+        let number = width_of left + 1 in
         let right_side = naming prefix (width_of left + 1) in
         let forms = sub_forms tables prefix subs in
         let on = tested_by prefix forms condition in
@@ -422,7 +421,7 @@ module _ (tables : List TableNames) where
         ∙ ap₂ (λ r c. beside_joined kind number r ++ c) ((form_says prefix right).whole right_side)
         (condition_is prefix forms (sub_texts tables prefix subs) condition (subs_said prefix subs)))
     form_says prefix (ApplyOf kind left right) =
-        let number = sources_of left + 1 in
+        let number = width_of left + 1 in
         let right_side = naming prefix (width_of left + 1) in
         let q = (framed tables (deeper prefix) right).whole right_side in
         joined_says prefix (length (kinds_of left ++ kinds_of right)) (is_any (width_of right)) (framed tables prefix left).from

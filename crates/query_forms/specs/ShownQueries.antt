@@ -24,7 +24,6 @@ use Rattle.tree_texts.specs.Forms.{ExprForm, ItemForms, SourceForm, JoinForms, F
 use Rattle.expression_texts.specs.Names.{column_name}
 use Rattle.clause_texts.specs.Names.{Naming, naming, own, unread, outermost, deeper, names_of, source_prefix}
 use Rattle.expression_texts.specs.Words.{is_any}
-use Rattle.query_texts.specs.Sources.{sources_of}
 use Rattle.query_forms.specs.ShownExpressions.{shown_expr, unsaid, beside}
 use Rattle.clause_texts.specs.Unused.{used_in, items_use, spare}
 use Rattle.clause_texts.specs.declared.tables.TableNames.{TableNames}
@@ -74,7 +73,7 @@ alone core = f.one core [] None
 -- ---- sources
 
 abbrev pub first_source : QueryForm → SourceForm
-first_source q = f.subquery q (codes "t1")
+first_source q = f.subquery q source_prefix
 
 -- sources of a FROM: a first one, and others that are joined
 pub record Chain : Type 0 where
@@ -95,7 +94,7 @@ then_joins (f.a_lateral stays q name more) last = f.a_lateral stays q name (then
 abbrev pub joined_to : Chain → JoinForms → Chain
 joined_to chain last = record { first = chain.first; more = then_joins chain.more last }
 
--- the name of the source of a number
+-- the name of the source whose columns begin with a number
 abbrev pub source_name : ℕ → List ℕ
 source_name number = column_name source_prefix 0 number
 
@@ -269,13 +268,13 @@ abbrev mutual
       a_block prefix (length (kinds_of left ++ kinds_of right)) (is_any (width_of right))
       (joined_to (framed tables prefix left).from
       (f.a_join (joined kind)
-      (f.subquery ((framed tables prefix right).whole (naming prefix (width_of left + 1))) (source_name (sources_of left + 1)))
+      (f.subquery ((framed tables prefix right).whole (naming prefix (width_of left + 1))) (source_name (width_of left + 1)))
       (tested_by prefix (sub_forms tables prefix subs) condition) f.no_joins)) f.no_condition
   framed tables prefix (ApplyOf kind left right) =
       a_block prefix (length (kinds_of left ++ kinds_of right)) (is_any (width_of right))
       (joined_to (framed tables prefix left).from
       (f.a_lateral (stays kind) ((framed tables (deeper prefix) right).whole (naming prefix (width_of left + 1)))
-      (source_name (sources_of left + 1)) f.no_joins)) f.no_condition
+      (source_name (width_of left + 1)) f.no_joins)) f.no_condition
   framed tables prefix (UnionOf all left right) =
       a_whole prefix (width_of left) (λ out.
       f.united ((framed tables prefix left).core false out) f.union all ((framed tables prefix right).core false out) f.no_unions [] None)

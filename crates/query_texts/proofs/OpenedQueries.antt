@@ -19,7 +19,6 @@ use Rattle.clause_texts.specs.Names.{Naming, deeper, naming, names_of, own}
 use Rattle.clause_texts.specs.declared.tables.TableNames.{TableNames}
 use Rattle.expression_texts.proofs.Pieces.{laid2, laid3}
 use Rattle.query_texts.specs.QueryTexts.{query_bytes, select, sub_text, sub_texts, subs_texts, written}
-use Rattle.query_texts.specs.Sources.{sources_of}
 use Rattle.query_texts.specs.built.Parts.{block_part, select_part}
 
 module _ (tables : List TableNames) (prefix : List ℕ) where
@@ -57,7 +56,7 @@ module _ (tables : List TableNames) (prefix : List ℕ) where
   filter_bare input condition subs = ap bare (Filter-is input condition subs) ∙ ap (filtered input condition) (subs-opened subs)
 
   abbrev beside : JoinKind → Query → Query → List ℕ
-  beside kind left right = beside_joined kind (sources_of left + 1) (query_bytes tables prefix (naming prefix (width_of left + 1)) right)
+  beside kind left right = beside_joined kind (width_of left + 1) (query_bytes tables prefix (naming prefix (width_of left + 1)) right)
 
   abbrev joining : JoinKind → Query → Query → Expr → List (List ℕ) → List ℕ
   joining kind left right condition texts = from left ++ (beside kind left right ++ condition_text prefix texts condition)
@@ -69,7 +68,7 @@ module _ (tables : List TableNames) (prefix : List ℕ) where
 
   abbrev lateral : JoinKind → Query → Query → List ℕ
   lateral kind left right =
-      beside_lateral kind (sources_of left + 1) (query_bytes tables (deeper prefix) (naming prefix (width_of left + 1)) right)
+      beside_lateral kind (width_of left + 1) (query_bytes tables (deeper prefix) (naming prefix (width_of left + 1)) right)
 
   apply_bare : (kind : JoinKind) (left right : Query) → bare (Apply kind left right) ≡ from left ++ lateral kind left right
   apply_bare kind left right = ap bare (Apply-is kind left right)
@@ -93,35 +92,33 @@ module _ (tables : List TableNames) (prefix : List ℕ) where
         (begun ∙ ap (λ p. start ++ from p) input_is)
         (closed ∙ ap (λ ts. one ++ where_text prefix ts condition) these))
 
-    pub join_pushed : (kind : JoinKind) (left right l l' l'' r : Query) (condition : Expr) (subs subs' : List Sublink) (texts texts' : List (List ℕ))
-        (sources before : ℕ) (one two three : List ℕ) → q ≡ Join kind left right condition subs
-        → subs' ≡ subs → texts ≡ subs_texts tables prefix subs' → texts' ≡ texts → l ≡ left → sources ≡ sources_of l → l' ≡ left
-        → before ≡ width_of l' → l'' ≡ left → r ≡ right → one ≡ start ++ from l''
-        → two ≡ one ++ beside_joined kind (sources + 1) (query_bytes tables prefix (naming prefix (before + 1)) r)
+    pub join_pushed : (kind : JoinKind) (left right l l' r : Query) (condition : Expr) (subs subs' : List Sublink) (texts texts' : List (List ℕ))
+        (before : ℕ) (one two three : List ℕ) → q ≡ Join kind left right condition subs
+        → subs' ≡ subs → texts ≡ subs_texts tables prefix subs' → texts' ≡ texts → l ≡ left
+        → before ≡ width_of l → l' ≡ left → r ≡ right → one ≡ start ++ from l'
+        → two ≡ one ++ beside_joined kind (before + 1) (query_bytes tables prefix (naming prefix (before + 1)) r)
         → three ≡ two ++ condition_text prefix texts' condition → three ≡ start ++ bare q
-    join_pushed kind left right l l' l'' r condition subs subs' texts texts' sources before one two three is subs_are texts_are same l_is sources_is
-        l'_is before_is l''_is r_is begun joined closed =
+    join_pushed kind left right l l' r condition subs subs' texts texts' before one two three is subs_are texts_are same l_is before_is
+        l'_is r_is begun joined closed =
         let these = same ∙ texts_are ∙ ap (subs_texts tables prefix) subs_are in
-        let number = sources_is ∙ ap sources_of l_is in
-        let behind = before_is ∙ ap width_of l'_is in
+        let behind = before_is ∙ ap width_of l_is in
         laid_bare (Join kind left right condition subs) (joining kind left right condition (subs_texts tables prefix subs)) three is
         (join_bare kind left right condition subs)
         (laid3 start one two three (from left) (beside kind left right) (condition_text prefix (subs_texts tables prefix subs) condition)
-        (begun ∙ ap (λ p. start ++ from p) l''_is)
-        (joined ∙ (λ i. one ++ beside_joined kind (number i + 1) (query_bytes tables prefix (naming prefix (behind i + 1)) (r_is i))))
+        (begun ∙ ap (λ p. start ++ from p) l'_is)
+        (joined ∙ (λ i. one ++ beside_joined kind (behind i + 1) (query_bytes tables prefix (naming prefix (behind i + 1)) (r_is i))))
         (closed ∙ ap (λ ts. two ++ condition_text prefix ts condition) these))
 
-    pub apply_pushed : (kind : JoinKind) (left right l l' l'' r : Query) (sources before : ℕ) (one two : List ℕ) → q ≡ Apply kind left right
-        → l ≡ left → sources ≡ sources_of l → l' ≡ left → before ≡ width_of l' → l'' ≡ left → r ≡ right → one ≡ start ++ from l''
-        → two ≡ one ++ beside_lateral kind (sources + 1) (query_bytes tables (deeper prefix) (naming prefix (before + 1)) r)
+    pub apply_pushed : (kind : JoinKind) (left right l l' r : Query) (before : ℕ) (one two : List ℕ) → q ≡ Apply kind left right
+        → l ≡ left → before ≡ width_of l → l' ≡ left → r ≡ right → one ≡ start ++ from l'
+        → two ≡ one ++ beside_lateral kind (before + 1) (query_bytes tables (deeper prefix) (naming prefix (before + 1)) r)
         → two ≡ start ++ bare q
-    apply_pushed kind left right l l' l'' r sources before one two is l_is sources_is l'_is before_is l''_is r_is begun joined =
-        let number = sources_is ∙ ap sources_of l_is in
-        let behind = before_is ∙ ap width_of l'_is in
+    apply_pushed kind left right l l' r before one two is l_is before_is l'_is r_is begun joined =
+        let behind = before_is ∙ ap width_of l_is in
         laid_bare (Apply kind left right) (from left ++ lateral kind left right) two is (apply_bare kind left right)
         (laid2 start one two (from left) (lateral kind left right)
-        (begun ∙ ap (λ p. start ++ from p) l''_is)
-        (joined ∙ (λ i. one ++ beside_lateral kind (number i + 1) (query_bytes tables (deeper prefix) (naming prefix (behind i + 1)) (r_is i)))))
+        (begun ∙ ap (λ p. start ++ from p) l'_is)
+        (joined ∙ (λ i. one ++ beside_lateral kind (behind i + 1) (query_bytes tables (deeper prefix) (naming prefix (behind i + 1)) (r_is i)))))
 
 -- ---- what stands behind SELECT
 

@@ -1,3 +1,2 @@
 pub mod QueryTexts
-pub mod Sources
 pub mod built

@@ -10,7 +10,6 @@ use Rattle.clause_texts.specs.ClauseTexts.{asked_text, beside_joined, beside_lat
 use Rattle.clause_texts.specs.Names.{Naming, deeper, naming, names_of, outermost, own}
 use Rattle.clause_texts.specs.declared.tables.TableNames.{TableNames}
 use Rattle.expression_texts.specs.Words.{is_any, unless_none}
-use Rattle.query_texts.specs.Sources.{sources_of}
 
 -- what a query is written as
 pub record Written : Type 0 where
@@ -55,7 +54,8 @@ a_block prefix count followed block = record {
 
 -- ---- queries
 
--- The columns of what a join brings stand right behind those of its left side: no join follows one whose right side has none.
+-- The columns of what a join brings stand right behind those of its left side, and its source is called by the number of the first: no join
+-- follows one whose right side has none.
 abbrev mutual
   pub written : List TableNames → List ℕ → Query → Written
   written tables prefix (Table id kinds) = a_select prefix (λ out. table_text out (names_of tables id))
@@ -69,12 +69,12 @@ abbrev mutual
   written tables prefix (JoinOf kind left right condition _ subs) =
       a_block prefix (length (kinds_of left ++ kinds_of right)) (is_any (width_of right))
       ((written tables prefix left).from
-      ++ (beside_joined kind (sources_of left + 1) ((written tables prefix right).whole (naming prefix (width_of left + 1)))
+      ++ (beside_joined kind (width_of left + 1) ((written tables prefix right).whole (naming prefix (width_of left + 1)))
       ++ condition_text prefix (sub_texts tables prefix subs) condition))
   written tables prefix (ApplyOf kind left right) =
       a_block prefix (length (kinds_of left ++ kinds_of right)) (is_any (width_of right))
       ((written tables prefix left).from
-      ++ beside_lateral kind (sources_of left + 1) ((written tables (deeper prefix) right).whole (naming prefix (width_of left + 1))))
+      ++ beside_lateral kind (width_of left + 1) ((written tables (deeper prefix) right).whole (naming prefix (width_of left + 1))))
   written tables prefix (UnionOf all left right) =
       a_whole prefix (width_of left) (λ out. select ((written tables prefix left).listed out)
       ++ (set_text (codes "UNION ") all ++ select ((written tables prefix right).listed out)))

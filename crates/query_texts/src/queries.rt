@@ -7,7 +7,7 @@ ghost use Rattle.clause_texts.specs.Names.{deeper, naming};
 ghost use Rattle.query_texts.specs.QueryTexts.{answer_bytes, query_bytes, sub_text, subs_texts, written};
 ghost use Rattle.query_texts.specs.built.Parts.{block_part, over_bytes, select_part};
 
-use crate::shapes::{is_block, is_chain, is_select, sources_of};
+use crate::shapes::{is_block, is_chain, is_select};
 use bag_algebra::{Aggr, Answer, JoinKind, Query, Sublink};
 use clause_texts::{
     Frame, TableNames, asked_back, columns_of, deeper, join_text, lateral_text, push_above,
@@ -160,17 +160,15 @@ fn push_bare(frame: &Frame, query: &Query, draft: &mut Draft) -> Result<(), NoMe
             subs,
         } => {
             let texts = sub_texts(frame, subs.as_slice(), draft.alloc())?;
-            let sources = sources_of(left.get())?;
             let before = columns_of(left.get())?;
             push_from(frame, left.get(), draft)?;
-            push_joined(frame, *kind, sources, before, right.get(), draft)?;
+            push_joined(frame, *kind, before, right.get(), draft)?;
             push_condition(frame, texts.as_slice(), condition, draft)
         }
         Query::Apply { kind, left, right } => {
-            let sources = sources_of(left.get())?;
             let before = columns_of(left.get())?;
             push_from(frame, left.get(), draft)?;
-            push_lateral(frame, *kind, sources, before, right.get(), draft)
+            push_lateral(frame, *kind, before, right.get(), draft)
         }
         Query::Table { .. } => Ok(()),
         Query::Single => Ok(()),
@@ -237,23 +235,21 @@ fn push_over(frame: &Frame, query: &Query, draft: &mut Draft) -> Result<(), NoMe
         ..*frame
     };
     push_query(&inner, query, draft)?;
-    draft.push(b") AS \"t1\" ")
+    draft.push(b") AS \"t\" ")
 }
 
-/// The query on the right of a join, behind so many sources and columns.
+/// The query on the right of a join, behind so many columns.
 #[cycle(push_query)]
 fn push_joined(
     frame: &Frame,
     kind: JoinKind,
-    sources: usize,
     before: usize,
     right: &Query,
     draft: &mut Draft,
 ) -> Result<(), NoMemory>
-    ensures { OnOk result (draft.new ≡ draft.old ++ beside_joined kind (sources + 1)
+    ensures { OnOk result (draft.new ≡ draft.old ++ beside_joined kind (before + 1)
         (query_bytes frame.now.tables.now frame.now.prefix.now (naming frame.now.prefix.now (before + 1)) right.now)) }
 {
-    let number = behind(sources, 1)?;
     let first = behind(before, 1)?;
     let inner = Frame {
         out: frame.prefix,
@@ -262,26 +258,24 @@ fn push_joined(
     };
     draft.push(join_text(kind))?;
     push_query(&inner, right, draft)?;
-    push_source(number, draft)?;
+    push_source(first, draft)?;
     draft.push(b"ON ")
 }
 
-/// The query behind LATERAL, behind so many sources and columns.
+/// The query behind LATERAL, behind so many columns.
 #[cycle(push_query)]
 fn push_lateral(
     frame: &Frame,
     kind: JoinKind,
-    sources: usize,
     before: usize,
     right: &Query,
     draft: &mut Draft,
 ) -> Result<(), NoMemory>
-    ensures { OnOk result (draft.new ≡ draft.old ++ beside_lateral kind (sources + 1)
+    ensures { OnOk result (draft.new ≡ draft.old ++ beside_lateral kind (before + 1)
         (query_bytes frame.now.tables.now (deeper frame.now.prefix.now) (naming frame.now.prefix.now (before + 1)) right.now)) }
 {
     let longer = deeper(draft.alloc(), frame.prefix)?;
     let prefix = longer.as_slice();
-    let number = behind(sources, 1)?;
     let first = behind(before, 1)?;
     let inner = Frame {
         tables: frame.tables,
@@ -291,7 +285,7 @@ fn push_lateral(
     };
     draft.push(lateral_text(kind))?;
     push_query(&inner, right, draft)?;
-    push_lateral_source(kind, number, draft)
+    push_lateral_source(kind, first, draft)
 }
 
 #[cycle(push_query)]
@@ -309,7 +303,7 @@ fn push_groups(
     draft.push(b"FROM ( ")?;
     push_below(frame.prefix, groups, aggregates, draft)?;
     push_block(frame, input, draft)?;
-    draft.push(b") AS \"t1\" ")?;
+    draft.push(b") AS \"t\" ")?;
     push_grouped(frame.prefix, groups.len(), draft)
 }
 
