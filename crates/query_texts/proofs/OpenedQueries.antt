@@ -1,5 +1,5 @@
 -- The texts of the nodes that constructors of code make, in words on plain lists of sublinks, and how they are joined piece by piece.
-use Rattle.std.proofs.Common.{◌≡◌, ◌∙◌, ℕ, ◌+◌, Bool, List, [], ◌∷◌, ◌++◌, refl, sym, ap, ap₂, append-nil, append_assoc}
+use Rattle.std.proofs.Common.{◌≡◌, ◌∙◌, ℕ, ◌+◌, Bool, false, cond, List, [], ◌∷◌, ◌++◌, refl, sym, ap, ap₂, append-nil, append_assoc}
 use Rattle.std.specs.Prelude.{codes}
 use Rattle.perm_values.specs.declared.key.Key.{Key}
 use Rattle.perm_values.specs.declared.kind.Kind.{Kind}
@@ -20,6 +20,7 @@ use Rattle.clause_texts.specs.declared.tables.TableNames.{TableNames}
 use Rattle.expression_texts.proofs.Pieces.{laid2, laid3}
 use Rattle.query_texts.specs.QueryTexts.{query_bytes, select, sub_text, sub_texts, subs_texts, written}
 use Rattle.query_texts.specs.built.Parts.{block_part, select_part}
+use Rattle.query_texts.specs.built.Shapes.{is_block, is_select}
 
 module _ (tables : List TableNames) (prefix : List ℕ) where
   subs-opened : (subs : List Sublink) → sub_texts tables prefix (row_of_subs subs) ≡ subs_texts tables prefix subs
@@ -78,8 +79,9 @@ module _ (tables : List TableNames) (prefix : List ℕ) where
     laid_bare : (variant : Query) (text after : List ℕ) → q ≡ variant → bare variant ≡ text → after ≡ start ++ text → after ≡ start ++ bare q
     laid_bare variant text after is opened pushed = pushed ∙ ap (λ t. start ++ t) (sym (ap bare is ∙ opened))
 
-    pub no_block : (variant : Query) → q ≡ variant → bare variant ≡ [] → start ≡ start ++ bare q
-    no_block variant is none = laid_bare variant [] start is none (sym (append-nil start))
+    pub no_block : (variant : Query) → q ≡ variant → is_block variant ≡ false → start ≡ start ++ bare q
+    no_block variant is none =
+        laid_bare variant [] start is (ap (λ b. cond b (written tables prefix variant).block []) none) (sym (append-nil start))
 
     pub filter_pushed : (input input' : Query) (condition : Expr) (subs subs' : List Sublink) (texts texts' : List (List ℕ)) (one two : List ℕ)
         → q ≡ Filter input condition subs → input' ≡ input → subs' ≡ subs → texts ≡ subs_texts tables prefix subs' → texts' ≡ texts
@@ -158,8 +160,9 @@ module _ (tables : List TableNames) (prefix : List ℕ) (out : Naming) where
     pub single_part : (after : List ℕ) → q ≡ Single → after ≡ start ++ unread_text out.prefix (codes "1 ") 0 → after ≡ start ++ part q
     single_part after is pushed = laid_part Single (unread_text out.prefix (codes "1 ") 0) after is refl pushed
 
-    pub no_part : (variant : Query) → q ≡ variant → part variant ≡ [] → start ≡ start ++ part q
-    no_part variant is none = laid_part variant [] start is none (sym (append-nil start))
+    pub no_part : (variant : Query) → q ≡ variant → is_select variant ≡ false → start ≡ start ++ part q
+    no_part variant is none =
+        laid_part variant [] start is (ap (λ b. cond b ((written tables prefix variant).listed out) []) none) (sym (append-nil start))
 
     pub all_part : (variant : Query) (after : List ℕ) → part variant ≡ all variant → q ≡ variant → after ≡ start ++ all q → after ≡ start ++ part q
     all_part variant after opened is pushed = laid_part variant (all variant) after is opened (pushed ∙ ap (λ p. start ++ all p) is)
