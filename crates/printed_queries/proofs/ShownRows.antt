@@ -48,6 +48,9 @@ pub record Spans (kinds : List Kind) (start total : ℕ) (u v : Row) : Type 0 wh
 abbrev pub Ends : List Kind → ℕ → Row → Row → Type 0
 Ends kinds start = Spans kinds start (start + length kinds)
 
+spans-faces : (kinds : List Kind) (start total : ℕ) (u v : Row) → Spans kinds start total u v → Faces kinds start u v
+spans-faces kinds start total u v s = s.faces
+
 pub shown-ends : (kinds : List Kind) (u v : Row) → Shown kinds u v → Ends kinds (unread_of kinds) u v
 shown-ends [] u v s = record { faces = record { wide = ap length s.0; there = λ place h. absurd (omega (arith, h)) }; count = omega (arith, s.1) }
 shown-ends (kind ∷ kinds) u v s = record { faces = shown-faces (kind ∷ kinds) u v s; count = omega (arith, ap length s.0, s.1) }
@@ -235,7 +238,7 @@ alike-ends kinds o p s = alike-kept (Along (Shown kinds)) (Along (Ends kinds (un
 pub alike_spans-faces : (kinds : List Kind) (start total : ℕ) (o p : Outcome Bag) → AlikeOutcomes (Along (Spans kinds start total)) o p
     → AlikeOutcomes (Along (Faces kinds start)) o p
 alike_spans-faces kinds start total o p s = alike-kept (Along (Spans kinds start total)) (Along (Faces kinds start))
-    (λ us vs r. along-kept (Spans kinds start total) (Faces kinds start) (λ u v (own : Spans kinds start total u v). own.faces) us vs r) o p s
+    (λ us vs r. along-kept (Spans kinds start total) (Faces kinds start) (spans-faces kinds start total) us vs r) o p s
 
 -- what is copied from rows that face the query's
 pub copied-alike : (env : List Row) (kinds : List Kind) (start : ℕ) (o p : Outcome Bag) → AlikeOutcomes (Along (Faces kinds start)) o p
