@@ -161,6 +161,7 @@ module _ (depth front : ℕ) (items : List ScopeItem) (left : List Kind) (s : En
 
   pub extended-ends : (right : List Kind) → 1 + length (left ++ right) < 2 ^ 64 → is_any (length right) ≡ true
       → Ending depth front (left ++ right) (scope_of (one_more depth items left right))
+  unfolding extended
   extended-ends [] bound any = absurd (true≢false (sym any))
   extended-ends (kind ∷ right) bound any = record { is = extended (kind ∷ right) bound; none_behind = refl }
 

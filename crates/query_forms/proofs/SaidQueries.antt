@@ -303,11 +303,11 @@ asked_said prefix ask.Scalar tested q = ap (λ t. codes "( " ++ (t ++ codes ") "
 
 -- ---- what a query is shown as says what it is written as
 
-record Says (w : Written) (form : Framed) : Type 0 where
-  whole : (out : Naming) → query_said (form.whole out) ≡ w.whole out
-  core : (distinct : Bool) (out : Naming) → said (plan.core (form.core distinct out)) ≡ codes "SELECT " ++ (said (maybe_distinct distinct) ++ w.listed out)
-  block : said (plan.sources (sources form.block)) ++ said (plan.where_clause form.test) ≡ w.block
-  from : said (plan.sources (sources form.from)) ≡ w.from
+pub record Says (w : Written) (form : Framed) : Type 0 where
+  pub whole : (out : Naming) → query_said (form.whole out) ≡ w.whole out
+  pub core : (distinct : Bool) (out : Naming) → said (plan.core (form.core distinct out)) ≡ codes "SELECT " ++ (said (maybe_distinct distinct) ++ w.listed out)
+  pub block : said (plan.sources (sources form.block)) ++ said (plan.where_clause form.test) ≡ w.block
+  pub from : said (plan.sources (sources form.from)) ≡ w.from
 
 module _ (prefix : List ℕ) where
   -- all columns over a FROM with a WHERE
@@ -354,13 +354,14 @@ module _ (prefix : List ℕ) where
         whole = whole;
         core = copied_said count chain test block is;
         block = is;
-        from = either followed alone_is (just_said (alone (copied prefix count chain test false (own prefix))) ∙ ap over_text (whole (own prefix)));
+        from = either (over_text (select (columns_text prefix (own prefix) count ++ block))) (just (alone (copied prefix count chain test false (own prefix))))
+            followed alone_is (just_said (alone (copied prefix count chain test false (own prefix))) ∙ ap over_text (whole (own prefix)));
       }
     where
-      either : {over : List ℕ} {other : Chain} (b : Bool) → (b ≡ true → said (plan.sources (sources chain)) ≡ block)
+      either : (over : List ℕ) (other : Chain) (b : Bool) → (b ≡ true → said (plan.sources (sources chain)) ≡ block)
           → said (plan.sources (sources other)) ≡ over → said (plan.sources (sources (cond b chain other))) ≡ cond b block over
-      either true first second = first refl
-      either false first second = second
+      either over other true first second = first refl
+      either over other false first second = second
 
   -- a FROM that joins follow, where it ends in one
   joined_says : (count : ℕ) (followed : Bool) (chain : Chain) (last : JoinForms) (from text : List ℕ) → said (plan.sources (sources chain)) ≡ from
