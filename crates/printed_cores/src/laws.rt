@@ -7,7 +7,7 @@ ghost use Rattle.name_meaning.specs.Cores.{distinct_if};
 ghost use Rattle.name_meaning.specs.Froms.{in_from};
 ghost use Rattle.name_meaning.specs.Meanings.{Around};
 ghost use Rattle.tree_texts.specs.Forms.{QueryForm, no_condition};
-ghost use Rattle.query_texts.specs.Names.{naming};
+ghost use Rattle.clause_texts.specs.Names.{naming};
 ghost use Rattle.query_forms.specs.ShownQueries.{columns, listed, one, over, selected};
 ghost use Rattle.printed_queries.specs.Printed.{copied};
 ghost use Rattle.printed_expressions.specs.Scopes.{Few, ScopesAre, marks};

@@ -22,9 +22,9 @@ use Rattle.perm_values.specs.declared.kind.Kind.{Kind}
 use Rattle.tree_texts.specs.Fits.{FitsColumn, FitsCore, FitsExpr, FitsFrom, FitsItems, FitsKey, FitsQuery}
 use Rattle.tree_texts.specs.Forms as f
 use Rattle.tree_texts.specs.Forms.{ColumnForm, ConditionForm, ExprForm, FromForm, KeyForm, QueryForm}
-use Rattle.query_texts.specs.Names.{Naming, deeper, has_id, names_of, nameless, naming, outermost, own}
-use Rattle.query_texts.specs.Unused.{items_use, spare, used_in}
-use Rattle.query_texts.specs.declared.tables.TableNames.{TableNames}
+use Rattle.clause_texts.specs.Names.{Naming, deeper, has_id, names_of, nameless, naming, outermost, own}
+use Rattle.clause_texts.specs.Unused.{items_use, spare, used_in}
+use Rattle.clause_texts.specs.declared.tables.TableNames.{TableNames}
 use Rattle.query_forms.specs.ShownExpressions.{beside, shown_expr}
 use Rattle.query_forms.specs.ShownQueries.{Listed, aggregated, aggregates_from, argument, arguments, below_groups, called, called_from, columns, copied, grouped_columns, in_groups, key_form, listed, named_from, one, over, own_column, projected, shown, shown_answer, sub_forms, tested_by, tested_part}
 use Rattle.printed_queries.specs.Writable.{Writable, WritableAggregates, WritableItems, WritableOption}

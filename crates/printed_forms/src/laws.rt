@@ -8,7 +8,7 @@ ghost use Rattle.bag_algebra.specs.WellFormed.{KeysIn, WellFormed};
 ghost use Rattle.bag_algebra.specs.declared.query.Query.{Query};
 ghost use Rattle.tree_texts.specs.Fits.{FitsQuery};
 ghost use Rattle.tree_texts.specs.Forms.{QueryForm};
-ghost use Rattle.query_texts.specs.declared.tables.TableNames.{TableNames};
+ghost use Rattle.clause_texts.specs.declared.tables.TableNames.{TableNames};
 ghost use Rattle.query_forms.specs.ShownQueries.{shown_answer};
 ghost use Rattle.printed_forms.specs.EndedTexts.{IsTextOfForm, ended_text};
 ghost use Rattle.printed_forms.specs.Printable.{AreCharacters, Printable};

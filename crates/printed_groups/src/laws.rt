@@ -8,7 +8,7 @@ ghost use Rattle.perm_catalog.specs.Contents.{Contents};
 ghost use Rattle.name_meaning.specs.Froms.{in_from};
 ghost use Rattle.name_meaning.specs.Meanings.{Around};
 ghost use Rattle.tree_texts.specs.Forms.{QueryForm};
-ghost use Rattle.query_texts.specs.Names.{naming};
+ghost use Rattle.clause_texts.specs.Names.{naming};
 ghost use Rattle.query_forms.specs.ShownQueries as writing;
 ghost use Rattle.printed_queries.specs.Printed as printing;
 ghost use Rattle.printed_queries.specs.Writable.{WritableAggregates};

@@ -1,0 +1,4 @@
+pub mod ClauseTexts
+pub mod Frames
+pub mod Names
+pub mod Unused
