@@ -1,3 +1,4 @@
+pub mod Chains
 pub mod ClauseTexts
 pub mod Frames
 pub mod Names

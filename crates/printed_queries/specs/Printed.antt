@@ -1,5 +1,5 @@
 -- What the text of a query is read as.
-use Rattle.std.specs.Prelude.{ℕ, suc, ◌+◌, Bool, false, cond, List, [], ◌∷◌, ◌++◌, map, length, Option, Some, None, option_map, slice_index_or, unwrap_or}
+use Rattle.std.specs.Prelude.{ℕ, suc, ◌+◌, Bool, false, ◌&&◌, cond, List, [], ◌∷◌, ◌++◌, map, length, Option, Some, None, option_map, slice_index_or, unwrap_or}
 use Rattle.std.specs.List.{flat_map, range_with_len}
 use Rattle.null_logic.specs.declared.operator.Operator.{Operator}
 use Rattle.null_logic.specs.declared.operator.Operator.TheVariants as op
@@ -22,6 +22,7 @@ use Rattle.bag_algebra.specs.declared.query.Query.TheVariants.{Table, Single, Fi
 use Rattle.bag_algebra.specs.declared.query.SubKind.TheVariants.{Exists}
 use Rattle.bag_algebra.specs.declared.query.Sublink.{Sublink}
 use Rattle.expression_texts.specs.Words.{is_any}
+use Rattle.clause_texts.specs.Chains.{is_chained}
 use Rattle.clause_texts.specs.Unused.{used_in, items_use, spare}
 use Rattle.printed_queries.specs.PrintedExpressions.{asked_in, integer, printed_expr, beside}
 
@@ -99,6 +100,10 @@ a_block kinds followed before block = record {
   from = cond followed block (listed kinds before block);
   from_before = cond followed before (unread_of kinds);
 }
+
+-- the left side of a join that may stand in one FROM with others, or of one that stands over it alone
+abbrev pub begun : List Kind → Bool → Readings → Readings
+begun kinds chained left = cond chained left (a_whole kinds left.whole)
 
 -- ---- the kinds of arguments
 
@@ -256,9 +261,9 @@ abbrev mutual
       a_select (map (λ (item : Item). item.kind) items)
       (projected (below.before ∷ unread) (printed_subs source (kinds_of input ∷ outer) (below.before ∷ unread) subs) items below.block)
   readings source outer unread (JoinOf kind left right condition _ subs) =
-      let first = readings source outer unread left in
+      let first = begun (kinds_of left) (is_chained kind) (readings source outer unread left) in
       let asked = printed_subs source ((kinds_of left ++ kinds_of right) ∷ outer) (first.from_before ∷ unread) subs in
-      a_block (kinds_of left ++ kinds_of right) (is_any (width_of right)) first.from_before
+      a_block (kinds_of left ++ kinds_of right) (is_chained kind && is_any (width_of right)) first.from_before
       (Join kind first.from (readings source outer unread right).whole
       (printed_condition (first.from_before ∷ unread) asked condition) (condition_subs asked condition))
   readings source outer unread (ApplyOf kind left right) =

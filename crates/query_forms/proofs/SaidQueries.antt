@@ -1,5 +1,5 @@
 -- What the form of a query says is its text.
-use Rattle.std.proofs.Common.{◌≡◌, ◌∙◌, ℕ, suc, ◌+◌, Bool, true, false, List, [], ◌∷◌, ◌++◌, map, refl, sym, ap, ap₂, append_assoc, append-nil, arith, true≢false}
+use Rattle.std.proofs.Common.{◌≡◌, ◌∙◌, ℕ, suc, ◌+◌, Bool, true, false, ◌&&◌, List, [], ◌∷◌, ◌++◌, map, refl, sym, ap, ap₂, append_assoc, append-nil, arith, true≢false}
 use Rattle.std.specs.Prelude.{codes, length, cond, Option, Some, None}
 use Rattle.null_logic.specs.declared.compare.Compare.{Compare}
 use Rattle.null_logic.specs.declared.compare.Compare.TheVariants as compare
@@ -23,9 +23,10 @@ use Rattle.tree_texts.specs.Forms.{ExprForm, FromForm, ConditionForm, CoreForm, 
 use Rattle.tree_texts.specs.Phrases.{maybe_distinct, joining, joining_lateral, grouped, ordered}
 use Rattle.query_texts.specs.QueryTexts as texts
 use Rattle.query_texts.specs.QueryTexts.{Written, written, select, sub_texts, answer_bytes}
+use Rattle.clause_texts.specs.Chains.{is_chained}
 use Rattle.clause_texts.specs.Names.{Naming, naming, own, deeper, names_of, outermost}
 use Rattle.query_forms.specs.ShownExpressions.{shown_expr, beside}
-use Rattle.query_forms.specs.ShownQueries.{own_columns, Listed, listed, one, columns, selected, alone, Chain, sources, just, then_joins, joined_to, source_name, Framed, copied, a_whole, a_select, a_block, of_table, tested_by, projected, joined, stays, in_groups, below_groups, aggregates_from, arguments, grouped_columns, key_form, any_of, all_of, tested_part, asked, framed, sub_forms, called, shown_answer}
+use Rattle.query_forms.specs.ShownQueries.{own_columns, Listed, listed, one, columns, selected, alone, Chain, sources, just, then_joins, joined_to, source_name, Framed, copied, a_whole, a_select, a_block, begun, of_table, tested_by, projected, joined, stays, in_groups, below_groups, aggregates_from, arguments, grouped_columns, key_form, any_of, all_of, tested_part, asked, framed, sub_forms, called, shown_answer}
 use Rattle.clause_texts.specs.Unused.{used_in, items_use, spare}
 use Rattle.clause_texts.specs.declared.tables.TableNames.{TableNames}
 use Rattle.query_forms.specs.Pieces.{said, expr_said, query_said}
@@ -331,6 +332,10 @@ module _ (prefix : List ℕ) where
         from = over;
       }
 
+  begun_says : (count : ℕ) (chained : Bool) (w : Written) (form : Framed) → Says w form → Says (texts.begun prefix count chained w) (begun prefix count chained form)
+  begun_says count true w form is = is
+  begun_says count false w form is = whole_says count w.whole form.whole is.whole
+
   select_says : (listed : Naming → List ℕ) (form : Bool → Naming → CoreForm)
       → ((distinct : Bool) (out : Naming) → said (plan.core (form distinct out)) ≡ codes "SELECT " ++ (said (maybe_distinct distinct) ++ listed out))
       → Says (texts.a_select prefix listed) (a_select prefix form)
@@ -414,10 +419,13 @@ module _ (tables : List TableNames) where
         let forms = sub_forms tables prefix subs in
         let on = tested_by prefix forms condition in
         let q = (framed tables prefix right).whole right_side in
-        joined_says prefix (length (kinds_of left ++ kinds_of right)) (is_any (width_of right)) (framed tables prefix left).from
-        (f.a_join (joined kind) (f.subquery q (source_name number)) on f.no_joins) (written tables prefix left).from
+        let chained = is_chained kind in
+        let first = begun prefix (width_of left) chained (framed tables prefix left) in
+        let text = texts.begun prefix (width_of left) chained (written tables prefix left) in
+        joined_says prefix (length (kinds_of left ++ kinds_of right)) (chained && is_any (width_of right)) first.from
+        (f.a_join (joined kind) (f.subquery q (source_name number)) on f.no_joins) text.from
         (beside_joined kind number ((written tables prefix right).whole right_side) ++ condition_text prefix (sub_texts tables prefix subs) condition)
-        (form_says prefix left).from
+        (begun_says prefix (width_of left) chained (written tables prefix left) (framed tables prefix left) (form_says prefix left)).from
         (join_said kind number q on
         ∙ ap₂ (λ r c. beside_joined kind number r ++ c) ((form_says prefix right).whole right_side)
         (condition_is prefix forms (sub_texts tables prefix subs) condition (subs_said prefix subs)))

@@ -14,11 +14,12 @@ use Rattle.bag_algebra.specs.declared.query.Query.{Query}
 use Rattle.bag_algebra.specs.declared.query.Query.TheBlock.{shape-the_row-Sublink-1, hidden-the_row-Sublink-1}
 use Rattle.bag_algebra.specs.declared.query.Query.TheVariants.{Table, Single, Base, Filter, Project, Join, Apply, Union, Intersect, Except, Distinct, Aggregate, Limit, Prov}
 use Rattle.bag_algebra.specs.declared.query.Sublink.{Sublink}
+use Rattle.clause_texts.specs.Chains.{is_chained}
 use Rattle.clause_texts.specs.ClauseTexts.{asked_back, asking_text, beside_joined, beside_lateral, columns_text, condition_text, groups_text, limited_text, projecting_text, set_text, table_text, unread_text, where_text}
 use Rattle.clause_texts.specs.Names.{Naming, deeper, naming, names_of, own}
 use Rattle.clause_texts.specs.declared.tables.TableNames.{TableNames}
 use Rattle.expression_texts.proofs.Pieces.{laid2, laid3}
-use Rattle.query_texts.specs.QueryTexts.{query_bytes, select, sub_text, sub_texts, subs_texts, written}
+use Rattle.query_texts.specs.QueryTexts.{begun, query_bytes, select, sub_text, sub_texts, subs_texts, written}
 use Rattle.query_texts.specs.built.Parts.{block_part, select_part}
 use Rattle.query_texts.specs.built.Shapes.{is_block, is_select}
 
@@ -59,8 +60,12 @@ module _ (tables : List TableNames) (prefix : List ℕ) where
   abbrev beside : JoinKind → Query → Query → List ℕ
   beside kind left right = beside_joined kind (width_of left + 1) (query_bytes tables prefix (naming prefix (width_of left + 1)) right)
 
+  -- FROM on the left of a join
+  abbrev begin : JoinKind → Query → List ℕ
+  begin kind left = (begun prefix (width_of left) (is_chained kind) (written tables prefix left)).from
+
   abbrev joining : JoinKind → Query → Query → Expr → List (List ℕ) → List ℕ
-  joining kind left right condition texts = from left ++ (beside kind left right ++ condition_text prefix texts condition)
+  joining kind left right condition texts = begin kind left ++ (beside kind left right ++ condition_text prefix texts condition)
 
   join_bare : (kind : JoinKind) (left right : Query) (condition : Expr) (subs : List Sublink)
       → bare (Join kind left right condition subs) ≡ joining kind left right condition (subs_texts tables prefix subs)
@@ -86,28 +91,28 @@ module _ (tables : List TableNames) (prefix : List ℕ) where
     pub filter_pushed : (input input' : Query) (condition : Expr) (subs subs' : List Sublink) (texts texts' : List (List ℕ)) (one two : List ℕ)
         → q ≡ Filter input condition subs → input' ≡ input → subs' ≡ subs → texts ≡ subs_texts tables prefix subs' → texts' ≡ texts
         → one ≡ start ++ from input' → two ≡ one ++ where_text prefix texts' condition → two ≡ start ++ bare q
-    filter_pushed input input' condition subs subs' texts texts' one two is input_is subs_are texts_are same begun closed =
+    filter_pushed input input' condition subs subs' texts texts' one two is input_is subs_are texts_are same started closed =
         let these = same ∙ texts_are ∙ ap (subs_texts tables prefix) subs_are in
         laid_bare (Filter input condition subs) (filtered input condition (subs_texts tables prefix subs)) two is
         (filter_bare input condition subs)
         (laid2 start one two (from input) (where_text prefix (subs_texts tables prefix subs) condition)
-        (begun ∙ ap (λ p. start ++ from p) input_is)
+        (started ∙ ap (λ p. start ++ from p) input_is)
         (closed ∙ ap (λ ts. one ++ where_text prefix ts condition) these))
 
     pub join_pushed : (kind : JoinKind) (left right l l' r : Query) (condition : Expr) (subs subs' : List Sublink) (texts texts' : List (List ℕ))
         (before : ℕ) (one two three : List ℕ) → q ≡ Join kind left right condition subs
         → subs' ≡ subs → texts ≡ subs_texts tables prefix subs' → texts' ≡ texts → l ≡ left
-        → before ≡ width_of l → l' ≡ left → r ≡ right → one ≡ start ++ from l'
+        → before ≡ width_of l → l' ≡ left → r ≡ right → one ≡ start ++ begin kind l'
         → two ≡ one ++ beside_joined kind (before + 1) (query_bytes tables prefix (naming prefix (before + 1)) r)
         → three ≡ two ++ condition_text prefix texts' condition → three ≡ start ++ bare q
     join_pushed kind left right l l' r condition subs subs' texts texts' before one two three is subs_are texts_are same l_is before_is
-        l'_is r_is begun joined closed =
+        l'_is r_is started joined closed =
         let these = same ∙ texts_are ∙ ap (subs_texts tables prefix) subs_are in
         let behind = before_is ∙ ap width_of l_is in
         laid_bare (Join kind left right condition subs) (joining kind left right condition (subs_texts tables prefix subs)) three is
         (join_bare kind left right condition subs)
-        (laid3 start one two three (from left) (beside kind left right) (condition_text prefix (subs_texts tables prefix subs) condition)
-        (begun ∙ ap (λ p. start ++ from p) l'_is)
+        (laid3 start one two three (begin kind left) (beside kind left right) (condition_text prefix (subs_texts tables prefix subs) condition)
+        (started ∙ ap (λ p. start ++ begin kind p) l'_is)
         (joined ∙ (λ i. one ++ beside_joined kind (behind i + 1) (query_bytes tables prefix (naming prefix (behind i + 1)) (r_is i))))
         (closed ∙ ap (λ ts. two ++ condition_text prefix ts condition) these))
 
@@ -115,11 +120,11 @@ module _ (tables : List TableNames) (prefix : List ℕ) where
         → l ≡ left → before ≡ width_of l → l' ≡ left → r ≡ right → one ≡ start ++ from l'
         → two ≡ one ++ beside_lateral kind (before + 1) (query_bytes tables (deeper prefix) (naming prefix (before + 1)) r)
         → two ≡ start ++ bare q
-    apply_pushed kind left right l l' r before one two is l_is before_is l'_is r_is begun joined =
+    apply_pushed kind left right l l' r before one two is l_is before_is l'_is r_is started joined =
         let behind = before_is ∙ ap width_of l_is in
         laid_bare (Apply kind left right) (from left ++ lateral kind left right) two is (apply_bare kind left right)
         (laid2 start one two (from left) (lateral kind left right)
-        (begun ∙ ap (λ p. start ++ from p) l'_is)
+        (started ∙ ap (λ p. start ++ from p) l'_is)
         (joined ∙ (λ i. one ++ beside_lateral kind (behind i + 1) (query_bytes tables (deeper prefix) (naming prefix (behind i + 1)) (r_is i)))))
 
 -- ---- what stands behind SELECT
@@ -170,11 +175,11 @@ module _ (tables : List TableNames) (prefix : List ℕ) (out : Naming) where
     pub project_pushed : (input input' : Query) (items items' : List Item) (subs subs' : List Sublink) (texts texts' : List (List ℕ)) (one two : List ℕ)
         → q ≡ Project input items subs → input' ≡ input → items' ≡ items → subs' ≡ subs → texts ≡ subs_texts tables prefix subs' → texts' ≡ texts
         → one ≡ start ++ projecting_text prefix out texts' items' → two ≡ one ++ (written tables prefix input').block → two ≡ start ++ part q
-    project_pushed input input' items items' subs subs' texts texts' one two is input_is items_are subs_are texts_are same begun closed =
+    project_pushed input input' items items' subs subs' texts texts' one two is input_is items_are subs_are texts_are same started closed =
         let these = same ∙ texts_are ∙ ap (subs_texts tables prefix) subs_are in
         laid_part (Project input items subs) (projecting input items (subs_texts tables prefix subs)) two is (project_part input items subs)
         (laid2 start one two (projecting_text prefix out (subs_texts tables prefix subs) items) (written tables prefix input).block
-        (begun ∙ ap₂ (λ ts is. start ++ projecting_text prefix out ts is) these items_are)
+        (started ∙ ap₂ (λ ts is. start ++ projecting_text prefix out ts is) these items_are)
         (closed ∙ ap (λ p. one ++ (written tables prefix p).block) input_is))
 
 -- ---- whole queries
@@ -233,9 +238,9 @@ module _ (tables : List TableNames) (prefix : List ℕ) (out : Naming) where
     -- a query that is one SELECT
     pub select_pushed : (variant : Query) (one two : List ℕ) → whole variant ≡ selected variant → q ≡ variant → one ≡ start ++ codes "SELECT "
         → two ≡ one ++ select_part tables prefix out q → two ≡ start ++ whole q
-    select_pushed variant one two opened is begun closed =
+    select_pushed variant one two opened is started closed =
         laid_whole variant (selected variant) two is opened
-        (laid2 start one two (codes "SELECT ") (select_part tables prefix out variant) begun
+        (laid2 start one two (codes "SELECT ") (select_part tables prefix out variant) started
         (closed ∙ ap (λ p. one ++ select_part tables prefix out p) is))
 
     -- a set operation of either word
@@ -243,17 +248,17 @@ module _ (tables : List TableNames) (prefix : List ℕ) (out : Naming) where
         → whole variant ≡ united left right (set_text called all) → q ≡ variant → l ≡ left → r ≡ right
         → one ≡ start ++ codes "SELECT " → two ≡ one ++ listed l → three ≡ two ++ set_text called all → four ≡ three ++ codes "SELECT "
         → five ≡ four ++ listed r → five ≡ start ++ whole q
-    set_pushed variant left right l r called all one two three four five opened is l_is r_is begun first said again second =
+    set_pushed variant left right l r called all one two three four five opened is l_is r_is started first said again second =
         laid_whole variant (united left right (set_text called all)) five is opened
         (laid3 start two three five (select (listed left)) (set_text called all) (select (listed right))
-        (laid2 start one two (codes "SELECT ") (listed left) begun (first ∙ ap (λ p. one ++ listed p) l_is)) said
+        (laid2 start one two (codes "SELECT ") (listed left) started (first ∙ ap (λ p. one ++ listed p) l_is)) said
         (laid2 three four five (codes "SELECT ") (listed right) again (second ∙ ap (λ p. four ++ listed p) r_is)))
 
     pub distinct_pushed : (input input' : Query) (one two : List ℕ) → q ≡ Distinct input → input' ≡ input → one ≡ start ++ codes "SELECT DISTINCT "
         → two ≡ one ++ listed input' → two ≡ start ++ whole q
-    distinct_pushed input input' one two is same begun closed =
+    distinct_pushed input input' one two is same started closed =
         laid_whole (Distinct input) (codes "SELECT DISTINCT " ++ listed input) two is (ap whole (Distinct-is input))
-        (laid2 start one two (codes "SELECT DISTINCT ") (listed input) begun (closed ∙ ap (λ p. one ++ listed p) same))
+        (laid2 start one two (codes "SELECT DISTINCT ") (listed input) started (closed ∙ ap (λ p. one ++ listed p) same))
 
     pub aggregate_pushed : (input input' : Query) (groups groups' : List ℕ) (aggregates aggregates' : List Aggr) (after : List ℕ)
         → q ≡ Aggregate input groups aggregates → input' ≡ input → groups' ≡ groups → aggregates' ≡ aggregates
@@ -266,10 +271,10 @@ module _ (tables : List TableNames) (prefix : List ℕ) (out : Naming) where
     pub limit_pushed : (input input' input'' : Query) (keys keys' : List Key) (count columns : ℕ) (one two three : List ℕ) → q ≡ Limit input keys count
         → input' ≡ input → columns ≡ width_of input' → input'' ≡ input → keys' ≡ keys → one ≡ start ++ codes "SELECT " → two ≡ one ++ listed input''
         → three ≡ two ++ limited_text keys' columns count → three ≡ start ++ whole q
-    limit_pushed input input' input'' keys keys' count columns one two three is same wide again keys_are begun said closed =
+    limit_pushed input input' input'' keys keys' count columns one two three is same wide again keys_are started said closed =
         let width = wide ∙ ap width_of same in
         laid_whole (Limit input keys count) (select (listed input) ++ limited_text keys (width_of input) count) three is
         (ap whole (Limit-is input keys count))
         (laid2 start two three (select (listed input)) (limited_text keys (width_of input) count)
-        (laid2 start one two (codes "SELECT ") (listed input) begun (said ∙ ap (λ p. one ++ listed p) again))
+        (laid2 start one two (codes "SELECT ") (listed input) started (said ∙ ap (λ p. one ++ listed p) again))
         (closed ∙ ap₂ (λ ks n. two ++ limited_text ks n count) keys_are width))

@@ -1,14 +1,16 @@
 -- What is written of queries that aren't of a shape.
-use Rattle.std.proofs.Common.{◌≡◌, ℕ, true, false, List, ◌++◌, refl, sym, ap, true≢false}
+use Rattle.std.proofs.Common.{◌≡◌, ℕ, Bool, true, false, List, ◌++◌, refl, sym, ap, true≢false}
 use Rattle.std.specs.Prelude.{cond}
 use Rattle.bag_algebra.specs.Kinds.{width_of}
 use Rattle.bag_algebra.specs.built.Patterns.{BaseOf, FilterOf, ProjectOf, JoinOf, ApplyOf, UnionOf, IntersectOf, ExceptOf, DistinctOf, AggregateOf, LimitOf, ProvOf}
+use Rattle.bag_algebra.specs.declared.query.JoinKind.{JoinKind}
 use Rattle.bag_algebra.specs.declared.query.Query.{Query}
 use Rattle.bag_algebra.specs.declared.query.Query.TheVariants.{Table, Single}
+use Rattle.clause_texts.specs.Chains.{is_chained}
 use Rattle.clause_texts.specs.ClauseTexts.{columns_text}
 use Rattle.clause_texts.specs.Names.{Naming}
 use Rattle.clause_texts.specs.declared.tables.TableNames.{TableNames}
-use Rattle.query_texts.specs.QueryTexts.{written}
+use Rattle.query_texts.specs.QueryTexts.{a_whole, begun, written}
 use Rattle.query_texts.specs.built.Parts.{block_part, over_bytes, select_part}
 use Rattle.query_texts.specs.built.Shapes.{is_block, is_chain, is_select}
 
@@ -97,3 +99,18 @@ module _ (tables : List TableNames) (prefix : List ℕ) where
   from_over (AggregateOf input groups aggregates) not = refl
   from_over (LimitOf input keys count) not = refl
   from_over (ProvOf input) not = refl
+
+  -- ---- FROM on the left of a join
+
+  begun_as : (q : Query) (chained b : Bool) → chained ≡ b
+      → (cond b (written tables prefix q) (a_whole prefix (width_of q) (written tables prefix q).whole)).from
+      ≡ (begun prefix (width_of q) chained (written tables prefix q)).from
+  begun_as q chained b is = sym (ap (λ c. (begun prefix (width_of q) c (written tables prefix q)).from) is)
+
+  pub begun_from : (kind : JoinKind) (q : Query) → is_chained kind ≡ true
+      → (written tables prefix q).from ≡ (begun prefix (width_of q) (is_chained kind) (written tables prefix q)).from
+  begun_from kind q is = begun_as q (is_chained kind) true is
+
+  pub begun_over : (kind : JoinKind) (q : Query) → is_chained kind ≡ false
+      → over_bytes tables prefix q ≡ (begun prefix (width_of q) (is_chained kind) (written tables prefix q)).from
+  begun_over kind q not = begun_as q (is_chained kind) false not

@@ -1,11 +1,12 @@
 -- The text of a query: one SELECT for a block of SQL.
-use Rattle.std.specs.Prelude.{ℕ, ◌+◌, Bool, false, cond, List, [], ◌∷◌, ◌++◌, map, length, codes}
+use Rattle.std.specs.Prelude.{ℕ, ◌+◌, Bool, false, ◌&&◌, cond, List, [], ◌∷◌, ◌++◌, map, length, codes}
 use Rattle.perm_values.specs.declared.key.Key.{Key}
 use Rattle.bag_algebra.specs.Kinds.{kinds_of, width_of}
 use Rattle.bag_algebra.specs.built.Patterns.{BaseOf, FilterOf, ProjectOf, JoinOf, ApplyOf, UnionOf, IntersectOf, ExceptOf, DistinctOf, AggregateOf, LimitOf, ProvOf}
 use Rattle.bag_algebra.specs.declared.query.Query.{Query, Row_of-Sublink, more_of-Sublink, end_of-Sublink}
 use Rattle.bag_algebra.specs.declared.query.Query.TheVariants.{Table, Single}
 use Rattle.bag_algebra.specs.declared.query.Sublink.{Sublink}
+use Rattle.clause_texts.specs.Chains.{is_chained}
 use Rattle.clause_texts.specs.ClauseTexts.{asked_text, beside_joined, beside_lateral, called_items, columns_text, condition_text, groups_text, key_texts, limited_text, over_text, projecting_text, set_text, table_text, unread_text, where_text}
 use Rattle.clause_texts.specs.Names.{Naming, deeper, naming, names_of, outermost, own}
 use Rattle.clause_texts.specs.declared.tables.TableNames.{TableNames}
@@ -52,6 +53,10 @@ a_block prefix count followed block = record {
   from = cond followed block (over_text (select (columns_text prefix (own prefix) count ++ block)));
 }
 
+-- the left side of a join that may stand in one FROM with others, or of one that stands over it alone
+abbrev pub begun : List ℕ → ℕ → Bool → Written → Written
+begun prefix count chained left = cond chained left (a_whole prefix count left.whole)
+
 -- ---- queries
 
 -- The columns of what a join brings stand right behind those of its left side, and its source is called by the number of the first: no join
@@ -67,8 +72,8 @@ abbrev mutual
   written tables prefix (ProjectOf input items _ subs) =
       a_select prefix (λ out. projecting_text prefix out (sub_texts tables prefix subs) items ++ (written tables prefix input).block)
   written tables prefix (JoinOf kind left right condition _ subs) =
-      a_block prefix (length (kinds_of left ++ kinds_of right)) (is_any (width_of right))
-      ((written tables prefix left).from
+      a_block prefix (length (kinds_of left ++ kinds_of right)) (is_chained kind && is_any (width_of right))
+      ((begun prefix (width_of left) (is_chained kind) (written tables prefix left)).from
       ++ (beside_joined kind (width_of left + 1) ((written tables prefix right).whole (naming prefix (width_of left + 1)))
       ++ condition_text prefix (sub_texts tables prefix subs) condition))
   written tables prefix (ApplyOf kind left right) =

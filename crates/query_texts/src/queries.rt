@@ -1,13 +1,14 @@
 //! Writes queries: one SELECT for a block of SQL.
 ghost use Rattle.std.specs.Prelude.{◌≡◌, ◌+◌, ◌++◌, IfOk, OnOk};
 ghost use Rattle.bag_algebra.specs.Kinds.{width_of};
+ghost use Rattle.clause_texts.specs.Chains.{is_chained};
 ghost use Rattle.clause_texts.specs.ClauseTexts.{beside_joined, beside_lateral, columns_text, groups_text};
 ghost use Rattle.clause_texts.specs.Frames.{called_in};
 ghost use Rattle.clause_texts.specs.Names.{deeper, naming};
-ghost use Rattle.query_texts.specs.QueryTexts.{answer_bytes, query_bytes, sub_text, subs_texts, written};
+ghost use Rattle.query_texts.specs.QueryTexts.{answer_bytes, begun, query_bytes, sub_text, subs_texts, written};
 ghost use Rattle.query_texts.specs.built.Parts.{block_part, over_bytes, select_part};
 
-use crate::shapes::{is_block, is_chain, is_select};
+use crate::shapes::{is_block, is_chain, is_chained, is_select};
 use bag_algebra::{Aggr, Answer, JoinKind, Query, Sublink};
 use clause_texts::{
     Frame, TableNames, asked_back, columns_of, deeper, join_text, lateral_text, push_above,
@@ -161,7 +162,7 @@ fn push_bare(frame: &Frame, query: &Query, draft: &mut Draft) -> Result<(), NoMe
         } => {
             let texts = sub_texts(frame, subs.as_slice(), draft.alloc())?;
             let before = columns_of(left.get())?;
-            push_from(frame, left.get(), draft)?;
+            push_begun(frame, *kind, left.get(), draft)?;
             push_joined(frame, *kind, before, right.get(), draft)?;
             push_condition(frame, texts.as_slice(), condition, draft)
         }
@@ -205,6 +206,24 @@ fn push_from(frame: &Frame, query: &Query, draft: &mut Draft) -> Result<(), NoMe
         push_bare(frame, query, draft)
     } else {
         push_over(frame, query, draft)
+    }
+}
+
+/// FROM on the left of a join.
+#[cycle(push_query)]
+fn push_begun(
+    frame: &Frame,
+    kind: JoinKind,
+    left: &Query,
+    draft: &mut Draft,
+) -> Result<(), NoMemory>
+    ensures { OnOk result (draft.new ≡ draft.old ++ (begun frame.now.prefix.now (width_of left.now) (is_chained kind)
+        (written frame.now.tables.now frame.now.prefix.now left.now)).from) }
+{
+    if is_chained(kind) {
+        push_from(frame, left, draft)
+    } else {
+        push_over(frame, left, draft)
     }
 }
 

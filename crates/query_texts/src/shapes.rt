@@ -1,10 +1,11 @@
 //! Which queries are written as one SELECT, as a FROM with a WHERE, and as a FROM that joins may follow.
-ghost use Rattle.std.specs.Prelude.{◌≡◌};
+ghost use Rattle.std.specs.Prelude.{◌≡◌, ◌&&◌};
 ghost use Rattle.bag_algebra.specs.Kinds.{width_of};
+ghost use Rattle.clause_texts.specs.Chains.{is_chained};
 ghost use Rattle.expression_texts.specs.Words.{is_any};
 ghost use Rattle.query_texts.specs.built.Shapes.{is_block, is_chain, is_select};
 
-use bag_algebra::{Query, width};
+use bag_algebra::{JoinKind, Query, width};
 
 pub(crate) fn is_select(query: &Query) -> bool
     ensures { result ≡ is_select query.now }
@@ -57,7 +58,7 @@ pub(crate) fn is_chain(query: &Query) -> bool
         Query::Base { .. } => false,
         Query::Filter { .. } => false,
         Query::Project { .. } => false,
-        Query::Join { right, .. } => has_columns(right.get()),
+        Query::Join { kind, right, .. } => is_followed(*kind, right.get()),
         Query::Apply { right, .. } => has_columns(right.get()),
         Query::Union { .. } => false,
         Query::Intersect { .. } => false,
@@ -67,6 +68,24 @@ pub(crate) fn is_chain(query: &Query) -> bool
         Query::Limit { .. } => false,
         Query::Prov { .. } => false,
     }
+}
+
+/// Whether a join may stand in one FROM with others.
+pub(crate) fn is_chained(kind: JoinKind) -> bool
+    ensures { result ≡ is_chained kind }
+{
+    match kind {
+        JoinKind::Inner => true,
+        JoinKind::Left => true,
+        JoinKind::Right => false,
+        JoinKind::Full => false,
+    }
+}
+
+fn is_followed(kind: JoinKind, right: &Query) -> bool
+    ensures { result ≡ (is_chained kind && is_any (width_of right.now)) }
+{
+    is_chained(kind) && has_columns(right)
 }
 
 fn has_columns(query: &Query) -> bool

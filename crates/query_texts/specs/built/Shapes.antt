@@ -1,9 +1,10 @@
 -- The tests by which code chooses how a query is written.
-use Rattle.std.specs.Prelude.{Bool, true, false}
+use Rattle.std.specs.Prelude.{Bool, true, false, ◌&&◌}
 use Rattle.bag_algebra.specs.Kinds.{width_of}
 use Rattle.bag_algebra.specs.built.Patterns.{BaseOf, FilterOf, ProjectOf, JoinOf, ApplyOf, UnionOf, IntersectOf, ExceptOf, DistinctOf, AggregateOf, LimitOf, ProvOf}
 use Rattle.bag_algebra.specs.declared.query.Query.{Query}
 use Rattle.bag_algebra.specs.declared.query.Query.TheVariants.{Table, Single}
+use Rattle.clause_texts.specs.Chains.{is_chained}
 use Rattle.expression_texts.specs.Words.{is_any}
 
 -- one SELECT without groups, so that DISTINCT may stand in it
@@ -47,7 +48,7 @@ is_chain Single = false
 is_chain (BaseOf input places label) = false
 is_chain (FilterOf input condition _ subs) = false
 is_chain (ProjectOf input items _ subs) = false
-is_chain (JoinOf kind left right condition _ subs) = is_any (width_of right)
+is_chain (JoinOf kind left right condition _ subs) = is_chained kind && is_any (width_of right)
 is_chain (ApplyOf kind left right) = is_any (width_of right)
 is_chain (UnionOf all left right) = false
 is_chain (IntersectOf all left right) = false

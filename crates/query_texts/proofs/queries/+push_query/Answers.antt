@@ -11,7 +11,7 @@ use Rattle.query_texts.specs.QueryTexts.{query_bytes, sub_text, subs_texts, writ
 use Rattle.query_texts.specs.built.Parts.{block_part, over_bytes, select_part}
 use Rattle.query_texts.specs.built.Shapes.{is_block, is_select}
 use Rattle.query_texts.proofs.OpenedQueries.{aggregate_pushed, all_part, apply_all, apply_pushed, apply_selected, base_pushed, distinct_pushed, except_text, filter_all, filter_pushed, filter_selected, intersect_text, join_all, join_pushed, join_selected, limit_pushed, no_block, no_part, project_pushed, project_selected, prov_pushed, select_pushed, set_pushed, single_part, sub_joined, table_part, union_text}
-use Rattle.query_texts.proofs.Shaped.{block_is, block_over, chain_is, from_over, listed_over, listed_part}
+use Rattle.query_texts.proofs.Shaped.{begun_from, begun_over, block_is, block_over, chain_is, from_over, listed_over, listed_part}
 use Rattle.query_texts.proofs.queries.+push_query.Goals as goal
 
 -- ---- whole queries
@@ -232,7 +232,7 @@ push_bare-returns-in_ok-push_joined-in-Join t c =
     when-ok c.push_condition.result c.push_condition.ensures
     (join_pushed frame.tables.now frame.prefix.now c.args.draft.now c.args.query.now c.in-Join.kind c.in-Join.left c.in-Join.right _ _ _
     c.in-Join.condition c.in-Join.subs _ _ _ _ _ _ _ c.in-Join.is c.as_slice-in-Join.ensures c.in_ok-texts-in-Join.ensures c.as_slice-in-Join-2.ensures
-    c.get-in-Join.ensures c.in_ok-before-in-Join.ensures c.get-in-Join-2.ensures c.get-in-Join-3.ensures c.in_ok-push_from-in-Join.ensures
+    c.get-in-Join.ensures c.in_ok-before-in-Join.ensures c.get-in-Join-2.ensures c.get-in-Join-3.ensures c.in_ok-push_begun-in-Join.ensures
     c.in_ok-push_joined-in-Join.ensures)
 
 pub push_bare-returns-in_ok-push_from-in-Apply : goal.push_bare-returns-in_ok-push_from-in-Apply
@@ -321,6 +321,20 @@ push_from-returns-else-is_chain t c =
     let frame = c.args.frame.now in
     when-ok c.push_over.result c.push_over.ensures (λ pushed.
     pushed ∙ ap (λ text. c.args.draft.now ++ text) (from_over frame.tables.now frame.prefix.now c.args.query.now (sym c.is_chain.ensures ∙ c.if-is_chain.false)))
+
+pub push_begun-returns-then-is_chained : goal.push_begun-returns-then-is_chained
+push_begun-returns-then-is_chained t c =
+    let frame = c.args.frame.now in
+    when-ok c.push_from.result c.push_from.ensures (λ pushed.
+    pushed ∙ ap (λ text. c.args.draft.now ++ text)
+    (begun_from frame.tables.now frame.prefix.now c.args.kind c.args.left.now (sym c.is_chained.ensures ∙ c.if-is_chained.true)))
+
+pub push_begun-returns-else-is_chained : goal.push_begun-returns-else-is_chained
+push_begun-returns-else-is_chained t c =
+    let frame = c.args.frame.now in
+    when-ok c.push_over.result c.push_over.ensures (λ pushed.
+    pushed ∙ ap (λ text. c.args.draft.now ++ text)
+    (begun_over frame.tables.now frame.prefix.now c.args.kind c.args.left.now (sym c.is_chained.ensures ∙ c.if-is_chained.false)))
 
 pub push_listed-returns-then-is_select : goal.push_listed-returns-then-is_select
 push_listed-returns-then-is_select t c =
