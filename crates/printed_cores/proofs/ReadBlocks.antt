@@ -1,5 +1,5 @@
 -- A FROM with a WHERE as it is read, a SELECT over it, and what a query is read as in each of its forms.
-use Rattle.std.proofs.Common.{◌≡◌, ℕ, suc, ◌+◌, ◌<◌, ◌^◌, Bool, false, true, cond, List, [], ◌∷◌, ◌++◌, length, map, Option, Some, None, option_map, refl, sym, ap, subst, ◌∙◌, arith}
+use Rattle.std.proofs.Common.{◌≡◌, ℕ, suc, ◌+◌, Bool, false, true, cond, List, [], ◌∷◌, ◌++◌, length, map, Option, Some, None, option_map, refl, sym, ap, subst, ◌∙◌, arith}
 use Rattle.std.proofs.lemmas.List.{length-append}
 use Rattle.std.specs.Prelude.{slice_get}
 use Rattle.perm_values.specs.declared.kind.Kind.{Kind}
@@ -22,7 +22,7 @@ use Rattle.name_meaning.specs.Froms.{from_all, in_clause, in_from}
 use Rattle.name_meaning.specs.Items.{SelectPart}
 use Rattle.name_meaning.specs.Meanings.{Around, Surroundings}
 use Rattle.name_meaning.specs.Scopes.{ScopeItem, scope_of}
-use Rattle.name_meaning.specs.Trees.{core_of, from_of, item_of, part_of, query_of}
+use Rattle.name_meaning.specs.Trees.{from_of, item_of, part_of, query_of}
 use Rattle.name_meaning.specs.declared.scope.Scope.{Scope}
 use Rattle.tree_texts.specs.Forms as f
 use Rattle.tree_texts.specs.Forms.{ConditionForm, CoreForm, ExprForm, QueryForm}
@@ -231,6 +231,12 @@ module _ (c : Contents) (depth : ℕ) (outer : List (List Kind)) (unread : List 
         from = from;
       }
 
+  -- on the left of a join
+  pub begun-form : (own : List Kind) (chained : Bool) (form : Framed) (r : Readings) → FramedRead own form r
+      → FramedRead own (writing.begun (marks (suc depth)) (length own) chained form) (printing.begun own chained r)
+  begun-form own true form r read = read
+  begun-form own false form r read = whole-form own form.whole r.whole read.whole
+
   -- a core alone
   single-read : (own : List Kind) (form : Bool → Naming → CoreForm) (q : Query)
       → ((around : Around) → ScopesAre depth outer unread around.outer → (distinct : Bool) (out first : ℕ) (tree : Core) → IsCore (form distinct (naming (marks out) first)) tree
@@ -289,15 +295,15 @@ module _ (c : Contents) (depth : ℕ) (outer : List (List Kind)) (unread : List 
       → (here : Surroundings) → here.scopes ≡ scope_of items ∷ above → here.argument ≡ false → here.sublinks ≡ true → SubsRead c here forms asked all
 
   module _ (left right : List Kind) (bound : Few (left ++ right)) (lf : Framed) (lr : Readings) (first : FramedRead left lf lr) where
-    pub join-form : (rf : Framed) (rr : Readings) → FramedRead right rf rr → (kind : JoinKind) (forms : List ExprForm) (asked : List Sublink) (all : List Kind)
+    pub join-form : (rf : Framed) (rr : Readings) → FramedRead right rf rr → (followed : Bool) → (followed ≡ true → is_any (length right) ≡ true) → (kind : JoinKind) (forms : List ExprForm) (asked : List Sublink) (all : List Kind)
         → SubsOver (left ++ right) lr.from_before forms asked all
         → (condition : Expr) → HasKind ((left ++ right) ∷ outer) all condition kinds.Boolean → Writable condition
-        → FramedRead (left ++ right) (writing.a_block (marks (suc depth)) (length (left ++ right)) (is_any (length right))
+        → FramedRead (left ++ right) (writing.a_block (marks (suc depth)) (length (left ++ right)) followed
         (joined_to lf.from (f.a_join (joined kind) (f.subquery (rf.whole (naming (marks (suc depth)) (length left + 1))) (source_name (length left + 1)))
         (tested_by (marks (suc depth)) forms condition) f.no_joins)) f.no_condition)
-        (printing.a_block (left ++ right) (is_any (length right)) lr.from_before
+        (printing.a_block (left ++ right) followed lr.from_before
         (Join kind lr.from rr.whole (printed_condition (lr.from_before ∷ unread) asked condition) (condition_subs asked condition)))
-    join-form rf rr second kind forms asked all sublinks condition h w =
+    join-form rf rr second followed any kind forms asked all sublinks condition h w =
         let front = lr.from_before in
         let form = rf.whole (naming (marks (suc depth)) (length left + 1)) in
         let on = tested_by (marks (suc depth)) forms condition in
@@ -313,8 +319,8 @@ module _ (c : Contents) (depth : ℕ) (outer : List (List Kind)) (unread : List 
         (λ t d. second.whole (in_from above) s (suc depth) (length left + 1) t d)
         (λ x d. clause-read c depth above outer unread (left ++ right) front items scope s forms asked all (λ here scopes outside standing. sublinks above s items scope here scopes outside standing)
         condition h w d) in
-        block-form (left ++ right) (is_any (length right)) chain f.no_condition front q
-        (λ above s. extended-block c (suc depth) above left right front chain q (extended_by above s)) (λ any above s. (extended_by above s).follows any)
+        block-form (left ++ right) followed chain f.no_condition front q
+        (λ above s. extended-block c (suc depth) above left right front chain q (extended_by above s)) (λ is above s. (extended_by above s).follows (any is))
 
     -- what a dependent join's right side sees
     pub apply-form : (rf : Framed) (rr : Readings)

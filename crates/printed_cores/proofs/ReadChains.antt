@@ -1,5 +1,5 @@
 -- A FROM that joins may follow, as it is read: its last columns are numbered from 1 on, and the names of its sources are apart.
-use Rattle.std.proofs.Common.{◌≡◌, ℕ, suc, ◌+◌, ◌<◌, ◌^◌, Bool, true, false, cond, not, ◌||◌, List, [], ◌∷◌, ◌++◌, length, map, Some, None, refl, sym, ap, subst, ◌∙◌, true≢false, append-nil, append_assoc, arith}
+use Rattle.std.proofs.Common.{◌≡◌, ℕ, suc, ◌+◌, ◌<◌, ◌^◌, Bool, true, false, cond, ◌||◌, List, [], ◌∷◌, ◌++◌, length, map, Some, None, refl, sym, ap, subst, ◌∙◌, true≢false, append-nil, append_assoc, arith}
 use Rattle.std.proofs.lemmas.List.{length-append}
 use Rattle.std.specs.Fmt.{decimal}
 use Rattle.std.specs.List.{list_any}
@@ -12,16 +12,14 @@ use Rattle.bag_algebra.specs.declared.query.Query.{Query}
 use Rattle.bag_algebra.specs.declared.query.Query.TheVariants.{Apply, Join}
 use Rattle.perm_catalog.specs.Contents.{Contents}
 use Rattle.sql_tree.specs.declared.expression.ExprTree.{ExprTree}
-use Rattle.sql_tree.specs.declared.name.Name.{Name}
 use Rattle.sql_tree.specs.declared.query.QueryTree.{QueryTree}
 use Rattle.sql_tree.specs.declared.source.FromItem.{FromItem}
-use Rattle.sql_tree.specs.declared.source.FromSource.TheVariants.{Inner}
 use Rattle.sql_tree.specs.declared.source.FromTree.{FromTree, roll-FromTree}
-use Rattle.sql_tree.specs.declared.source.JoinStep.{JoinStep, roll-JoinStep}
+use Rattle.sql_tree.specs.declared.source.JoinStep.{JoinStep}
 use Rattle.sql_tree.specs.declared.source.ScopeMark.TheVariants.{Plain}
 use Rattle.name_meaning.proofs.Equations.{fromtree-record, token}
-use Rattle.name_meaning.specs.Froms.{FromMeant, FromPart, ItemMeant, JoinPart, applied, beside_items, both_known, first_item, from_all, in_from, in_on, item_meant, join_all, join_item, joined as joined_by, joined_item, named_so, on_meant, optional_breaks, read_query, scope_items}
-use Rattle.name_meaning.specs.Meanings.{Built, Part, QueryMeant, broken_if}
+use Rattle.name_meaning.specs.Froms.{FromMeant, FromPart, ItemMeant, JoinPart, applied, beside_items, both_known, first_item, from_all, in_from, in_on, item_meant, join_all, join_item, joined as joined_by, joined_item, named_so, on_meant, read_query, scope_items}
+use Rattle.name_meaning.specs.Meanings.{QueryMeant, broken_if}
 use Rattle.name_meaning.specs.Scopes.{ScopeItem, columns_from, numbered_columns, scope_of}
 use Rattle.name_meaning.specs.Trees.{from_item_of, from_of, join_of, part_of, query_of}
 use Rattle.name_meaning.specs.declared.rule.Rule.TheVariants as rule

@@ -22,7 +22,7 @@ use Rattle.tree_texts.specs.Forms as f
 use Rattle.tree_texts.specs.Forms.{ExprForm}
 use Rattle.tree_texts.specs.Trees.{IsExpr}
 use Rattle.clause_texts.specs.Unused.{spare, used_in}
-use Rattle.query_forms.specs.ShownExpressions.{cases, never_arms, shown_expr, unsaid, beside as shown_beside}
+use Rattle.query_forms.specs.ShownExpressions.{never_arms, shown_expr, beside as shown_beside}
 use Rattle.query_forms.specs.ShownQueries.{tested_by}
 use Rattle.printed_queries.specs.Printed.{condition_subs, idle, idle_in, nothing_asked, printed_condition, taken}
 use Rattle.printed_queries.specs.PrintedExpressions.{asked_in, beside, never, printed_expr}

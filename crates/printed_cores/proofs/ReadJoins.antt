@@ -10,7 +10,7 @@ use Rattle.perm_catalog.specs.Contents.{Contents}
 use Rattle.sql_tree.specs.Regular.{is_lateral}
 use Rattle.sql_tree.specs.declared.expression.ExprTree.{ExprTree}
 use Rattle.sql_tree.specs.declared.source.FromItem.{FromItem}
-use Rattle.sql_tree.specs.declared.source.JoinStep.{JoinStep, roll-JoinStep}
+use Rattle.sql_tree.specs.declared.source.JoinStep.{roll-JoinStep}
 use Rattle.sql_tree.specs.declared.source.JoinWord.{JoinWord}
 use Rattle.name_meaning.proofs.Equations.{joinstep-record-some, token}
 use Rattle.name_meaning.specs.Froms.{FromMeant, ItemMeant, JoinPart, both_known, in_on, join_kind, joined as joined_by, on_built, on_meant, optional_breaks, scope_items}

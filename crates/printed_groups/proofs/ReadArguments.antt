@@ -5,7 +5,6 @@ use Rattle.perm_values.specs.declared.kind.Kind.TheVariants as kinds
 use Rattle.bag_algebra.specs.Kinds.{kind_in}
 use Rattle.bag_algebra.specs.WellFormed.{AggregatesForm, HasKind, PlacesIn, aggr_form}
 use Rattle.bag_algebra.specs.declared.expr.Expr.{Expr}
-use Rattle.bag_algebra.specs.declared.expr.Expr.TheVariants.{Col}
 use Rattle.bag_algebra.specs.declared.expr.Item.{Item}
 use Rattle.bag_algebra.specs.declared.query.AggFn.{AggFn}
 use Rattle.bag_algebra.specs.declared.query.AggFn.TheVariants as agg

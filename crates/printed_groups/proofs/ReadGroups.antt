@@ -2,7 +2,7 @@
 use Rattle.std.proofs.Common.{◌≡◌, ℕ, zero, suc, ◌+◌, ◌<◌, ◌≤◌, ◌^◌, Bool, true, false, cond, not, ◌||◌, List, [], ◌∷◌, ◌++◌, flat_map, filter_map, length, map, Option, Some, None, refl, sym, ap, subst, ◌∙◌, arith}
 use Rattle.std.specs.List.{cons_option, list_any, position, prefix_len, range_with_len}
 use Rattle.std.specs.Option.{option_map_or}
-use Rattle.std.specs.Prelude.{codes, nat_eq, nat_lt, slice_get}
+use Rattle.std.specs.Prelude.{nat_eq, nat_lt, slice_get}
 use Rattle.std.specs.Fmt.{decimal}
 use Rattle.std.proofs.lemmas.Bool.Decides.{nat_tests}
 use Rattle.std.proofs.lemmas.List.{length-map}
@@ -49,19 +49,17 @@ use Rattle.printed_queries.proofs.ShownRows.{shown_kinds}
 use Rattle.printed_expressions.specs.Scopes.{Few, ScopesAre, marks}
 use Rattle.printed_groups.proofs.GroupedCores.{grouped_core-read, grouped_scope, opened-groups}
 use Rattle.printed_expressions.proofs.KindsOf.{kind-is}
-use Rattle.printed_cores.proofs.OpenedCores.{opened-plain}
 use Rattle.printed_groups.proofs.ReadAggregates.{ColumnsRead, FitsArgument, Fitting, GroupedList, aggregates-read, behind_groups, counts, folds, grouped_item-read, groups-read, named_columns, no_groups-read, rows-read}
 use Rattle.printed_groups.specs.Groups.{kinds_of_aggrs}
-use Rattle.printed_groups.proofs.ReadArguments.{FormsRead, arguments-read, forms-append, grouped-read, listed-read}
+use Rattle.printed_groups.proofs.ReadArguments.{arguments-read, forms-append, grouped-read, listed-read}
 use Rattle.printed_cores.proofs.ReadBlocks.{BlockRead, select-read}
 use Rattle.printed_cores.specs.Queries.{QueryRead}
-use Rattle.printed_cores.proofs.ReadCores.{core-read}
 use Rattle.printed_cores.proofs.ReadFroms.{item_of_query, listed_names, scope-over, subquery-read}
 use Rattle.printed_cores.proofs.ReadItems.{kinds_of_items}
 use Rattle.printed_expressions.proofs.ReadLeaves.{local-read}
 use Rattle.printed_cores.proofs.ReadLists.{item_at, part-is}
 use Rattle.printed_cores.proofs.ReadQueries.{CoreRead, alone-read}
-use Rattle.printed_expressions.proofs.ReadScopes.{OneCalled, finds, meant-bare, meant-own}
+use Rattle.printed_expressions.proofs.ReadScopes.{finds, meant-bare, meant-own}
 
 -- ---- the query below
 

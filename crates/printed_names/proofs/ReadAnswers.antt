@@ -10,19 +10,16 @@ use Rattle.bag_algebra.specs.TablesRead.{EachTable}
 use Rattle.bag_algebra.specs.WellFormed.{KeysIn, WellFormed}
 use Rattle.bag_algebra.specs.declared.expr.Expr.TheVariants.{Col}
 use Rattle.bag_algebra.specs.declared.query.Query.{Query}
-use Rattle.bag_algebra.specs.declared.query.Query.TheVariants.{Project}
 use Rattle.perm_catalog.specs.Contents.{Contents}
 use Rattle.sql_tree.specs.declared.query.Core.{Core}
 use Rattle.sql_tree.specs.declared.query.QueryTree.{QueryTree}
 use Rattle.sql_tree.specs.declared.query.SelectItem.{SelectItem}
-use Rattle.name_meaning.specs.Cores.{has_some}
-use Rattle.name_meaning.specs.Froms.{from_all, in_clause, in_from, names_of, settled_columns}
+use Rattle.name_meaning.specs.Froms.{in_clause, names_of, settled_columns}
 use Rattle.name_meaning.specs.Meanings.{Surroundings, query_means_at}
-use Rattle.name_meaning.specs.Scopes.{ScopeItem, scope_of}
+use Rattle.name_meaning.specs.Scopes.{scope_of}
 use Rattle.name_meaning.specs.Statements.{alone, columns_of, query_meant}
-use Rattle.name_meaning.specs.Trees.{from_of, item_of}
+use Rattle.name_meaning.specs.Trees.{item_of}
 use Rattle.name_meaning.specs.declared.scope.Scope.{Scope}
-use Rattle.tree_texts.specs.Forms as f
 use Rattle.tree_texts.specs.Trees.{AreItems, IsCore, IsQuery, an_item_tree, no_item_trees}
 use Rattle.clause_texts.specs.Names.{outermost}
 use Rattle.clause_texts.specs.declared.tables.TableNames.{TableNames}
@@ -30,12 +27,11 @@ use Rattle.query_forms.specs.ShownQueries.{Framed, called, called_from, framed, 
 use Rattle.printed_queries.specs.Printed.{Readings, columns_from, or_unread, printed_answer, readings, unread_item}
 use Rattle.printed_queries.specs.PrintedExpressions.{before}
 use Rattle.printed_queries.specs.Writable.{WritableQuery}
-use Rattle.printed_queries.proofs.ShownRows.{shown_kinds}
 use Rattle.printed_expressions.specs.Scopes.{Few, marks}
 use Rattle.printed_names.specs.ReadAs.{IsNamed, IsReadAs, Narrow, source_in}
 use Rattle.printed_expressions.proofs.PlainTrees.{plain-tree}
 use Rattle.printed_expressions.specs.Reading.{Finds}
-use Rattle.printed_cores.proofs.ReadBlocks.{Lists, select-read}
+use Rattle.printed_cores.proofs.ReadBlocks.{select-read}
 use Rattle.printed_cores.proofs.ReadFroms.{columns-settled, known_columns}
 use Rattle.printed_expressions.proofs.ReadLeaves.{column-read}
 use Rattle.printed_cores.proofs.ReadLists.{ListRead, item-read, no_items-read}

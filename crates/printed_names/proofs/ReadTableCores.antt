@@ -22,7 +22,7 @@ use Rattle.name_meaning.specs.Froms.{FromItemPart, first_item, from_all, in_clau
 use Rattle.name_meaning.specs.Meanings.{Around, Surroundings}
 use Rattle.name_meaning.specs.Scopes.{KnownColumn, ScopeItem, numbered_columns, scope_of}
 use Rattle.name_meaning.specs.Statements.{repeats}
-use Rattle.name_meaning.specs.Trees.{core_of, from_item_of, from_of, item_of, source_of}
+use Rattle.name_meaning.specs.Trees.{from_item_of, from_of, item_of, source_of}
 use Rattle.name_meaning.specs.declared.scope.Scope.{Scope}
 use Rattle.tree_texts.specs.Forms as f
 use Rattle.tree_texts.specs.Trees.{AreItems, AreSources, IsCore, IsItem, an_item_tree, no_item_trees, no_join_trees, source_trees, table_tree}

@@ -1,6 +1,8 @@
 -- The tree of a query's form is read as what is printed of the query: each node over its inputs and sublinks.
-use Rattle.std.proofs.Common.{◌≡◌, ℕ, zero, suc, ◌+◌, ◌<◌, ◌≤◌, ◌^◌, Bool, true, false, cond, List, [], ◌∷◌, ◌++◌, length, map, Option, Some, None, refl, sym, ap, subst, ◌∙◌, arith, true≢false}
+use Rattle.std.proofs.Common.{◌≡◌, ℕ, zero, suc, ◌+◌, ◌≤◌, Bool, true, false, ◌&&◌, cond, List, [], ◌∷◌, ◌++◌, length, map, Some, None, refl, sym, ap, subst, ◌∙◌, arith, true≢false}
+use Rattle.std.proofs.lemmas.Bool.{and_parts}
 use Rattle.std.proofs.lemmas.List.{map-append}
+use Rattle.std.proofs.lemmas.Option.{none-some}
 use Rattle.std.specs.List.{range_with_len}
 use Rattle.perm_values.specs.Rows.{KeysWithin}
 use Rattle.perm_values.specs.declared.key.Key.{Key}
@@ -25,9 +27,11 @@ use Rattle.name_meaning.specs.Trees.{from_of, item_of}
 use Rattle.tree_texts.specs.Forms as f
 use Rattle.tree_texts.specs.Forms.{ExprForm}
 use Rattle.tree_texts.specs.Trees.{AreSources, IsCore, IsQuery, no_source_trees}
+use Rattle.clause_texts.specs.Chains.{is_chained}
 use Rattle.clause_texts.specs.Names.{deeper, names_of, naming, own as own_naming}
 use Rattle.clause_texts.specs.Unused.{items_use, spare}
 use Rattle.clause_texts.specs.declared.tables.TableNames.{TableNames}
+use Rattle.expression_texts.specs.Words.{is_any}
 use Rattle.query_forms.specs.ShownQueries as writing
 use Rattle.query_forms.specs.ShownQueries.{Framed, framed, key_form, listed, of_table, one, projected, selected, shown, sources, sub_forms, tested_by, tested_part}
 use Rattle.printed_queries.specs.Printed as printing
@@ -40,7 +44,7 @@ use Rattle.printed_cores.proofs.OpenedCores.{opened-plain}
 use Rattle.printed_expressions.proofs.PlainShown.{AllPlain, plain-asked, plain-tested}
 use Rattle.printed_expressions.proofs.PlainTrees.{Plain}
 use Rattle.printed_cores.specs.Queries.{QueryRead, numbered_names, out_columns}
-use Rattle.printed_cores.proofs.ReadBlocks.{FramedRead, apply-form, block-form, filter-block, join-form, projection-read, select-form, whole-form}
+use Rattle.printed_cores.proofs.ReadBlocks.{FramedRead, apply-form, begun-form, block-form, filter-block, join-form, projection-read, select-form, whole-form}
 use Rattle.printed_cores.proofs.ReadChains.{chain-from}
 use Rattle.printed_cores.proofs.ReadConditions.{SubsRead}
 use Rattle.printed_cores.proofs.ReadCopies.{columns-listed}
@@ -207,12 +211,15 @@ module _ (c : Contents) (tables : List TableNames) where
         let lefts = kinds_of left in
         let rights = kinds_of right in
         let prefix = marks (suc depth) in
-        let lr = readings source outer unread left in
+        let chained = is_chained kind in
+        let lr = printing.begun lefts chained (readings source outer unread left) in
         let scopes = (lefts ++ rights) ∷ outer in
         let fronts = lr.from_before ∷ unread in
-        join-form c depth outer unread lefts rights narrow.0 (framed tables prefix left) lr (query-read left depth outer unread form.left w.0 named.0 narrow.1)
+        join-form c depth outer unread lefts rights narrow.0 (writing.begun prefix (length lefts) chained (framed tables prefix left)) lr
+        (begun-form c depth outer unread lefts chained (framed tables prefix left) (readings source outer unread left)
+        (query-read left depth outer unread form.left w.0 named.0 narrow.1))
         (framed tables prefix right) (readings source outer unread right) (query-read right depth outer unread form.right w.1 named.1 narrow.2)
-        kind (sub_forms tables prefix subs) (printed_subs source scopes fronts subs) (sub_kinds subs)
+        (chained && is_any (length rights)) (λ followed. (and_parts chained (is_any (length rights)) followed).1) kind (sub_forms tables prefix subs) (printed_subs source scopes fronts subs) (sub_kinds subs)
         (λ above s items scope here same outside standing. subs-read subs (suc depth) scopes fronts here
         (subst (ScopesAre (suc depth) scopes fronts) (sym same) (scope, s)) outside standing form.subs w.3 named.2 narrow.3)
         condition form.condition w.2

@@ -11,7 +11,7 @@ use Rattle.bag_algebra.specs.Means.{holds_of, kept, is_met, keeps_left, keeps_ri
 use Rattle.bag_algebra.specs.Outcome.{Outcome, Good, Bad, and_then, mapped, gather}
 use Rattle.bag_algebra.specs.declared.query.JoinKind.{JoinKind}
 use Rattle.printed_queries.proofs.RelatedOutcomes.{Along, AlikeOutcomes, along-append, along-cond, along-map, any-along, filter-along, alike-mapped, alike-and_then, alike-gather}
-use Rattle.printed_queries.proofs.ShownRows.{Shown, shown_width, Faces, Spans, Ends, shown-length}
+use Rattle.printed_queries.proofs.ShownRows.{Shown, shown_width, Spans, Ends, shown-length}
 
 -- ---- what a condition keeps
 

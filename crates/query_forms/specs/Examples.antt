@@ -110,6 +110,12 @@ example-block : text (ProjectOf (FilterOf (JoinOf join.Inner (JoinOf join.Left s
 unfolding digits
 example-block = refl
 
+-- a join that keeps its right side's rows stands over one source
+example-right : text (JoinOf join.Right (JoinOf join.Inner s s (compared compare.Equal (col 0) (col 1)) none end_of-Sublink) s (compared compare.Less (col 1) (col 2)) none end_of-Sublink)
+    ≡ codes "SELECT \"c1\" AS \"c1\" , \"c2\" AS \"c2\" , \"c3\" AS \"c3\" FROM ( SELECT \"c1\" AS \"c1\" , \"c2\" AS \"c2\" FROM ( SELECT \"c\" AS \"c1\" FROM \"s\" ) AS \"t\" JOIN ( SELECT \"c\" AS \"c2\" FROM \"s\" ) AS \"t2\" ON ( \"c1\" = \"c2\" ) ) AS \"t\" RIGHT JOIN ( SELECT \"c\" AS \"c3\" FROM \"s\" ) AS \"t3\" ON ( \"c2\" < \"c3\" ) "
+unfolding digits
+example-right = refl
+
 -- no join follows a source without columns
 example-no_columns : text (JoinOf join.Inner (JoinOf join.Inner s Single (Lit (Boolean true) kind.Boolean) none end_of-Sublink) s (compared compare.Equal (col 0) (col 1)) none end_of-Sublink)
     ≡ codes "SELECT \"c1\" AS \"c1\" , \"c2\" AS \"c2\" FROM ( SELECT \"c1\" AS \"c1\" FROM ( SELECT \"c\" AS \"c1\" FROM \"s\" ) AS \"t\" JOIN ( SELECT 1 AS \"c0\" ) AS \"t2\" ON TRUE ) AS \"t\" JOIN ( SELECT \"c\" AS \"c2\" FROM \"s\" ) AS \"t2\" ON ( \"c1\" = \"c2\" ) "
