@@ -3,7 +3,7 @@ use Rattle.std.specs.Prelude.{Bool, true, false}
 use Rattle.bag_algebra.specs.declared.query.JoinKind.{JoinKind}
 use Rattle.bag_algebra.specs.declared.query.JoinKind.TheVariants as join
 
--- SQLite reads some that keep their right side's rows wrongly behind or before others, so these stand over one source, and none follows
+-- a join that keeps its right side's rows stands over one source, and by itself: SQLite reads some others wrongly, or not at all
 abbrev pub is_chained : JoinKind → Bool
 is_chained join.Inner = true
 is_chained join.Left = true

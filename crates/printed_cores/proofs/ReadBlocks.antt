@@ -231,11 +231,10 @@ module _ (c : Contents) (depth : ℕ) (outer : List (List Kind)) (unread : List 
         from = from;
       }
 
-  -- on the left of a join
-  pub begun-form : (own : List Kind) (chained : Bool) (form : Framed) (r : Readings) → FramedRead own form r
-      → FramedRead own (writing.begun (marks (suc depth)) (length own) chained form) (printing.begun own chained r)
-  begun-form own true form r read = read
-  begun-form own false form r read = whole-form own form.whole r.whole read.whole
+  pub apart-form : (own : List Kind) (chained : Bool) (form : Framed) (r : Readings) → FramedRead own form r
+      → FramedRead own (writing.apart_unless (marks (suc depth)) (length own) chained form) (printing.apart_unless own chained r)
+  apart-form own true form r read = read
+  apart-form own false form r read = whole-form own form.whole r.whole read.whole
 
   -- a core alone
   single-read : (own : List Kind) (form : Bool → Naming → CoreForm) (q : Query)
@@ -295,15 +294,15 @@ module _ (c : Contents) (depth : ℕ) (outer : List (List Kind)) (unread : List 
       → (here : Surroundings) → here.scopes ≡ scope_of items ∷ above → here.argument ≡ false → here.sublinks ≡ true → SubsRead c here forms asked all
 
   module _ (left right : List Kind) (bound : Few (left ++ right)) (lf : Framed) (lr : Readings) (first : FramedRead left lf lr) where
-    pub join-form : (rf : Framed) (rr : Readings) → FramedRead right rf rr → (followed : Bool) → (followed ≡ true → is_any (length right) ≡ true) → (kind : JoinKind) (forms : List ExprForm) (asked : List Sublink) (all : List Kind)
+    pub join-form : (rf : Framed) (rr : Readings) → FramedRead right rf rr → (kind : JoinKind) (forms : List ExprForm) (asked : List Sublink) (all : List Kind)
         → SubsOver (left ++ right) lr.from_before forms asked all
         → (condition : Expr) → HasKind ((left ++ right) ∷ outer) all condition kinds.Boolean → Writable condition
-        → FramedRead (left ++ right) (writing.a_block (marks (suc depth)) (length (left ++ right)) followed
+        → FramedRead (left ++ right) (writing.a_block (marks (suc depth)) (length (left ++ right)) (is_any (length right))
         (joined_to lf.from (f.a_join (joined kind) (f.subquery (rf.whole (naming (marks (suc depth)) (length left + 1))) (source_name (length left + 1)))
         (tested_by (marks (suc depth)) forms condition) f.no_joins)) f.no_condition)
-        (printing.a_block (left ++ right) followed lr.from_before
+        (printing.a_block (left ++ right) (is_any (length right)) lr.from_before
         (Join kind lr.from rr.whole (printed_condition (lr.from_before ∷ unread) asked condition) (condition_subs asked condition)))
-    join-form rf rr second followed any kind forms asked all sublinks condition h w =
+    join-form rf rr second kind forms asked all sublinks condition h w =
         let front = lr.from_before in
         let form = rf.whole (naming (marks (suc depth)) (length left + 1)) in
         let on = tested_by (marks (suc depth)) forms condition in
@@ -319,8 +318,8 @@ module _ (c : Contents) (depth : ℕ) (outer : List (List Kind)) (unread : List 
         (λ t d. second.whole (in_from above) s (suc depth) (length left + 1) t d)
         (λ x d. clause-read c depth above outer unread (left ++ right) front items scope s forms asked all (λ here scopes outside standing. sublinks above s items scope here scopes outside standing)
         condition h w d) in
-        block-form (left ++ right) followed chain f.no_condition front q
-        (λ above s. extended-block c (suc depth) above left right front chain q (extended_by above s)) (λ is above s. (extended_by above s).follows (any is))
+        block-form (left ++ right) (is_any (length right)) chain f.no_condition front q
+        (λ above s. extended-block c (suc depth) above left right front chain q (extended_by above s)) (λ any above s. (extended_by above s).follows any)
 
     -- what a dependent join's right side sees
     pub apply-form : (rf : Framed) (rr : Readings)

@@ -1,5 +1,5 @@
 -- The form of a query can be written where the query can be printed.
-use Rattle.std.proofs.Common.{ℕ, ◌<◌, ◌^◌, ◌+◌, zero, suc, Bool, true, false, ◌&&◌, cond, List, [], ◌∷◌, ◌++◌, length, map, Option, Some, None, arith}
+use Rattle.std.proofs.Common.{ℕ, ◌<◌, ◌^◌, ◌+◌, zero, suc, Bool, true, false, cond, List, [], ◌∷◌, ◌++◌, length, map, Option, Some, None, arith}
 use Rattle.std.specs.List.{AllByRecursion, find, range_with_len}
 use Rattle.std.specs.Prelude.{unwrap_or}
 use Rattle.std.specs.Str.{IsAscii, IsUtf8}
@@ -28,7 +28,7 @@ use Rattle.clause_texts.specs.Unused.{items_use, spare, used_in}
 use Rattle.clause_texts.specs.declared.tables.TableNames.{TableNames}
 use Rattle.expression_texts.specs.Words.{is_any}
 use Rattle.query_forms.specs.ShownExpressions.{beside, shown_expr}
-use Rattle.query_forms.specs.ShownQueries.{Chain, Framed, Listed, a_block, a_select, a_whole, aggregated, aggregates_from, alone, argument, arguments, begun, below_groups, called, called_from, columns, copied, framed, grouped_columns, in_groups, joined, joined_to, just, key_form, listed, named_from, of_table, one, own_column, projected, selected, shown, shown_answer, source_name, sources, stays, sub_forms, tested_by, tested_part, then_joins}
+use Rattle.query_forms.specs.ShownQueries.{Chain, Framed, Listed, a_block, a_select, a_whole, aggregated, aggregates_from, alone, argument, arguments, apart_unless, below_groups, called, called_from, columns, copied, framed, grouped_columns, in_groups, joined, joined_to, just, key_form, listed, named_from, of_table, one, own_column, projected, selected, shown, shown_answer, source_name, sources, stays, sub_forms, tested_by, tested_part, then_joins}
 use Rattle.printed_queries.specs.Writable.{Writable, WritableAggregates, WritableItems, WritableOption}
 use Rattle.printed_forms.specs.Printable.{AreCharacters, Printable, PrintableSubs}
 use Rattle.printed_forms.proofs.FitsExpressions.{AllFit, fits-asked, fits-beside, fits-name, fits-shown, fits-tested}
@@ -185,9 +185,9 @@ module _ (prefix : List ℕ) (ascii : IsAscii prefix) where
       let over = just-fits (whole (own prefix)) (fit (own prefix) ascii) in
       record { whole = fit; core = copied-fits count (just (whole (own prefix))) f.no_condition over tt; block = over; test = tt; from = over }
 
-  begun-fits : (count : ℕ) (chained : Bool) (form : Framed) → Fits form → Fits (begun prefix count chained form)
-  begun-fits count true form fit = fit
-  begun-fits count false form fit = whole-fits count form.whole fit.whole
+  apart-fits : (count : ℕ) (chained : Bool) (form : Framed) → Fits form → Fits (apart_unless prefix count chained form)
+  apart-fits count true form fit = fit
+  apart-fits count false form fit = whole-fits count form.whole fit.whole
 
   select-fits : (core : Bool → Naming → CoreForm) → ((distinct : Bool) (out : Naming) → IsAscii out.prefix → FitsCore (core distinct out)) → Fits (a_select prefix core)
   select-fits core fit =
@@ -273,18 +273,20 @@ module _ (tables : List TableNames) (all : AllByRecursion AreCharacters tables) 
     framed-fits prefix ascii (JoinOf kind left right condition _ subs) outer form p =
         let forms = sub_forms tables prefix subs in
         let chained = is_chained kind in
-        let first = begun prefix (width_of left) chained (framed tables prefix left) in
+        let count = length (kinds_of left ++ kinds_of right) in
+        let first = apart_unless prefix (width_of left) chained (framed tables prefix left) in
         let second = (framed tables prefix right).whole (naming prefix (width_of left + 1)) in
         let last = f.a_join (joined kind) (f.subquery second (source_name (width_of left + 1))) (tested_by prefix forms condition) f.no_joins in
-        block-fits prefix ascii (length (kinds_of left ++ kinds_of right)) (chained && is_any (width_of right)) (joined_to first.from last) f.no_condition
-        (joined-fit first.from last (begun-fits prefix ascii (width_of left) chained (framed tables prefix left) (framed-fits prefix ascii left outer form.left p.2)).from (
+        apart-fits prefix ascii count chained (a_block prefix count (is_any (width_of right)) (joined_to first.from last) f.no_condition)
+        (block-fits prefix ascii count (is_any (width_of right)) (joined_to first.from last) f.no_condition
+        (joined-fit first.from last (apart-fits prefix ascii (width_of left) chained (framed tables prefix left) (framed-fits prefix ascii left outer form.left p.2)).from (
           (
             (framed-fits prefix ascii right outer form.right p.3).whole (naming prefix (width_of left + 1)) ascii,
             fits-name source_prefix sources-ascii 0 (width_of left + 1),
           ),
           tested-fits prefix ascii forms (subs-fit prefix ascii subs ((kinds_of left ++ kinds_of right) ∷ outer) form.subs p.4) condition p.1,
           tt,
-        )) tt
+        )) tt)
     framed-fits prefix ascii (ApplyOf kind left right) outer form p =
         let first = framed tables prefix left in
         let second = (framed tables (deeper prefix) right).whole (naming prefix (width_of left + 1)) in

@@ -1,6 +1,5 @@
 -- The tree of a query's form is read as what is printed of the query: each node over its inputs and sublinks.
-use Rattle.std.proofs.Common.{◌≡◌, ℕ, zero, suc, ◌+◌, ◌≤◌, Bool, true, false, ◌&&◌, cond, List, [], ◌∷◌, ◌++◌, length, map, Some, None, refl, sym, ap, subst, ◌∙◌, arith, true≢false}
-use Rattle.std.proofs.lemmas.Bool.{and_parts}
+use Rattle.std.proofs.Common.{◌≡◌, ℕ, zero, suc, ◌+◌, ◌≤◌, Bool, true, false, cond, List, [], ◌∷◌, ◌++◌, length, map, Some, None, refl, sym, ap, subst, ◌∙◌, arith, true≢false}
 use Rattle.std.proofs.lemmas.List.{map-append}
 use Rattle.std.proofs.lemmas.Option.{none-some}
 use Rattle.std.specs.List.{range_with_len}
@@ -13,7 +12,7 @@ use Rattle.bag_algebra.specs.WellFormed.{KeysIn, SubsForm, WellFormed, column_ki
 use Rattle.bag_algebra.specs.built.Patterns.{BaseOf, FilterOf, ProjectOf, JoinOf, ApplyOf, UnionOf, IntersectOf, ExceptOf, DistinctOf, AggregateOf, LimitOf, ProvOf}
 use Rattle.bag_algebra.specs.declared.query.Aggr.{Aggr}
 use Rattle.bag_algebra.specs.declared.query.Query.{Query, Row_of-Sublink, more_of-Sublink, end_of-Sublink}
-use Rattle.bag_algebra.specs.declared.query.Query.TheVariants.{Distinct, Except, Filter, Intersect, Limit, Single, Table, Union}
+use Rattle.bag_algebra.specs.declared.query.Query.TheVariants.{Distinct, Except, Filter, Intersect, Join, Limit, Single, Table, Union}
 use Rattle.perm_catalog.specs.Contents.{Contents}
 use Rattle.sql_tree.specs.declared.query.Core.{Core}
 use Rattle.sql_tree.specs.declared.source.FromTree.{FromTree}
@@ -33,7 +32,7 @@ use Rattle.clause_texts.specs.Unused.{items_use, spare}
 use Rattle.clause_texts.specs.declared.tables.TableNames.{TableNames}
 use Rattle.expression_texts.specs.Words.{is_any}
 use Rattle.query_forms.specs.ShownQueries as writing
-use Rattle.query_forms.specs.ShownQueries.{Framed, framed, key_form, listed, of_table, one, projected, selected, shown, sources, sub_forms, tested_by, tested_part}
+use Rattle.query_forms.specs.ShownQueries.{Framed, framed, joined, joined_to, key_form, listed, of_table, one, projected, selected, shown, source_name, sources, sub_forms, tested_by, tested_part}
 use Rattle.printed_queries.specs.Printed as printing
 use Rattle.printed_queries.specs.Printed.{Readings, condition_subs, printed, printed_condition, printed_subs, readings}
 use Rattle.printed_queries.specs.Writable.{WritableQuery, WritableSubs}
@@ -44,7 +43,7 @@ use Rattle.printed_cores.proofs.OpenedCores.{opened-plain}
 use Rattle.printed_expressions.proofs.PlainShown.{AllPlain, plain-asked, plain-tested}
 use Rattle.printed_expressions.proofs.PlainTrees.{Plain}
 use Rattle.printed_cores.specs.Queries.{QueryRead, numbered_names, out_columns}
-use Rattle.printed_cores.proofs.ReadBlocks.{FramedRead, apply-form, begun-form, block-form, filter-block, join-form, projection-read, select-form, whole-form}
+use Rattle.printed_cores.proofs.ReadBlocks.{FramedRead, apart-form, apply-form, block-form, filter-block, join-form, projection-read, select-form, whole-form}
 use Rattle.printed_cores.proofs.ReadChains.{chain-from}
 use Rattle.printed_cores.proofs.ReadConditions.{SubsRead}
 use Rattle.printed_cores.proofs.ReadCopies.{columns-listed}
@@ -212,17 +211,27 @@ module _ (c : Contents) (tables : List TableNames) where
         let rights = kinds_of right in
         let prefix = marks (suc depth) in
         let chained = is_chained kind in
-        let lr = printing.begun lefts chained (readings source outer unread left) in
+        let lr = printing.apart_unless lefts chained (readings source outer unread left) in
+        let rr = readings source outer unread right in
         let scopes = (lefts ++ rights) ∷ outer in
         let fronts = lr.from_before ∷ unread in
-        join-form c depth outer unread lefts rights narrow.0 (writing.begun prefix (length lefts) chained (framed tables prefix left)) lr
-        (begun-form c depth outer unread lefts chained (framed tables prefix left) (readings source outer unread left)
+        let lf = writing.apart_unless prefix (length lefts) chained (framed tables prefix left) in
+        let forms = sub_forms tables prefix subs in
+        let asked = printed_subs source scopes fronts subs in
+        let number = length lefts + 1 in
+        let last = f.a_join (joined kind) (f.subquery ((framed tables prefix right).whole (naming prefix number)) (source_name number)) (tested_by prefix forms condition) f.no_joins in
+        apart-form c depth outer unread (lefts ++ rights) chained
+        (writing.a_block prefix (length (lefts ++ rights)) (is_any (length rights)) (joined_to lf.from last) f.no_condition)
+        (printing.a_block (lefts ++ rights) (is_any (length rights)) lr.from_before
+        (Join kind lr.from rr.whole (printed_condition fronts asked condition) (condition_subs asked condition)))
+        (join-form c depth outer unread lefts rights narrow.0 lf lr
+        (apart-form c depth outer unread lefts chained (framed tables prefix left) (readings source outer unread left)
         (query-read left depth outer unread form.left w.0 named.0 narrow.1))
-        (framed tables prefix right) (readings source outer unread right) (query-read right depth outer unread form.right w.1 named.1 narrow.2)
-        (chained && is_any (length rights)) (λ followed. (and_parts chained (is_any (length rights)) followed).1) kind (sub_forms tables prefix subs) (printed_subs source scopes fronts subs) (sub_kinds subs)
+        (framed tables prefix right) rr (query-read right depth outer unread form.right w.1 named.1 narrow.2)
+        kind forms asked (sub_kinds subs)
         (λ above s items scope here same outside standing. subs-read subs (suc depth) scopes fronts here
         (subst (ScopesAre (suc depth) scopes fronts) (sym same) (scope, s)) outside standing form.subs w.3 named.2 narrow.3)
-        condition form.condition w.2
+        condition form.condition w.2)
     query-read (ApplyOf kind left right) depth outer unread form w named narrow =
         let lefts = kinds_of left in
         let rights = kinds_of right in

@@ -1,6 +1,5 @@
 -- What the text of a query is read as has rows that show the query's, or the same faults.
-use Rattle.std.proofs.Common.{◌≡◌, ℕ, suc, ◌+◌, Bool, true, false, ◌&&◌, cond, List, [], ◌∷◌, ◌++◌, length, length-append, map, take, All, Option, Some, None, option_map, refl, sym, ap, subst, ◌∙◌, true≢false, arith}
-use Rattle.std.proofs.lemmas.Bool.{and_parts}
+use Rattle.std.proofs.Common.{◌≡◌, ℕ, suc, ◌+◌, Bool, true, false, cond, List, [], ◌∷◌, ◌++◌, length, length-append, map, take, All, Option, Some, None, option_map, refl, sym, ap, subst, ◌∙◌, true≢false, arith}
 use Rattle.std.specs.List.{range_with_len}
 use Rattle.perm_values.specs.Rows.{printed_cmp}
 use Rattle.perm_values.specs.declared.kind.Kind.{Kind}
@@ -27,7 +26,7 @@ use Rattle.bag_algebra.specs.declared.query.Query.TheVariants.{Table, Single, Fi
 use Rattle.bag_algebra.specs.declared.query.SubKind.{SubKind}
 use Rattle.bag_algebra.specs.declared.query.SubKind.TheVariants as ask
 use Rattle.printed_queries.specs.Carried.{Carries, IsGiven}
-use Rattle.printed_queries.specs.Printed.{Readings, a_block, a_select, a_whole, begun, listed, column, columns_from, unread_item, or_unread, unread_of, idle, taken, asked_by, first_beside, printed_items, printed_condition, condition_subs, projected, lateral_kind, arguments, grouped, aggregates_from, or_counted, in_groups, all_keys, readings, printed, printed_subs, printed_answer}
+use Rattle.printed_queries.specs.Printed.{Readings, a_block, a_select, a_whole, apart_unless, listed, column, columns_from, unread_item, or_unread, unread_of, idle, taken, asked_by, first_beside, printed_items, printed_condition, condition_subs, projected, lateral_kind, arguments, grouped, aggregates_from, or_counted, in_groups, all_keys, readings, printed, printed_subs, printed_answer}
 use Rattle.printed_queries.specs.PrintedExpressions.{asked_in, printed_expr}
 use Rattle.printed_queries.specs.Writable.{WritableOption, WritableQuery, WritableSubs}
 use Rattle.clause_texts.specs.Chains.{is_chained}
@@ -95,9 +94,9 @@ block-widths kinds false before block is =
       from = ap length (kinds-listed kinds before block) ∙ unread-width kinds;
     }
 
-begun-widths : (kinds : List Kind) (chained : Bool) (r : Readings) → Widths kinds r → Widths kinds (begun kinds chained r)
-begun-widths kinds true r wide = wide
-begun-widths kinds false r wide = whole-widths kinds r.whole wide.whole
+apart-widths : (kinds : List Kind) (chained : Bool) (r : Readings) → Widths kinds r → Widths kinds (apart_unless kinds chained r)
+apart-widths kinds true r wide = wide
+apart-widths kinds false r wide = whole-widths kinds r.whole wide.whole
 
 any-width : (kinds : List Kind) → is_any (length kinds) ≡ true → shown_width kinds ≡ length kinds
 any-width [] is = absurd (true≢false (sym is))
@@ -132,16 +131,20 @@ module _ (source : ℕ → List Kind → Query) where
       (kinds_of-Project below.block (first_beside (below.before ∷ unread) (length spared) items) (taken asked (spared ++ asked_by items))
       ∙ kinds-beside (below.before ∷ unread) (length spared) items)
   readings-wide outer unread (JoinOf kind left right condition _ subs) w =
-      let first = begun (kinds_of left) (is_chained kind) (readings source outer unread left) in
+      let both = kinds_of left ++ kinds_of right in
+      let below = readings source outer unread left in
+      let first = apart_unless (kinds_of left) (is_chained kind) below in
       let second = (readings source outer unread right).whole in
       let asked = printed_subs source ((kinds_of left ++ kinds_of right) ∷ outer) (first.from_before ∷ unread) subs in
       let test = printed_condition (first.from_before ∷ unread) asked condition in
       let asks = condition_subs asked condition in
-      block-widths (kinds_of left ++ kinds_of right) (is_chained kind && is_any (width_of right)) first.from_before (Join kind first.from second test asks)
-      (λ followed. ap length (kinds_of-Join kind first.from second test asks)
+      let block = Join kind first.from second test asks in
+      apart-widths both (is_chained kind) (a_block both (is_any (width_of right)) first.from_before block)
+      (block-widths both (is_any (width_of right)) first.from_before block
+      (λ any. ap length (kinds_of-Join kind first.from second test asks)
       ∙ both-width first.from_before (kinds_of left) (kinds_of right) first.from second
-      (begun-widths (kinds_of left) (is_chained kind) (readings source outer unread left) (readings-wide outer unread left w.0)).from
-      (readings-wide outer unread right w.1).whole (and_parts (is_chained kind) (is_any (width_of right)) followed).1)
+      (apart-widths (kinds_of left) (is_chained kind) below (readings-wide outer unread left w.0)).from
+      (readings-wide outer unread right w.1).whole any))
   readings-wide outer unread (ApplyOf kind left right) w =
       let first = readings source outer unread left in
       let second = (readings source (kinds_of left ∷ outer) (first.from_before ∷ unread) right).whole in
@@ -235,9 +238,9 @@ module _ (db : Database) (other : List Row) where
       either true first second = first refl
       either false first second = second
 
-  begun-reads : (kinds : List Kind) (chained : Bool) (o : Outcome Bag) (r : Readings) → ReadsAs kinds o r → ReadsAs kinds o (begun kinds chained r)
-  begun-reads kinds true o r reads = reads
-  begun-reads kinds false o r reads = whole-reads kinds o r.whole reads.whole
+  apart-reads : (kinds : List Kind) (chained : Bool) (o : Outcome Bag) (r : Readings) → ReadsAs kinds o r → ReadsAs kinds o (apart_unless kinds chained r)
+  apart-reads kinds true o r reads = reads
+  apart-reads kinds false o r reads = whole-reads kinds o r.whole reads.whole
 
   reads-wide : (kinds : List Kind) (o : Outcome Bag) (r : Readings) → ReadsAs kinds o r → WideOutcome (length kinds) o
   reads-wide kinds o r reads = alike-wide kinds o (meaning r.whole db other) reads.whole
@@ -380,8 +383,7 @@ module _ (source : ℕ → List Kind → Query) (db : Database) where
         let rights = kinds_of right in
         let both = lefts ++ rights in
         let below = readings source outer unread left in
-        let first = begun lefts (is_chained kind) below in
-        let followed = is_chained kind && is_any (width_of right) in
+        let first = apart_unless lefts (is_chained kind) below in
         let second = (readings source outer unread right).whole in
         let start = first.from_before in
         let scopes = both ∷ outer in
@@ -401,19 +403,20 @@ module _ (source : ℕ → List Kind → Query) (db : Database) where
         (subs-shown subs scopes (start ∷ unread) (u ++ y) (v ++ z) env other form.subs w.3 given.2 carried_in) condition form.condition w.2)
         kind us vs ws xs s r)
         (meaning left db env) (meaning first.from db other) (meaning right db env) (meaning second db other)
-        (begun-reads db other lefts (is_chained kind) (meaning left db env) below (rows-read left outer unread env other form.left w.0 given.0 carried)).from
+        (apart-reads db other lefts (is_chained kind) (meaning left db env) below (rows-read left outer unread env other form.left w.0 given.0 carried)).from
         (rows-read right outer unread env other form.right w.1 given.1 carried).whole in
         let read : AlikeOutcomes (Along (Paired lefts rights start)) own (meaning block db other) =
         subst (AlikeOutcomes (Along (Paired lefts rights start)) own)
         ((λ i. both_then (meaning first.from db other) (meaning second db other) (joined_rows kind d
-        (sym (begun-widths lefts (is_chained kind) below (readings-wide source outer unread left w.0)).from i)
+        (sym (apart-widths lefts (is_chained kind) below (readings-wide source outer unread left w.0)).from i)
         (length (sym (readings-wide source outer unread right w.1).whole i))))
         ∙ sym (meaning-Join db other kind first.from second test asks)) here in
-        subst (λ o. ReadsAs db other both o (a_block both followed start block)) (sym rows)
-        (block-reads db other both followed start own block
+        let fused = a_block both (is_any (width_of right)) start block in
+        subst (λ o. ReadsAs db other both o (apart_unless both (is_chained kind) fused)) (sym rows)
+        (apart-reads db other both (is_chained kind) own fused
+        (block-reads db other both (is_any (width_of right)) start own block
         (alike_spans-faces both start (start + length lefts + shown_width rights) own (meaning block db other) read)
-        (λ is. subst (λ n. AlikeOutcomes (Along (Spans both start n)) own (meaning block db other))
-        (pair-width start lefts rights (and_parts (is_chained kind) (is_any (width_of right)) is).1) read))
+        (λ any. subst (λ n. AlikeOutcomes (Along (Spans both start n)) own (meaning block db other)) (pair-width start lefts rights any) read)))
     rows-read (ApplyOf kind left right) outer unread env other form w given carried =
         let lefts = kinds_of left in
         let rights = kinds_of right in

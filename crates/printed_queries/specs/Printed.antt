@@ -1,5 +1,5 @@
 -- What the text of a query is read as.
-use Rattle.std.specs.Prelude.{ℕ, suc, ◌+◌, Bool, false, ◌&&◌, cond, List, [], ◌∷◌, ◌++◌, map, length, Option, Some, None, option_map, slice_index_or, unwrap_or}
+use Rattle.std.specs.Prelude.{ℕ, suc, ◌+◌, Bool, false, cond, List, [], ◌∷◌, ◌++◌, map, length, Option, Some, None, option_map, slice_index_or, unwrap_or}
 use Rattle.std.specs.List.{flat_map, range_with_len}
 use Rattle.null_logic.specs.declared.operator.Operator.{Operator}
 use Rattle.null_logic.specs.declared.operator.Operator.TheVariants as op
@@ -101,9 +101,9 @@ a_block kinds followed before block = record {
   from_before = cond followed before (unread_of kinds);
 }
 
--- the left side of a join that may stand in one FROM with others, or of one that stands over it alone
-abbrev pub begun : List Kind → Bool → Readings → Readings
-begun kinds chained left = cond chained left (a_whole kinds left.whole)
+-- what is written by itself alone, unless it may stand in one FROM with others
+abbrev pub apart_unless : List Kind → Bool → Readings → Readings
+apart_unless kinds chained r = cond chained r (a_whole kinds r.whole)
 
 -- ---- the kinds of arguments
 
@@ -261,11 +261,12 @@ abbrev mutual
       a_select (map (λ (item : Item). item.kind) items)
       (projected (below.before ∷ unread) (printed_subs source (kinds_of input ∷ outer) (below.before ∷ unread) subs) items below.block)
   readings source outer unread (JoinOf kind left right condition _ subs) =
-      let first = begun (kinds_of left) (is_chained kind) (readings source outer unread left) in
+      let first = apart_unless (kinds_of left) (is_chained kind) (readings source outer unread left) in
       let asked = printed_subs source ((kinds_of left ++ kinds_of right) ∷ outer) (first.from_before ∷ unread) subs in
-      a_block (kinds_of left ++ kinds_of right) (is_chained kind && is_any (width_of right)) first.from_before
+      apart_unless (kinds_of left ++ kinds_of right) (is_chained kind)
+      (a_block (kinds_of left ++ kinds_of right) (is_any (width_of right)) first.from_before
       (Join kind first.from (readings source outer unread right).whole
-      (printed_condition (first.from_before ∷ unread) asked condition) (condition_subs asked condition))
+      (printed_condition (first.from_before ∷ unread) asked condition) (condition_subs asked condition)))
   readings source outer unread (ApplyOf kind left right) =
       let first = readings source outer unread left in
       a_block (kinds_of left ++ kinds_of right) (is_any (width_of right)) first.from_before

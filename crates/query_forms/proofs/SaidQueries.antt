@@ -1,5 +1,5 @@
 -- What the form of a query says is its text.
-use Rattle.std.proofs.Common.{◌≡◌, ◌∙◌, ℕ, suc, ◌+◌, Bool, true, false, ◌&&◌, List, [], ◌∷◌, ◌++◌, map, refl, sym, ap, ap₂, append_assoc, append-nil, arith, true≢false}
+use Rattle.std.proofs.Common.{◌≡◌, ◌∙◌, ℕ, suc, ◌+◌, Bool, true, false, List, [], ◌∷◌, ◌++◌, map, refl, sym, ap, ap₂, append_assoc, append-nil, arith, true≢false}
 use Rattle.std.specs.Prelude.{codes, length, cond, Option, Some, None}
 use Rattle.null_logic.specs.declared.compare.Compare.{Compare}
 use Rattle.null_logic.specs.declared.compare.Compare.TheVariants as compare
@@ -26,7 +26,7 @@ use Rattle.query_texts.specs.QueryTexts.{Written, written, select, sub_texts, an
 use Rattle.clause_texts.specs.Chains.{is_chained}
 use Rattle.clause_texts.specs.Names.{Naming, naming, own, deeper, names_of, outermost}
 use Rattle.query_forms.specs.ShownExpressions.{shown_expr, beside}
-use Rattle.query_forms.specs.ShownQueries.{own_columns, Listed, listed, one, columns, selected, alone, Chain, sources, just, then_joins, joined_to, source_name, Framed, copied, a_whole, a_select, a_block, begun, of_table, tested_by, projected, joined, stays, in_groups, below_groups, aggregates_from, arguments, grouped_columns, key_form, any_of, all_of, tested_part, asked, framed, sub_forms, called, shown_answer}
+use Rattle.query_forms.specs.ShownQueries.{own_columns, Listed, listed, one, columns, selected, alone, Chain, sources, just, then_joins, joined_to, source_name, Framed, copied, a_whole, a_select, a_block, apart_unless, of_table, tested_by, projected, joined, stays, in_groups, below_groups, aggregates_from, arguments, grouped_columns, key_form, any_of, all_of, tested_part, asked, framed, sub_forms, called, shown_answer}
 use Rattle.clause_texts.specs.Unused.{used_in, items_use, spare}
 use Rattle.clause_texts.specs.declared.tables.TableNames.{TableNames}
 use Rattle.query_forms.specs.Pieces.{said, expr_said, query_said}
@@ -332,9 +332,10 @@ module _ (prefix : List ℕ) where
         from = over;
       }
 
-  begun_says : (count : ℕ) (chained : Bool) (w : Written) (form : Framed) → Says w form → Says (texts.begun prefix count chained w) (begun prefix count chained form)
-  begun_says count true w form is = is
-  begun_says count false w form is = whole_says count w.whole form.whole is.whole
+  apart_says : (count : ℕ) (chained : Bool) (w : Written) (form : Framed) → Says w form
+      → Says (texts.apart_unless prefix count chained w) (apart_unless prefix count chained form)
+  apart_says count true w form is = is
+  apart_says count false w form is = whole_says count w.whole form.whole is.whole
 
   select_says : (listed : Naming → List ℕ) (form : Bool → Naming → CoreForm)
       → ((distinct : Bool) (out : Naming) → said (plan.core (form distinct out)) ≡ codes "SELECT " ++ (said (maybe_distinct distinct) ++ listed out))
@@ -420,15 +421,18 @@ module _ (tables : List TableNames) where
         let on = tested_by prefix forms condition in
         let q = (framed tables prefix right).whole right_side in
         let chained = is_chained kind in
-        let first = begun prefix (width_of left) chained (framed tables prefix left) in
-        let text = texts.begun prefix (width_of left) chained (written tables prefix left) in
-        joined_says prefix (length (kinds_of left ++ kinds_of right)) (chained && is_any (width_of right)) first.from
-        (f.a_join (joined kind) (f.subquery q (source_name number)) on f.no_joins) text.from
-        (beside_joined kind number ((written tables prefix right).whole right_side) ++ condition_text prefix (sub_texts tables prefix subs) condition)
-        (begun_says prefix (width_of left) chained (written tables prefix left) (framed tables prefix left) (form_says prefix left)).from
+        let first = apart_unless prefix (width_of left) chained (framed tables prefix left) in
+        let text = texts.apart_unless prefix (width_of left) chained (written tables prefix left) in
+        let last = f.a_join (joined kind) (f.subquery q (source_name number)) on f.no_joins in
+        let joins = beside_joined kind number ((written tables prefix right).whole right_side) ++ condition_text prefix (sub_texts tables prefix subs) condition in
+        let count = length (kinds_of left ++ kinds_of right) in
+        apart_says prefix count chained (texts.a_block prefix count (is_any (width_of right)) (text.from ++ joins))
+        (a_block prefix count (is_any (width_of right)) (joined_to first.from last) f.no_condition)
+        (joined_says prefix count (is_any (width_of right)) first.from last text.from joins
+        (apart_says prefix (width_of left) chained (written tables prefix left) (framed tables prefix left) (form_says prefix left)).from
         (join_said kind number q on
         ∙ ap₂ (λ r c. beside_joined kind number r ++ c) ((form_says prefix right).whole right_side)
-        (condition_is prefix forms (sub_texts tables prefix subs) condition (subs_said prefix subs)))
+        (condition_is prefix forms (sub_texts tables prefix subs) condition (subs_said prefix subs))))
     form_says prefix (ApplyOf kind left right) =
         let number = width_of left + 1 in
         let right_side = naming prefix (width_of left + 1) in

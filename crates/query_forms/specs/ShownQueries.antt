@@ -1,6 +1,6 @@
 -- How queries are printed: one SELECT for a block of SQL. Columns are named by their place, so names of tables and of their columns stand
 -- at tables alone.
-use Rattle.std.specs.Prelude.{ℕ, ◌+◌, Bool, true, false, ◌&&◌, cond, List, [], ◌∷◌, ◌++◌, map, length, Option, Some, None}
+use Rattle.std.specs.Prelude.{ℕ, ◌+◌, Bool, true, false, cond, List, [], ◌∷◌, ◌++◌, map, length, Option, Some, None}
 use Rattle.std.specs.List.{range_with_len}
 use Rattle.null_logic.specs.declared.compare.Compare.{Compare}
 use Rattle.null_logic.specs.declared.compare.Compare.TheVariants as compare
@@ -146,9 +146,9 @@ a_block prefix count followed chain test = record {
   from = cond followed chain (just (alone (copied prefix count chain test false (own prefix))));
 }
 
--- the left side of a join that may stand in one FROM with others, or of one that stands over it alone
-abbrev pub begun : List ℕ → ℕ → Bool → Framed → Framed
-begun prefix count chained left = cond chained left (a_whole prefix count left.whole)
+-- what is shown by itself alone, unless it may stand in one FROM with others
+abbrev pub apart_unless : List ℕ → ℕ → Bool → Framed → Framed
+apart_unless prefix count chained form = cond chained form (a_whole prefix count form.whole)
 
 -- ---- nodes
 
@@ -270,11 +270,12 @@ abbrev mutual
       a_select prefix (λ distinct out.
       selected distinct (projected prefix out forms (spare (items_use items) 0 forms) items) (sources below.block) below.test [])
   framed tables prefix (JoinOf kind left right condition _ subs) =
-      a_block prefix (length (kinds_of left ++ kinds_of right)) (is_chained kind && is_any (width_of right))
-      (joined_to (begun prefix (width_of left) (is_chained kind) (framed tables prefix left)).from
+      apart_unless prefix (length (kinds_of left ++ kinds_of right)) (is_chained kind)
+      (a_block prefix (length (kinds_of left ++ kinds_of right)) (is_any (width_of right))
+      (joined_to (apart_unless prefix (width_of left) (is_chained kind) (framed tables prefix left)).from
       (f.a_join (joined kind)
       (f.subquery ((framed tables prefix right).whole (naming prefix (width_of left + 1))) (source_name (width_of left + 1)))
-      (tested_by prefix (sub_forms tables prefix subs) condition) f.no_joins)) f.no_condition
+      (tested_by prefix (sub_forms tables prefix subs) condition) f.no_joins)) f.no_condition)
   framed tables prefix (ApplyOf kind left right) =
       a_block prefix (length (kinds_of left ++ kinds_of right)) (is_any (width_of right))
       (joined_to (framed tables prefix left).from

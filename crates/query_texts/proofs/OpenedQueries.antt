@@ -1,10 +1,11 @@
 -- The texts of the nodes that constructors of code make, in words on plain lists of sublinks, and how they are joined piece by piece.
-use Rattle.std.proofs.Common.{◌≡◌, ◌∙◌, ℕ, ◌+◌, Bool, false, cond, List, [], ◌∷◌, ◌++◌, refl, sym, ap, ap₂, append-nil}
+use Rattle.std.proofs.Common.{◌≡◌, ◌∙◌, ℕ, ◌+◌, Bool, List, [], ◌∷◌, ◌++◌, refl, sym, ap, ap₂, append-nil}
 use Rattle.std.specs.Prelude.{codes}
 use Rattle.perm_values.specs.declared.key.Key.{Key}
 use Rattle.perm_values.specs.declared.kind.Kind.{Kind}
-use Rattle.bag_algebra.specs.Kinds.{width_of}
-use Rattle.bag_algebra.specs.built.Openings.{row_of_subs, Base-is, Filter-is, Project_with-is, Join-is, Apply-is, Union-is, Intersect-is, Except-is, Distinct-is, Aggregate-is, Limit-is, Prov-is}
+use Rattle.bag_algebra.specs.Kinds.{kinds_of, width_of}
+use Rattle.bag_algebra.specs.built.Openings.{row_of_subs, shape_of_subs, Base-is, Filter-is, Project_with-is, Join-is, Apply-is, Union-is, Intersect-is, Except-is, Distinct-is, Aggregate-is, Limit-is, Prov-is}
+use Rattle.bag_algebra.specs.built.Patterns.{JoinOf}
 use Rattle.bag_algebra.specs.declared.expr.Expr.{Expr}
 use Rattle.bag_algebra.specs.declared.expr.Item.{Item}
 use Rattle.bag_algebra.specs.declared.query.Aggr.{Aggr}
@@ -19,9 +20,10 @@ use Rattle.clause_texts.specs.ClauseTexts.{asked_back, asking_text, beside_joine
 use Rattle.clause_texts.specs.Names.{Naming, deeper, naming, names_of, own}
 use Rattle.clause_texts.specs.declared.tables.TableNames.{TableNames}
 use Rattle.expression_texts.proofs.Pieces.{laid2, laid3}
-use Rattle.query_texts.specs.QueryTexts.{begun, query_bytes, select, sub_text, sub_texts, subs_texts, written}
+use Rattle.expression_texts.specs.Words.{is_any}
+use Rattle.query_texts.specs.QueryTexts.{apart_unless, query_bytes, select, sub_text, sub_texts, subs_texts, written}
 use Rattle.query_texts.specs.built.Parts.{block_part, select_part}
-use Rattle.query_texts.specs.built.Shapes.{is_block, is_select}
+use Rattle.query_texts.proofs.Shaped.{apart_whole}
 
 module _ (tables : List TableNames) (prefix : List ℕ) where
   subs-opened : (subs : List Sublink) → sub_texts tables prefix (row_of_subs subs) ≡ subs_texts tables prefix subs
@@ -61,11 +63,11 @@ module _ (tables : List TableNames) (prefix : List ℕ) where
   beside kind left right = beside_joined kind (width_of left + 1) (query_bytes tables prefix (naming prefix (width_of left + 1)) right)
 
   -- FROM on the left of a join
-  abbrev begin : JoinKind → Query → List ℕ
-  begin kind left = (begun prefix (width_of left) (is_chained kind) (written tables prefix left)).from
+  abbrev left_side : JoinKind → Query → List ℕ
+  left_side kind left = (apart_unless prefix (width_of left) (is_chained kind) (written tables prefix left)).from
 
   abbrev joining : JoinKind → Query → Query → Expr → List (List ℕ) → List ℕ
-  joining kind left right condition texts = begin kind left ++ (beside kind left right ++ condition_text prefix texts condition)
+  joining kind left right condition texts = left_side kind left ++ (beside kind left right ++ condition_text prefix texts condition)
 
   join_bare : (kind : JoinKind) (left right : Query) (condition : Expr) (subs : List Sublink)
       → bare (Join kind left right condition subs) ≡ joining kind left right condition (subs_texts tables prefix subs)
@@ -84,9 +86,8 @@ module _ (tables : List TableNames) (prefix : List ℕ) where
     laid_bare : (variant : Query) (text after : List ℕ) → q ≡ variant → bare variant ≡ text → after ≡ start ++ text → after ≡ start ++ bare q
     laid_bare variant text after is opened pushed = pushed ∙ ap (λ t. start ++ t) (sym (ap bare is ∙ opened))
 
-    pub no_block : (variant : Query) → q ≡ variant → is_block variant ≡ false → start ≡ start ++ bare q
-    no_block variant is none =
-        laid_bare variant [] start is (ap (λ b. cond b (written tables prefix variant).block []) none) (sym (append-nil start))
+    pub no_block : (variant : Query) → q ≡ variant → bare variant ≡ [] → start ≡ start ++ bare q
+    no_block variant is none = laid_bare variant [] start is none (sym (append-nil start))
 
     pub filter_pushed : (input input' : Query) (condition : Expr) (subs subs' : List Sublink) (texts texts' : List (List ℕ)) (one two : List ℕ)
         → q ≡ Filter input condition subs → input' ≡ input → subs' ≡ subs → texts ≡ subs_texts tables prefix subs' → texts' ≡ texts
@@ -102,7 +103,7 @@ module _ (tables : List TableNames) (prefix : List ℕ) where
     pub join_pushed : (kind : JoinKind) (left right l l' r : Query) (condition : Expr) (subs subs' : List Sublink) (texts texts' : List (List ℕ))
         (before : ℕ) (one two three : List ℕ) → q ≡ Join kind left right condition subs
         → subs' ≡ subs → texts ≡ subs_texts tables prefix subs' → texts' ≡ texts → l ≡ left
-        → before ≡ width_of l → l' ≡ left → r ≡ right → one ≡ start ++ begin kind l'
+        → before ≡ width_of l → l' ≡ left → r ≡ right → one ≡ start ++ left_side kind l'
         → two ≡ one ++ beside_joined kind (before + 1) (query_bytes tables prefix (naming prefix (before + 1)) r)
         → three ≡ two ++ condition_text prefix texts' condition → three ≡ start ++ bare q
     join_pushed kind left right l l' r condition subs subs' texts texts' before one two three is subs_are texts_are same l_is before_is
@@ -111,8 +112,8 @@ module _ (tables : List TableNames) (prefix : List ℕ) where
         let behind = before_is ∙ ap width_of l_is in
         laid_bare (Join kind left right condition subs) (joining kind left right condition (subs_texts tables prefix subs)) three is
         (join_bare kind left right condition subs)
-        (laid3 start one two three (begin kind left) (beside kind left right) (condition_text prefix (subs_texts tables prefix subs) condition)
-        (started ∙ ap (λ p. start ++ begin kind p) l'_is)
+        (laid3 start one two three (left_side kind left) (beside kind left right) (condition_text prefix (subs_texts tables prefix subs) condition)
+        (started ∙ ap (λ p. start ++ left_side kind p) l'_is)
         (joined ∙ (λ i. one ++ beside_joined kind (behind i + 1) (query_bytes tables prefix (naming prefix (behind i + 1)) (r_is i))))
         (closed ∙ ap (λ ts. two ++ condition_text prefix ts condition) these))
 
@@ -165,9 +166,8 @@ module _ (tables : List TableNames) (prefix : List ℕ) (out : Naming) where
     pub single_part : (after : List ℕ) → q ≡ Single → after ≡ start ++ unread_text out.prefix (codes "1 ") 0 → after ≡ start ++ part q
     single_part after is pushed = laid_part Single (unread_text out.prefix (codes "1 ") 0) after is refl pushed
 
-    pub no_part : (variant : Query) → q ≡ variant → is_select variant ≡ false → start ≡ start ++ part q
-    no_part variant is none =
-        laid_part variant [] start is (ap (λ b. cond b ((written tables prefix variant).listed out) []) none) (sym (append-nil start))
+    pub no_part : (variant : Query) → q ≡ variant → part variant ≡ [] → start ≡ start ++ part q
+    no_part variant is none = laid_part variant [] start is none (sym (append-nil start))
 
     pub all_part : (variant : Query) (after : List ℕ) → part variant ≡ all variant → q ≡ variant → after ≡ start ++ all q → after ≡ start ++ part q
     all_part variant after opened is pushed = laid_part variant (all variant) after is opened (pushed ∙ ap (λ p. start ++ all p) is)
@@ -200,7 +200,10 @@ module _ (tables : List TableNames) (prefix : List ℕ) (out : Naming) where
   pub join_selected : (kind : JoinKind) (left right : Query) (condition : Expr) (subs : List Sublink)
       → whole (Join kind left right condition subs) ≡ selected (Join kind left right condition subs)
   join_selected kind left right condition subs =
-      ap whole (Join-is kind left right condition subs) ∙ sym (ap selected (Join-is kind left right condition subs))
+      ap whole (Join-is kind left right condition subs)
+      ∙ apart_whole tables prefix (length (kinds_of left ++ kinds_of right)) (is_any (width_of right)) 
+      (block_part tables prefix (JoinOf kind left right condition (shape_of_subs subs) (row_of_subs subs))) (is_chained kind) out
+      ∙ sym (ap selected (Join-is kind left right condition subs))
 
   pub apply_selected : (kind : JoinKind) (left right : Query) → whole (Apply kind left right) ≡ selected (Apply kind left right)
   apply_selected kind left right = ap whole (Apply-is kind left right) ∙ sym (ap selected (Apply-is kind left right))

@@ -1,8 +1,9 @@
 -- The text of a query: one SELECT for a block of SQL.
-use Rattle.std.specs.Prelude.{ℕ, ◌+◌, Bool, false, ◌&&◌, cond, List, [], ◌∷◌, ◌++◌, map, length, codes}
+use Rattle.std.specs.Prelude.{ℕ, ◌+◌, Bool, false, cond, List, [], ◌∷◌, ◌++◌, map, length, codes}
 use Rattle.perm_values.specs.declared.key.Key.{Key}
 use Rattle.bag_algebra.specs.Kinds.{kinds_of, width_of}
 use Rattle.bag_algebra.specs.built.Patterns.{BaseOf, FilterOf, ProjectOf, JoinOf, ApplyOf, UnionOf, IntersectOf, ExceptOf, DistinctOf, AggregateOf, LimitOf, ProvOf}
+use Rattle.bag_algebra.specs.declared.query.JoinKind.{JoinKind}
 use Rattle.bag_algebra.specs.declared.query.Query.{Query, Row_of-Sublink, more_of-Sublink, end_of-Sublink}
 use Rattle.bag_algebra.specs.declared.query.Query.TheVariants.{Table, Single}
 use Rattle.bag_algebra.specs.declared.query.Sublink.{Sublink}
@@ -53,9 +54,15 @@ a_block prefix count followed block = record {
   from = cond followed block (over_text (select (columns_text prefix (own prefix) count ++ block)));
 }
 
--- the left side of a join that may stand in one FROM with others, or of one that stands over it alone
-abbrev pub begun : List ℕ → ℕ → Bool → Written → Written
-begun prefix count chained left = cond chained left (a_whole prefix count left.whole)
+-- what is written by itself alone, unless it may stand in one FROM with others
+abbrev pub apart_unless : List ℕ → ℕ → Bool → Written → Written
+apart_unless prefix count chained w = cond chained w (a_whole prefix count w.whole)
+
+-- FROM that ends in a join
+abbrev pub join_block : List ℕ → JoinKind → ℕ → Written → Written → List ℕ → List ℕ
+join_block prefix kind width left right on =
+    (apart_unless prefix width (is_chained kind) left).from
+    ++ (beside_joined kind (width + 1) (right.whole (naming prefix (width + 1))) ++ on)
 
 -- ---- queries
 
@@ -72,10 +79,10 @@ abbrev mutual
   written tables prefix (ProjectOf input items _ subs) =
       a_select prefix (λ out. projecting_text prefix out (sub_texts tables prefix subs) items ++ (written tables prefix input).block)
   written tables prefix (JoinOf kind left right condition _ subs) =
-      a_block prefix (length (kinds_of left ++ kinds_of right)) (is_chained kind && is_any (width_of right))
-      ((begun prefix (width_of left) (is_chained kind) (written tables prefix left)).from
-      ++ (beside_joined kind (width_of left + 1) ((written tables prefix right).whole (naming prefix (width_of left + 1)))
-      ++ condition_text prefix (sub_texts tables prefix subs) condition))
+      apart_unless prefix (length (kinds_of left ++ kinds_of right)) (is_chained kind)
+      (a_block prefix (length (kinds_of left ++ kinds_of right)) (is_any (width_of right))
+      (join_block prefix kind (width_of left) (written tables prefix left) (written tables prefix right)
+      (condition_text prefix (sub_texts tables prefix subs) condition)))
   written tables prefix (ApplyOf kind left right) =
       a_block prefix (length (kinds_of left ++ kinds_of right)) (is_any (width_of right))
       ((written tables prefix left).from

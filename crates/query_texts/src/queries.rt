@@ -5,7 +5,7 @@ ghost use Rattle.clause_texts.specs.Chains.{is_chained};
 ghost use Rattle.clause_texts.specs.ClauseTexts.{beside_joined, beside_lateral, columns_text, groups_text};
 ghost use Rattle.clause_texts.specs.Frames.{called_in};
 ghost use Rattle.clause_texts.specs.Names.{deeper, naming};
-ghost use Rattle.query_texts.specs.QueryTexts.{answer_bytes, begun, query_bytes, sub_text, subs_texts, written};
+ghost use Rattle.query_texts.specs.QueryTexts.{answer_bytes, apart_unless, query_bytes, sub_text, subs_texts, written};
 ghost use Rattle.query_texts.specs.built.Parts.{block_part, over_bytes, select_part};
 
 use crate::shapes::{is_block, is_chain, is_chained, is_select};
@@ -162,7 +162,7 @@ fn push_bare(frame: &Frame, query: &Query, draft: &mut Draft) -> Result<(), NoMe
         } => {
             let texts = sub_texts(frame, subs.as_slice(), draft.alloc())?;
             let before = columns_of(left.get())?;
-            push_begun(frame, *kind, left.get(), draft)?;
+            push_left(frame, *kind, left.get(), draft)?;
             push_joined(frame, *kind, before, right.get(), draft)?;
             push_condition(frame, texts.as_slice(), condition, draft)
         }
@@ -211,13 +211,13 @@ fn push_from(frame: &Frame, query: &Query, draft: &mut Draft) -> Result<(), NoMe
 
 /// FROM on the left of a join.
 #[cycle(push_query)]
-fn push_begun(
+fn push_left(
     frame: &Frame,
     kind: JoinKind,
     left: &Query,
     draft: &mut Draft,
 ) -> Result<(), NoMemory>
-    ensures { OnOk result (draft.new ≡ draft.old ++ (begun frame.now.prefix.now (width_of left.now) (is_chained kind)
+    ensures { OnOk result (draft.new ≡ draft.old ++ (apart_unless frame.now.prefix.now (width_of left.now) (is_chained kind)
         (written frame.now.tables.now frame.now.prefix.now left.now)).from) }
 {
     if is_chained(kind) {

@@ -7,14 +7,14 @@ use Rattle.bag_algebra.specs.declared.query.Query.TheVariants.{Table, Single}
 use Rattle.clause_texts.specs.Chains.{is_chained}
 use Rattle.expression_texts.specs.Words.{is_any}
 
--- one SELECT without groups, so that DISTINCT may stand in it
+-- one SELECT without groups that gives the columns, so that DISTINCT may stand in it
 abbrev pub is_select : Query → Bool
 is_select (Table id kinds) = true
 is_select Single = true
 is_select (BaseOf input places label) = false
 is_select (FilterOf input condition _ subs) = true
 is_select (ProjectOf input items _ subs) = true
-is_select (JoinOf kind left right condition _ subs) = true
+is_select (JoinOf kind left right condition _ subs) = is_chained kind
 is_select (ApplyOf kind left right) = true
 is_select (UnionOf all left right) = false
 is_select (IntersectOf all left right) = false
@@ -31,7 +31,7 @@ is_block Single = false
 is_block (BaseOf input places label) = false
 is_block (FilterOf input condition _ subs) = true
 is_block (ProjectOf input items _ subs) = false
-is_block (JoinOf kind left right condition _ subs) = true
+is_block (JoinOf kind left right condition _ subs) = is_chained kind
 is_block (ApplyOf kind left right) = true
 is_block (UnionOf all left right) = false
 is_block (IntersectOf all left right) = false

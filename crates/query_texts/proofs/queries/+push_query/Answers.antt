@@ -8,10 +8,9 @@ use Rattle.clause_texts.specs.Frames.{called_in}
 use Rattle.clause_texts.specs.Names.{deeper, naming}
 use Rattle.expression_texts.proofs.Pieces.{laid2, laid3, laid4, laid6, mapped_next, when-ok}
 use Rattle.query_texts.specs.QueryTexts.{query_bytes, sub_text, subs_texts, written}
-use Rattle.query_texts.specs.built.Parts.{block_part, over_bytes}
-use Rattle.query_texts.specs.built.Shapes.{is_block, is_select}
+use Rattle.query_texts.specs.built.Parts.{block_part, over_bytes, select_part}
 use Rattle.query_texts.proofs.OpenedQueries.{aggregate_pushed, all_part, apply_all, apply_pushed, apply_selected, base_pushed, distinct_pushed, except_text, filter_all, filter_pushed, filter_selected, intersect_text, join_all, join_pushed, join_selected, limit_pushed, no_block, no_part, project_pushed, project_selected, prov_pushed, select_pushed, set_pushed, single_part, sub_joined, table_part, union_text}
-use Rattle.query_texts.proofs.Shaped.{begun_from, begun_over, block_is, block_over, chain_is, from_over, listed_over, listed_part}
+use Rattle.query_texts.proofs.Shaped.{block_is, block_over, chain_is, from_over, left_apart, left_is, listed_over, listed_part}
 use Rattle.query_texts.proofs.queries.+push_query.Goals as goal
 
 -- ---- whole queries
@@ -171,42 +170,42 @@ push_part-returns-in-Apply t c =
 pub push_part-returns-in-Base : goal.push_part-returns-in-Base
 push_part-returns-in-Base t c =
     let frame = c.args.frame.now in
-    no_part frame.tables.now frame.prefix.now (called_in frame) c.args.draft.now c.args.query.now (Base c.in-Base.input c.in-Base.places c.in-Base.label) c.in-Base.is (ap is_select (Base-is c.in-Base.input c.in-Base.places c.in-Base.label))
+    no_part frame.tables.now frame.prefix.now (called_in frame) c.args.draft.now c.args.query.now (Base c.in-Base.input c.in-Base.places c.in-Base.label) c.in-Base.is (ap (select_part frame.tables.now frame.prefix.now (called_in frame)) (Base-is c.in-Base.input c.in-Base.places c.in-Base.label))
 
 pub push_part-returns-in-Union : goal.push_part-returns-in-Union
 push_part-returns-in-Union t c =
     let frame = c.args.frame.now in
-    no_part frame.tables.now frame.prefix.now (called_in frame) c.args.draft.now c.args.query.now (Union c.in-Union.all c.in-Union.left c.in-Union.right) c.in-Union.is (ap is_select (Union-is c.in-Union.all c.in-Union.left c.in-Union.right))
+    no_part frame.tables.now frame.prefix.now (called_in frame) c.args.draft.now c.args.query.now (Union c.in-Union.all c.in-Union.left c.in-Union.right) c.in-Union.is (ap (select_part frame.tables.now frame.prefix.now (called_in frame)) (Union-is c.in-Union.all c.in-Union.left c.in-Union.right))
 
 pub push_part-returns-in-Intersect : goal.push_part-returns-in-Intersect
 push_part-returns-in-Intersect t c =
     let frame = c.args.frame.now in
-    no_part frame.tables.now frame.prefix.now (called_in frame) c.args.draft.now c.args.query.now (Intersect c.in-Intersect.all c.in-Intersect.left c.in-Intersect.right) c.in-Intersect.is (ap is_select (Intersect-is c.in-Intersect.all c.in-Intersect.left c.in-Intersect.right))
+    no_part frame.tables.now frame.prefix.now (called_in frame) c.args.draft.now c.args.query.now (Intersect c.in-Intersect.all c.in-Intersect.left c.in-Intersect.right) c.in-Intersect.is (ap (select_part frame.tables.now frame.prefix.now (called_in frame)) (Intersect-is c.in-Intersect.all c.in-Intersect.left c.in-Intersect.right))
 
 pub push_part-returns-in-Except : goal.push_part-returns-in-Except
 push_part-returns-in-Except t c =
     let frame = c.args.frame.now in
-    no_part frame.tables.now frame.prefix.now (called_in frame) c.args.draft.now c.args.query.now (Except c.in-Except.all c.in-Except.left c.in-Except.right) c.in-Except.is (ap is_select (Except-is c.in-Except.all c.in-Except.left c.in-Except.right))
+    no_part frame.tables.now frame.prefix.now (called_in frame) c.args.draft.now c.args.query.now (Except c.in-Except.all c.in-Except.left c.in-Except.right) c.in-Except.is (ap (select_part frame.tables.now frame.prefix.now (called_in frame)) (Except-is c.in-Except.all c.in-Except.left c.in-Except.right))
 
 pub push_part-returns-in-Distinct : goal.push_part-returns-in-Distinct
 push_part-returns-in-Distinct t c =
     let frame = c.args.frame.now in
-    no_part frame.tables.now frame.prefix.now (called_in frame) c.args.draft.now c.args.query.now (Distinct c.in-Distinct.input) c.in-Distinct.is (ap is_select (Distinct-is c.in-Distinct.input))
+    no_part frame.tables.now frame.prefix.now (called_in frame) c.args.draft.now c.args.query.now (Distinct c.in-Distinct.input) c.in-Distinct.is (ap (select_part frame.tables.now frame.prefix.now (called_in frame)) (Distinct-is c.in-Distinct.input))
 
 pub push_part-returns-in-Aggregate : goal.push_part-returns-in-Aggregate
 push_part-returns-in-Aggregate t c =
     let frame = c.args.frame.now in
-    no_part frame.tables.now frame.prefix.now (called_in frame) c.args.draft.now c.args.query.now (Aggregate c.in-Aggregate.input c.in-Aggregate.groups c.in-Aggregate.aggregates) c.in-Aggregate.is (ap is_select (Aggregate-is c.in-Aggregate.input c.in-Aggregate.groups c.in-Aggregate.aggregates))
+    no_part frame.tables.now frame.prefix.now (called_in frame) c.args.draft.now c.args.query.now (Aggregate c.in-Aggregate.input c.in-Aggregate.groups c.in-Aggregate.aggregates) c.in-Aggregate.is (ap (select_part frame.tables.now frame.prefix.now (called_in frame)) (Aggregate-is c.in-Aggregate.input c.in-Aggregate.groups c.in-Aggregate.aggregates))
 
 pub push_part-returns-in-Limit : goal.push_part-returns-in-Limit
 push_part-returns-in-Limit t c =
     let frame = c.args.frame.now in
-    no_part frame.tables.now frame.prefix.now (called_in frame) c.args.draft.now c.args.query.now (Limit c.in-Limit.input c.in-Limit.keys c.in-Limit.count) c.in-Limit.is (ap is_select (Limit-is c.in-Limit.input c.in-Limit.keys c.in-Limit.count))
+    no_part frame.tables.now frame.prefix.now (called_in frame) c.args.draft.now c.args.query.now (Limit c.in-Limit.input c.in-Limit.keys c.in-Limit.count) c.in-Limit.is (ap (select_part frame.tables.now frame.prefix.now (called_in frame)) (Limit-is c.in-Limit.input c.in-Limit.keys c.in-Limit.count))
 
 pub push_part-returns-in-Prov : goal.push_part-returns-in-Prov
 push_part-returns-in-Prov t c =
     let frame = c.args.frame.now in
-    no_part frame.tables.now frame.prefix.now (called_in frame) c.args.draft.now c.args.query.now (Prov c.in-Prov.input) c.in-Prov.is (ap is_select (Prov-is c.in-Prov.input))
+    no_part frame.tables.now frame.prefix.now (called_in frame) c.args.draft.now c.args.query.now (Prov c.in-Prov.input) c.in-Prov.is (ap (select_part frame.tables.now frame.prefix.now (called_in frame)) (Prov-is c.in-Prov.input))
 
 -- all columns of a FROM with a WHERE
 pub push_all-returns : goal.push_all-returns
@@ -232,7 +231,7 @@ push_bare-returns-in_ok-push_joined-in-Join t c =
     when-ok c.push_condition.result c.push_condition.ensures
     (join_pushed frame.tables.now frame.prefix.now c.args.draft.now c.args.query.now c.in-Join.kind c.in-Join.left c.in-Join.right _ _ _
     c.in-Join.condition c.in-Join.subs _ _ _ _ _ _ _ c.in-Join.is c.as_slice-in-Join.ensures c.in_ok-texts-in-Join.ensures c.as_slice-in-Join-2.ensures
-    c.get-in-Join.ensures c.in_ok-before-in-Join.ensures c.get-in-Join-2.ensures c.get-in-Join-3.ensures c.in_ok-push_begun-in-Join.ensures
+    c.get-in-Join.ensures c.in_ok-before-in-Join.ensures c.get-in-Join-2.ensures c.get-in-Join-3.ensures c.in_ok-push_left-in-Join.ensures
     c.in_ok-push_joined-in-Join.ensures)
 
 pub push_bare-returns-in_ok-push_from-in-Apply : goal.push_bare-returns-in_ok-push_from-in-Apply
@@ -256,47 +255,47 @@ push_bare-returns-in-Single t c =
 pub push_bare-returns-in-Base : goal.push_bare-returns-in-Base
 push_bare-returns-in-Base t c =
     let frame = c.args.frame.now in
-    no_block frame.tables.now frame.prefix.now c.args.draft.now c.args.query.now (Base c.in-Base.input c.in-Base.places c.in-Base.label) c.in-Base.is (ap is_block (Base-is c.in-Base.input c.in-Base.places c.in-Base.label))
+    no_block frame.tables.now frame.prefix.now c.args.draft.now c.args.query.now (Base c.in-Base.input c.in-Base.places c.in-Base.label) c.in-Base.is (ap (block_part frame.tables.now frame.prefix.now) (Base-is c.in-Base.input c.in-Base.places c.in-Base.label))
 
 pub push_bare-returns-in-Project : goal.push_bare-returns-in-Project
 push_bare-returns-in-Project t c =
     let frame = c.args.frame.now in
-    no_block frame.tables.now frame.prefix.now c.args.draft.now c.args.query.now (Project c.in-Project.input c.in-Project.items c.in-Project.subs) c.in-Project.is (ap is_block (Project_with-is c.in-Project.input c.in-Project.items c.in-Project.subs))
+    no_block frame.tables.now frame.prefix.now c.args.draft.now c.args.query.now (Project c.in-Project.input c.in-Project.items c.in-Project.subs) c.in-Project.is (ap (block_part frame.tables.now frame.prefix.now) (Project_with-is c.in-Project.input c.in-Project.items c.in-Project.subs))
 
 pub push_bare-returns-in-Union : goal.push_bare-returns-in-Union
 push_bare-returns-in-Union t c =
     let frame = c.args.frame.now in
-    no_block frame.tables.now frame.prefix.now c.args.draft.now c.args.query.now (Union c.in-Union.all c.in-Union.left c.in-Union.right) c.in-Union.is (ap is_block (Union-is c.in-Union.all c.in-Union.left c.in-Union.right))
+    no_block frame.tables.now frame.prefix.now c.args.draft.now c.args.query.now (Union c.in-Union.all c.in-Union.left c.in-Union.right) c.in-Union.is (ap (block_part frame.tables.now frame.prefix.now) (Union-is c.in-Union.all c.in-Union.left c.in-Union.right))
 
 pub push_bare-returns-in-Intersect : goal.push_bare-returns-in-Intersect
 push_bare-returns-in-Intersect t c =
     let frame = c.args.frame.now in
-    no_block frame.tables.now frame.prefix.now c.args.draft.now c.args.query.now (Intersect c.in-Intersect.all c.in-Intersect.left c.in-Intersect.right) c.in-Intersect.is (ap is_block (Intersect-is c.in-Intersect.all c.in-Intersect.left c.in-Intersect.right))
+    no_block frame.tables.now frame.prefix.now c.args.draft.now c.args.query.now (Intersect c.in-Intersect.all c.in-Intersect.left c.in-Intersect.right) c.in-Intersect.is (ap (block_part frame.tables.now frame.prefix.now) (Intersect-is c.in-Intersect.all c.in-Intersect.left c.in-Intersect.right))
 
 pub push_bare-returns-in-Except : goal.push_bare-returns-in-Except
 push_bare-returns-in-Except t c =
     let frame = c.args.frame.now in
-    no_block frame.tables.now frame.prefix.now c.args.draft.now c.args.query.now (Except c.in-Except.all c.in-Except.left c.in-Except.right) c.in-Except.is (ap is_block (Except-is c.in-Except.all c.in-Except.left c.in-Except.right))
+    no_block frame.tables.now frame.prefix.now c.args.draft.now c.args.query.now (Except c.in-Except.all c.in-Except.left c.in-Except.right) c.in-Except.is (ap (block_part frame.tables.now frame.prefix.now) (Except-is c.in-Except.all c.in-Except.left c.in-Except.right))
 
 pub push_bare-returns-in-Distinct : goal.push_bare-returns-in-Distinct
 push_bare-returns-in-Distinct t c =
     let frame = c.args.frame.now in
-    no_block frame.tables.now frame.prefix.now c.args.draft.now c.args.query.now (Distinct c.in-Distinct.input) c.in-Distinct.is (ap is_block (Distinct-is c.in-Distinct.input))
+    no_block frame.tables.now frame.prefix.now c.args.draft.now c.args.query.now (Distinct c.in-Distinct.input) c.in-Distinct.is (ap (block_part frame.tables.now frame.prefix.now) (Distinct-is c.in-Distinct.input))
 
 pub push_bare-returns-in-Aggregate : goal.push_bare-returns-in-Aggregate
 push_bare-returns-in-Aggregate t c =
     let frame = c.args.frame.now in
-    no_block frame.tables.now frame.prefix.now c.args.draft.now c.args.query.now (Aggregate c.in-Aggregate.input c.in-Aggregate.groups c.in-Aggregate.aggregates) c.in-Aggregate.is (ap is_block (Aggregate-is c.in-Aggregate.input c.in-Aggregate.groups c.in-Aggregate.aggregates))
+    no_block frame.tables.now frame.prefix.now c.args.draft.now c.args.query.now (Aggregate c.in-Aggregate.input c.in-Aggregate.groups c.in-Aggregate.aggregates) c.in-Aggregate.is (ap (block_part frame.tables.now frame.prefix.now) (Aggregate-is c.in-Aggregate.input c.in-Aggregate.groups c.in-Aggregate.aggregates))
 
 pub push_bare-returns-in-Limit : goal.push_bare-returns-in-Limit
 push_bare-returns-in-Limit t c =
     let frame = c.args.frame.now in
-    no_block frame.tables.now frame.prefix.now c.args.draft.now c.args.query.now (Limit c.in-Limit.input c.in-Limit.keys c.in-Limit.count) c.in-Limit.is (ap is_block (Limit-is c.in-Limit.input c.in-Limit.keys c.in-Limit.count))
+    no_block frame.tables.now frame.prefix.now c.args.draft.now c.args.query.now (Limit c.in-Limit.input c.in-Limit.keys c.in-Limit.count) c.in-Limit.is (ap (block_part frame.tables.now frame.prefix.now) (Limit-is c.in-Limit.input c.in-Limit.keys c.in-Limit.count))
 
 pub push_bare-returns-in-Prov : goal.push_bare-returns-in-Prov
 push_bare-returns-in-Prov t c =
     let frame = c.args.frame.now in
-    no_block frame.tables.now frame.prefix.now c.args.draft.now c.args.query.now (Prov c.in-Prov.input) c.in-Prov.is (ap is_block (Prov-is c.in-Prov.input))
+    no_block frame.tables.now frame.prefix.now c.args.draft.now c.args.query.now (Prov c.in-Prov.input) c.in-Prov.is (ap (block_part frame.tables.now frame.prefix.now) (Prov-is c.in-Prov.input))
 
 pub push_block-returns-then-is_block : goal.push_block-returns-then-is_block
 push_block-returns-then-is_block t c =
@@ -322,19 +321,19 @@ push_from-returns-else-is_chain t c =
     when-ok c.push_over.result c.push_over.ensures (λ pushed.
     pushed ∙ ap (λ text. c.args.draft.now ++ text) (from_over frame.tables.now frame.prefix.now c.args.query.now (sym c.is_chain.ensures ∙ c.if-is_chain.false)))
 
-pub push_begun-returns-then-is_chained : goal.push_begun-returns-then-is_chained
-push_begun-returns-then-is_chained t c =
+pub push_left-returns-then-is_chained : goal.push_left-returns-then-is_chained
+push_left-returns-then-is_chained t c =
     let frame = c.args.frame.now in
     when-ok c.push_from.result c.push_from.ensures (λ pushed.
     pushed ∙ ap (λ text. c.args.draft.now ++ text)
-    (begun_from frame.tables.now frame.prefix.now c.args.kind c.args.left.now (sym c.is_chained.ensures ∙ c.if-is_chained.true)))
+    (left_is frame.tables.now frame.prefix.now c.args.kind c.args.left.now (sym c.is_chained.ensures ∙ c.if-is_chained.true)))
 
-pub push_begun-returns-else-is_chained : goal.push_begun-returns-else-is_chained
-push_begun-returns-else-is_chained t c =
+pub push_left-returns-else-is_chained : goal.push_left-returns-else-is_chained
+push_left-returns-else-is_chained t c =
     let frame = c.args.frame.now in
     when-ok c.push_over.result c.push_over.ensures (λ pushed.
     pushed ∙ ap (λ text. c.args.draft.now ++ text)
-    (begun_over frame.tables.now frame.prefix.now c.args.kind c.args.left.now (sym c.is_chained.ensures ∙ c.if-is_chained.false)))
+    (left_apart frame.tables.now frame.prefix.now c.args.kind c.args.left.now (sym c.is_chained.ensures ∙ c.if-is_chained.false)))
 
 pub push_listed-returns-then-is_select : goal.push_listed-returns-then-is_select
 push_listed-returns-then-is_select t c =
