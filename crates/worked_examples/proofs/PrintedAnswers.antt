@@ -143,6 +143,19 @@ joined-read : read_as contents (tree joined (codes "x1" ∷ codes "x2" ∷ codes
 unfolding digits
 joined-read = simp tree_equations (rw token-given refl)
 
+-- ---- joins of which one follows the other, and a condition
+
+abbrev chain : Query
+chain = ProjectOf (FilterOf (JoinOf join.Inner joined s (compared compare.Equal (col 1) (col 3)) none end_of-Sublink) (compared compare.Less (col 0) (num (pos 3))) none end_of-Sublink) (item (col 3) ∷ []) none end_of-Sublink
+
+chain-whole : (query_meant contents (tree chain (codes "x1" ∷ []) [])).breaks ≡ []
+unfolding digits
+chain-whole = simp tree_equations (rw token-given refl)
+
+chain-read : read_as contents (tree chain (codes "x1" ∷ []) []) ≡ answer chain (codes "x1" ∷ []) []
+unfolding digits
+chain-read = simp tree_equations (rw token-given refl)
+
 -- ---- the query on the right sees the row on the left
 
 abbrev lateral : Query
