@@ -351,25 +351,29 @@ module _ (c : Contents) (depth : ℕ) (above : List Scope) where
         one : {steps : List JoinStep} → AreJoins (f.a_join (joined kind) (f.subquery second (source_name number)) on f.no_joins) steps → (step : JoinStep) × (steps ≡ step ∷ [])
             × ((m : FromMeant) → Joinable left before.items l m
             → FromRead (step_meant m step) both_items (Join kind l r test.expr test.subs) × ((step_meant m step).names ≡ m.names ++ source_name number ∷ []))
-        one (a_join_tree {item = other} {x = x} {step = step} (subquery_tree {tree = b} {alias = name} e origin titled said plain) g is no_join_trees) = (step, refl, λ m inner.
-            let word = tree.join_of (joined kind) in
-            let m2 = (query_of c b).means (in_from above) in
-            let S = last_item m.names left right other.at m2 r (input b e) in
-            let second_is : (from_item_of c other).means (in_from above) m.names ≡ S =
-            item-is c above (in_from above) m.names other b name origin titled plain ∙ (λ i. item_meant other.at Plain m.names (said i) (said i) (read_query m2)) in
-            let known : both_known m.items (scope_items S) ≡ Some both_items = λ i. both_known (inner.from.items_are i) (last-items m.names left right other.at m2 r (input b e) i) in
-            let result = joined_by m word (Some (part_of c x)) S (on_meant above (both_known m.items (scope_items S)) (Some (part_of c x))) in
-            let meant : step_meant m step ≡ result =
-            (λ i. let part = (ap (join_of c) is ∙ step-on c above word other x) i in join_item above m part (joined_item above m part))
-            ∙ (λ i. let o = (from_item_of c other).means (cond (words-plain kind i) (beside_items m.items above) (in_from above)) m.names in
-            cond (words-plain kind i) (applied m word o) (joined_by m word (Some (part_of c x)) o (on_meant above (both_known m.items (scope_items o)) (Some (part_of c x)))))
-            ∙ ap (λ o. joined_by m word (Some (part_of c x)) o (on_meant above (both_known m.items (scope_items o)) (Some (part_of c x)))) second_is in (
-              subst (λ meant. FromRead meant both_items (Join kind l r test.expr test.subs)) (sym meant)
-                  (join-known c above kind m S both_items l r (part_of c x) test inner.from.breaks
-                  (last-breaks m.names left right other.at m2 r (input b e) (inner.fresh number (omega arith) number-small)) known inner.from.query_is
-                  (last-query m.names left right other.at m2 r (input b e)) (tested x g)),
-              ap (λ (meant : FromMeant). meant.names) meant,
-            ))
+        one (a_join_tree {item = other} {x = x} {step = step} (subquery_tree {tree = b} {alias = name} e origin titled said plain) g is no_join_trees) = (
+          step,
+          refl,
+          λ m inner.
+              let word = tree.join_of (joined kind) in
+              let m2 = (query_of c b).means (in_from above) in
+              let S = last_item m.names left right other.at m2 r (input b e) in
+              let second_is : (from_item_of c other).means (in_from above) m.names ≡ S =
+              item-is c above (in_from above) m.names other b name origin titled plain ∙ (λ i. item_meant other.at Plain m.names (said i) (said i) (read_query m2)) in
+              let known : both_known m.items (scope_items S) ≡ Some both_items = λ i. both_known (inner.from.items_are i) (last-items m.names left right other.at m2 r (input b e) i) in
+              let result = joined_by m word (Some (part_of c x)) S (on_meant above (both_known m.items (scope_items S)) (Some (part_of c x))) in
+              let meant : step_meant m step ≡ result =
+              (λ i. let part = (ap (join_of c) is ∙ step-on c above word other x) i in join_item above m part (joined_item above m part))
+              ∙ (λ i. let o = (from_item_of c other).means (cond (words-plain kind i) (beside_items m.items above) (in_from above)) m.names in
+              cond (words-plain kind i) (applied m word o) (joined_by m word (Some (part_of c x)) o (on_meant above (both_known m.items (scope_items o)) (Some (part_of c x)))))
+              ∙ ap (λ o. joined_by m word (Some (part_of c x)) o (on_meant above (both_known m.items (scope_items o)) (Some (part_of c x)))) second_is in (
+                subst (λ meant. FromRead meant both_items (Join kind l r test.expr test.subs)) (sym meant)
+                    (join-known c above kind m S both_items l r (part_of c x) test inner.from.breaks
+                    (last-breaks m.names left right other.at m2 r (input b e) (inner.fresh number (omega arith) number-small)) known inner.from.query_is
+                    (last-query m.names left right other.at m2 r (input b e)) (tested x g)),
+                ap (λ (meant : FromMeant). meant.names) meant,
+              ),
+        )
 
     -- a dependent join
     pub lateral-extended : (kind : JoinKind) (second : QueryForm) (r : Query)
@@ -380,24 +384,28 @@ module _ (c : Contents) (depth : ℕ) (above : List Scope) where
         one : {steps : List JoinStep} → AreJoins (f.a_lateral (stays kind) second (source_name number) f.no_joins) steps → (step : JoinStep) × (steps ≡ step ∷ [])
             × ((m : FromMeant) → Joinable left before.items l m
             → FromRead (step_meant m step) both_items (Apply (lateral_kind kind) l r) × ((step_meant m step).names ≡ m.names ++ source_name number ∷ []))
-        one (a_lateral_tree {tree = b} {alias = name} {step = step} other is e origin titled said plain no_join_trees) = (step, refl, λ m inner.
-            let word = tree.lateral_of (stays kind) in
-            let m2 = (query_of c b).means (beside before.items above) in
-            let S = last_item m.names left right other.at m2 r (input b e) in
-            let second_is : (from_item_of c other).means (beside_items m.items above) m.names ≡ S =
-            ap (λ found. (from_item_of c other).means (beside_items found above) m.names) inner.from.items_are
-            ∙ item-is c above (beside before.items above) m.names other b name origin titled plain ∙ (λ i. item_meant other.at Plain m.names (said i) (said i) (read_query m2)) in
-            let known : both_known m.items (scope_items S) ≡ Some both_items = λ i. both_known (inner.from.items_are i) (last-items m.names left right other.at m2 r (input b e) i) in
-            let meant : step_meant m step ≡ applied m word S =
-            (λ i. let part = (ap (join_of c) is ∙ step-lateral c above word other) i in join_item above m part (joined_item above m part))
-            ∙ (λ i. let o = (from_item_of c other).means (cond (words-lateral (stays kind) i) (beside_items m.items above) (in_from above)) m.names in
-            cond (words-lateral (stays kind) i) (applied m word o) (joined_by m word None o (on_meant above (both_known m.items (scope_items o)) None)))
-            ∙ ap (applied m word) second_is in
-            let result : FromRead (applied m word S) both_items (Apply (lateral_kind kind) l r) = record {
-              breaks = λ i. inner.from.breaks i ++ last-breaks m.names left right other.at m2 r (input b e) (inner.fresh number (omega arith) number-small) i;
-              items_are = known;
-              query_is = λ i. Apply (words-kind kind i) (inner.from.query_is i) (last-query m.names left right other.at m2 r (input b e) i);
-            } in (
-              subst (λ meant. FromRead meant both_items (Apply (lateral_kind kind) l r)) (sym meant) result,
-              ap (λ (meant : FromMeant). meant.names) meant,
-            ))
+        one (a_lateral_tree {tree = b} {alias = name} {step = step} other is e origin titled said plain no_join_trees) = (
+          step,
+          refl,
+          λ m inner.
+              let word = tree.lateral_of (stays kind) in
+              let m2 = (query_of c b).means (beside before.items above) in
+              let S = last_item m.names left right other.at m2 r (input b e) in
+              let second_is : (from_item_of c other).means (beside_items m.items above) m.names ≡ S =
+              ap (λ found. (from_item_of c other).means (beside_items found above) m.names) inner.from.items_are
+              ∙ item-is c above (beside before.items above) m.names other b name origin titled plain ∙ (λ i. item_meant other.at Plain m.names (said i) (said i) (read_query m2)) in
+              let known : both_known m.items (scope_items S) ≡ Some both_items = λ i. both_known (inner.from.items_are i) (last-items m.names left right other.at m2 r (input b e) i) in
+              let meant : step_meant m step ≡ applied m word S =
+              (λ i. let part = (ap (join_of c) is ∙ step-lateral c above word other) i in join_item above m part (joined_item above m part))
+              ∙ (λ i. let o = (from_item_of c other).means (cond (words-lateral (stays kind) i) (beside_items m.items above) (in_from above)) m.names in
+              cond (words-lateral (stays kind) i) (applied m word o) (joined_by m word None o (on_meant above (both_known m.items (scope_items o)) None)))
+              ∙ ap (applied m word) second_is in
+              let result : FromRead (applied m word S) both_items (Apply (lateral_kind kind) l r) = record {
+                breaks = λ i. inner.from.breaks i ++ last-breaks m.names left right other.at m2 r (input b e) (inner.fresh number (omega arith) number-small) i;
+                items_are = known;
+                query_is = λ i. Apply (words-kind kind i) (inner.from.query_is i) (last-query m.names left right other.at m2 r (input b e) i);
+              } in (
+                subst (λ meant. FromRead meant both_items (Apply (lateral_kind kind) l r)) (sym meant) result,
+                ap (λ (meant : FromMeant). meant.names) meant,
+              ),
+        )

@@ -201,7 +201,7 @@ module _ (tables : List TableNames) (prefix : List ℕ) (out : Naming) where
       → whole (Join kind left right condition subs) ≡ selected (Join kind left right condition subs)
   join_selected kind left right condition subs =
       ap whole (Join-is kind left right condition subs)
-      ∙ apart_whole tables prefix (length (kinds_of left ++ kinds_of right)) (is_any (width_of right)) 
+      ∙ apart_whole tables prefix (length (kinds_of left ++ kinds_of right)) (is_any (width_of right))
       (block_part tables prefix (JoinOf kind left right condition (shape_of_subs subs) (row_of_subs subs))) (is_chained kind) out
       ∙ sym (ap selected (Join-is kind left right condition subs))
 

@@ -211,12 +211,7 @@ fn push_from(frame: &Frame, query: &Query, draft: &mut Draft) -> Result<(), NoMe
 
 /// FROM on the left of a join.
 #[cycle(push_query)]
-fn push_left(
-    frame: &Frame,
-    kind: JoinKind,
-    left: &Query,
-    draft: &mut Draft,
-) -> Result<(), NoMemory>
+fn push_left(frame: &Frame, kind: JoinKind, left: &Query, draft: &mut Draft) -> Result<(), NoMemory>
     ensures { OnOk result (draft.new ≡ draft.old ++ (apart_unless frame.now.prefix.now (width_of left.now) (is_chained kind)
         (written frame.now.tables.now frame.now.prefix.now left.now)).from) }
 {
