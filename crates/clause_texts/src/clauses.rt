@@ -119,7 +119,8 @@ pub fn push_condition(
     condition: &Expr,
     draft: &mut Draft,
 ) -> Result<(), NoMemory>
-    ensures { OnOk result (draft.new ≡ draft.old ++ condition_text frame.now.prefix.now subs.now condition.now) }
+    ensures { OnOk result (draft.new ≡ draft.old
+        ++ condition_text frame.now.prefix.now subs.now condition.now) }
 {
     let unused = unused_by(draft.alloc(), condition, subs)?;
     push_beside(

@@ -44,7 +44,8 @@ fn push_group_item(
     place: usize,
     draft: &mut Draft,
 ) -> Result<(), NoMemory>
-    ensures { OnOk result (draft.new ≡ draft.old ++ item_text (own prefix.now) number (reference_text prefix.now 0 (place + 1))) }
+    ensures { OnOk result (draft.new ≡ draft.old
+        ++ item_text (own prefix.now) number (reference_text prefix.now 0 (place + 1))) }
 {
     let column = behind(place, 1)?;
     push_comma(number, draft)?;
@@ -119,7 +120,8 @@ pub fn push_below(
 // ---- above
 
 fn push_folded(word: &[u8], prefix: &[u8], number: usize, draft: &mut Draft) -> Result<(), NoMemory>
-    ensures { OnOk result (draft.new ≡ draft.old ++ folded_text word.now (reference_text prefix.now 0 number)) }
+    ensures { OnOk result (draft.new ≡ draft.old
+        ++ folded_text word.now (reference_text prefix.now 0 number)) }
 {
     draft.push(word)?;
     draft.push_column(prefix, 0, number)?;
@@ -133,7 +135,8 @@ fn push_aggregated(
     number: usize,
     draft: &mut Draft,
 ) -> Result<(), NoMemory>
-    ensures { OnOk result (draft.new ≡ draft.old ++ aggregated_text function (reference_text prefix.now 0 number)) }
+    ensures { OnOk result (draft.new ≡ draft.old
+        ++ aggregated_text function (reference_text prefix.now 0 number)) }
 {
     match function {
         AggFn::CountRows => draft.push(b"COUNT ( * ) "),
@@ -184,7 +187,8 @@ pub fn push_above(
     aggregates: &[Aggr],
     draft: &mut Draft,
 ) -> Result<(), NoMemory>
-    ensures { OnOk result (draft.new ≡ draft.old ++ above_text frame.now.prefix.now (called_in frame.now) groups aggregates.now) }
+    ensures { OnOk result (draft.new ≡ draft.old
+        ++ above_text frame.now.prefix.now (called_in frame.now) groups aggregates.now) }
 {
     let count = behind(groups, aggregates.len())?;
     draft.push(b"SELECT ")?;

@@ -50,7 +50,8 @@ pub fn push_unread(out: &[u8], word: &[u8], count: usize, draft: &mut Draft) -> 
 }
 
 fn push_column_item(frame: &Frame, number: usize, draft: &mut Draft) -> Result<(), NoMemory>
-    ensures { OnOk result (draft.new ≡ draft.old ++ column_item frame.now.prefix.now (called_in frame.now) number) }
+    ensures { OnOk result (draft.new ≡ draft.old
+        ++ column_item frame.now.prefix.now (called_in frame.now) number) }
 {
     let place = behind(number, 1)?;
     push_comma(number, draft)?;
@@ -64,7 +65,8 @@ pub(crate) fn push_column_items(
     count: usize,
     draft: &mut Draft,
 ) -> Result<(), NoMemory>
-    ensures { OnOk result (draft.new ≡ draft.old ++ column_items frame.now.prefix.now (called_in frame.now) count) }
+    ensures { OnOk result (draft.new ≡ draft.old
+        ++ column_items frame.now.prefix.now (called_in frame.now) count) }
 {
     for number in 0..count {
         push_column_item(frame, number, draft)?;
@@ -74,7 +76,8 @@ pub(crate) fn push_column_items(
 
 /// All columns, of which there are so many.
 pub fn push_columns(frame: &Frame, count: usize, draft: &mut Draft) -> Result<(), NoMemory>
-    ensures { OnOk result (draft.new ≡ draft.old ++ columns_text frame.now.prefix.now (called_in frame.now) count) }
+    ensures { OnOk result (draft.new ≡ draft.old
+        ++ columns_text frame.now.prefix.now (called_in frame.now) count) }
 {
     push_unread(frame.out, b"1 ", count, draft)?;
     push_column_items(frame, count, draft)
@@ -88,7 +91,8 @@ fn push_named_item(
     name: &Chars,
     draft: &mut Draft,
 ) -> Result<(), NoMemory>
-    ensures { OnOk result (draft.new ≡ draft.old ++ item_text (called_in frame.now) number (name_text name.now)) }
+    ensures { OnOk result (draft.new ≡ draft.old
+        ++ item_text (called_in frame.now) number (name_text name.now)) }
 {
     push_comma(number, draft)?;
     draft.push_name(name.bytes())?;
@@ -120,7 +124,8 @@ fn push_listed(
 
 /// The table of an identity.
 pub fn push_table(frame: &Frame, id: u64, draft: &mut Draft) -> Result<(), NoMemory>
-    ensures { OnOk result (draft.new ≡ draft.old ++ table_text (called_in frame.now) (names_of frame.now.tables.now id)) }
+    ensures { OnOk result (draft.new ≡ draft.old
+        ++ table_text (called_in frame.now) (names_of frame.now.tables.now id)) }
 {
     match table_of(frame.tables, id) {
         Some(table) => { push_listed(frame, table.name.bytes(), table.columns.as_slice(), draft) }

@@ -23,6 +23,7 @@ pub fn a_printed_copy_is_read_back()
         (kind ∷ more) form q
         → (distinct : Bool) (out first : ℕ)
         → CoreFormRead c around (numbered_names out first (kind ∷ more)) (kind ∷ more)
-        (copied (marks (suc depth)) (length (kind ∷ more)) (just form) no_condition distinct (naming (marks out) first))
+        (copied (marks (suc depth)) (length (kind ∷ more)) (just form) no_condition distinct
+        (naming (marks out) first))
         (distinct_if distinct (listed (kind ∷ more) 0 q)) }
 {}

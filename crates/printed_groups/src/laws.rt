@@ -32,7 +32,8 @@ pub fn printed_groups_are_read_back()
         → CoreFormRead c around
         (numbered_names out first (kinds_of_groups (kind ∷ more) (group ∷ others) aggregates))
         (kinds_of_groups (kind ∷ more) (group ∷ others) aggregates)
-        (writing.in_groups (marks (suc depth)) (naming (marks out) first) (group ∷ others) aggregates (writing.just form) no_condition)
+        (writing.in_groups (marks (suc depth)) (naming (marks out) first) (group ∷ others) aggregates
+        (writing.just form) no_condition)
         (printing.in_groups ((kind ∷ more) ∷ scopes) (0 ∷ unread) 0 (group ∷ others) aggregates
         (kind ∷ more) q) }
 {}

@@ -141,7 +141,8 @@ fn push_all(frame: &Frame, query: &Query, draft: &mut Draft) -> Result<(), NoMem
 /// FROM and WHERE of a query that is written as these, and nothing of any other.
 #[cycle(push_query)]
 fn push_bare(frame: &Frame, query: &Query, draft: &mut Draft) -> Result<(), NoMemory>
-    ensures { OnOk result (draft.new ≡ draft.old ++ block_part frame.now.tables.now frame.now.prefix.now query.now) }
+    ensures { OnOk result (draft.new ≡ draft.old
+        ++ block_part frame.now.tables.now frame.now.prefix.now query.now) }
 {
     match query {
         Query::Filter {
@@ -188,7 +189,8 @@ fn push_bare(frame: &Frame, query: &Query, draft: &mut Draft) -> Result<(), NoMe
 /// FROM and WHERE that give the columns of a query.
 #[cycle(push_query)]
 fn push_block(frame: &Frame, query: &Query, draft: &mut Draft) -> Result<(), NoMemory>
-    ensures { OnOk result (draft.new ≡ draft.old ++ (written frame.now.tables.now frame.now.prefix.now query.now).block) }
+    ensures { OnOk result (draft.new ≡ draft.old
+        ++ (written frame.now.tables.now frame.now.prefix.now query.now).block) }
 {
     if is_block(query) {
         push_bare(frame, query, draft)
@@ -200,7 +202,8 @@ fn push_block(frame: &Frame, query: &Query, draft: &mut Draft) -> Result<(), NoM
 /// FROM that gives the columns of a query, and that joins may follow.
 #[cycle(push_query)]
 fn push_from(frame: &Frame, query: &Query, draft: &mut Draft) -> Result<(), NoMemory>
-    ensures { OnOk result (draft.new ≡ draft.old ++ (written frame.now.tables.now frame.now.prefix.now query.now).from) }
+    ensures { OnOk result (draft.new ≡ draft.old
+        ++ (written frame.now.tables.now frame.now.prefix.now query.now).from) }
 {
     if is_chain(query) {
         push_bare(frame, query, draft)
@@ -212,7 +215,8 @@ fn push_from(frame: &Frame, query: &Query, draft: &mut Draft) -> Result<(), NoMe
 /// FROM on the left of a join.
 #[cycle(push_query)]
 fn push_left(frame: &Frame, kind: JoinKind, left: &Query, draft: &mut Draft) -> Result<(), NoMemory>
-    ensures { OnOk result (draft.new ≡ draft.old ++ (apart_unless frame.now.prefix.now (width_of left.now) (is_chained kind)
+    ensures { OnOk result (draft.new ≡ draft.old
+        ++ (apart_unless frame.now.prefix.now (width_of left.now) (is_chained kind)
         (written frame.now.tables.now frame.now.prefix.now left.now)).from) }
 {
     if is_chained(kind) {
@@ -240,7 +244,8 @@ fn push_listed(frame: &Frame, query: &Query, draft: &mut Draft) -> Result<(), No
 /// FROM a query.
 #[cycle(push_query)]
 fn push_over(frame: &Frame, query: &Query, draft: &mut Draft) -> Result<(), NoMemory>
-    ensures { OnOk result (draft.new ≡ draft.old ++ over_bytes frame.now.tables.now frame.now.prefix.now query.now) }
+    ensures { OnOk result (draft.new ≡ draft.old
+        ++ over_bytes frame.now.tables.now frame.now.prefix.now query.now) }
 {
     draft.push(b"FROM ( ")?;
     let inner = Frame {
@@ -262,7 +267,8 @@ fn push_joined(
     draft: &mut Draft,
 ) -> Result<(), NoMemory>
     ensures { OnOk result (draft.new ≡ draft.old ++ beside_joined kind (before + 1)
-        (query_bytes frame.now.tables.now frame.now.prefix.now (naming frame.now.prefix.now (before + 1)) right.now)) }
+        (query_bytes frame.now.tables.now frame.now.prefix.now
+        (naming frame.now.prefix.now (before + 1)) right.now)) }
 {
     let first = behind(before, 1)?;
     let inner = Frame {
@@ -286,7 +292,8 @@ fn push_lateral(
     draft: &mut Draft,
 ) -> Result<(), NoMemory>
     ensures { OnOk result (draft.new ≡ draft.old ++ beside_lateral kind (before + 1)
-        (query_bytes frame.now.tables.now (deeper frame.now.prefix.now) (naming frame.now.prefix.now (before + 1)) right.now)) }
+        (query_bytes frame.now.tables.now (deeper frame.now.prefix.now)
+        (naming frame.now.prefix.now (before + 1)) right.now)) }
 {
     let longer = deeper(draft.alloc(), frame.prefix)?;
     let prefix = longer.as_slice();
@@ -310,7 +317,8 @@ fn push_groups(
     aggregates: &[Aggr],
     draft: &mut Draft,
 ) -> Result<(), NoMemory>
-    ensures { OnOk result (draft.new ≡ draft.old ++ groups_text frame.now.prefix.now (called_in frame.now) groups.now aggregates.now
+    ensures { OnOk result (draft.new ≡ draft.old
+        ++ groups_text frame.now.prefix.now (called_in frame.now) groups.now aggregates.now
         (written frame.now.tables.now frame.now.prefix.now input.now).block) }
 {
     push_above(frame, groups.len(), aggregates, draft)?;
@@ -354,7 +362,8 @@ fn sub_texts(frame: &Frame, subs: &[Sublink], alloc: Global) -> Result<List<Byte
 }
 
 fn push_answer(tables: &[TableNames], answer: &Answer, draft: &mut Draft) -> Result<(), NoMemory>
-    ensures { OnOk result (draft.new ≡ draft.old ++ answer_bytes tables.now answer.now.query answer.now.names answer.now.keys) }
+    ensures { OnOk result (draft.new ≡ draft.old
+        ++ answer_bytes tables.now answer.now.query answer.now.names answer.now.keys) }
 {
     let frame = Frame {
         tables,
