@@ -17,10 +17,10 @@ module _ (tables : List TableNames) (prefix : List ℕ) where
   -- ---- what stands by itself alone, or not
 
   module _ (count : ℕ) (any : Bool) (text : List ℕ) where
-    abbrev block : Written
+    abbrev pub block : Written
     block = a_block prefix count any text
 
-    abbrev given : Bool → Written
+    abbrev pub given : Bool → Written
     given chained = apart_unless prefix count chained block
 
     pub apart_whole : (chained : Bool) (out : Naming) → (given chained).whole out ≡ block.whole out
